@@ -1,0 +1,5 @@
+//! Tests of the log writers as their users see them, through public calls alone.
+#![tactic(auto)]
+
+#[cfg(test)]
+mod rolling;

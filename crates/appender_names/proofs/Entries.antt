@@ -1,0 +1,86 @@
+-- A name is that of one entry of a folder.
+use Rattle.std.proofs.Common.{◌≡◌, ◌≢◌, ℕ, ◌+◌, ◌/◌, ◌≤◌, List, [], ◌∷◌, ◌++◌, length, arith, refl, ap, inl, inr, length-append, lit≤}
+use Rattle.std.proofs.lemmas.List.Elements.{All-append, All-from_recursion}
+use Rattle.appender_names.specs.declared.rotation.Kind.{Kind}
+use Rattle.appender_names.specs.declared.rotation.Kind.TheVariants.{Minutely, Hourly, Daily, Weekly, Never}
+use Rattle.appender_names.specs.Calendar.{CivilDate, date_of}
+use Rattle.appender_names.specs.DateText.{day_text, day_at, hour_at, minute_at, text_at, second_of}
+use Rattle.appender_names.specs.Name.{Naming, IsPart, IsDots, IsEntry, NamesAreEntries, behind, before, dated, undated, name_by, named_moment}
+
+-- a byte that may stand in a name
+abbrev pub IsNameByte : ℕ → Type 0
+IsNameByte b = (b ≢ 47) × (b ≢ 0)
+
+digit : (x : ℕ) → IsNameByte (48 + x)
+digit x = ((λ e. absurd (omega arith)), (λ e. absurd (omega arith)))
+
+dash : IsNameByte 45
+dash = ((λ e. absurd (omega arith)), (λ e. absurd (omega arith)))
+
+dot : IsPart (46 ∷ [])
+dot = All-from_recursion IsNameByte (46 ∷ []) (((λ e. absurd (omega arith)), (λ e. absurd (omega arith))), tt)
+
+day_is_part : (d : CivilDate) → IsPart (day_text d)
+day_is_part d = All-from_recursion IsNameByte (day_text d) (digit _, (digit _, (digit _, (digit _, (dash, (digit _, (digit _, (dash, (digit _, (digit _, tt))))))))))
+
+text_is_part : (k : Kind) (s : ℕ) → IsPart (text_at k s)
+text_is_part Minutely s = All-append IsNameByte (day_at s) (45 ∷ hour_at s ++ 45 ∷ minute_at s) (day_is_part (date_of (s / 86400))) (All-from_recursion IsNameByte (45 ∷ hour_at s ++ 45 ∷ minute_at s) (dash, (digit _, (digit _, (dash, (digit _, (digit _, tt)))))))
+text_is_part Hourly s = All-append IsNameByte (day_at s) (45 ∷ hour_at s) (day_is_part (date_of (s / 86400))) (All-from_recursion IsNameByte (45 ∷ hour_at s) (dash, (digit _, (digit _, tt))))
+text_is_part Daily s = day_is_part (date_of (s / 86400))
+text_is_part Weekly s = day_is_part (date_of (s / 86400))
+text_is_part Never s = day_is_part (date_of (s / 86400))
+
+text_is_long : (k : Kind) (s : ℕ) → 10 ≤ length (text_at k s)
+text_is_long Minutely s = lit≤ tt
+text_is_long Hourly s = lit≤ tt
+text_is_long Daily s = lit≤ tt
+text_is_long Weekly s = lit≤ tt
+text_is_long Never s = lit≤ tt
+
+behind_is_part : (p t : List ℕ) → IsPart p → IsPart t → IsPart (behind p t)
+behind_is_part [] t a b = b
+behind_is_part (x ∷ xs) t a b = All-append IsNameByte (x ∷ xs) (46 ∷ t) a (All-append IsNameByte (46 ∷ []) t dot b)
+
+before_is_part : (t s : List ℕ) → IsPart t → IsPart s → IsPart (before t s)
+before_is_part t [] a b = a
+before_is_part t (x ∷ xs) a b = All-append IsNameByte t (46 ∷ x ∷ xs) a (All-append IsNameByte (46 ∷ []) (x ∷ xs) dot b)
+
+behind_is_long : (p t : List ℕ) → length t ≤ length (behind p t)
+behind_is_long [] t = omega arith
+behind_is_long (x ∷ xs) t = omega (arith, length-append (x ∷ xs) (46 ∷ t))
+
+before_is_long : (t s : List ℕ) → length t ≤ length (before t s)
+before_is_long t [] = omega arith
+before_is_long t (x ∷ xs) = omega (arith, length-append t (46 ∷ x ∷ xs))
+
+long_is_entry : (name : List ℕ) → IsPart name → 10 ≤ length name → IsEntry name
+long_is_entry name part long = record {
+  is_part = part;
+  no_dots = λ d. elim d [ inl e ↦ absurd (omega (arith, ap length e)) | inr e ↦ absurd (omega (arith, ap length e)) ];
+  some_byte = λ e. absurd (omega (arith, ap length e));
+}
+
+undated_is_entry : (p s date : List ℕ) → IsPart p → IsPart s → ¬ (IsDots (undated p s [])) → IsEntry date → IsEntry (undated p s date)
+undated_is_entry [] [] date a b d entry = entry
+undated_is_entry [] (y ∷ ys) date a b d entry = record { is_part = b; no_dots = d; some_byte = λ e. cc }
+undated_is_entry (x ∷ xs) s date a b d entry = record {
+  is_part = before_is_part (x ∷ xs) s a b;
+  no_dots = d;
+  some_byte = λ e. absurd (omega (arith, before_is_long (x ∷ xs) s, ap length e));
+}
+
+dated_is_entry : (p s date : List ℕ) → IsPart p → IsPart s → IsPart date → 10 ≤ length date → IsEntry (dated p s date)
+dated_is_entry p s date a b c long =
+    long_is_entry (dated p s date) (behind_is_part p (before date s) a (before_is_part date s c b))
+    (omega (arith, behind_is_long p (before date s), before_is_long date s))
+
+by_kind : (k : Kind) (p s : List ℕ) (second : ℕ) → IsPart p → IsPart s → (k ≡ Never → ¬ (IsDots (undated p s []))) → IsEntry (name_by k p s (text_at k second))
+by_kind Never p s second a b d = undated_is_entry p s (text_at Never second) a b (d refl) (long_is_entry _ (text_is_part Never second) (text_is_long Never second))
+by_kind Minutely p s second a b d = dated_is_entry p s (text_at Minutely second) a b (text_is_part Minutely second) (text_is_long Minutely second)
+by_kind Hourly p s second a b d = dated_is_entry p s (text_at Hourly second) a b (text_is_part Hourly second) (text_is_long Hourly second)
+by_kind Daily p s second a b d = dated_is_entry p s (text_at Daily second) a b (text_is_part Daily second) (text_is_long Daily second)
+by_kind Weekly p s second a b d = dated_is_entry p s (text_at Weekly second) a b (text_is_part Weekly second) (text_is_long Weekly second)
+
+-- each name is that of one entry of a folder, where prefix and suffix are allowed
+pub entries : (n : Naming) → NamesAreEntries n
+entries n allowed m = by_kind n.rotation.kind n.prefix n.suffix (second_of (named_moment n.rotation m)) allowed.prefix_is_part allowed.suffix_is_part allowed.no_dots

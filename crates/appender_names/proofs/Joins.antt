@@ -1,0 +1,35 @@
+-- Names, as prefix, date and suffix joined by dots.
+use Rattle.std.proofs.Common.{◌≡◌, ◌≢◌, ℕ, ℤ, true, false, List, [], ◌∷◌, ◌++◌, length, Some, arith, refl, ap, inl, inr, length-append}
+use Rattle.std.specs.Prelude.{◌==◌}
+use Rattle.appender_names.specs.declared.rotation.Kind.{Kind}
+use Rattle.appender_names.specs.declared.rotation.Kind.TheVariants.{Minutely, Hourly, Daily, Weekly, Never}
+use Rattle.appender_names.specs.Rotation.{period_of}
+use Rattle.appender_names.specs.DateText.{date_text}
+use Rattle.appender_names.specs.Name.{Naming, name_of, name_by, dated, undated, behind, before, IsDots}
+
+pub behind_set : (p text : List ℕ) → false ≡ (length p == 0) → p ++ (46 ∷ text) ≡ behind p text
+behind_set [] text e = cc
+behind_set (x ∷ xs) text e = refl
+
+pub before_set : (text s : List ℕ) → false ≡ (length s == 0) → text ++ (46 ∷ s) ≡ before text s
+before_set text [] e = cc
+before_set text (x ∷ xs) e = refl
+
+pub name_by-dated : (k : Kind) (p s d : List ℕ) → k ≢ Never → name_by k p s d ≡ dated p s d
+name_by-dated Minutely p s d h = refl
+name_by-dated Hourly p s d h = refl
+name_by-dated Daily p s d h = refl
+name_by-dated Weekly p s d h = refl
+name_by-dated Never p s d h = absurd (h refl)
+
+pub name_of-dated : (n : Naming) (m s : ℤ) → n.rotation.kind ≢ Never → period_of n.rotation m ≡ Some s → name_of n m ≡ dated n.prefix n.suffix (date_text n.rotation.kind s)
+name_of-dated n m s h e = rw e (name_by-dated n.rotation.kind n.prefix n.suffix (date_text n.rotation.kind s) h)
+
+-- a name of two parts and a dot is longer than two dots
+pub parts_are_plain : (p s : List ℕ) → false ≡ (length p == 0) → false ≡ (length s == 0) → ¬ (IsDots (undated p s []))
+parts_are_plain [] s a b d = absurd (let no : false ≡ true = a in cc)
+parts_are_plain (x ∷ xs) [] a b d = absurd (let no : false ≡ true = b in cc)
+parts_are_plain (x ∷ xs) (y ∷ ys) a b d = elim d [
+  | inl e ↦ absurd (omega (arith, length-append (x ∷ xs) (46 ∷ y ∷ ys), ap length e))
+  | inr e ↦ absurd (omega (arith, length-append (x ∷ xs) (46 ∷ y ∷ ys), ap length e))
+]

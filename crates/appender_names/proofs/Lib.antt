@@ -1,0 +1,12 @@
+pub mod Clock
+pub mod Dates
+pub mod Digits
+pub mod Entries
+pub mod Instants
+pub mod Joins
+pub mod KnownDates
+pub mod NameLaws
+pub mod Order
+pub mod Periods
+pub mod Reading
+pub mod Strips

@@ -1,0 +1,99 @@
+-- The names of log files, as in the documentation of tracing-appender: prefix, date and suffix, with a dot between each two.
+use Rattle.std.specs.Prelude.{◌≡◌, ◌≢◌, ◌↔◌, ℕ, List, [], ◌∷◌, ◌++◌, ℤ, pos, ◌<ℤ◌, Some, unwrap_or, codes, ◌⊎◌}
+use Rattle.std.specs.Cmp.Lexicographic.{slice_cmp}
+use Rattle.std.specs.Ordering.{nat_cmp}
+use Rattle.std.specs.declared.cmp.Ordering.TheVariants.{Less}
+use Rattle.std.specs.Int.{int_rem_euclid}
+use Rattle.std.specs.List.{All}
+use Rattle.appender_names.specs.declared.rotation.Kind.{Kind}
+use Rattle.appender_names.specs.declared.rotation.Kind.TheVariants.{Never}
+use Rattle.appender_names.specs.declared.rotation.Rotation.{Rotation}
+use Rattle.appender_names.specs.Rotation.{IsMoment, period_of, IsNever}
+use Rattle.appender_names.specs.DateText.{date_text, unit_of, IsDated}
+
+-- what the names of one appender are made from; an empty prefix or suffix is none
+pub record Naming : Type 0 where
+  pub rotation : Rotation
+  pub prefix : List ℕ
+  pub suffix : List ℕ
+
+abbrev pub naming : Rotation → List ℕ → List ℕ → Naming
+naming r p s = record { rotation = r; prefix = p; suffix = s }
+
+-- a text behind the prefix, if one is set, and a dot
+abbrev pub behind : List ℕ → List ℕ → List ℕ
+behind [] text = text
+behind (p ∷ ps) text = (p ∷ ps) ++ (46 ∷ text)
+
+-- a text before a dot and the suffix, if one is set
+abbrev pub before : List ℕ → List ℕ → List ℕ
+before text [] = text
+before text (s ∷ ss) = text ++ (46 ∷ s ∷ ss)
+
+-- the name that a date has: `prefix.date.suffix`, `prefix.date`, `date.suffix` or `date`
+abbrev pub dated : List ℕ → List ℕ → List ℕ → List ℕ
+dated prefix suffix date = behind prefix (before date suffix)
+
+-- the name under NEVER: `prefix.suffix`, `prefix`, `suffix` or `date`
+abbrev pub undated : List ℕ → List ℕ → List ℕ → List ℕ
+undated [] [] date = date
+undated [] (s ∷ ss) date = s ∷ ss
+undated (p ∷ ps) suffix date = before (p ∷ ps) suffix
+
+abbrev pub name_by : Kind → List ℕ → List ℕ → List ℕ → List ℕ
+name_by Never prefix suffix date = undated prefix suffix date
+name_by k prefix suffix date = dated prefix suffix date
+
+-- the moment whose date stands in the name of a moment: the start of its period, and under NEVER the moment itself
+abbrev pub named_moment : Rotation → ℤ → ℤ
+named_moment r m = unwrap_or (period_of r m) m
+
+-- the name of the file that a moment belongs to
+abbrev pub name_of : Naming → ℤ → List ℕ
+name_of n m = name_by n.rotation.kind n.prefix n.suffix (date_text n.rotation.kind (named_moment n.rotation m))
+
+-- no `/` and no zero byte, so that the text is part of one name
+abbrev pub IsPart : List ℕ → Type 0
+IsPart text = All (λ b. (b ≢ 47) × (b ≢ 0)) text
+
+-- a name that leads to a folder
+abbrev pub IsDots : List ℕ → Type 0
+IsDots name = (name ≡ codes ".") ⊎ (name ≡ codes "..")
+
+-- the prefix and the suffix that names may have
+pub record IsAllowed (r : Rotation) (prefix suffix : List ℕ) : Type 0 where
+  pub prefix_is_part : IsPart prefix
+  pub suffix_is_part : IsPart suffix
+  pub no_dots : IsNever r → ¬ (IsDots (undated prefix suffix []))
+
+-- the name of one entry of a folder: not empty, no `/` and no zero byte in it, and neither `.` nor `..`
+pub record IsEntry (name : List ℕ) : Type 0 where
+  pub is_part : IsPart name
+  pub no_dots : ¬ (IsDots name)
+  pub some_byte : name ≢ []
+
+-- the name reads as s: the whole minute, hour or day, as the shape is, of the years 0000 to 9999 whose date stands in it
+pub record Reads (n : Naming) (name : List ℕ) (s : ℤ) : Type 0 where
+  pub dated_second : IsDated s
+  pub whole : int_rem_euclid s (pos (unit_of n.rotation.kind)) ≡ pos 0
+  pub text : name ≡ dated n.prefix n.suffix (date_text n.rotation.kind s)
+
+-- later periods have greater names, byte by byte
+abbrev pub NamesRise : Naming → Type 0
+NamesRise n = (a b p q : ℤ) → IsMoment a → IsMoment b → period_of n.rotation a ≡ Some p → period_of n.rotation b ≡ Some q → p <ℤ q → slice_cmp nat_cmp (name_of n a) (name_of n b) ≡ Less
+
+-- two moments have one name exactly if they lie in one period
+abbrev pub NamesArePeriods : Naming → Type 0
+NamesArePeriods n = (a b p q : ℤ) → IsMoment a → IsMoment b → period_of n.rotation a ≡ Some p → period_of n.rotation b ≡ Some q → (name_of n a ≡ name_of n b) ↔ (p ≡ q)
+
+-- a period's name reads as its start
+abbrev pub NamesReadAsStarts : Naming → Type 0
+NamesReadAsStarts n = (m p : ℤ) → IsMoment m → period_of n.rotation m ≡ Some p → Reads n (name_of n m) p
+
+-- a name reads as one second at most
+abbrev pub NamesReadOnce : Naming → Type 0
+NamesReadOnce n = (name : List ℕ) (s t : ℤ) → Reads n name s → Reads n name t → s ≡ t
+
+-- each name is that of one entry of a folder
+abbrev pub NamesAreEntries : Naming → Type 0
+NamesAreEntries n = IsAllowed n.rotation n.prefix n.suffix → (m : ℤ) → IsEntry (name_of n m)

@@ -1,0 +1,11 @@
+//! When a new log file begins, and what the files are called.
+#![tactic(auto)]
+
+mod civil;
+pub mod error;
+pub mod laws;
+pub mod names;
+pub mod rotation;
+
+#[cfg(test)]
+mod tests;

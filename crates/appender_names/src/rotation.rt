@@ -1,0 +1,112 @@
+//! When a new log file begins, as in the documentation of the crate tracing-appender. A moment is
+//! in whole seconds of UTC since 1970-01-01 00:00:00, with days of 86,400 seconds.
+ghost use Rattle.std.specs.Prelude.{◌≡◌, ◌≢◌, ◌↔◌, IsTrue, IsNone, IfSome};
+ghost use Rattle.appender_names.specs.Rotation.{IsMoment, IsNever, IsGreatestBoundary, IsNextBoundary, step_of, period_of, next_of};
+
+/// How often a new log file begins. Its boundaries are whole minutes, hours, days or weeks of UTC.
+#[derive(Clone, Copy, Debug, PartialEq, Eq)]
+pub struct Rotation {
+    kind: Kind,
+}
+
+/// The five rotations, as contracts name them.
+#[derive(Clone, Copy, Debug, PartialEq, Eq)]
+pub enum Kind {
+    Minutely,
+    Hourly,
+    Daily,
+    Weekly,
+    Never,
+}
+
+// 0001-01-01 00:00:00, a Monday.
+const FIRST: i64 = -62_135_596_800;
+
+// 9998-12-31 23:59:59.
+const LAST: i64 = 253_370_764_799;
+
+// Seconds from the Sunday before the first moment to 1970-01-01. Each kind's boundaries lie whole
+// steps after that Sunday.
+const BEFORE: i64 = 62_135_683_200;
+
+impl Kind {
+    // Seconds from a boundary to the next.
+    fn step(self) -> u64
+        ensures step { result ≡ step_of self }
+    {
+        match self {
+            Kind::Minutely => 60,
+            Kind::Hourly => 3_600,
+            Kind::Daily => 86_400,
+            Kind::Weekly => 604_800,
+            Kind::Never => 0,
+        }
+    }
+}
+
+impl Rotation {
+    /// A new file begins each minute.
+    pub const MINUTELY: Rotation = Rotation {
+        kind: Kind::Minutely,
+    };
+
+    /// A new file begins each hour.
+    pub const HOURLY: Rotation = Rotation { kind: Kind::Hourly };
+
+    /// A new file begins each day at 00:00:00.
+    pub const DAILY: Rotation = Rotation { kind: Kind::Daily };
+
+    /// A new file begins each Sunday at 00:00:00.
+    pub const WEEKLY: Rotation = Rotation { kind: Kind::Weekly };
+
+    /// There is one file for all time.
+    pub const NEVER: Rotation = Rotation { kind: Kind::Never };
+
+    /// Whether this is `NEVER`, which has no boundaries.
+    pub fn is_never(&self) -> bool
+        ensures { IsTrue result ↔ IsNever self.now }
+    {
+        self.kind == Kind::Never
+    }
+
+    pub(crate) fn kind(&self) -> Kind
+        ensures { result ≡ self.now.kind }
+    {
+        self.kind
+    }
+
+    /// The start of the moment's period, in seconds: the greatest boundary that isn't after the
+    /// moment. The first week starts a day before the range that `in_range` tests.
+    pub fn round_date(&self, moment: i64) -> i64
+        requires rotates { ¬ (IsNever self.now) }
+        requires moment { IsMoment moment }
+        ensures value { period_of self.now moment ≡ Some result }
+        ensures boundary { IsGreatestBoundary self.now moment result }
+    {
+        let step = self.kind.step();
+        let since = (moment + BEFORE) as u64;
+        (since - since % step) as i64 - BEFORE
+    }
+
+    /// The start of the next period, in seconds: the least boundary after the moment. `NEVER` has
+    /// none.
+    pub fn next_date(&self, moment: i64) -> Option<i64>
+        requires moment { IsMoment moment }
+        ensures value { result ≡ next_of self.now moment }
+        ensures none { IsNone result ↔ IsNever self.now }
+        ensures boundary { IfSome result (IsNextBoundary self.now moment) }
+    {
+        match self.kind {
+            Kind::Never => None,
+            _ => Some(self.round_date(moment) + self.kind.step() as i64),
+        }
+    }
+}
+
+/// Whether a moment lies in the range from 0001-01-01 00:00:00 to 9998-12-31 23:59:59 UTC, whose
+/// moments all have a name.
+pub fn in_range(moment: i64) -> bool
+    ensures { IsTrue result ↔ IsMoment moment }
+{
+    FIRST <= moment && moment <= LAST
+}

@@ -1,0 +1,4 @@
+pub mod Contents
+pub mod MemoryCallLemmas
+pub mod MemoryEntryLemmas
+pub mod MemorySoundness

@@ -1,0 +1,91 @@
+-- What the calls of a folder tell beside its content.
+use Rattle.std.specs.Prelude.{◌≡◌, ◌⊎◌, ℕ, ◌+◌, ◌%◌, ◌^◌, ◌<◌, ℤ, Bool, List, map, Option, None, Some, Result, MatchResult, IsTrue, string_bytes}
+use Rattle.std.specs.Option.{option_map}
+use Rattle.std.specs.List.Sorted.{IsPermutation}
+use Rattle.std.specs.FinMap as fin
+use Rattle.std.specs.IoError.{error_kind}
+use Rattle.std.specs.declared.io.Error.{Error}
+use Rattle.std.specs.declared.io.ErrorKind.TheVariants.{OutOfMemory}
+use Rattle.appender_store.specs.Content.{Content, Entry, File, Link, Folder}
+use Rattle.appender_names.specs.declared.error.InitError.{InitError}
+use Rattle.appender_store.specs.declared.store.Kind.{Kind}
+use Rattle.appender_store.specs.declared.store.Kind.TheVariants.{File as PlainFile, Folder as PlainFolder, Link as PlainLink}
+use Rattle.appender_store.specs.declared.store.Listed.{Listed}
+use Rattle.appender_store.specs.declared.store.Notice.{Notice}
+use Rattle.appender_store.specs.declared.store.Notice.TheVariants.{List as ListFault, Remove as RemoveFault, Flush as FlushFault, Open as OpenFault}
+use Rattle.appender_store.specs.declared.store.NoticeKind.{NoticeKind}
+use Rattle.appender_store.specs.declared.store.NoticeKind.TheVariants.{List as OfList, Remove as OfRemove, Flush as OfFlush, Open as OfOpen}
+
+-- how often each kind of notice was noted
+pub record Counts : Type 0 where
+  pub lists : ℕ
+  pub removes : ℕ
+  pub flushes : ℕ
+  pub opens : ℕ
+
+-- each count is of 64 bits
+pub record AreCounts (n : Counts) : Type 0 where
+  pub lists : n.lists < 2 ^ 64
+  pub removes : n.removes < 2 ^ 64
+  pub flushes : n.flushes < 2 ^ 64
+  pub opens : n.opens < 2 ^ 64
+
+-- a count of 64 bits that has gone up by one
+abbrev pub one_more : ℕ → ℕ
+one_more n = (n + 1) % 2 ^ 64
+
+-- the counts after one notice more of this kind
+abbrev pub counted : NoticeKind → Counts → Counts
+counted OfList n = record n { lists = one_more n.lists }
+counted OfRemove n = record n { removes = one_more n.removes }
+counted OfFlush n = record n { flushes = one_more n.flushes }
+counted OfOpen n = record n { opens = one_more n.opens }
+
+-- what a notice tells: its kind, the fault, and for Remove the name
+pub data Noted : Type 0 where
+  NotedList : (error : Error) → Noted
+  NotedRemove : (name : List ℕ) (error : Error) → Noted
+  NotedFlush : (error : Error) → Noted
+  NotedOpen : (error : InitError) → Noted
+
+-- what this notice tells
+abbrev pub noted_by : Notice → Noted
+noted_by (ListFault e) = NotedList e.now
+noted_by (RemoveFault name e) = NotedRemove name.now e.now
+noted_by (FlushFault e) = NotedFlush e.now
+noted_by (OpenFault e) = NotedOpen e.now
+
+-- the kind that is counted
+abbrev pub kind_of : Noted → NoticeKind
+kind_of (NotedList e) = OfList
+kind_of (NotedRemove name e) = OfRemove
+kind_of (NotedFlush e) = OfFlush
+kind_of (NotedOpen e) = OfOpen
+
+-- name, kind and creation moment
+abbrev pub Line : Type 0
+Line = Option (List ℕ) × Kind × Option ℤ
+
+-- what an entry of a listing tells
+abbrev pub shown : Listed → Line
+shown l = (option_map string_bytes l.name, l.kind, l.created)
+
+-- what a listing tells of a name
+abbrev pub line_of : List ℕ × Entry → Line
+line_of (name, File b t) = (Some name, PlainFile, t)
+line_of (name, Link target) = (Some name, PlainLink, None)
+line_of (name, Folder) = (Some name, PlainFolder, None)
+
+-- each name of the folder once, in any order
+abbrev pub Lists : Content → List Listed → Type 0
+Lists c all = IsPermutation (map shown all) (map line_of (fin.entries c.names))
+
+-- one failure more
+abbrev pub HasRisen : ℕ → ℕ → Type 0
+HasRisen old new = new ≡ one_more old
+
+-- An `Ok` counts no failure. An `Err` counts one, or memory was refused, or the content forbids the call.
+abbrev pub HasCause : {T : Type 0} → Bool → Type 0 → ℕ → ℕ → Result T Error → Type 0
+HasCause tells forbidden old new result =
+    MatchResult result (λ _. new ≡ old)
+    (λ e. HasRisen old new ⊎ ((new ≡ old) × ((error_kind e ≡ OutOfMemory) ⊎ (IsTrue tells × forbidden))))

@@ -1,0 +1,7 @@
+pub mod Content
+pub mod Folder
+pub mod MemoryCalls
+pub mod MemoryEntries
+pub mod MemoryPut
+pub mod MemoryState
+pub mod MemoryView

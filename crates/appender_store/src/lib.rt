@@ -1,0 +1,4 @@
+//! Folders as an appender sees them, and one in memory.
+#![tactic(auto)]
+
+pub mod store;

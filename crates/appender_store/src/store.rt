@@ -1,0 +1,222 @@
+//! A folder as an appender sees it, and one in memory.
+ghost use Rattle.std.specs.Prelude.{◌≡◌, ◌⊎◌, ◌<◌, ◌≤◌, ◌^◌, ℕ, Bool, length, take, IsTrue, IfOk, OnOk, OnErr, List, Result, Vec};
+ghost use Rattle.std.specs.declared.alloc.Global.{Global};
+ghost use Rattle.std.specs.declared.io.Error.{Error};
+ghost use Rattle.appender_store.specs.Content.{Content, IsSound, Opens, Removes, RemovesLink, MakesLink, appended, made, ForbidsOpen, ForbidsRemove, ForbidsRemoveLink, ForbidsMakeLink, ForbidsList};
+ghost use Rattle.appender_store.specs.Folder.{AreCounts, Counts, Noted, counted, noted_by, kind_of, Lists, HasCause, HasRisen};
+
+mod calls;
+mod entries;
+mod memory;
+mod put;
+
+use appender_names::error::InitError;
+pub use memory::{MemoryFile, MemoryFolder};
+pub use put::PutError;
+use std::io;
+
+/// What a name leads to.
+#[derive(Clone, Copy, Debug, PartialEq, Eq)]
+pub enum Kind {
+    /// A plain file.
+    File,
+    /// A folder.
+    Folder,
+    /// A symbolic link, which is not followed.
+    Link,
+    /// Anything else, or what could not be read.
+    Other,
+}
+
+/// An entry of a listing.
+#[derive(Debug, Drop)]
+pub struct Listed {
+    /// The name; `None` where it is not readable as UTF-8.
+    pub name: Option<String>,
+    /// What the name leads to.
+    pub kind: Kind,
+    /// The creation moment, in nanoseconds since 1970-01-01 00:00:00 UTC, where it is known.
+    pub created: Option<i128>,
+}
+
+/// A fault that an appender goes on after.
+#[derive(Clone, Copy, Debug)]
+pub enum Notice<'a> {
+    /// The folder was not listed, or there was no memory to choose what goes.
+    List(&'a io::Error),
+    /// The file of this name was not removed.
+    Remove(&'a str, &'a io::Error),
+    /// The old file was not flushed.
+    Flush(&'a io::Error),
+    /// The new file was not opened, and the old one stays.
+    Open(&'a InitError),
+}
+
+/// The kinds of `Notice`, by which they are counted.
+#[derive(Clone, Copy, Debug, PartialEq, Eq)]
+pub enum NoticeKind {
+    /// Of `Notice::List`.
+    List,
+    /// Of `Notice::Remove`.
+    Remove,
+    /// Of `Notice::Flush`.
+    Flush,
+    /// Of `Notice::Open`.
+    Open,
+}
+
+/// A folder that log files are written to. A call that answers an `Err` has changed nothing in it.
+/// It answers one only where `failures` counted it, where memory was refused, with the kind
+/// OutOfMemory, or where what the folder contains forbids the call.
+pub trait Folder: Drop {
+    ghost use Rattle.appender_store.specs.declared.store.Listed.{Listed};
+
+    /// A file that is open for appends.
+    type File: Drop;
+
+    /// Whether folders of this kind tell their content.
+    ghost tells: { Bool };
+
+    /// What it contains. Of a kind that doesn't tell this says nothing.
+    ghost content: { Self → Content };
+
+    /// The number of the body that an open file writes to.
+    ghost body: { Self.File → ℕ };
+
+    /// How often a call has failed by itself, modulo 2^64.
+    ghost failures: { Self → ℕ };
+
+    /// How often each kind of notice was noted, modulo 2^64.
+    ghost noted: { Self → Counts };
+
+    // What one call does beside the clauses below: whatever the kind of folder says. Generic code
+    // can show it only by making the call.
+    ghost list_gives: { Self → Result (Vec Listed Global) Error → Self → Type 0 };
+
+    ghost remove_gives: { Self → List ℕ → Result (Unit {0}) Error → Self → Type 0 };
+
+    ghost open_gives: { Self → List ℕ → Result Self.File Error → Self → Type 0 };
+
+    ghost make_folder_gives: { Self → Result (Unit {0}) Error → Self → Type 0 };
+
+    ghost remove_link_gives: { Self → List ℕ → Result (Unit {0}) Error → Self → Type 0 };
+
+    ghost make_link_gives: { Self → List ℕ → List ℕ → Result (Unit {0}) Error → Self → Type 0 };
+
+    ghost append_gives: { Self → Self.File → List ℕ → Result ℕ Error → Self → Self.File → Type 0 };
+
+    ghost flush_gives: { Self → Self.File → Result (Unit {0}) Error → Self → Self.File → Type 0 };
+
+    ghost note_gives: { Self → Noted → Self → Type 0 };
+
+    /// Each name of the folder once, in any order. Refused where the folder is absent.
+    fn list(&mut self) -> io::Result<Vec<Listed>>
+        ensures call { list_gives self.old result self.new }
+        ensures ok { IfOk result (λ all. IsTrue tells → Lists (content self.old) all.items) }
+        ensures content { content self.new ≡ content self.old }
+        ensures cause { HasCause tells (ForbidsList (content self.old))
+            (failures self.old) (failures self.new) result }
+        ensures notices { noted self.new ≡ noted self.old };
+
+    /// Takes a file's name away; its body stays for those who have it open. Refused where the
+    /// folder is absent or no file has this name.
+    fn remove(&mut self, name: &str) -> io::Result<()>
+        ensures call { remove_gives self.old name.now result self.new }
+        ensures ok { OnOk result (IsTrue tells →
+            Removes name.now (content self.old) (content self.new)) }
+        ensures err { OnErr result (content self.new ≡ content self.old) }
+        ensures cause { HasCause tells (ForbidsRemove name.now (content self.old))
+            (failures self.old) (failures self.new) result }
+        ensures notices { noted self.new ≡ noted self.old };
+
+    /// Opens the file of this name for appends, as it stands, or makes an empty one. Refused where
+    /// the folder is absent or a folder or a link has this name.
+    fn open(&mut self, name: &str) -> io::Result<Self::File>
+        ensures call { open_gives self.old name.now result self.new }
+        ensures ok { IfOk result (λ file. IsTrue tells →
+            Opens name.now (content self.old) (content self.new) (body file)) }
+        ensures there { IfOk result (λ file. IsTrue tells →
+            body file < length (content self.new).bodies) }
+        ensures err { OnErr result (content self.new ≡ content self.old) }
+        ensures cause { HasCause tells (ForbidsOpen name.now (content self.old))
+            (failures self.old) (failures self.new) result }
+        ensures notices { noted self.new ≡ noted self.old };
+
+    /// Makes the folder itself. One that is there stays as it is, which is no fault.
+    fn make_folder(&mut self) -> io::Result<()>
+        ensures call { make_folder_gives self.old result self.new }
+        ensures ok { OnOk result (IsTrue tells → content self.new ≡ made (content self.old)) }
+        ensures err { OnErr result (content self.new ≡ content self.old) }
+        ensures cause { HasCause tells ⊥ (failures self.old) (failures self.new) result }
+        ensures notices { noted self.new ≡ noted self.old };
+
+    /// Takes a link away. Refused where the folder is absent or no link has this name; for want of
+    /// memory only where `failures` counted it too.
+    fn remove_link(&mut self, name: &str) -> io::Result<()>
+        ensures call { remove_link_gives self.old name.now result self.new }
+        ensures ok { OnOk result (IsTrue tells →
+            RemovesLink name.now (content self.old) (content self.new)) }
+        ensures err { OnErr result (content self.new ≡ content self.old) }
+        ensures cause { HasCause tells (ForbidsRemoveLink name.now (content self.old))
+            (failures self.old) (failures self.new) result }
+        ensures memory { OnErr result (HasRisen (failures self.old) (failures self.new)
+            ⊎ (IsTrue tells × ForbidsRemoveLink name.now (content self.old))) }
+        ensures notices { noted self.new ≡ noted self.old };
+
+    /// Makes a link of this name to a target, whatever that names. Refused where the folder is
+    /// absent or the name is in use.
+    fn make_link(&mut self, name: &str, target: &str) -> io::Result<()>
+        ensures call { make_link_gives self.old name.now target.now result self.new }
+        ensures ok { OnOk result (IsTrue tells →
+            MakesLink name.now target.now (content self.old) (content self.new)) }
+        ensures err { OnErr result (content self.new ≡ content self.old) }
+        ensures cause { HasCause tells (ForbidsMakeLink name.now (content self.old))
+            (failures self.old) (failures self.new) result }
+        ensures notices { noted self.new ≡ noted self.old };
+
+    /// Adds bytes at the end of an open file of this folder, and answers how many: the first of
+    /// them, and no others.
+    fn append(&mut self, file: &mut Self::File, bytes: &[u8]) -> io::Result<usize>
+        requires { IsTrue tells → body file.old < length (content self.old).bodies }
+        ensures call { append_gives self.old file.old bytes.now result self.new file.new }
+        ensures bound { IfOk result (λ n. n ≤ length bytes.now) }
+        ensures ok { IfOk result (λ n. IsTrue tells →
+            content self.new ≡ appended (content self.old) (body file.old) (take n bytes.now)) }
+        ensures err { OnErr result (content self.new ≡ content self.old) }
+        ensures file { body file.new ≡ body file.old }
+        ensures cause { HasCause tells ⊥ (failures self.old) (failures self.new) result }
+        ensures notices { noted self.new ≡ noted self.old };
+
+    /// Hands on what an open file of this folder still holds back.
+    fn flush(&mut self, file: &mut Self::File) -> io::Result<()>
+        ensures call { flush_gives self.old file.old result self.new file.new }
+        ensures content { content self.new ≡ content self.old }
+        ensures file { body file.new ≡ body file.old }
+        ensures cause { HasCause tells ⊥ (failures self.old) (failures self.new) result }
+        ensures notices { noted self.new ≡ noted self.old };
+
+    /// Tells a fault that the appender goes on after.
+    fn note(&mut self, notice: Notice<'_>)
+        ensures call { note_gives self.old (noted_by notice.entry) self.new }
+        ensures content { content self.new ≡ content self.old }
+        ensures failures { failures self.new ≡ failures self.old }
+        ensures notices { noted self.new ≡
+            counted (kind_of (noted_by notice.entry)) (noted self.old) };
+
+    /// How often a call has failed by itself, modulo 2^64. A call that the content forbids, or that
+    /// finds no memory, counts only where it failed by itself too.
+    fn failures(&self) -> u64
+        ensures { result ≡ failures self.now };
+
+    /// The count is of 64 bits.
+    ghost failures_fit: { (folder : Self) → failures folder < 2 ^ 64 };
+
+    /// So is that of each kind of notice.
+    ghost noted_fit: { (folder : Self) → AreCounts (noted folder) };
+
+    /// Each file's name leads to a body that is there, and no body has two names.
+    ghost sound: { (folder : Self) → IsTrue tells → IsSound (content folder) };
+}
+
+#[cfg(test)]
+mod tests;

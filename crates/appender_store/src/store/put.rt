@@ -1,0 +1,70 @@
+// What may be put into a folder in memory, and why not.
+ghost use Rattle.std.specs.Prelude.{◌≡◌};
+ghost use Rattle.std.specs.List.{list_all};
+
+use super::entries::Item;
+use std::alloc::AllocError;
+use std::collections::BTreeMap;
+use thiserror::Error;
+
+/// Why something was not put into a folder in memory.
+#[derive(Clone, Copy, Debug, PartialEq, Eq, Error)]
+pub enum PutError {
+    /// It names no entry of one folder: it is empty, `.` or `..`, or it has a `/` or a zero byte.
+    #[error("name not allowed")]
+    Name,
+    /// The name is in use.
+    #[error("name in use")]
+    Used,
+    /// Memory was refused.
+    #[error("out of memory")]
+    Memory,
+}
+
+impl From<AllocError> for PutError {
+    ghost use Rattle.appender_store.specs.declared.store.put.PutError.TheVariants.{Memory};
+
+    ghost from_gives = { λ _ e. e ≡ Memory };
+
+    fn from(_error: AllocError) -> PutError {
+        PutError::Memory
+    }
+}
+
+impl PutError {
+    ghost use Rattle.std.specs.Prelude.{None, Some, OnOk, IfErr};
+    ghost use Rattle.appender_store.specs.MemoryEntries.{names_of};
+    ghost use Rattle.appender_store.specs.MemoryPut.{is_name_byte, is_entry_name, refusal};
+
+    // Whether something may be put under this name.
+    #[tactic(auto, using(crate::proofs::MemoryEntryLemmas::in_use))]
+    pub(crate) fn check(names: &BTreeMap<String, Item>, name: &str) -> Result<(), PutError>
+        ensures ok { OnOk result (refusal (names_of names.now) name.now ≡ None) }
+        ensures err { IfErr result (λ e. refusal (names_of names.now) name.now ≡ Some e) }
+    {
+        if !PutError::names_one_entry(name) {
+            return Err(PutError::Name);
+        }
+        if names.contains_key(name) {
+            return Err(PutError::Used);
+        }
+        Ok(())
+    }
+
+    // Whether it can name one entry of a folder.
+    fn names_one_entry(name: &str) -> bool
+        ensures { result ≡ is_entry_name name.now }
+    {
+        if name.is_empty() || name == "." || name == ".." {
+            return false;
+        }
+        PutError::has_name_bytes(name.as_bytes())
+    }
+
+    // Whether no byte separates or ends names.
+    fn has_name_bytes(bytes: &[u8]) -> bool
+        ensures { result ≡ list_all is_name_byte bytes.now }
+    {
+        bytes.iter().all(|byte| *byte != b'/' && *byte != 0)
+    }
+}

@@ -1,0 +1,14 @@
+-- The words of a line.
+use Rattle.std.specs.Prelude.{◌≡◌, ◌≢◌, ◌==◌, ◌++◌, ℕ, List, [], ◌∷◌, Option, None, Some, IsSomeAnd}
+use Rattle.std.specs.List.{before_first}
+
+-- what stands behind a word: nothing, or one space and the rest
+abbrev pub behind : Option (List ℕ) → List ℕ
+behind None = []
+behind (Some rest) = 32 ∷ rest
+
+-- a word that isn't empty was taken from what was left of a line: all up to the first space, which goes too
+pub record TakesWord (old : Option (List ℕ)) (word : List ℕ) (new : Option (List ℕ)) : Type 0 where
+  pub some : word ≢ []
+  pub first : IsSomeAnd old (λ line. word ≡ before_first (λ b. b == 32) line)
+  pub rest : IsSomeAnd old (λ line. line ≡ word ++ behind new)

@@ -1,0 +1,413 @@
+// Whole scripts, played through memory.
+use crate::play::play;
+use std::alloc::Global;
+use std::io;
+use std::io::{Read, Write};
+use std::process::Abort;
+use std::test::Fail;
+
+// Plays a script, and compares the status and both streams.
+fn check(rt: &impl Abort, alloc: Global, script: &[u8], status: u8, output: &str, errors: &str) {
+    let mut input = script;
+    let mut printed = Vec::new(alloc);
+    let mut told = Vec::new(alloc);
+    let answer = play(alloc, &mut input, &mut printed, &mut told);
+    assert_eq!(rt; told.as_slice(), errors.as_bytes(), "errors of {script:?}");
+    assert_eq!(rt;
+        printed.as_slice(),
+        output.as_bytes(),
+        "output of {script:?}"
+    );
+    assert_eq!(rt; answer, status, "status of {script:?}");
+}
+
+// Scripts whose log is opened, and what is printed.
+static PLAYED: [(&str, &str); 19] = [
+    // Arrivals an hour apart; a clock that goes back keeps the file.
+    (
+        "rotation hourly\nprefix app\nstart 1580551260\nput 1580554800 a\nput 1580554799 b\n",
+        "open app.2020-02-01-10\nopened ok 1\nnone ok 1\nfile app.2020-02-01-10 0\nfile app.2020-02-01-11 2 ab\n",
+    ),
+    // A file that is there is appended to.
+    (
+        "rotation hourly\nprefix app\nfile app.2020-02-01-10 x\nstart 1580551260\nput 1580551261 y\n",
+        "open app.2020-02-01-10\nnone ok 1\nfile app.2020-02-01-10 2 xy\n",
+    ),
+    // No rotation is never, which keeps the day of the opening as its name.
+    (
+        "start 1580551260\nput 1580724060 x",
+        "open 2020-02-01\nnone ok 1\nfile 2020-02-01 1 x\n",
+    ),
+    // The names of all rotations.
+    (
+        "rotation weekly\nprefix my_prefix\nsuffix log\nstart 1739786460\n",
+        "open my_prefix.2025-02-16.log\nfile my_prefix.2025-02-16.log 0\n",
+    ),
+    (
+        "rotation daily\nprefix my_prefix\nsuffix log\nstart 1739786460\n",
+        "open my_prefix.2025-02-17.log\nfile my_prefix.2025-02-17.log 0\n",
+    ),
+    (
+        "rotation hourly\nprefix my_prefix\nsuffix log\nstart 1739786460\n",
+        "open my_prefix.2025-02-17-10.log\nfile my_prefix.2025-02-17-10.log 0\n",
+    ),
+    (
+        "rotation minutely\nprefix my_prefix\nsuffix log\nstart 1739786460\n",
+        "open my_prefix.2025-02-17-10-01.log\nfile my_prefix.2025-02-17-10-01.log 0\n",
+    ),
+    (
+        "rotation never\nprefix my_prefix\nsuffix log\nstart 1739786460\n",
+        "open my_prefix.log\nfile my_prefix.log 0\n",
+    ),
+    // Each step's answer.
+    (
+        "rotation hourly\nprefix app\nstart 1580551260\nsee 1580551261\nwrite ab\nwrite\nput 1580551262\nflush\nsee 1580554800\n",
+        "open app.2020-02-01-10\nnone\nok 2\nok 0\nnone ok 0\nok\nopened\nfile app.2020-02-01-10 2 ab\nfile app.2020-02-01-11 0\n",
+    ),
+    // A switch that fails keeps the file, and isn't tried again in the same hour.
+    (
+        "rotation hourly\nprefix app\nfolder app.2020-02-01-11\nstart 1580551260\nput 1580554800 a\nsee 1580554801\nsee 1580558400\n",
+        "open app.2020-02-01-10\nfailed ok 1\nnone\nopened\nfile app.2020-02-01-10 1 a\nfolder app.2020-02-01-11\nfile app.2020-02-01-12 0\n",
+    ),
+    // Escapes stand for a newline and a backslash, and are printed again.
+    (
+        "prefix app\nfile notes a\\nb\\\\c\nstart 0\nwrite \\\\n\\n\nput 0 \\n\n",
+        "open app\nok 3\nnone ok 1\nfile app 4 \\\\n\\n\\n\nfile notes 5 a\\nb\\\\c\n",
+    ),
+    ("prefix a\\\\b\nstart 0\n", "open a\\b\nfile a\\b 0\n"),
+    // A backslash in a file's name stands for itself.
+    (
+        "prefix app\nfile a\\n x\nfolder b\\\nstart 0\n",
+        "open app\nfile a\\n 1 x\nfile app 0\nfolder b\\\n",
+    ),
+    // Names in byte order, empty files without a space behind the length.
+    (
+        "prefix app\nfile b\nfile B \nfolder \u{e4}\nfile a 1\nstart 0\n",
+        "open app\nfile B 0\nfile a 1 1\nfile app 0\nfile b 0\nfolder \u{e4}\n",
+    ),
+    // The last of several lines holds, and an empty text is none.
+    (
+        "rotation daily\nrotation never\nprefix a\nprefix\nsuffix b\nsuffix log\nstart 0\n",
+        "open log\nfile log 0\n",
+    ),
+    ("prefix \nsuffix log\nstart 0\n", "open log\nfile log 0\n"),
+    // Further spaces, tabs and carriage returns belong to the text, and so does a byte of zero.
+    (
+        "prefix app\nstart 0\nput 5  a\nwrite b \nwrite \t\u{e4}\u{20ac}\r\nwrite \0\n",
+        "open app\nnone ok 2\nok 2\nok 7\nok 1\nfile app 12  ab \t\u{e4}\u{20ac}\r\0\n",
+    ),
+    // Numbers may begin with zeros, and lie before 1970.
+    ("start -0001\n", "open 1969-12-31\nfile 1969-12-31 0\n"),
+    (
+        "prefix app\nstart 0000001580551260\nsee 9223372036854775807\nsee -9223372036854775808\n",
+        "open app\nnone\nnone\nfile app 0\n",
+    ),
+];
+
+#[test]
+fn plays(rt: HostRuntime) {
+    for (script, output) in &PLAYED {
+        check(&rt, rt.alloc(), script.as_bytes(), 0, output, "");
+    }
+}
+
+// Scripts whose log is not opened, and what is printed.
+static REFUSED: [(&str, &str); 8] = [
+    (
+        "rotation hourly\nprefix a/b\nstart 1580551260\n",
+        "init error 5\n",
+    ),
+    ("suffix a\0\nstart 1580551260\n", "init error 5\n"),
+    ("prefix ..\nstart 1580551260\n", "init error 5\n"),
+    // The name comes before the moment.
+    ("prefix /\nstart 253370764800\n", "init error 5\n"),
+    ("prefix app\nstart 253370764800\n", "init error 4\n"),
+    ("prefix app\nstart -62135596801\n", "init error 4\n"),
+    // The folder is printed, and no step is run.
+    (
+        "prefix app\nfolder sub\nfile a b\nstart 253370764800\nwrite x\n",
+        "init error 4\nfile a 1 b\nfolder sub\n",
+    ),
+    (
+        "prefix app\nfolder app\nstart 1580551260\nflush\n",
+        "init error 2\nfolder app\n",
+    ),
+];
+
+#[test]
+fn tells_why_nothing_is_opened(rt: HostRuntime) {
+    for (script, output) in &REFUSED {
+        check(&rt, rt.alloc(), script.as_bytes(), 1, output, "");
+    }
+}
+
+// Scripts and their first faulty lines.
+static FAULTY: [(&str, usize); 84] = [
+    // No `start`.
+    ("", 1),
+    ("prefix app\n", 2),
+    ("prefix app\nfile a", 3),
+    // The order of lines.
+    ("start 0\nstart 0\n", 2),
+    ("see 0\nstart 0\n", 1),
+    ("prefix app\nflush\nstart 0\n", 2),
+    ("start 0\nprefix app\n", 2),
+    ("start 0\nflush\nfile a x\nflush\n", 3),
+    ("start 0\nrotation never\n", 2),
+    // The first of several.
+    ("prefix app\nrotation yearly\nnonsense\n", 2),
+    ("file a x\nfile a y\nrotation yearly\n", 2),
+    ("start 0\nwrite \\x\nprefix app\n", 2),
+    // Words and the spaces between them.
+    ("rotation yearly", 1),
+    ("rotation Hourly\nstart 0\n", 1),
+    ("rotation\nstart 0\n", 1),
+    ("rotation  hourly\nstart 0\n", 1),
+    ("rotation hourly \nstart 0\n", 1),
+    ("rotation hourly daily\nstart 0\n", 1),
+    (" start 0\n", 1),
+    ("start 0 \n", 1),
+    ("start\t0\n", 1),
+    ("start 0\r\n", 1),
+    ("START 0\n", 1),
+    ("prefixes app\nstart 0\n", 1),
+    ("\u{feff}start 0\n", 1),
+    ("start 0\nflush \n", 2),
+    ("start 0\nflush now\n", 2),
+    ("start 0\nflush\r\n", 2),
+    ("start 0\nput\n", 2),
+    ("start 0\nput  0 a\n", 2),
+    ("start 0\nput a\n", 2),
+    ("start 0\nsee\n", 2),
+    ("start 0\nsee 0 \n", 2),
+    ("start 0\nsee 0 0\n", 2),
+    // Empty lines.
+    ("\nstart 0\n", 1),
+    ("prefix app\n\nstart 0\n", 2),
+    ("start 0\n\n", 2),
+    // Escapes.
+    ("start 0\nwrite a\\x\n", 2),
+    ("start 0\nwrite a\\\n", 2),
+    ("start 0\nput 0 \\\\\\\n", 2),
+    ("start 0\nwrite \\ \n", 2),
+    ("start 0\nwrite \\\u{e4}\n", 2),
+    ("prefix \\t\nstart 0\n", 1),
+    ("suffix \\N\nstart 0\n", 1),
+    ("file a \\0\nstart 0\n", 1),
+    // Numbers.
+    ("start\n", 1),
+    ("start \n", 1),
+    ("start +5\n", 1),
+    ("start -0\n", 1),
+    ("start -00\n", 1),
+    ("start -\n", 1),
+    ("start --5\n", 1),
+    ("start 5-\n", 1),
+    ("start 1_0\n", 1),
+    ("start 0x5\n", 1),
+    ("start 1.0\n", 1),
+    ("start \u{664}\n", 1),
+    ("start 9223372036854775808\n", 1),
+    ("start -9223372036854775809\n", 1),
+    // Names.
+    ("file\nstart 0\n", 1),
+    ("file  x\nstart 0\n", 1),
+    ("file a/b x\nstart 0\n", 1),
+    ("file . x\nstart 0\n", 1),
+    ("file .. x\nstart 0\n", 1),
+    ("file a\0b x\nstart 0\n", 1),
+    ("folder\nstart 0\n", 1),
+    ("folder a \nstart 0\n", 1),
+    ("folder a b\nstart 0\n", 1),
+    ("folder /\nstart 0\n", 1),
+    ("folder a\nfile a x\nstart 0\n", 2),
+    ("file a x\nfile b x\nfolder a\nstart 0\n", 3),
+    // Lines that are not known yet.
+    ("absent\nstart 0\n", 1),
+    ("link latest\nstart 0\n", 1),
+    ("max 2\nstart 0\n", 1),
+    ("created none\nstart 0\n", 1),
+    ("link-at a b\nstart 0\n", 1),
+    ("fail 1\nstart 0\n", 1),
+    ("short 1 1\nstart 0\n", 1),
+    ("queue 1 lossy\nstart 0\n", 1),
+    ("start 0\noffer 1 a\n", 2),
+    ("start 0\nshut\n", 2),
+    ("start 0\nadd\n", 2),
+    ("start 0\ndrop\n", 2),
+    ("start 0\nwork 0\n", 2),
+];
+
+#[test]
+fn tells_the_first_faulty_line(rt: HostRuntime) -> Result<(), Fail> {
+    for (script, line) in &FAULTY {
+        let told = format!(in rt.alloc(); "line {line}: fault\n")?;
+        check(&rt, rt.alloc(), script.as_bytes(), 2, "", told.as_str());
+    }
+    Ok(())
+}
+
+// The longest script that is taken, in bytes.
+const LONGEST: usize = 1_048_576;
+
+// A script of that many bytes, which sets a long prefix and then another.
+fn long_script(rt: &impl Abort, alloc: Global, length: usize) -> Result<Vec<u8>, Fail> {
+    let end = b"\nprefix app\nstart 0\n";
+    let mut script = Vec::with_capacity(alloc, length)?;
+    script.extend_from_slice(b"prefix ")?;
+    assert!(rt; length >= 27);
+    script.resize(length - end.len(), b'a')?;
+    script.extend_from_slice(end)?;
+    assert_eq!(rt; script.len(), length);
+    Ok(script)
+}
+
+#[test]
+fn refuses_what_is_no_text_or_too_long(rt: HostRuntime) -> Result<(), Fail> {
+    let alloc = rt.alloc();
+    check(&rt, alloc, b"start 0\nwrite \xff\n", 2, "", "bad script\n");
+    check(&rt, alloc, b"nonsense\n\xc3", 2, "", "bad script\n");
+    let script = long_script(&rt, alloc, LONGEST)?;
+    check(
+        &rt,
+        alloc,
+        script.as_slice(),
+        0,
+        "open app\nfile app 0\n",
+        "",
+    );
+    let script = long_script(&rt, alloc, LONGEST + 1)?;
+    check(&rt, alloc, script.as_slice(), 2, "", "bad script\n");
+    Ok(())
+}
+
+// A reader that gives a few bytes, fails once, and then gives the rest.
+#[derive(Drop)]
+struct Stumbling<'a> {
+    before: &'a [u8],
+    fault: Option<io::ErrorKind>,
+    after: &'a [u8],
+}
+
+impl Read for Stumbling<'_> {
+    fn read(&mut self, buf: &mut [u8]) -> io::Result<usize> {
+        if !self.before.is_empty() {
+            return self.before.read(buf);
+        }
+        if let Some(kind) = self.fault.take() {
+            return Err(io::Error::from(kind));
+        }
+        self.after.read(buf)
+    }
+}
+
+#[test]
+fn tells_a_read_that_fails(rt: HostRuntime) {
+    let alloc = rt.alloc();
+    for (fault, status, output, errors) in [
+        (
+            io::ErrorKind::Interrupted,
+            0,
+            "open app\nok 1\nfile app 1 a\n",
+            "",
+        ),
+        (io::ErrorKind::Other, 2, "", "read failed\n"),
+        (io::ErrorKind::OutOfMemory, 3, "", "no memory\n"),
+    ] {
+        let mut input = Stumbling {
+            before: b"prefix app\nsta",
+            fault: Some(fault),
+            after: b"rt 0\nwrite a\n",
+        };
+        let mut printed = Vec::new(alloc);
+        let mut told = Vec::new(alloc);
+        let answer = play(alloc, &mut input, &mut printed, &mut told);
+        assert_eq!(rt; told.as_slice(), errors.as_bytes());
+        assert_eq!(rt; printed.as_slice(), output.as_bytes());
+        assert_eq!(rt; answer, status);
+    }
+}
+
+// A reader without an end, and how many bytes it gave.
+#[derive(Drop)]
+struct Endless {
+    given: usize,
+}
+
+impl Read for Endless {
+    fn read(&mut self, buf: &mut [u8]) -> io::Result<usize> {
+        buf.fill(b'a');
+        self.given = self.given.saturating_add(buf.len());
+        Ok(buf.len())
+    }
+}
+
+#[test]
+fn reads_one_byte_behind_the_longest_script(rt: HostRuntime) {
+    let alloc = rt.alloc();
+    let mut input = Endless { given: 0 };
+    let mut printed = Vec::new(alloc);
+    let mut told = Vec::new(alloc);
+    let answer = play(alloc, &mut input, &mut printed, &mut told);
+    assert_eq!(rt; answer, 2);
+    assert_eq!(rt; told.as_slice(), b"bad script\n".as_slice());
+    assert_eq!(rt; input.given, LONGEST + 1);
+}
+
+// A writer that takes a number of bytes, and then no more.
+#[derive(Drop)]
+struct Narrow {
+    room: usize,
+    flushes: bool,
+}
+
+impl Write for Narrow {
+    fn write(&mut self, buf: &[u8]) -> io::Result<usize> {
+        if self.room == 0 && !buf.is_empty() {
+            return Err(io::Error::from(io::ErrorKind::Other));
+        }
+        let taken = self.room.min(buf.len());
+        self.room -= taken;
+        Ok(taken)
+    }
+
+    fn flush(&mut self) -> io::Result<()> {
+        if self.flushes {
+            Ok(())
+        } else {
+            Err(io::Error::from(io::ErrorKind::Other))
+        }
+    }
+}
+
+#[test]
+fn answers_where_a_stream_takes_no_more(rt: HostRuntime) {
+    let alloc = rt.alloc();
+    // What is printed has 20 bytes.
+    for (script, room, flushes, status) in [
+        ("prefix app\nstart 0\n", 20, true, 0),
+        ("prefix app\nstart 0\n", 19, true, 2),
+        ("prefix app\nstart 0\n", 20, false, 2),
+        ("prefix /\nstart 0\n", 0, true, 2),
+    ] {
+        let mut output = Narrow { room, flushes };
+        let mut told = Vec::new(alloc);
+        let mut input = script.as_bytes();
+        assert_eq!(rt;
+            play(alloc, &mut input, &mut output, &mut told),
+            status,
+            "{room} of {script}"
+        );
+        assert!(rt; told.is_empty(), "{room} of {script}");
+    }
+    for room in [0, 5, 14] {
+        let mut errors = Narrow {
+            room,
+            flushes: false,
+        };
+        let mut printed = Vec::new(alloc);
+        let mut input = b"nonsense\n".as_slice();
+        assert_eq!(rt; play(alloc, &mut input, &mut printed, &mut errors), 2);
+        assert!(rt; printed.is_empty());
+    }
+}

@@ -1,0 +1,155 @@
+//! A line of a script, word by word.
+ghost use Rattle.std.specs.Prelude.{◌≡◌, ◌↔◌, ◌<◌, ◌∷◌, ◌++◌, ◌==◌, ℕ, List, [], None, Some, IfOk, IfSome, IsOk, string_bytes, unwrap_or};
+ghost use Rattle.std.specs.Option.{option_map};
+ghost use Rattle.std.specs.List.{before_first};
+ghost use Rattle.rollplay.specs.Line.{behind, TakesWord};
+ghost use Rattle.rollplay.specs.Text.{escape_of, IsEscaped, IsSignOf};
+
+use std::alloc::{AllocError, Global};
+use std::marker::Model;
+use tracing_appender::store::PutError;
+
+/// Why a line of a script was not taken.
+#[derive(Clone, Copy, Debug, PartialEq, Eq)]
+pub enum LineError {
+    /// It is no line of the language, or none for its place.
+    Fault,
+    /// Memory was refused.
+    Memory,
+}
+
+impl From<AllocError> for LineError {
+    ghost use Rattle.rollplay.specs.declared.words.LineError.TheVariants.{Memory};
+
+    ghost from_gives = { λ _ e. e ≡ Memory };
+
+    fn from(_error: AllocError) -> LineError {
+        LineError::Memory
+    }
+}
+
+impl From<PutError> for LineError {
+    fn from(error: PutError) -> LineError {
+        match error {
+            PutError::Name | PutError::Used => LineError::Fault,
+            PutError::Memory => LineError::Memory,
+        }
+    }
+}
+
+/// What is left of a line: what stands behind one space, or `None` where no space came.
+#[derive(Drop)]
+pub struct Words<'a> {
+    rest: Option<&'a str>,
+}
+
+impl<'a> Model for Words<'a> {
+    ghost use Rattle.std.specs.Prelude.{Option, List, ℕ};
+    ghost use Rattle.std.specs.Option.{option_map};
+
+    ghost Value = { Option (List ℕ) };
+
+    ghost view = { λ w. option_map (λ rest. rest.now) w.rest };
+}
+
+impl<'a> Words<'a> {
+    /// A whole line, without its newline.
+    pub fn new(line: &'a str) -> Words<'a>
+        ensures { result ≡ Some line.now }
+    {
+        Words { rest: Some(line) }
+    }
+
+    /// The next word, which is not empty. Words stand apart by one space each.
+    pub fn word(&mut self) -> Result<&'a str, LineError>
+        ensures { IfOk result (λ word. TakesWord self.old word.now self.new) }
+    {
+        let line = self.rest.ok_or(LineError::Fault)?;
+        let (word, rest) = split_word(line);
+        if word.is_empty() {
+            return Err(LineError::Fault);
+        }
+        self.rest = rest;
+        Ok(word)
+    }
+
+    /// The next word as a moment, in seconds of UTC since the epoch.
+    pub fn seconds(&mut self) -> Result<i64, LineError>
+        ensures { IfOk result (λ seconds.
+            (word : List ℕ) × TakesWord self.old word self.new × IsSignOf word seconds) }
+    {
+        read_seconds(self.word()?).ok_or(LineError::Fault)
+    }
+
+    /// All that is left, spaces too, with its escapes resolved; empty where nothing is left.
+    pub fn text(&mut self, alloc: Global) -> Result<String, LineError>
+        ensures all { self.new ≡ None }
+        ensures text { IfOk result (λ plain. IsEscaped (unwrap_or self.old []) (string_bytes plain)) }
+    {
+        let text = self.rest.take().unwrap_or("");
+        unescape(alloc, text)
+    }
+
+    /// Whether the line ends here, without a space.
+    pub fn end(&self) -> Result<(), LineError>
+        ensures { IsOk result ↔ (self.now ≡ None) }
+    {
+        match self.rest {
+            None => Ok(()),
+            Some(_) => Err(LineError::Fault),
+        }
+    }
+}
+
+// What stands before the first space, and what behind it.
+fn split_word(line: &str) -> (&str, Option<&str>)
+    ensures word { result.0.now ≡ before_first (λ b. b == 32) line.now }
+    ensures join { line.now ≡ result.0.now ++ behind (option_map (λ rest. rest.now) result.1) }
+{
+    match line.split_once(' ') {
+        Some((word, rest)) => (word, Some(rest)),
+        None => (line, None),
+    }
+}
+
+// A decimal number, whose `-` stands before the negative ones alone.
+fn read_seconds(word: &str) -> Option<i64>
+    ensures { IfSome result (IsSignOf word.now) }
+{
+    if word.starts_with('+') {
+        return None;
+    }
+    let seconds = word.parse::<i64>().ok()?;
+    if word.starts_with('-') != (seconds < 0) {
+        return None;
+    }
+    Some(seconds)
+}
+
+// The text with a newline for each `\n` and a backslash for each `\\`; any other backslash is a fault.
+fn unescape(alloc: Global, text: &str) -> Result<String, LineError>
+    ensures { IfOk result (λ plain. IsEscaped text.now (string_bytes plain)) }
+{
+    let mut plain = String::with_capacity(alloc, text.len())?;
+    let mut rest = text;
+    while let Some((before, after)) = rest.split_once('\\') {
+        plain.push_str(before)?;
+        let (character, behind) = split_escape(after).ok_or(LineError::Fault)?;
+        plain.push(character)?;
+        rest = behind;
+    }
+    plain.push_str(rest)?;
+    Ok(plain)
+}
+
+// The character that is escaped at the start of a text, and what stands behind it.
+fn split_escape(text: &str) -> Option<(char, &str)>
+    ensures byte { IfSome result (λ r. r.0 < 128) }
+    ensures split { IfSome result (λ r. 92 ∷ text.now ≡ escape_of r.0 ++ r.1.now) }
+{
+    if let Some(behind) = text.strip_prefix('n') {
+        return Some(('\n', behind));
+    }
+    let behind = text.strip_prefix('\\')?;
+    Some(('\\', behind))
+}

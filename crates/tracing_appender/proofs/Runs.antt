@@ -1,0 +1,110 @@
+-- A run of steps over a roller keeps to the laws of the clock and of the files.
+use Rattle.std.proofs.Common.{◌≡◌, ℕ, suc, ◌+◌, ◌<◌, ◌≤◌, ℤ, Bool, true, false, List, [], ◌∷◌, ◌++◌, length, map, Option, None, Some, IsTrue, arith, refl, ap, sym, ◌∙◌, subst}
+use Rattle.appender_names.specs.declared.rotation.Rotation.{Rotation}
+use Rattle.appender_store.specs.declared.store.Folder.{Ghosts}
+use Rattle.appender_names.specs.Rotation.{IsMoment, next_of}
+use Rattle.appender_store.specs.Content.{Content, appended, Opens}
+use Rattle.tracing_appender.specs.Config.{Config}
+use Rattle.tracing_appender.specs.Roller.{Rolling, Sees, OpensRoller, SwitchesFile, KeepsFile, file_name_of}
+use Rattle.tracing_appender.specs.Run.{Event, latest, period_at, arrives, is_switch, FileLaw, SwitchesAtArrivals}
+use Rattle.tracing_appender.specs.Replay.{Told, Runs, StepDoes, event_of, told_onto}
+use Rattle.tracing_appender.specs.declared.rolling.Switch.{Switch}
+use Rattle.tracing_appender.specs.declared.rolling.Switch.TheVariants.{None as Stayed, Opened as Switched, Failed as SwitchFailed}
+use Rattle.tracing_appender.specs.declared.replay.RollStep.{RollStep}
+use Rattle.tracing_appender.specs.declared.replay.RollReply.{RollReply}
+use Rattle.tracing_appender.proofs.Periods.{Laws, IsLater}
+use Rattle.tracing_appender.proofs.Turns.{Looks, Turns, step_turns}
+use Rattle.tracing_appender.proofs.Clocks.{ClockSoFar, Turn, turn, Decides, due_by, clock_begins, clock_goes_on, turn_decides, turn_keeps}
+use Rattle.tracing_appender.proofs.Files.{FilesSoFar, Between, no_attempt, a_failure, a_success, a_piece, files_begin}
+
+-- the law of the files for a roller
+abbrev pub Holds : {S F : Type 0} → Ghosts S F → Config → ℤ → List Event → Content → Rolling S F → Type 0
+Holds kind config start h first now = FilesSoFar config.rotation (file_name_of config) start h first (kind.content now.folder) now.opened (kind.body now.file)
+
+abbrev HoldsBetween : {S F : Type 0} → Ghosts S F → Config → ℤ → Event → List Event → Content → Rolling S F → Type 0
+HoldsBetween kind config start e h first now = Between config.rotation (file_name_of config) start e h first (kind.content now.folder) now.opened (kind.body now.file)
+
+-- What a step does to the latest moment, by its switch.
+record Comes (r : Rotation) (start : ℤ) (e : Event) (h : List Event) : Type 0 where
+  stays : is_switch e.switch ≡ false → (arrives r start e h ≡ false) × (period_at r start (e ∷ h) ≡ period_at r start h)
+  goes : is_switch e.switch ≡ true → (arrives r start e h ≡ true) × IsLater (period_at r start h) (period_at r start (e ∷ h)) × (e.read ≡ Some (latest start (e ∷ h)))
+
+comes : (r : Rotation) (start : ℤ) (e : Event) (h : List Event) (old new : Option ℤ) → Laws r → ClockSoFar r start h old → Decides r e old new → Comes r start e h
+comes r start e h old new laws so decides =
+    let t = turn r start e h laws so.in_range in
+    let due : is_switch e.switch ≡ due_by (next_of r (latest start h)) e.read = decides.switches ∙ ap (λ b. due_by b e.read) so.boundary_is in
+    record {
+      stays = λ is. let no = sym due ∙ is in (t.arrived ∙ no, t.stays no);
+      goes = λ is. let now = sym due ∙ is in (t.arrived ∙ now, t.goes now, t.is_it now);
+    }
+
+same_moment : (a b : ℤ) → ◌≡◌ {A = Option ℤ} (Some a) (Some b) → a ≡ b
+same_moment a b e = cc
+
+-- after the look at the clock
+looked : {S F : Type 0} (kind : Ghosts S F) (config : Config) (start : ℤ) (read : Option ℤ) (switch : Switch) (piece : List ℕ) (h : List Event) (first : Content) (old now : Rolling S F) → IsTrue kind.tells → Laws config.rotation → IsMoment start → Comes config.rotation start (record { read = read; switch = switch; piece = piece }) h → old.config ≡ config → Holds kind config start h first old → Looks kind read switch old now → HoldsBetween kind config start (record { read = read; switch = switch; piece = piece }) h first now
+looked kind config start None switch piece h first old now tells laws g come same so (stayed, is) =
+    let e : Event = record { read = None; switch = switch; piece = piece } in
+    let no = come.stays (ap is_switch stayed) in
+    rw is (no_attempt config.rotation (file_name_of config) start e h first (kind.content old.folder) old.opened (kind.body old.file) no.0 no.1 so)
+looked kind config start (Some m) Stayed piece h first old now tells laws g come same so sees =
+    let e : Event = record { read = Some m; switch = Stayed; piece = piece } in
+    let no = come.stays refl in
+    rw sees.1 (no_attempt config.rotation (file_name_of config) start e h first (kind.content old.folder) old.opened (kind.body old.file) no.0 no.1 so)
+looked kind config start (Some m) Switched piece h first old now tells laws g come same so sees =
+    let e : Event = record { read = Some m; switch = Switched; piece = piece } in
+    let is = come.goes refl in
+    let it : m ≡ latest start (e ∷ h) = same_moment m (latest start (e ∷ h)) is.2 in
+    let opens : Opens (file_name_of config (latest start (e ∷ h))) (kind.content old.folder) (kind.content now.folder) (kind.body now.file) =
+    rw (sees.content, ← it, ← same) (sees.gets.opens tells) in
+    let there : kind.body now.file < length (kind.content now.folder).bodies = rw sees.content (sees.gets.body_is_there tells) in
+    subst (λ (x : ℤ). Between config.rotation (file_name_of config) start e h first (kind.content now.folder) x (kind.body now.file)) (sym (sees.opened ∙ it))
+    (a_success config.rotation (file_name_of config) start e h first (kind.content old.folder) (kind.content now.folder) old.opened (kind.body old.file) (kind.body now.file) laws g is.0 is.1 refl so opens there)
+looked kind config start (Some m) SwitchFailed piece h first old now tells laws g come same so sees =
+    let e : Event = record { read = Some m; switch = SwitchFailed; piece = piece } in
+    let is = come.goes refl in
+    rw (sees.content, sees.opened, sees.file)
+    (a_failure config.rotation (file_name_of config) start e h first (kind.content old.folder) old.opened (kind.body old.file) is.0 refl so)
+
+-- after its piece
+turned : {S F : Type 0} (kind : Ghosts S F) (config : Config) (start : ℤ) (e : Event) (h : List Event) (first : Content) (old new : Rolling S F) → IsTrue kind.tells → Laws config.rotation → IsMoment start → Comes config.rotation start e h → old.config ≡ config → Holds kind config start h first old → Turns kind e old new → Holds kind config start (e ∷ h) first new
+turned kind config start e h first old new tells laws g come same so t =
+    let between = looked kind config start e.read e.switch e.piece h first old t.between tells laws g come same so t.looks in
+    rw (t.content tells, t.stays.opened, t.stays.file)
+    (a_piece config.rotation (file_name_of config) start e h first (kind.content t.between.folder) t.between.opened (kind.body t.between.file) between)
+
+-- What is known after a run.
+pub record RunSoFar {S F : Type 0} (kind : Ghosts S F) (config : Config) (start : ℤ) (h : List Event) (first : S) (now : Rolling S F) : Type 0 where
+  pub config_is : now.config ≡ config
+  pub clock : ClockSoFar config.rotation start h now.boundary
+  pub files : IsTrue kind.tells → Holds kind config start h (kind.content first) now
+
+run_begins : {S F : Type 0} (kind : Ghosts S F) (config : Config) (start : ℤ) (first : S) (now : Rolling S F) → OpensRoller kind config start first now → RunSoFar kind config start [] first now
+run_begins kind config start first now o = record {
+  config_is = o.config_is;
+  clock = clock_begins config.rotation start now.boundary o.in_range o.boundary;
+  files = λ tells. rw o.opened (files_begin config.rotation (file_name_of config) start (kind.content first) (kind.content now.folder) (kind.body now.file) (o.gets.opens tells) (o.gets.body_is_there tells));
+}
+
+run_goes_on : {S F : Type 0} (kind : Ghosts S F) (config : Config) (start : ℤ) (t : Told) (h : List Event) (first : S) (old new : Rolling S F) → Laws config.rotation → IsMoment start → RunSoFar kind config start h first old → StepDoes kind t old new → RunSoFar kind config start (event_of t ∷ h) first new
+run_goes_on kind config start t h first old new laws g so does =
+    let turns = step_turns kind t old new does in
+    let decides = subst (λ (c : Config). Decides c.rotation (event_of t) old.boundary new.boundary) so.config_is (turn_decides kind (event_of t) old new turns) in
+    record {
+      config_is = turn_keeps kind (event_of t) old new turns ∙ so.config_is;
+      clock = clock_goes_on config.rotation start h (event_of t) old.boundary new.boundary laws so.clock decides;
+      files = λ tells. turned kind config start (event_of t) h (kind.content first) old new tells laws g (comes config.rotation start (event_of t) h old.boundary new.boundary laws so.clock decides) so.config_is (so.files tells) turns;
+    }
+
+-- a run keeps to the laws
+pub run_law : {S F : Type 0} (kind : Ghosts S F) (config : Config) (start : ℤ) (told : List Told) (first : S) (opened now : Rolling S F) → Laws config.rotation → OpensRoller kind config start first opened → Runs kind told opened now → RunSoFar kind config start (map event_of told) first now
+run_law kind config start [] first opened now laws o runs = rw runs (run_begins kind config start first opened o)
+run_law kind config start (t ∷ told) first opened now laws o (between, earlier, does) =
+    run_goes_on kind config start t (map event_of told) first between now laws o.in_range (run_law kind config start told first opened between laws o earlier) does
+
+-- one more step
+pub told_more : (told : List Told) (steps : List RollStep) (replies : List RollReply) (s : RollStep) (r : RollReply) → length steps ≡ length replies → told_onto told (steps ++ s ∷ []) (replies ++ r ∷ []) ≡ (s, r) ∷ told_onto told steps replies
+told_more told [] [] s r e = refl
+told_more told [] (q ∷ replies) s r e = absurd (omega arith)
+told_more told (p ∷ steps) [] s r e = absurd (omega arith)
+told_more told (p ∷ steps) (q ∷ replies) s r e = told_more ((p, q) ∷ told) steps replies s r (omega arith)

@@ -1,0 +1,11 @@
+use Rattle.std.proofs.Common.{◌≡◌, ◌≤◌, length, take, vec_capacity}
+use Rattle.tracing_appender.specs.Roller.{OpensRoller}
+use Rattle.tracing_appender.specs.Replay.{told_of, RunsFrom}
+use Rattle.tracing_appender.proofs.replay.replay_rolling.Given as goal
+
+abbrev pub invariant-loop-step : goal.invariant-loop-step
+invariant-loop-step g l = record {
+  one_each : length l.replies.items ≡ l.step-index;
+  room : length l.steps ≤ vec_capacity l.replies;
+  runs : RunsFrom g.S.Folder l.fn.builder l.fn.start l.fn.folder (told_of (take l.step-index l.steps) l.replies.items) l.roller;
+}

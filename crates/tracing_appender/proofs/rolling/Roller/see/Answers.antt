@@ -1,0 +1,53 @@
+use Rattle.std.proofs.Common.{w64, FitsSigned, ◌≡◌, true, rules, ℤ, Option}
+use Rattle.std.proofs.lemmas.Int.{to_z-of_z}
+use Rattle.appender_names.specs.Rotation.{IsMoment}
+use Rattle.tracing_appender.specs.Roller.{LiesAhead, is_due}
+use Rattle.tracing_appender.proofs.Boundaries.{next_lies_ahead, due_is_later, ahead_of_earlier}
+use Rattle.tracing_appender.proofs.Refusals.{refuses_content}
+use Rattle.tracing_appender.proofs.rolling.Roller.see.Goals as goal
+
+pub invariant_of-self : goal.invariant_of-self
+invariant_of-self g c =
+    let fits : FitsSigned w64 c.args.moment = c.ranges.moment in
+    let next = simp to_z-of_z at c.next_date-self-inside.ensures in
+    let opened = simp to_z-of_z at c.in-Ok.ensures.ok in
+    let named = simp to_z-of_z at c.in-Ok.ensures.name in
+    let ahead : LiesAhead c.self.inside.names.rotation c.args.moment c.next_date-self-inside.result =
+    rw (← c.rotation.ensures) (next_lies_ahead _ _ _ next.none next.boundary) in
+    simp to_z-of_z (record {
+      body_is_there = λ tells. rw c.close_last.ensures.content (opened.body_is_there tells);
+      in_range = search rules;
+      name_is = named;
+      lies_ahead = ahead;
+    })
+
+pub invariant_of-self-in-Err : goal.invariant_of-self-in-Err
+invariant_of-self-in-Err g c =
+    let fits : FitsSigned w64 c.args.moment = c.ranges.moment in
+    let next = simp to_z-of_z at c.next_date-self-inside.ensures in
+    let due : is_due c.self.inside.boundary c.args.moment ≡ true = search rules in
+    let later = due_is_later _ _ _ _ c.self.invariant.lies_ahead due in
+    let ahead : LiesAhead c.self.inside.names.rotation c.args.moment c.next_date-self-inside.result =
+    rw (← c.rotation.ensures) (next_lies_ahead _ _ _ next.none next.boundary) in
+    let same = refuses_content _ _ _ _ _ c.in-Err.ensures.err in
+    record {
+      body_is_there = λ tells. rw (c.note.ensures.content, same) (c.self.invariant.body_is_there tells);
+      in_range = c.self.invariant.in_range;
+      name_is = c.self.invariant.name_is;
+      lies_ahead = ahead_of_earlier _ _ _ _ later ahead;
+    }
+
+pub returns-in-Ok : goal.returns-in-Ok
+returns-in-Ok g c =
+    let fits : FitsSigned w64 c.args.moment = c.ranges.moment in
+    let opened = simp to_z-of_z at c.in-Ok.ensures.ok in
+    rw (← c.self.view_is) (simp to_z-of_z (record {
+      due = search rules;
+      config_is = search rules;
+      opened = search rules;
+      boundary = search rules;
+      ready = c.open_file.new.folder;
+      gets = opened;
+      closes = c.close_last.ensures;
+      content = c.close_last.ensures.content;
+    }))

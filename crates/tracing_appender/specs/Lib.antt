@@ -1,0 +1,4 @@
+pub mod Config
+pub mod Roller
+pub mod Run
+pub mod Replay

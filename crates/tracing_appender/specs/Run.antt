@@ -1,0 +1,178 @@
+-- A run of an appender, read after the fact: when it switched files, and what the files hold. Steps are numbered from 1,
+-- the opening is step 0, and a history has the newest step first.
+use Rattle.std.specs.Prelude.{◌≡◌, ◌≢◌, ℕ, suc, ◌==◌, nat_le, ℤ, int_lt, Bool, true, false, not, ◌&&◌, if◌then◌else◌, List, [], ◌∷◌, ◌++◌, length, filter, map, Option, None, Some, is_some, MatchOption}
+use Rattle.std.specs.List.{filter_map}
+use Rattle.std.specs.Int.{int_max}
+use Rattle.appender_names.specs.declared.rotation.Rotation.{Rotation}
+use Rattle.appender_names.specs.Rotation.{is_moment, period_of}
+use Rattle.appender_store.specs.Content.{Content, Opens, appended, body_at}
+use Rattle.tracing_appender.specs.declared.rolling.Switch.{Switch}
+use Rattle.tracing_appender.specs.declared.rolling.Switch.TheVariants.{None as Stayed, Opened as Switched, Failed as SwitchFailed}
+
+-- One step as the files see it: the moment that it read, if it read the clock, the switch that it told, and its piece, the
+-- bytes that it offered and that were taken.
+pub record Event : Type 0 where
+  pub read : Option ℤ
+  pub switch : Switch
+  pub piece : List ℕ
+
+-- ---- the clock
+
+-- the greatest of them
+abbrev pub greatest : ℤ → List ℤ → ℤ
+greatest start [] = start
+greatest start (m ∷ ms) = int_max m (greatest start ms)
+
+-- the latest moment: the greatest of the range that was read, the opening's among them
+abbrev pub latest : ℤ → List Event → ℤ
+latest start h = greatest start (filter is_moment (filter_map (λ e. e.read) h))
+
+abbrev pub is_same : Option ℤ → Option ℤ → Bool
+is_same None None = true
+is_same None (Some b) = false
+is_same (Some a) None = false
+is_same (Some a) (Some b) = not (int_lt a b) && not (int_lt b a)
+
+-- the period of the latest moment; under NEVER there is one period, which has no start
+abbrev pub period_at : Rotation → ℤ → List Event → Option ℤ
+period_at r start h = period_of r (latest start h)
+
+-- a step arrives where it reads the clock and the latest moment comes into another period by it
+abbrev pub arrives : Rotation → ℤ → Event → List Event → Bool
+arrives r start e earlier = is_some e.read && not (is_same (period_at r start (e ∷ earlier)) (period_at r start earlier))
+
+abbrev pub is_switch : Switch → Bool
+is_switch Stayed = false
+is_switch Switched = true
+is_switch SwitchFailed = true
+
+abbrev pub is_opened : Switch → Bool
+is_opened Stayed = false
+is_opened Switched = true
+is_opened SwitchFailed = false
+
+-- a switch is told exactly where a step arrives
+abbrev pub SwitchesAtArrivals : Rotation → ℤ → List Event → Type 0
+SwitchesAtArrivals r start [] = Unit {0}
+SwitchesAtArrivals r start (e ∷ earlier) =
+    (is_switch e.switch ≡ arrives r start e earlier) × SwitchesAtArrivals r start earlier
+
+-- ---- attempts
+
+-- One attempt to open a file: at which step, for which moment, the number of the body that it opened if it succeeded, and
+-- the folder's content before and after it.
+pub record Attempt : Type 0 where
+  pub step : ℕ
+  pub moment : ℤ
+  pub opened : Option ℕ
+  pub before : Content
+  pub after : Content
+
+-- an attempt's step, moment and success
+abbrev pub Time : Type 0
+Time = ℕ × ℤ × Bool
+
+abbrev pub time_of : Attempt → Time
+time_of a = (a.step, a.moment, is_some a.opened)
+
+-- When attempts are made, and which succeed, the newest first: the opening, and one at each arrival for the latest moment.
+abbrev pub times : Rotation → ℤ → List Event → List Time
+times r start [] = (0, start, true) ∷ []
+times r start (e ∷ earlier) =
+    if arrives r start e earlier
+    then (suc (length earlier), latest start (e ∷ earlier), is_opened e.switch) ∷ times r start earlier
+    else times r start earlier
+
+-- what an attempt did: it opened the file of its moment's name, or changed nothing
+abbrev pub Tried : (ℤ → List ℕ) → Attempt → Type 0
+Tried name a = MatchOption a.opened (a.after ≡ a.before) (Opens (name a.moment) a.before a.after)
+
+-- the carrier of a step: the last attempt up to it that succeeded
+abbrev pub carrier : List Attempt → ℕ → Option Attempt
+carrier [] i = None
+carrier (a ∷ rest) i = if nat_le a.step i && is_some a.opened then Some a else carrier rest i
+
+-- ---- what is written
+
+abbrev pub passes : (Attempt → Bool) → Option Attempt → Bool
+passes test None = false
+passes test (Some a) = test a
+
+-- the pieces of all steps whose carrier passes the test, in order
+abbrev pub written_by : (Attempt → Bool) → List Attempt → List Event → List ℕ
+written_by test attempts [] = []
+written_by test attempts (e ∷ earlier) =
+    written_by test attempts earlier ++ (if passes test (carrier attempts (suc (length earlier))) then e.piece else [])
+
+-- those that attempt j carries, by its step
+abbrev pub written : ℕ → List Attempt → List Event → List ℕ
+written j = written_by (λ a. a.step == j)
+
+abbrev pub is_number : ℕ → Option ℕ → Bool
+is_number n None = false
+is_number n (Some m) = m == n
+
+-- those that go to a body, by its number
+abbrev pub written_to : ℕ → List Attempt → List Event → List ℕ
+written_to b = written_by (λ a. is_number b a.opened)
+
+-- the pieces of the steps at which the latest moment lay in this period
+abbrev pub written_in : Rotation → ℤ → Option ℤ → List Event → List ℕ
+written_in r start period [] = []
+written_in r start period (e ∷ earlier) =
+    written_in r start period earlier ++ (if is_same (period_at r start (e ∷ earlier)) period then e.piece else [])
+
+-- the pieces of the steps from number n on
+abbrev pub since : ℕ → List Event → List ℕ
+since n [] = []
+since n (e ∷ earlier) = since n earlier ++ (if nat_le n (suc (length earlier)) then e.piece else [])
+
+-- the steps before number n
+abbrev pub up_to : ℕ → List Event → List Event
+up_to n [] = []
+up_to n (e ∷ earlier) = if nat_le n (suc (length earlier)) then up_to n earlier else e ∷ earlier
+
+-- ---- the law of the files
+
+-- the body that is open after these attempts
+abbrev pub open_body : List Attempt → Option ℕ
+open_body [] = None
+open_body (a ∷ rest) = if is_some a.opened then a.opened else open_body rest
+
+-- the pieces stand at the end of the body that was open, and nothing else changed
+abbrev pub Carried : Option ℕ → List ℕ → Content → Content → Type 0
+Carried None bytes old new = new ≡ old
+Carried (Some b) bytes old new = new ≡ appended old b bytes
+
+-- The attempts lead from the first content to the last: nothing changed the folder but they, and between two of them the
+-- pieces of the steps.
+abbrev pub Leads : (ℤ → List ℕ) → List Attempt → List Event → Content → Content → Type 0
+Leads name [] h first last = last ≡ first
+Leads name (a ∷ rest) h first last =
+    Leads name rest (up_to a.step h) first a.before
+    × Tried name a
+    × Carried (open_body (a ∷ rest)) (since a.step h) a.after last
+
+-- no switch failed
+abbrev pub NoneFailed : List Event → Type 0
+NoneFailed [] = Unit {0}
+NoneFailed (e ∷ earlier) = (e.switch ≢ SwitchFailed) × NoneFailed earlier
+
+-- The law of the file that is open at the end: it holds what it held at its opening, followed by exactly the pieces that it
+-- carries. These are, unless a switch failed, the pieces of the steps at which the latest moment lay in its period.
+pub record OpenFileLaw (r : Rotation) (start : ℤ) (h : List Event) (attempts : List Attempt) (last : Content) (opened : ℤ) (b : ℕ) : Type 0 where
+  pub file : Attempt
+  pub is_carrier : carrier attempts (length h) ≡ Some file
+  pub moment : file.moment ≡ opened
+  pub body : file.opened ≡ Some b
+  pub holds : body_at last b ≡ body_at file.before b ++ written file.step attempts h
+  pub in_its_period : NoneFailed h → written file.step attempts h ≡ written_in r start (period_at r start h) h
+
+-- The law of the files of a run: every body, whether or not a name leads to it, holds what it held at first, followed by
+-- exactly what was written to it.
+pub record FileLaw (r : Rotation) (name : ℤ → List ℕ) (start : ℤ) (h : List Event) (first last : Content) (opened : ℤ) (b : ℕ) : Type 0 where
+  pub attempts : List Attempt
+  pub are_times : map time_of attempts ≡ times r start h
+  pub leads : Leads name attempts h first last
+  pub bodies : (x : ℕ) → body_at last x ≡ body_at first x ++ written_to x attempts h
+  pub open_file : OpenFileLaw r start h attempts last opened b

@@ -1,0 +1,222 @@
+//! Log files that begin anew at each boundary of a rotation.
+ghost use Rattle.std.specs.Prelude.{◌≡◌, IfOk, IfErr, IsTrue, string_bytes};
+ghost use Rattle.tracing_appender.specs.Roller.{GetsFile, Refuses, ClosesLast, file_name_of};
+ghost use Rattle.appender_names.specs.Name.{name_of};
+ghost use Rattle.appender_names.specs.Rotation.{IsMoment};
+
+mod builder;
+
+pub use appender_core::error::InitError;
+use appender_core::names::Names;
+pub use appender_core::rotation::Rotation;
+use appender_core::rotation::in_range;
+use appender_core::store::{Folder, Notice};
+pub use builder::Builder;
+use std::alloc::Global;
+use std::io;
+use std::marker::Model;
+
+/// What a look at the clock led to.
+#[derive(Clone, Copy, Debug, PartialEq, Eq)]
+pub enum Switch {
+    /// No boundary has come, and all is as it was.
+    None,
+    /// The file of the moment's period is open now.
+    Opened,
+    /// It could not be opened; the last file stays open until the next boundary.
+    Failed,
+}
+
+/// An open log file in a folder, and the second at which the next one begins.
+#[derive(Drop)]
+pub struct Roller<S: Folder> {
+    names: Names,
+    folder: S,
+    file: S::File,
+    name: String,
+    opened: i64,
+    boundary: Option<i64>,
+}
+
+impl<S: Folder> Model for Roller<S> {
+    ghost use Rattle.std.specs.Prelude.{string_bytes};
+    ghost use Rattle.tracing_appender.specs.Roller.{Rolling, IsRolling};
+
+    ghost Value = { Rolling S S.File };
+
+    ghost view = { λ r. record {
+      config = record { rotation = r.names.rotation; prefix = r.names.prefix; suffix = r.names.suffix };
+      folder = r.folder;
+      file = r.file;
+      opened = r.opened;
+      boundary = r.boundary;
+    } };
+
+    ghost invariant = { λ r. IsRolling S.Folder r.names r.folder r.file (string_bytes r.name) r.opened r.boundary };
+}
+
+// A file that was opened, and its name.
+#[derive(Drop)]
+struct Opened<F: Drop> {
+    file: F,
+    name: String,
+}
+
+// Opens the file of a moment.
+fn open_file<S: Folder>(
+    names: &Names,
+    folder: &mut S,
+    moment: i64,
+) -> Result<Opened<S::File>, InitError>
+    requires { IsMoment moment }
+    ensures name { IfOk result (λ opened. string_bytes opened.name ≡ name_of names.now moment) }
+    ensures ok { IfOk result (λ opened. GetsFile S.Folder (name_of names.now moment) folder.old opened.file folder.new) }
+    ensures err { IfErr result (λ error. Refuses S.Folder (name_of names.now moment) folder.old error folder.new) }
+{
+    let name = names.file_name(moment)?;
+    match folder.open(name.as_str()) {
+        Ok(file) => Ok(Opened { file, name }),
+        Err(fault) => Err(InitError::File(fault)),
+    }
+}
+
+// Flushes a file that gives way to the next.
+fn close_last<S: Folder>(folder: &mut S, file: &mut S::File)
+    ensures { ClosesLast S.Folder folder.old file.old folder.new }
+{
+    if let Err(fault) = folder.flush(file) {
+        folder.note(Notice::Flush(&fault));
+    }
+}
+
+impl<S: Folder> Roller<S> {
+    ghost use Rattle.std.specs.Prelude.{◌≡◌, IfOk, IfErr};
+    ghost use Rattle.tracing_appender.specs.Roller.{OpensRoller, OpensNoRoller, Sees, Writes, Puts, Flushes, LiesAhead, is_due, file_name_of};
+
+    /// Opens the file of a moment, in seconds of UTC since the epoch, and hands the folder back
+    /// where that is refused: `Name` where prefix and suffix make no names, `Moment` out of range,
+    /// `Memory` before any call, each with nothing changed, and `File` where the folder opened none.
+    pub fn open(
+        alloc: Global,
+        builder: &Builder,
+        mut folder: S,
+        moment: i64,
+    ) -> Result<Roller<S>, (InitError, S)>
+        ensures ok { IfOk result (OpensRoller S.Folder builder.now moment folder) }
+        ensures err { IfErr result (λ refused. OpensNoRoller S.Folder builder.now moment folder refused.0 refused.1) }
+    {
+        let (rotation, prefix, suffix) = (
+            builder.chosen_rotation(),
+            builder.prefix(),
+            builder.suffix(),
+        );
+        if !Names::is_allowed(rotation, prefix, suffix) {
+            return Err((InitError::Name, folder));
+        }
+        if !in_range(moment) {
+            return Err((InitError::Moment, folder));
+        }
+        let names = match Names::new(alloc, rotation, prefix, suffix) {
+            Ok(names) => names,
+            Err(error) => return Err((error, folder)),
+        };
+        match open_file(&names, &mut folder, moment) {
+            Err(error) => Err((error, folder)),
+            Ok(Opened { file, name }) => Ok(Roller {
+                names,
+                folder,
+                file,
+                name,
+                opened: moment,
+                boundary: rotation.next_date(moment),
+            }),
+        }
+    }
+
+    /// Whether a look at the clock at this moment would switch: it is in range, and at or past the
+    /// boundary.
+    pub fn due(&self, moment: i64) -> bool
+        ensures { result ≡ is_due self.now.boundary moment }
+    {
+        match self.boundary {
+            None => false,
+            Some(boundary) => in_range(moment) && moment >= boundary,
+        }
+    }
+
+    /// Looks at the clock: where a boundary has come, opens the file of the moment's period in place
+    /// of the last one. A failure is noted, and not tried again before the next boundary.
+    pub fn see(&mut self, moment: i64) -> Switch
+        ensures { Sees S.Folder moment result self.old self.new }
+    {
+        if !self.due(moment) {
+            return Switch::None;
+        }
+        self.boundary = self.names.rotation().next_date(moment);
+        match open_file(&self.names, &mut self.folder, moment) {
+            Ok(Opened { file, name }) => {
+                close_last(&mut self.folder, &mut self.file);
+                self.file = file;
+                self.name = name;
+                self.opened = moment;
+                Switch::Opened
+            }
+            Err(error) => {
+                self.folder.note(Notice::Open(&error));
+                Switch::Failed
+            }
+        }
+    }
+
+    /// Adds bytes to the open file by one append, and tells how many were taken.
+    pub fn write(&mut self, bytes: &[u8]) -> io::Result<usize>
+        ensures { Writes S.Folder bytes.now result self.old self.new }
+    {
+        self.folder.append(&mut self.file, bytes)
+    }
+
+    /// Looks at the clock, and then writes.
+    pub fn put(&mut self, moment: i64, bytes: &[u8]) -> (Switch, io::Result<usize>)
+        ensures { Puts S.Folder moment bytes.now result.0 result.1 self.old self.new }
+    {
+        let switch = self.see(moment);
+        let written = self.write(bytes);
+        (switch, written)
+    }
+
+    /// Flushes the open file.
+    pub fn flush(&mut self) -> io::Result<()>
+        ensures { Flushes S.Folder result self.old self.new }
+    {
+        self.folder.flush(&mut self.file)
+    }
+
+    /// The name of the open file.
+    pub fn open_name(&self) -> &str
+        ensures { result.now ≡ file_name_of self.now.config self.now.opened }
+    {
+        self.name.as_str()
+    }
+
+    /// The second at which the next file begins, if one does.
+    pub fn boundary(&self) -> Option<i64>
+        ensures value { result ≡ self.now.boundary }
+        ensures ahead { LiesAhead self.now.config.rotation self.now.opened result }
+    {
+        self.boundary
+    }
+
+    /// The folder.
+    pub fn folder(&self) -> &S
+        ensures { result.now ≡ self.now.folder }
+    {
+        &self.folder
+    }
+
+    /// The folder, with the open file let go.
+    pub fn into_folder(self) -> S
+        ensures { result ≡ self.folder }
+    {
+        self.folder
+    }
+}

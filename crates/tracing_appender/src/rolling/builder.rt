@@ -1,0 +1,100 @@
+//! What an appender is set up with.
+ghost use Rattle.std.specs.Prelude.{◌≡◌, IfOk};
+ghost use Rattle.tracing_appender.specs.Config.{defaults, text_of};
+
+use appender_core::rotation::Rotation;
+use std::alloc::{AllocError, Global};
+use std::marker::Model;
+
+/// What an appender is set up with: how often a new file begins, and what the files are called.
+#[derive(Debug, Drop)]
+pub struct Builder {
+    rotation: Rotation,
+    prefix: Option<String>,
+    suffix: Option<String>,
+}
+
+impl Model for Builder {
+    ghost use Rattle.tracing_appender.specs.Config.{Config, text_of};
+
+    ghost Value = { Config };
+
+    ghost view = { λ b. record { rotation = b.rotation; prefix = text_of b.prefix; suffix = text_of b.suffix } };
+}
+
+impl Builder {
+    /// One file for all time, with neither prefix nor suffix.
+    #[must_use]
+    pub fn new() -> Builder
+        ensures { result ≡ defaults }
+    {
+        Builder {
+            rotation: Rotation::NEVER,
+            prefix: None,
+            suffix: None,
+        }
+    }
+
+    /// How often a new file begins.
+    #[must_use]
+    pub fn rotation(mut self, rotation: Rotation) -> Builder
+        ensures { result ≡ record self { rotation = rotation } }
+    {
+        self.rotation = rotation;
+        self
+    }
+
+    /// What stands before the date in each name; an empty text is none. A refusal of memory drops
+    /// the builder.
+    #[must_use]
+    pub fn filename_prefix(mut self, alloc: Global, prefix: &str) -> Result<Builder, AllocError>
+        ensures { IfOk result (λ builder. builder ≡ record self { prefix = prefix.now }) }
+    {
+        self.prefix = Some(String::from_str(alloc, prefix)?);
+        Ok(self)
+    }
+
+    /// What stands behind the date in each name; an empty text is none. A refusal of memory drops
+    /// the builder.
+    #[must_use]
+    pub fn filename_suffix(mut self, alloc: Global, suffix: &str) -> Result<Builder, AllocError>
+        ensures { IfOk result (λ builder. builder ≡ record self { suffix = suffix.now }) }
+    {
+        self.suffix = Some(String::from_str(alloc, suffix)?);
+        Ok(self)
+    }
+
+    pub(crate) fn chosen_rotation(&self) -> Rotation
+        ensures { result ≡ self.now.rotation }
+    {
+        self.rotation
+    }
+
+    pub(crate) fn prefix(&self) -> &str
+        ensures { result.now ≡ self.now.prefix }
+    {
+        text(&self.prefix)
+    }
+
+    pub(crate) fn suffix(&self) -> &str
+        ensures { result.now ≡ self.now.suffix }
+    {
+        text(&self.suffix)
+    }
+}
+
+// A text that may be set.
+fn text(set: &Option<String>) -> &str
+    ensures { result.now ≡ text_of set.now }
+{
+    match set {
+        Some(text) => text.as_str(),
+        None => "",
+    }
+}
+
+impl Default for Builder {
+    fn default() -> Builder {
+        Builder::new()
+    }
+}
