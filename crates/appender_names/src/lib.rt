@@ -6,6 +6,5 @@ pub mod error;
 pub mod laws;
 pub mod names;
 pub mod rotation;
-
 #[cfg(test)]
 mod tests;

@@ -1,8 +1,8 @@
 -- When the next boundary lies ahead.
-use Rattle.std.proofs.Common.{◌≡◌, ◌↔◌, ℤ, ◌≤ℤ◌, ◌<ℤ◌, Bool, true, false, not, ◌&&◌, Option, None, Some, IsNone, IfSome, arith, refl, sym, ◌∙◌, subst, int_lt}
+use Rattle.std.proofs.Common.{◌≡◌, ◌↔◌, ℤ, ◌≤ℤ◌, ◌<ℤ◌, true, false, Option, None, Some, IsNone, IfSome, arith, refl, subst}
 use Rattle.std.proofs.lemmas.Int.{ints}
 use Rattle.appender_names.specs.declared.rotation.Rotation.{Rotation}
-use Rattle.appender_names.specs.Rotation.{IsNever, IsNextBoundary, IsBoundary, is_moment}
+use Rattle.appender_names.specs.Rotation.{IsNever, IsNextBoundary, IsBoundary}
 use Rattle.tracing_appender.specs.Roller.{LiesAhead, is_due}
 
 same_some : (a b : ℤ) → ◌≡◌ {A = Option ℤ} (Some a) (Some b) → a ≡ b

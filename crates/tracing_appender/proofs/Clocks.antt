@@ -1,16 +1,15 @@
 -- The boundary that a roller keeps follows the latest moment.
-use Rattle.std.proofs.Common.{◌≡◌, ◌⊎◌, ℕ, ℤ, ◌<ℤ◌, ◌≤ℤ◌, Bool, true, false, not, ◌&&◌, cond, List, [], ◌∷◌, filter, Option, None, Some, is_some, arith, inl, inr, refl, ap, sym, ◌∙◌, subst}
+use Rattle.std.proofs.Common.{◌≡◌, ℕ, ℤ, Bool, true, false, not, ◌&&◌, cond, List, [], ◌∷◌, filter, Option, None, Some, is_some, refl, ap, sym, ◌∙◌}
 use Rattle.std.specs.Int.{int_max}
 use Rattle.std.specs.List.{filter_map}
-use Rattle.std.proofs.lemmas.Int.{ints}
 use Rattle.appender_names.specs.declared.rotation.Rotation.{Rotation}
 use Rattle.appender_names.specs.Rotation.{IsMoment, is_moment, period_of, next_of}
 use Rattle.appender_store.specs.declared.store.Folder.{Ghosts}
 use Rattle.tracing_appender.specs.Roller.{Rolling, Sees, is_due}
-use Rattle.tracing_appender.specs.Run.{Event, latest, greatest, period_at, is_same, arrives, is_switch, SwitchesAtArrivals}
+use Rattle.tracing_appender.specs.Run.{Event, latest, greatest, is_same, is_switch, SwitchesAtArrivals}
 use Rattle.tracing_appender.specs.declared.rolling.Switch.{Switch}
 use Rattle.tracing_appender.specs.declared.rolling.Switch.TheVariants.{None as Stayed, Opened as Switched, Failed as SwitchFailed}
-use Rattle.tracing_appender.proofs.Periods.{Laws, IsLater, Moves, moves, same_is_same, later_differs}
+use Rattle.tracing_appender.proofs.Periods.{Laws, IsLater, moves, same_is_same, later_differs}
 use Rattle.tracing_appender.proofs.Turns.{Looks, Turns}
 
 -- whether a look at the clock is due

@@ -1,5 +1,5 @@
 -- What bodies hold after an opening or an append.
-use Rattle.std.proofs.Common.{◌≡◌, ◌≢◌, ◌⊎◌, ℕ, ◌<◌, ℤ, Bool, true, false, List, [], ◌∷◌, ◌++◌, length, get_or, set, cond, ◌==◌, if◌then◌else◌, Option, None, Some, arith, inl, inr, refl, ap, sym, ◌∙◌, subst, zero, suc, append_assoc}
+use Rattle.std.proofs.Common.{◌≡◌, ◌≢◌, ℕ, ◌<◌, Bool, true, false, List, [], ◌∷◌, ◌++◌, length, get_or, set, cond, ◌==◌, if◌then◌else◌, arith, inl, inr, refl, ap, sym, ◌∙◌, subst, zero, suc, append_assoc}
 use Rattle.std.proofs.lemmas.List.{get_or-set_same, get_or-set_other, append-nil, set-get_or}
 use Rattle.appender_store.specs.Content.{Content, body_at, appended, Opens}
 

@@ -1,24 +1,17 @@
 -- The law of the files goes on by one step.
-use Rattle.std.proofs.Common.{◌≡◌, ◌≢◌, ◌⊎◌, ℕ, suc, zero, ◌+◌, ◌<◌, ◌≤◌, ℤ, Bool, true, false, not, cond, nat_le, ◌&&◌, ◌==◌, if◌then◌else◌, List, [], ◌∷◌, ◌++◌, length, map, Option, None, Some, is_some, IsTrue, arith, inl, inr, refl, ap, sym, ◌∙◌, subst, append_assoc}
+use Rattle.std.proofs.Common.{◌≡◌, ℕ, suc, ◌<◌, ◌≤◌, ℤ, Bool, true, false, nat_le, ◌&&◌, ◌==◌, if◌then◌else◌, List, [], ◌∷◌, ◌++◌, length, map, Option, None, Some, is_some, arith, refl, ap, sym, ◌∙◌, subst, append_assoc}
 use Rattle.std.proofs.lemmas.List.{append-nil, length-set}
 use Rattle.appender_names.specs.declared.rotation.Rotation.{Rotation}
 use Rattle.appender_names.specs.Rotation.{IsMoment, period_of, next_of}
-use Rattle.appender_store.specs.Content.{Content, body_at, appended, Opens}
-use Rattle.tracing_appender.specs.Run.{Event, Attempt, time_of, times, Tried, carrier, passes, written_by, written, written_to, written_in, is_number, since, up_to, open_body, Carried, Leads, NoneFailed, OpenFileLaw, FileLaw, latest, period_at, is_same, arrives, is_opened}
-use Rattle.tracing_appender.specs.declared.rolling.Switch.{Switch}
-use Rattle.tracing_appender.specs.declared.rolling.Switch.TheVariants.{None as Stayed, Opened as Switched, Failed as SwitchFailed}
+use Rattle.appender_store.specs.Content.{Content, IsSound, body_at, appended, Opens}
+use Rattle.tracing_appender.specs.Run.{Event, Attempt, time_of, times, carrier, passes, written, written_to, written_in, is_number, since, up_to, open_body, Carried, Leads, NoneFailed, FileLaw, latest, period_at, arrives}
+use Rattle.tracing_appender.specs.declared.rolling.Switch.TheVariants.{Opened as Switched, Failed as SwitchFailed}
 use Rattle.tracing_appender.proofs.Contents.{appended_nothing, appended_twice, appended_at, opens_bytes}
 use Rattle.tracing_appender.proofs.Periods.{Laws, IsLater, same_is_same, later_differs, later_still}
-use Rattle.tracing_appender.proofs.Clocks.{Turn, turn, due_by}
+use Rattle.tracing_appender.proofs.Owners.{AreOwners, OtherNames, each_holds, written_before, owners_stay, owners_with_piece, owners_with_failure, owners_with_success, owners_begin}
+use Rattle.tracing_appender.proofs.Clocks.{turn, due_by}
 
 -- ---- steps before and after an attempt
-
--- an attempt at a later step carries no earlier piece
-written_before : (test : Attempt → Bool) (a : Attempt) (rest : List Attempt) (h : List Event) → length h < a.step → written_by test (a ∷ rest) h ≡ written_by test rest h
-written_before test a rest [] lt = refl
-written_before test a rest (e ∷ h) lt =
-    let no : nat_le a.step (suc (length h)) ≡ false = grind arith in
-    rw (written_before test a rest h (omega arith), no) refl
 
 up_to_now : (h : List Event) (n : ℕ) → length h < n → up_to n h ≡ h
 up_to_now [] n lt = refl
@@ -85,6 +78,7 @@ pub record FilesSoFar (r : Rotation) (name : ℤ → List ℕ) (start : ℤ) (h 
   pub open_is : open_body law.attempts ≡ Some b
   pub made : newest law.attempts ≤ length h
   pub there : b < length last.bodies
+  pub owners : AreOwners r name law.attempts (period_at r start h) (length h) h last law.open_file.file b
 
 -- The same after the attempt of a step, if it made one, and before its piece.
 pub record Between (r : Rotation) (name : ℤ → List ℕ) (start : ℤ) (e : Event) (h : List Event) (first now : Content) (opened : ℤ) (b : ℕ) : Type 0 where
@@ -101,6 +95,7 @@ pub record Between (r : Rotation) (name : ℤ → List ℕ) (start : ℤ) (e : E
   pub open_is : open_body attempts ≡ Some b
   pub made : newest attempts ≤ suc (length h)
   pub there : b < length now.bodies
+  pub owners : AreOwners r name attempts (period_at r start (e ∷ h)) (suc (length h)) h now file b
 
 -- where the step makes no attempt
 pub no_attempt : (r : Rotation) (name : ℤ → List ℕ) (start : ℤ) (e : Event) (h : List Event) (first now : Content) (opened : ℤ) (b : ℕ) → arrives r start e h ≡ false → period_at r start (e ∷ h) ≡ period_at r start h → FilesSoFar r name start h first now opened b → Between r name start e h first now opened b
@@ -118,11 +113,12 @@ no_attempt r name start e h first now opened b none same so = record {
   open_is = so.open_is;
   made = omega arith;
   there = so.there;
+  owners = owners_stay r name so.law.attempts (period_at r start h) (period_at r start (e ∷ h)) (length h) h now so.law.open_file.file b same so.owners;
 }
 
 -- where it makes one that fails
-pub a_failure : (r : Rotation) (name : ℤ → List ℕ) (start : ℤ) (e : Event) (h : List Event) (first now : Content) (opened : ℤ) (b : ℕ) → arrives r start e h ≡ true → e.switch ≡ SwitchFailed → FilesSoFar r name start h first now opened b → Between r name start e h first now opened b
-a_failure r name start e h first now opened b came is so =
+pub a_failure : (r : Rotation) (name : ℤ → List ℕ) (start : ℤ) (e : Event) (h : List Event) (first now : Content) (opened : ℤ) (b : ℕ) → Laws r → IsMoment start → arrives r start e h ≡ true → IsLater (period_at r start h) (period_at r start (e ∷ h)) → e.switch ≡ SwitchFailed → FilesSoFar r name start h first now opened b → Between r name start e h first now opened b
+a_failure r name start e h first now opened b laws g came later is so =
     let a : Attempt = record { step = suc (length h); moment = latest start (e ∷ h); opened = None; before = now; after = now } in
     let rest = so.law.attempts in
     let file = so.law.open_file.file in
@@ -144,11 +140,12 @@ a_failure r name start e h first now opened b came is so =
       open_is = so.open_is;
       made = omega arith;
       there = so.there;
+      owners = owners_with_failure r name rest (period_at r start h) (period_at r start (e ∷ h)) h now file b a refl refl (latest_in_range r start (e ∷ h) laws g) refl later so.owners;
     }
 
 -- where it makes one that succeeds
-pub a_success : (r : Rotation) (name : ℤ → List ℕ) (start : ℤ) (e : Event) (h : List Event) (first old new : Content) (opened : ℤ) (b c : ℕ) → Laws r → IsMoment start → arrives r start e h ≡ true → IsLater (period_at r start h) (period_at r start (e ∷ h)) → e.switch ≡ Switched → FilesSoFar r name start h first old opened b → Opens (name (latest start (e ∷ h))) old new c → c < length new.bodies → Between r name start e h first new (latest start (e ∷ h)) c
-a_success r name start e h first old new opened b c laws g came later is so opens there =
+pub a_success : (r : Rotation) (name : ℤ → List ℕ) (start : ℤ) (e : Event) (h : List Event) (first old new : Content) (opened : ℤ) (b c : ℕ) → Laws r → OtherNames r name → IsSound new → IsMoment start → arrives r start e h ≡ true → IsLater (period_at r start h) (period_at r start (e ∷ h)) → e.switch ≡ Switched → FilesSoFar r name start h first old opened b → Opens (name (latest start (e ∷ h))) old new c → c < length new.bodies → Between r name start e h first new (latest start (e ∷ h)) c
+a_success r name start e h first old new opened b c laws others sound g came later is so opens there =
     let a : Attempt = record { step = suc (length h); moment = latest start (e ∷ h); opened = Some c; before = old; after = new } in
     let rest = so.law.attempts in
     record {
@@ -169,6 +166,7 @@ a_success r name start e h first old new opened b c laws g came later is so open
       open_is = refl;
       made = omega arith;
       there = there;
+      owners = owners_with_success r name rest (period_at r start h) (period_at r start (e ∷ h)) h old new so.law.open_file.file b c a others sound refl refl refl (latest_in_range r start (e ∷ h) laws g) refl later opens there (written_later (a ∷ rest) h (suc (length h)) (omega arith)) so.owners;
     }
 
 -- the pieces of one step more
@@ -189,6 +187,7 @@ same_number n = grind arith
 pub a_piece : (r : Rotation) (name : ℤ → List ℕ) (start : ℤ) (e : Event) (h : List Event) (first now : Content) (opened : ℤ) (b : ℕ) → Between r name start e h first now opened b → FilesSoFar r name start (e ∷ h) first (appended now b e.piece) opened b
 a_piece r name start e h first now opened b so =
     let here = so.carries (suc (length h)) (omega arith) in
+    let owners = owners_with_piece r name so.attempts (period_at r start (e ∷ h)) e h now so.file b here so.there so.owners in
     let own : written so.file.step so.attempts (e ∷ h) ≡ written so.file.step so.attempts h ++ e.piece =
     rw (here, same_number so.file.step) refl in
     record {
@@ -209,16 +208,20 @@ a_piece r name start e h first now opened b so =
           holds = appended_at now b b e.piece so.there ∙ rw (same_number b, own, so.holds) (append_assoc (body_at so.file.before b) (written so.file.step so.attempts h) e.piece);
           in_its_period = λ fine. own ∙ rw (so.in_its_period fine, same_is_same (period_at r start (e ∷ h))) refl;
         };
+        apart = owners.apart;
+        each = each_holds r name so.attempts (period_at r start (e ∷ h)) (suc (length h)) (e ∷ h) (appended now b e.piece) so.file b owners;
       };
       carries = so.carries;
       open_is = so.open_is;
       made = so.made;
       there = rw (length-set now.bodies b (body_at now b ++ e.piece)) so.there;
+      owners = owners;
     }
 
-pub files_begin : (r : Rotation) (name : ℤ → List ℕ) (start : ℤ) (first last : Content) (b : ℕ) → Opens (name start) first last b → b < length last.bodies → FilesSoFar r name start [] first last start b
-files_begin r name start first last b opens there =
+pub files_begin : (r : Rotation) (name : ℤ → List ℕ) (start : ℤ) (first last : Content) (b : ℕ) → IsSound last → IsMoment start → Opens (name start) first last b → b < length last.bodies → FilesSoFar r name start [] first last start b
+files_begin r name start first last b sound g opens there =
     let a : Attempt = record { step = 0; moment = start; opened = Some b; before = first; after = last } in
+    let owners = owners_begin r name a b sound refl refl g opens there in
     record {
       law = record {
         attempts = a ∷ [];
@@ -233,9 +236,12 @@ files_begin r name start first last b opens there =
           holds = opens_bytes (name start) first last b b opens ∙ sym (append-nil (body_at first b));
           in_its_period = λ fine. refl;
         };
+        apart = owners.apart;
+        each = each_holds r name (a ∷ []) (period_of r start) 0 [] last a b owners;
       };
       carries = λ i le. let from = from_on 0 i le in rw from refl;
       open_is = refl;
       made = omega arith;
       there = there;
+      owners = owners;
     }

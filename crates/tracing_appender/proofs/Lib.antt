@@ -6,3 +6,4 @@ pub mod Turns
 pub mod Clocks
 pub mod Files
 pub mod Runs
+pub mod Owners

@@ -1,6 +1,5 @@
 -- What a refused opening leaves.
 use Rattle.std.proofs.Common.{◌≡◌, ℕ, List, ap}
-use Rattle.appender_store.specs.Content.{Content}
 use Rattle.appender_names.specs.declared.error.InitError.{InitError}
 use Rattle.appender_names.specs.declared.error.InitError.TheVariants.{File, Moment, Name, Memory}
 use Rattle.appender_store.specs.declared.store.Folder.{Ghosts}

@@ -1,12 +1,14 @@
 -- A run of steps over a roller keeps to the laws of the clock and of the files.
-use Rattle.std.proofs.Common.{◌≡◌, ℕ, suc, ◌+◌, ◌<◌, ◌≤◌, ℤ, Bool, true, false, List, [], ◌∷◌, ◌++◌, length, map, Option, None, Some, IsTrue, arith, refl, ap, sym, ◌∙◌, subst}
+use Rattle.std.proofs.lemmas.Int.{ints}
+use Rattle.std.proofs.Common.{◌≡◌, ◌≢◌, ℕ, ◌<◌, ℤ, true, false, List, [], ◌∷◌, ◌++◌, length, map, Option, None, Some, IsTrue, arith, refl, ap, sym, ◌∙◌, subst}
 use Rattle.appender_names.specs.declared.rotation.Rotation.{Rotation}
 use Rattle.appender_store.specs.declared.store.Folder.{Ghosts}
-use Rattle.appender_names.specs.Rotation.{IsMoment, next_of}
-use Rattle.appender_store.specs.Content.{Content, appended, Opens}
-use Rattle.tracing_appender.specs.Config.{Config}
-use Rattle.tracing_appender.specs.Roller.{Rolling, Sees, OpensRoller, SwitchesFile, KeepsFile, file_name_of}
-use Rattle.tracing_appender.specs.Run.{Event, latest, period_at, arrives, is_switch, FileLaw, SwitchesAtArrivals}
+use Rattle.appender_names.specs.Name.{NamesArePeriods}
+use Rattle.appender_names.specs.Rotation.{IsMoment, period_of, next_of}
+use Rattle.appender_store.specs.Content.{Content, IsSound, Opens}
+use Rattle.tracing_appender.specs.Config.{Config, naming_of}
+use Rattle.tracing_appender.specs.Roller.{Rolling, OpensRoller, file_name_of}
+use Rattle.tracing_appender.specs.Run.{Event, latest, period_at, arrives, is_switch}
 use Rattle.tracing_appender.specs.Replay.{Told, Runs, StepDoes, event_of, told_onto}
 use Rattle.tracing_appender.specs.declared.rolling.Switch.{Switch}
 use Rattle.tracing_appender.specs.declared.rolling.Switch.TheVariants.{None as Stayed, Opened as Switched, Failed as SwitchFailed}
@@ -14,8 +16,15 @@ use Rattle.tracing_appender.specs.declared.replay.RollStep.{RollStep}
 use Rattle.tracing_appender.specs.declared.replay.RollReply.{RollReply}
 use Rattle.tracing_appender.proofs.Periods.{Laws, IsLater}
 use Rattle.tracing_appender.proofs.Turns.{Looks, Turns, step_turns}
-use Rattle.tracing_appender.proofs.Clocks.{ClockSoFar, Turn, turn, Decides, due_by, clock_begins, clock_goes_on, turn_decides, turn_keeps}
+use Rattle.tracing_appender.proofs.Clocks.{ClockSoFar, turn, Decides, due_by, clock_begins, clock_goes_on, turn_decides, turn_keeps}
+use Rattle.tracing_appender.proofs.Owners.{OtherNames}
 use Rattle.tracing_appender.proofs.Files.{FilesSoFar, Between, no_attempt, a_failure, a_success, a_piece, files_begin}
+
+-- What a run rests on: the laws of periods and names, and that the content of a folder that tells is sound.
+pub record Grounds {S F : Type 0} (kind : Ghosts S F) (config : Config) : Type 0 where
+  pub laws : Laws config.rotation
+  pub others : OtherNames config.rotation (file_name_of config)
+  pub sound : (folder : S) → IsTrue kind.tells → IsSound (kind.content folder)
 
 -- the law of the files for a roller
 abbrev pub Holds : {S F : Type 0} → Ghosts S F → Config → ℤ → List Event → Content → Rolling S F → Type 0
@@ -42,16 +51,16 @@ same_moment : (a b : ℤ) → ◌≡◌ {A = Option ℤ} (Some a) (Some b) → a
 same_moment a b e = cc
 
 -- after the look at the clock
-looked : {S F : Type 0} (kind : Ghosts S F) (config : Config) (start : ℤ) (read : Option ℤ) (switch : Switch) (piece : List ℕ) (h : List Event) (first : Content) (old now : Rolling S F) → IsTrue kind.tells → Laws config.rotation → IsMoment start → Comes config.rotation start (record { read = read; switch = switch; piece = piece }) h → old.config ≡ config → Holds kind config start h first old → Looks kind read switch old now → HoldsBetween kind config start (record { read = read; switch = switch; piece = piece }) h first now
-looked kind config start None switch piece h first old now tells laws g come same so (stayed, is) =
+looked : {S F : Type 0} (kind : Ghosts S F) (config : Config) (start : ℤ) (read : Option ℤ) (switch : Switch) (piece : List ℕ) (h : List Event) (first : Content) (old now : Rolling S F) → IsTrue kind.tells → Grounds kind config → IsMoment start → Comes config.rotation start (record { read = read; switch = switch; piece = piece }) h → old.config ≡ config → Holds kind config start h first old → Looks kind read switch old now → HoldsBetween kind config start (record { read = read; switch = switch; piece = piece }) h first now
+looked kind config start None switch piece h first old now tells grounds g come same so (stayed, is) =
     let e : Event = record { read = None; switch = switch; piece = piece } in
     let no = come.stays (ap is_switch stayed) in
     rw is (no_attempt config.rotation (file_name_of config) start e h first (kind.content old.folder) old.opened (kind.body old.file) no.0 no.1 so)
-looked kind config start (Some m) Stayed piece h first old now tells laws g come same so sees =
+looked kind config start (Some m) Stayed piece h first old now tells grounds g come same so sees =
     let e : Event = record { read = Some m; switch = Stayed; piece = piece } in
     let no = come.stays refl in
     rw sees.1 (no_attempt config.rotation (file_name_of config) start e h first (kind.content old.folder) old.opened (kind.body old.file) no.0 no.1 so)
-looked kind config start (Some m) Switched piece h first old now tells laws g come same so sees =
+looked kind config start (Some m) Switched piece h first old now tells grounds g come same so sees =
     let e : Event = record { read = Some m; switch = Switched; piece = piece } in
     let is = come.goes refl in
     let it : m ≡ latest start (e ∷ h) = same_moment m (latest start (e ∷ h)) is.2 in
@@ -59,17 +68,17 @@ looked kind config start (Some m) Switched piece h first old now tells laws g co
     rw (sees.content, ← it, ← same) (sees.gets.opens tells) in
     let there : kind.body now.file < length (kind.content now.folder).bodies = rw sees.content (sees.gets.body_is_there tells) in
     subst (λ (x : ℤ). Between config.rotation (file_name_of config) start e h first (kind.content now.folder) x (kind.body now.file)) (sym (sees.opened ∙ it))
-    (a_success config.rotation (file_name_of config) start e h first (kind.content old.folder) (kind.content now.folder) old.opened (kind.body old.file) (kind.body now.file) laws g is.0 is.1 refl so opens there)
-looked kind config start (Some m) SwitchFailed piece h first old now tells laws g come same so sees =
+    (a_success config.rotation (file_name_of config) start e h first (kind.content old.folder) (kind.content now.folder) old.opened (kind.body old.file) (kind.body now.file) grounds.laws grounds.others (grounds.sound now.folder tells) g is.0 is.1 refl so opens there)
+looked kind config start (Some m) SwitchFailed piece h first old now tells grounds g come same so sees =
     let e : Event = record { read = Some m; switch = SwitchFailed; piece = piece } in
     let is = come.goes refl in
     rw (sees.content, sees.opened, sees.file)
-    (a_failure config.rotation (file_name_of config) start e h first (kind.content old.folder) old.opened (kind.body old.file) is.0 refl so)
+    (a_failure config.rotation (file_name_of config) start e h first (kind.content old.folder) old.opened (kind.body old.file) grounds.laws g is.0 is.1 refl so)
 
 -- after its piece
-turned : {S F : Type 0} (kind : Ghosts S F) (config : Config) (start : ℤ) (e : Event) (h : List Event) (first : Content) (old new : Rolling S F) → IsTrue kind.tells → Laws config.rotation → IsMoment start → Comes config.rotation start e h → old.config ≡ config → Holds kind config start h first old → Turns kind e old new → Holds kind config start (e ∷ h) first new
-turned kind config start e h first old new tells laws g come same so t =
-    let between = looked kind config start e.read e.switch e.piece h first old t.between tells laws g come same so t.looks in
+turned : {S F : Type 0} (kind : Ghosts S F) (config : Config) (start : ℤ) (e : Event) (h : List Event) (first : Content) (old new : Rolling S F) → IsTrue kind.tells → Grounds kind config → IsMoment start → Comes config.rotation start e h → old.config ≡ config → Holds kind config start h first old → Turns kind e old new → Holds kind config start (e ∷ h) first new
+turned kind config start e h first old new tells grounds g come same so t =
+    let between = looked kind config start e.read e.switch e.piece h first old t.between tells grounds g come same so t.looks in
     rw (t.content tells, t.stays.opened, t.stays.file)
     (a_piece config.rotation (file_name_of config) start e h first (kind.content t.between.folder) t.between.opened (kind.body t.between.file) between)
 
@@ -79,28 +88,28 @@ pub record RunSoFar {S F : Type 0} (kind : Ghosts S F) (config : Config) (start 
   pub clock : ClockSoFar config.rotation start h now.boundary
   pub files : IsTrue kind.tells → Holds kind config start h (kind.content first) now
 
-run_begins : {S F : Type 0} (kind : Ghosts S F) (config : Config) (start : ℤ) (first : S) (now : Rolling S F) → OpensRoller kind config start first now → RunSoFar kind config start [] first now
-run_begins kind config start first now o = record {
+run_begins : {S F : Type 0} (kind : Ghosts S F) (config : Config) (start : ℤ) (first : S) (now : Rolling S F) → Grounds kind config → OpensRoller kind config start first now → RunSoFar kind config start [] first now
+run_begins kind config start first now grounds o = record {
   config_is = o.config_is;
   clock = clock_begins config.rotation start now.boundary o.in_range o.boundary;
-  files = λ tells. rw o.opened (files_begin config.rotation (file_name_of config) start (kind.content first) (kind.content now.folder) (kind.body now.file) (o.gets.opens tells) (o.gets.body_is_there tells));
+  files = λ tells. rw o.opened (files_begin config.rotation (file_name_of config) start (kind.content first) (kind.content now.folder) (kind.body now.file) (grounds.sound now.folder tells) o.in_range (o.gets.opens tells) (o.gets.body_is_there tells));
 }
 
-run_goes_on : {S F : Type 0} (kind : Ghosts S F) (config : Config) (start : ℤ) (t : Told) (h : List Event) (first : S) (old new : Rolling S F) → Laws config.rotation → IsMoment start → RunSoFar kind config start h first old → StepDoes kind t old new → RunSoFar kind config start (event_of t ∷ h) first new
-run_goes_on kind config start t h first old new laws g so does =
+run_goes_on : {S F : Type 0} (kind : Ghosts S F) (config : Config) (start : ℤ) (t : Told) (h : List Event) (first : S) (old new : Rolling S F) → Grounds kind config → IsMoment start → RunSoFar kind config start h first old → StepDoes kind t old new → RunSoFar kind config start (event_of t ∷ h) first new
+run_goes_on kind config start t h first old new grounds g so does =
     let turns = step_turns kind t old new does in
     let decides = subst (λ (c : Config). Decides c.rotation (event_of t) old.boundary new.boundary) so.config_is (turn_decides kind (event_of t) old new turns) in
     record {
       config_is = turn_keeps kind (event_of t) old new turns ∙ so.config_is;
-      clock = clock_goes_on config.rotation start h (event_of t) old.boundary new.boundary laws so.clock decides;
-      files = λ tells. turned kind config start (event_of t) h (kind.content first) old new tells laws g (comes config.rotation start (event_of t) h old.boundary new.boundary laws so.clock decides) so.config_is (so.files tells) turns;
+      clock = clock_goes_on config.rotation start h (event_of t) old.boundary new.boundary grounds.laws so.clock decides;
+      files = λ tells. turned kind config start (event_of t) h (kind.content first) old new tells grounds g (comes config.rotation start (event_of t) h old.boundary new.boundary grounds.laws so.clock decides) so.config_is (so.files tells) turns;
     }
 
 -- a run keeps to the laws
-pub run_law : {S F : Type 0} (kind : Ghosts S F) (config : Config) (start : ℤ) (told : List Told) (first : S) (opened now : Rolling S F) → Laws config.rotation → OpensRoller kind config start first opened → Runs kind told opened now → RunSoFar kind config start (map event_of told) first now
-run_law kind config start [] first opened now laws o runs = rw runs (run_begins kind config start first opened o)
-run_law kind config start (t ∷ told) first opened now laws o (between, earlier, does) =
-    run_goes_on kind config start t (map event_of told) first between now laws o.in_range (run_law kind config start told first opened between laws o earlier) does
+pub run_law : {S F : Type 0} (kind : Ghosts S F) (config : Config) (start : ℤ) (told : List Told) (first : S) (opened now : Rolling S F) → Grounds kind config → OpensRoller kind config start first opened → Runs kind told opened now → RunSoFar kind config start (map event_of told) first now
+run_law kind config start [] first opened now grounds o runs = rw runs (run_begins kind config start first opened grounds o)
+run_law kind config start (t ∷ told) first opened now grounds o (between, earlier, does) =
+    run_goes_on kind config start t (map event_of told) first between now grounds o.in_range (run_law kind config start told first opened between grounds o earlier) does
 
 -- one more step
 pub told_more : (told : List Told) (steps : List RollStep) (replies : List RollReply) (s : RollStep) (r : RollReply) → length steps ≡ length replies → told_onto told (steps ++ s ∷ []) (replies ++ r ∷ []) ≡ (s, r) ∷ told_onto told steps replies
@@ -108,3 +117,12 @@ told_more told [] [] s r e = refl
 told_more told [] (q ∷ replies) s r e = absurd (omega arith)
 told_more told (p ∷ steps) [] s r e = absurd (omega arith)
 told_more told (p ∷ steps) (q ∷ replies) s r e = told_more ((p, q) ∷ told) steps replies s r (omega arith)
+
+-- names of later periods are others, by the law on names
+pub other_names : (config : Config) → NamesArePeriods (naming_of config) → OtherNames config.rotation (file_name_of config)
+other_names config law m n g h later = by (period_of config.rotation m) (period_of config.rotation n) refl refl later
+  where
+    by : (p q : Option ℤ) → period_of config.rotation m ≡ p → period_of config.rotation n ≡ q → IsLater p q → file_name_of config n ≢ file_name_of config m
+    by None q e f k same = absurd k
+    by (Some p) None e f k same = absurd k
+    by (Some p) (Some q) e f k same = let one : q ≡ p = (law n m q p h g f e).0 same in absurd (omega (arith, ints))

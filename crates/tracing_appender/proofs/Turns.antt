@@ -1,11 +1,11 @@
 -- Each step of a replay as a look at the clock, or none, and a piece.
-use Rattle.std.proofs.Common.{◌≡◌, ℕ, ◌<◌, ◌≤◌, ℤ, Bool, true, false, List, [], ◌∷◌, ◌++◌, length, take, get_or, set, Option, None, Some, Result, Ok, Err, IsTrue, arith, refl, ap, sym, ◌∙◌, subst, zero, suc}
+use Rattle.std.proofs.Common.{◌≡◌, ℕ, ℤ, List, take, Option, None, Some, Result, Ok, Err, IsTrue, refl, ap, sym, ◌∙◌}
 use Rattle.std.specs.declared.io.Error.{Error}
 use Rattle.std.specs.declared.io.ErrorKind.{ErrorKind}
-use Rattle.appender_store.specs.Content.{Content, appended, body_at}
+use Rattle.appender_store.specs.Content.{appended}
 use Rattle.appender_store.specs.declared.store.Folder.{Ghosts}
 use Rattle.tracing_appender.proofs.Contents.{appended_nothing}
-use Rattle.tracing_appender.specs.Roller.{Rolling, Sees, Writes, Puts, Flushes, StaysOpen, count_of}
+use Rattle.tracing_appender.specs.Roller.{Rolling, Sees, Writes, StaysOpen, count_of}
 use Rattle.tracing_appender.specs.Run.{Event}
 use Rattle.tracing_appender.specs.Replay.{Told, StepDoes, kind_told, event_of}
 use Rattle.tracing_appender.specs.declared.rolling.Switch.{Switch}

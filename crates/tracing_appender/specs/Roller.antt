@@ -1,5 +1,5 @@
 -- An open log file, and what each call of a roller does to it and to the folder. `kind` has what folders of one kind tell.
-use Rattle.std.specs.Prelude.{◌≡◌, ◌≢◌, ℕ, ◌<◌, ◌≤◌, ℤ, ◌<ℤ◌, int_lt, Bool, true, false, not, ◌&&◌, List, length, take, Option, None, Some, Result, Ok, Err, MatchResult, IfOk, IsTrue}
+use Rattle.std.specs.Prelude.{◌≡◌, ℕ, ◌<◌, ◌≤◌, ℤ, ◌<ℤ◌, int_lt, Bool, true, false, not, ◌&&◌, List, length, take, Option, None, Some, Result, Ok, Err, MatchResult, IsTrue}
 use Rattle.std.specs.declared.io.Error.{Error}
 use Rattle.appender_names.specs.declared.error.InitError.{InitError}
 use Rattle.appender_names.specs.declared.error.InitError.TheVariants.{File, Moment, Name, Memory}
@@ -7,7 +7,7 @@ use Rattle.appender_store.specs.declared.store.Folder.{Ghosts}
 use Rattle.appender_names.specs.declared.rotation.Rotation.{Rotation}
 use Rattle.appender_names.specs.Rotation.{IsMoment, is_moment, IsNever, IsBoundary, next_of}
 use Rattle.appender_names.specs.Name.{Naming, IsAllowed, name_of}
-use Rattle.appender_store.specs.Content.{Content, Opens, ForbidsOpen, appended}
+use Rattle.appender_store.specs.Content.{Opens, ForbidsOpen, appended}
 use Rattle.appender_store.specs.Folder.{counted, kind_of, HasCause, Noted, NotedFlush, NotedOpen}
 use Rattle.tracing_appender.specs.Config.{Config, naming_of}
 use Rattle.tracing_appender.specs.declared.rolling.Switch.{Switch}

@@ -168,6 +168,26 @@ pub record OpenFileLaw (r : Rotation) (start : ℤ) (h : List Event) (attempts :
   pub holds : body_at last b ≡ body_at file.before b ++ written file.step attempts h
   pub in_its_period : NoneFailed h → written file.step attempts h ≡ written_in r start (period_at r start h) h
 
+-- no attempt of these opened the body that this one opened
+abbrev pub OpensNoneOf : Attempt → List Attempt → Type 0
+OpensNoneOf a [] = Unit {0}
+OpensNoneOf a (e ∷ rest) = ((b : ℕ) → a.opened ≡ Some b → e.opened ≡ Some b → ⊥) × OpensNoneOf a rest
+
+-- no two attempts opened one body
+abbrev pub AreApart : List Attempt → Type 0
+AreApart [] = Unit {0}
+AreApart (a ∷ rest) = OpensNoneOf a rest × AreApart rest
+
+-- what the attempt opened holds what it held then, followed by exactly what the attempt carries
+abbrev pub HoldsItsOwn : List Attempt → List Event → Content → Attempt → Type 0
+HoldsItsOwn attempts h last a =
+    (b : ℕ) → a.opened ≡ Some b → body_at last b ≡ body_at a.before b ++ written a.step attempts h
+
+-- each of these attempts
+abbrev pub EachOf : (Attempt → Type 0) → List Attempt → Type 0
+EachOf P [] = Unit {0}
+EachOf P (a ∷ rest) = P a × EachOf P rest
+
 -- The law of the files of a run: every body, whether or not a name leads to it, holds what it held at first, followed by
 -- exactly what was written to it.
 pub record FileLaw (r : Rotation) (name : ℤ → List ℕ) (start : ℤ) (h : List Event) (first last : Content) (opened : ℤ) (b : ℕ) : Type 0 where
@@ -176,3 +196,5 @@ pub record FileLaw (r : Rotation) (name : ℤ → List ℕ) (start : ℤ) (h : L
   pub leads : Leads name attempts h first last
   pub bodies : (x : ℕ) → body_at last x ≡ body_at first x ++ written_to x attempts h
   pub open_file : OpenFileLaw r start h attempts last opened b
+  pub apart : AreApart attempts
+  pub each : EachOf (HoldsItsOwn attempts h last) attempts

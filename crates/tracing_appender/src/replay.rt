@@ -6,7 +6,7 @@ ghost use Rattle.tracing_appender.specs.Run.{SwitchesAtArrivals, FileLaw, latest
 ghost use Rattle.tracing_appender.specs.Replay.{kind_told, told_of, history, StepDoes, RunsFrom, IsNotRun};
 
 use crate::rolling::{Builder, InitError, Roller, Switch};
-use appender_core::laws::periods_lie_between_boundaries;
+use appender_core::laws::{names_are_periods, periods_lie_between_boundaries};
 use appender_core::store::Folder;
 use std::alloc::Global;
 use std::io;
@@ -110,6 +110,7 @@ pub fn replay_rolling<S: Folder>(
     ensures err { IfErr result (λ error. IsNotRun S.Folder builder.now start folder error) }
 {
     periods_lie_between_boundaries();
+    names_are_periods();
     let mut replies = match Vec::with_capacity(alloc, steps.len()) {
         Ok(replies) => replies,
         Err(_) => return Err(ReplayError::Memory(folder)),

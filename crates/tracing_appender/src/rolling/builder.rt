@@ -94,6 +94,8 @@ fn text(set: &Option<String>) -> &str
 }
 
 impl Default for Builder {
+    ghost is_default = { λ builder. builder ≡ defaults };
+
     fn default() -> Builder {
         Builder::new()
     }

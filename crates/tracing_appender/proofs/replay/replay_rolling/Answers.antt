@@ -4,7 +4,7 @@ use Rattle.std.proofs.Math.Seq.{length-take-le}
 use Rattle.std.proofs.lemmas.Int.{to_z-of_z}
 use Rattle.std.proofs.lemmas.List.{take_more, take_all}
 use Rattle.tracing_appender.specs.Replay.{told_of}
-use Rattle.tracing_appender.proofs.Runs.{run_law, told_more}
+use Rattle.tracing_appender.proofs.Runs.{Grounds, run_law, other_names, told_more}
 use Rattle.tracing_appender.proofs.replay.replay_rolling.Goals as goal
 
 pub loop-step-preserved : goal.loop-step-preserved
@@ -30,11 +30,17 @@ pub returns : goal.returns
 returns g c =
     let fits : FitsSigned w64 c.args.start = c.ranges.start in
     let whole : take c.loop-step.step-index c.args.steps.now ≡ c.args.steps.now = take_all _ _ c.loop-step-test.false in
+    let one_each : length c.loop-step.replies.items ≡ length c.args.steps.now = search rules in
     let runs = simp (to_z-of_z, whole) at c.loop-step.invariant.runs in
-    let laws = c.periods_lie_between_boundaries.ensures in
-    let so = run_law _ _ _ _ _ _ _ (record { begins = laws.begin _; ends = laws.end _ }) runs.opens runs.runs in
+    let periods = c.periods_lie_between_boundaries.ensures in
+    let grounds : Grounds g.S.Folder c.args.builder.now = record {
+      laws = record { begins = periods.begin _; ends = periods.end _ };
+      others = other_names _ (c.names_are_periods.ensures _);
+      sound = g.met.S.Folder.sound;
+    } in
+    let so = run_law _ _ _ _ _ _ _ grounds runs.opens runs.runs in
     record {
-      one_each = search rules;
+      one_each = one_each;
       runs = runs;
       config = so.config_is;
       switches = so.clock.switches;

@@ -1,5 +1,4 @@
 use Rattle.std.proofs.Common.{◌≡◌, ◌≤◌, length, take, vec_capacity}
-use Rattle.tracing_appender.specs.Roller.{OpensRoller}
 use Rattle.tracing_appender.specs.Replay.{told_of, RunsFrom}
 use Rattle.tracing_appender.proofs.replay.replay_rolling.Given as goal
 

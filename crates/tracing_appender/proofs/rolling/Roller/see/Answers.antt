@@ -1,6 +1,5 @@
-use Rattle.std.proofs.Common.{w64, FitsSigned, ◌≡◌, true, rules, ℤ, Option}
+use Rattle.std.proofs.Common.{w64, FitsSigned, ◌≡◌, true, rules}
 use Rattle.std.proofs.lemmas.Int.{to_z-of_z}
-use Rattle.appender_names.specs.Rotation.{IsMoment}
 use Rattle.tracing_appender.specs.Roller.{LiesAhead, is_due}
 use Rattle.tracing_appender.proofs.Boundaries.{next_lies_ahead, due_is_later, ahead_of_earlier}
 use Rattle.tracing_appender.proofs.Refusals.{refuses_content}

@@ -1,0 +1,260 @@
+-- Different attempts open different bodies, so that each of them has its own.
+use Rattle.std.proofs.Common.{◌≡◌, ◌≢◌, ◌⊎◌, ℕ, suc, ◌<◌, ◌≤◌, ◌==◌, ℤ, Bool, true, false, cond, nat_le, if◌then◌else◌, List, [], ◌∷◌, ◌++◌, length, length-append, Option, None, Some, arith, inl, inr, refl, ap, sym, ◌∙◌, subst, append_assoc}
+use Rattle.std.proofs.lemmas.List.{append-nil, length-set}
+use Rattle.std.proofs.lemmas.Map.Views.{tells_apart}
+use Rattle.std.proofs.lemmas.Map.Lookups.{exact_bytes}
+use Rattle.std.specs.Ordering.{nat_cmp, eq_by_cmp}
+use Rattle.std.specs.Cmp.{eq_by_cmp_equiv}
+use Rattle.std.specs.Cmp.Lexicographic.{slice_cmp, nat_list_cmp_total}
+use Rattle.std.specs.FinMap as fin
+use Rattle.std.specs.FinMap.{get-insert}
+use Rattle.appender_names.specs.declared.rotation.Rotation.{Rotation}
+use Rattle.appender_names.specs.Rotation.{IsMoment, period_of}
+use Rattle.appender_store.specs.Content.{Content, Names, Entry, File, IsSound, body_at, appended, Opens}
+use Rattle.tracing_appender.specs.Run.{Event, Attempt, carrier, passes, written_by, written, OpensNoneOf, AreApart, HoldsItsOwn, EachOf}
+use Rattle.tracing_appender.proofs.Contents.{appended_at, opens_bytes}
+use Rattle.tracing_appender.proofs.Periods.{IsLater, later_still}
+
+-- ---- the map of names
+
+same_file : (a b : ℕ) (t u : Option ℤ) → File a t ≡ File b u → a ≡ b
+same_file a b t u e = cc
+
+same_body : (a b : ℕ) → ◌≡◌ {A = Option ℕ} (Some a) (Some b) → a ≡ b
+same_body a b e = cc
+
+-- what a map with one name more has
+got : (names : Names) (name : List ℕ) (entry : Entry) (n : List ℕ) (e : Entry) → fin.get (fin.insert names name entry) n ≡ Some e → ((n ≡ name) × (entry ≡ e)) ⊎ (fin.get names n ≡ Some e)
+got names name entry n e h =
+    let h2 : cond (eq_by_cmp (slice_cmp nat_cmp) n name) (Some entry) (fin.get names n) ≡ Some e = sym (get-insert nat_list_cmp_total names name entry n) ∙ h in
+    let by : (t : Bool) → eq_by_cmp (slice_cmp nat_cmp) n name ≡ t → cond t (Some entry) (fin.get names n) ≡ Some e → ((n ≡ name) × (entry ≡ e)) ⊎ (fin.get names n ≡ Some e) = λ t. elim t as (λ (v : Bool). eq_by_cmp (slice_cmp nat_cmp) n name ≡ v → cond v (Some entry) (fin.get names n) ≡ Some e → ((n ≡ name) × (entry ≡ e)) ⊎ (fin.get names n ≡ Some e)) [
+      | true ↦ λ is k. inl (tells_apart exact_bytes n name is, (cc))
+      | false ↦ λ is k. inr k
+    ] in
+    by (eq_by_cmp (slice_cmp nat_cmp) n name) refl h2
+
+get_new : (names : Names) (name : List ℕ) (entry : Entry) → fin.get (fin.insert names name entry) name ≡ Some entry
+get_new names name entry =
+    let same : eq_by_cmp (slice_cmp nat_cmp) name name ≡ true = (eq_by_cmp_equiv nat_list_cmp_total).refl name in
+    rw (get-insert nat_list_cmp_total names name entry name) (rw same refl)
+
+-- ---- what is known of each attempt
+
+-- one period isn't after another
+abbrev pub IsNotAfter : Option ℤ → Option ℤ → Type 0
+IsNotAfter p q = (p ≡ q) ⊎ IsLater p q
+
+then_later : (p q s : Option ℤ) → IsNotAfter p q → IsLater q s → IsLater p s
+then_later p q s (inl e) later = rw e later
+then_later p q s (inr k) later = later_still p q s k later
+
+-- Of an attempt, where the latest moment lies in period p and n steps were made: when it was made, and that what it opened
+-- is there, has no other name than the attempt's, is the open body exactly if the attempt is the carrier, and holds its own.
+pub record IsOwner (r : Rotation) (name : ℤ → List ℕ) (attempts : List Attempt) (p : Option ℤ) (n : ℕ) (h : List Event) (now : Content) (file : Attempt) (b : ℕ) (a : Attempt) : Type 0 where
+  pub in_range : IsMoment a.moment
+  pub not_after : IsNotAfter (period_of r a.moment) p
+  pub made : a.step ≤ n
+  pub there : (x : ℕ) → a.opened ≡ Some x → x < length now.bodies
+  pub own : (x : ℕ) → a.opened ≡ Some x → (m : List ℕ) (t : Option ℤ) → fin.get now.names m ≡ Some (File x t) → m ≡ name a.moment
+  pub mine : (x : ℕ) → a.opened ≡ Some x → (file.step == a.step) ≡ (b == x)
+  pub holds : HoldsItsOwn attempts h now a
+
+each_map : (P Q : Attempt → Type 0) (attempts : List Attempt) → ((a : Attempt) → P a → Q a) → EachOf P attempts → EachOf Q attempts
+each_map P Q [] f all = tt
+each_map P Q (a ∷ rest) f all = (f a all.0, each_map P Q rest f all.1)
+
+-- What is known of all attempts.
+pub record AreOwners (r : Rotation) (name : ℤ → List ℕ) (attempts : List Attempt) (p : Option ℤ) (n : ℕ) (h : List Event) (now : Content) (file : Attempt) (b : ℕ) : Type 0 where
+  pub apart : AreApart attempts
+  pub owners : EachOf (IsOwner r name attempts p n h now file b) attempts
+
+pub each_holds : (r : Rotation) (name : ℤ → List ℕ) (attempts : List Attempt) (p : Option ℤ) (n : ℕ) (h : List Event) (now : Content) (file : Attempt) (b : ℕ) → AreOwners r name attempts p n h now file b → EachOf (HoldsItsOwn attempts h now) attempts
+each_holds r name attempts p n h now file b so =
+    each_map (IsOwner r name attempts p n h now file b) (HoldsItsOwn attempts h now) attempts (λ a o. o.holds) so.owners
+
+-- a step that makes no attempt
+pub owners_stay : (r : Rotation) (name : ℤ → List ℕ) (attempts : List Attempt) (p q : Option ℤ) (n : ℕ) (h : List Event) (now : Content) (file : Attempt) (b : ℕ) → q ≡ p → AreOwners r name attempts p n h now file b → AreOwners r name attempts q (suc n) h now file b
+owners_stay r name attempts p q n h now file b e so = record {
+  apart = so.apart;
+  owners = each_map (IsOwner r name attempts p n h now file b) (IsOwner r name attempts q (suc n) h now file b) attempts
+      (λ a o. record {
+        in_range = o.in_range;
+        not_after = subst (λ (s : Option ℤ). IsNotAfter (period_of r a.moment) s) (sym e) o.not_after;
+        made = let le = o.made in omega arith;
+        there = o.there;
+        own = o.own;
+        mine = o.mine;
+        holds = o.holds;
+      }) so.owners;
+}
+
+-- a piece
+pub owners_with_piece : (r : Rotation) (name : ℤ → List ℕ) (attempts : List Attempt) (p : Option ℤ) (e : Event) (h : List Event) (now : Content) (file : Attempt) (b : ℕ) → carrier attempts (suc (length h)) ≡ Some file → b < length now.bodies → AreOwners r name attempts p (suc (length h)) h now file b → AreOwners r name attempts p (suc (length h)) (e ∷ h) (appended now b e.piece) file b
+owners_with_piece r name attempts p e h now file b here there so = record {
+  apart = so.apart;
+  owners = each_map (IsOwner r name attempts p (suc (length h)) h now file b) (IsOwner r name attempts p (suc (length h)) (e ∷ h) (appended now b e.piece) file b) attempts
+      (λ a o. record {
+        in_range = o.in_range;
+        not_after = o.not_after;
+        made = o.made;
+        there = λ x is. rw (length-set now.bodies b (body_at now b ++ e.piece)) (o.there x is);
+        own = o.own;
+        mine = o.mine;
+        holds = λ x is.
+            let to : passes (λ f. f.step == a.step) (carrier attempts (suc (length h))) ≡ (b == x) = rw here (o.mine x is) in
+            appended_at now b x e.piece there ∙ ap (λ w. w ++ (if b == x then e.piece else [])) (o.holds x is)
+            ∙ append_assoc (body_at a.before x) (written a.step attempts h) (if b == x then e.piece else [])
+            ∙ ap (λ t. body_at a.before x ++ (written a.step attempts h ++ (if t then e.piece else []))) (sym to);
+      }) so.owners;
+}
+
+-- ---- one attempt more
+
+-- an attempt at a later step carries no earlier piece
+pub written_before : (test : Attempt → Bool) (a : Attempt) (rest : List Attempt) (h : List Event) → length h < a.step → written_by test (a ∷ rest) h ≡ written_by test rest h
+written_before test a rest [] lt = refl
+written_before test a rest (e ∷ h) lt =
+    let no : nat_le a.step (suc (length h)) ≡ false = grind arith in
+    rw (written_before test a rest h (omega arith), no) refl
+
+none_opened : (a : Attempt) (b : ℕ) → a.opened ≡ None → a.opened ≡ Some b → ⊥
+none_opened a b none is = let both : ◌≡◌ {A = Option ℕ} None (Some b) = sym none ∙ is in cc
+
+opens_nothing : (a : Attempt) (rest : List Attempt) → a.opened ≡ None → OpensNoneOf a rest
+opens_nothing a [] none = tt
+opens_nothing a (e ∷ rest) none = ((λ b is other. none_opened a b none is), opens_nothing a rest none)
+
+-- one that fails
+pub owners_with_failure : (r : Rotation) (name : ℤ → List ℕ) (rest : List Attempt) (p q : Option ℤ) (h : List Event) (now : Content) (file : Attempt) (b : ℕ) (a : Attempt) → a.step ≡ suc (length h) → a.opened ≡ None → IsMoment a.moment → period_of r a.moment ≡ q → IsLater p q → AreOwners r name rest p (length h) h now file b → AreOwners r name (a ∷ rest) q (suc (length h)) h now file b
+owners_with_failure r name rest p q h now file b a at none g here later so =
+    let lt : length h < a.step = rw at (omega arith) in
+    record {
+      apart = (opens_nothing a rest none, so.apart);
+      owners = (
+        record {
+          in_range = g;
+          not_after = inl here;
+          made = rw at (omega arith);
+          there = λ x is. absurd (none_opened a x none is);
+          own = λ x is. absurd (none_opened a x none is);
+          mine = λ x is. absurd (none_opened a x none is);
+          holds = λ x is. absurd (none_opened a x none is);
+        },
+        each_map (IsOwner r name rest p (length h) h now file b) (IsOwner r name (a ∷ rest) q (suc (length h)) h now file b) rest
+            (λ e o. record {
+              in_range = o.in_range;
+              not_after = inr (then_later (period_of r e.moment) p q o.not_after later);
+              made = let le = o.made in omega arith;
+              there = o.there;
+              own = o.own;
+              mine = o.mine;
+              holds = λ x is. rw (written_before (λ f. f.step == e.step) a rest h lt) (o.holds x is);
+            }) so.owners,
+      );
+    }
+
+-- what is opened for another name is another body
+other_body : (r : Rotation) (name : ℤ → List ℕ) (attempts : List Attempt) (p : Option ℤ) (n : ℕ) (h : List Event) (old new : Content) (file : Attempt) (b c x : ℕ) (e : Attempt) (m : List ℕ) → m ≢ name e.moment → Opens m old new c → IsOwner r name attempts p n h old file b e → e.opened ≡ Some x → c ≢ x
+other_body r name attempts p n h old new file b c x e m differs opens o is same =
+    elim opens.1 [
+      | inl k ↦ differs (o.own x is m k.0 (subst (λ (y : ℕ). fin.get old.names m ≡ Some (File y k.0)) same k.1))
+      | inr k ↦ let below : x < length old.bodies = o.there x is in absurd (omega (arith, k.2))
+    ]
+
+-- an opening leaves each body its name
+own_still : (name : ℤ → List ℕ) (e : Attempt) (m : List ℕ) (old new : Content) (c x : ℕ) → Opens m old new c → x < length old.bodies → ((k : List ℕ) (t : Option ℤ) → fin.get old.names k ≡ Some (File x t) → k ≡ name e.moment) → (k : List ℕ) (t : Option ℤ) → fin.get new.names k ≡ Some (File x t) → k ≡ name e.moment
+own_still name e m old new c x opens below own k t h =
+    elim opens.1 [
+      | inl w ↦ own k t (subst (λ (d : Content). fin.get d.names k ≡ Some (File x t)) w.2 h)
+      | inr w ↦ elim (got old.names m (File c w.0) k (File x t) (subst (λ (d : Content). fin.get d.names k ≡ Some (File x t)) w.3 h)) [
+        | inl z ↦ absurd (let same : c ≡ x = same_file c x w.0 t z.1 in omega (arith, w.2))
+        | inr z ↦ own k t z
+      ]
+    ]
+
+more_bodies : (m : List ℕ) (old new : Content) (c x : ℕ) → Opens m old new c → x < length old.bodies → x < length new.bodies
+more_bodies m old new c x opens below =
+    elim opens.1 [
+      | inl w ↦ subst (λ (d : Content). x < length d.bodies) (sym w.2) below
+      | inr w ↦ subst (λ (d : Content). x < length d.bodies) (sym w.3) (let more = length-append old.bodies ([] ∷ []) in omega arith)
+    ]
+
+leads_to : (m : List ℕ) (old new : Content) (c : ℕ) → Opens m old new c → (t : Option ℤ) × (fin.get new.names m ≡ Some (File c t))
+leads_to m old new c opens =
+    elim opens.1 [
+      | inl w ↦ (w.0, subst (λ (d : Content). fin.get d.names m ≡ Some (File c w.0)) (sym w.2) w.1)
+      | inr w ↦ (w.0, subst (λ (d : Content). fin.get d.names m ≡ Some (File c w.0)) (sym w.3) (get_new old.names m (File c w.0)))
+    ]
+
+not_equal : (x y : ℕ) → x ≢ y → (x == y) ≡ false
+not_equal x y ne = grind arith
+
+equal : (x y : ℕ) → x ≡ y → (x == y) ≡ true
+equal x y e = grind arith
+
+-- names of later periods are others
+abbrev pub OtherNames : Rotation → (ℤ → List ℕ) → Type 0
+OtherNames r name = (m n : ℤ) → IsMoment m → IsMoment n → IsLater (period_of r m) (period_of r n) → name n ≢ name m
+
+opens_no_other : (r : Rotation) (name : ℤ → List ℕ) (attempts : List Attempt) (p q : Option ℤ) (n : ℕ) (h : List Event) (old new : Content) (file : Attempt) (b c : ℕ) (a : Attempt) (part : List Attempt) → OtherNames r name → IsMoment a.moment → period_of r a.moment ≡ q → IsLater p q → a.opened ≡ Some c → Opens (name a.moment) old new c → EachOf (IsOwner r name attempts p n h old file b) part → OpensNoneOf a part
+opens_no_other r name attempts p q n h old new file b c a [] others g here later is opens all = tt
+opens_no_other r name attempts p q n h old new file b c a (e ∷ part) others g here later is opens all =
+    let o = all.0 in
+    let differs : name a.moment ≢ name e.moment = others e.moment a.moment o.in_range g (rw here (then_later (period_of r e.moment) p q o.not_after later)) in (
+      (λ x ax ex. other_body r name attempts p n h old new file b c x e (name a.moment) differs opens o ex (same_body c x (sym is ∙ ax))),
+      opens_no_other r name attempts p q n h old new file b c a part others g here later is opens all.1,
+    )
+
+-- one that succeeds
+pub owners_with_success : (r : Rotation) (name : ℤ → List ℕ) (rest : List Attempt) (p q : Option ℤ) (h : List Event) (old new : Content) (file : Attempt) (b c : ℕ) (a : Attempt) → OtherNames r name → IsSound new → a.step ≡ suc (length h) → a.opened ≡ Some c → a.before ≡ old → IsMoment a.moment → period_of r a.moment ≡ q → IsLater p q → Opens (name a.moment) old new c → c < length new.bodies → written a.step (a ∷ rest) h ≡ [] → AreOwners r name rest p (length h) h old file b → AreOwners r name (a ∷ rest) q (suc (length h)) h new a c
+owners_with_success r name rest p q h old new file b c a others sound at is was g here later opens there none so =
+    let lt : length h < a.step = rw at (omega arith) in
+    let to = leads_to (name a.moment) old new c opens in
+    record {
+      apart = (opens_no_other r name rest p q (length h) h old new file b c a rest others g here later is opens so.owners, so.apart);
+      owners = (
+        record {
+          in_range = g;
+          not_after = inl here;
+          made = rw at (omega arith);
+          there = λ x ax. subst (λ (y : ℕ). y < length new.bodies) (same_body c x (sym is ∙ ax)) there;
+          own = λ x ax m t k. sound.one_name m (name a.moment) c t to.0 (subst (λ (y : ℕ). fin.get new.names m ≡ Some (File y t)) (sym (same_body c x (sym is ∙ ax))) k) to.1;
+          mine = λ x ax. equal a.step a.step refl ∙ sym (equal c x (same_body c x (sym is ∙ ax)));
+          holds = λ x ax. rw none (opens_bytes (name a.moment) old new c x opens ∙ ap (λ (d : Content). body_at d x) (sym was) ∙ sym (append-nil (body_at a.before x)));
+        },
+        each_map (IsOwner r name rest p (length h) h old file b) (IsOwner r name (a ∷ rest) q (suc (length h)) h new a c) rest
+            (λ e o.
+            let differs : name a.moment ≢ name e.moment = others e.moment a.moment o.in_range g (rw here (then_later (period_of r e.moment) p q o.not_after later)) in
+            record {
+              in_range = o.in_range;
+              not_after = inr (then_later (period_of r e.moment) p q o.not_after later);
+              made = let le = o.made in omega arith;
+              there = λ x ex. more_bodies (name a.moment) old new c x opens (o.there x ex);
+              own = λ x ex. own_still name e (name a.moment) old new c x opens (o.there x ex) (o.own x ex);
+              mine = λ x ex.
+                  not_equal a.step e.step (let le = o.made in omega arith)
+                  ∙ sym (not_equal c x (other_body r name rest p (length h) h old new file b c x e (name a.moment) differs opens o ex));
+              holds = λ x ex. rw (written_before (λ f. f.step == e.step) a rest h lt) (opens_bytes (name a.moment) old new c x opens ∙ o.holds x ex);
+            }) so.owners,
+      );
+    }
+
+-- the opening
+pub owners_begin : (r : Rotation) (name : ℤ → List ℕ) (a : Attempt) (c : ℕ) → IsSound a.after → a.step ≡ 0 → a.opened ≡ Some c → IsMoment a.moment → Opens (name a.moment) a.before a.after c → c < length a.after.bodies → AreOwners r name (a ∷ []) (period_of r a.moment) 0 [] a.after a c
+owners_begin r name a c sound at is g opens there =
+    let to = leads_to (name a.moment) a.before a.after c opens in
+    record {
+      apart = (tt, tt);
+      owners = (
+        record {
+          in_range = g;
+          not_after = inl refl;
+          made = rw at (omega arith);
+          there = λ x ax. subst (λ (y : ℕ). y < length a.after.bodies) (same_body c x (sym is ∙ ax)) there;
+          own = λ x ax m t k. sound.one_name m (name a.moment) c t to.0 (subst (λ (y : ℕ). fin.get a.after.names m ≡ Some (File y t)) (sym (same_body c x (sym is ∙ ax))) k) to.1;
+          mine = λ x ax. equal a.step a.step refl ∙ sym (equal c x (same_body c x (sym is ∙ ax)));
+          holds = λ x ax. opens_bytes (name a.moment) a.before a.after c x opens ∙ sym (append-nil (body_at a.before x));
+        },
+        tt,
+      );
+    }
