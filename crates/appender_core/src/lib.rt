@@ -2,8 +2,5 @@
 //! folder that it stands in.
 #![tactic(auto)]
 
-pub use appender_names::error;
-pub use appender_names::laws;
-pub use appender_names::names;
-pub use appender_names::rotation;
+pub use appender_names::{error, laws, names, rotation};
 pub use appender_store::store;

@@ -1,0 +1,78 @@
+-- Slots of which the first ones are full.
+use Rattle.std.proofs.Common.{◌≡◌, ℕ, ◌<◌, List, [], ◌∷◌, ◌++◌, true, length, take, drop, refl, sym, ap, arith, append_assoc}
+use Rattle.std.specs.Prelude.{Option, Some, None, Vec, slice_set, slice_index_or}
+use Rattle.std.specs.declared.alloc.Global.{Global}
+use Rattle.appender_queue.specs.Slots.{present, all_empty, is_packed}
+
+-- empty slots have no lines
+empty_present : (s : List (Option (Vec ℕ Global))) → all_empty s ≡ true → present s ≡ []
+empty_present [] h = refl
+empty_present (None ∷ s) h = empty_present s h
+empty_present (Some v ∷ s) h = cc
+
+-- empty slots are packed
+empty_packed : (s : List (Option (Vec ℕ Global))) → all_empty s ≡ true → is_packed s ≡ true
+empty_packed [] h = refl
+empty_packed (None ∷ s) h = h
+empty_packed (Some v ∷ s) h = cc
+
+empty_more : (s : List (Option (Vec ℕ Global))) → all_empty s ≡ true → all_empty (s ++ None ∷ []) ≡ true
+empty_more [] h = refl
+empty_more (None ∷ s) h = empty_more s h
+empty_more (Some v ∷ s) h = cc
+
+-- one more empty slot
+pub packed_more : (s : List (Option (Vec ℕ Global))) → is_packed s ≡ true → is_packed (s ++ None ∷ []) ≡ true
+packed_more [] h = refl
+packed_more (None ∷ s) h = empty_more s h
+packed_more (Some v ∷ s) h = packed_more s h
+
+pub present_more : (s : List (Option (Vec ℕ Global))) → present (s ++ None ∷ []) ≡ present s
+present_more [] = refl
+present_more (None ∷ s) = present_more s
+present_more (Some v ∷ s) = ap (λ t. v.items ∷ t) (present_more s)
+
+-- the first empty slot is filled
+pub present_fill : (s : List (Option (Vec ℕ Global))) (v : Vec ℕ Global) → is_packed s ≡ true → length (present s) < length s
+    → present (slice_set s (length (present s)) (Some v)) ≡ present s ++ v.items ∷ []
+present_fill [] v h l = absurd (omega (arith, l))
+present_fill (None ∷ s) v h l = rw (empty_present s h) (ap (λ t. v.items ∷ t) (empty_present s h))
+present_fill (Some u ∷ s) v h l =
+    let m : length (present s) < length s = omega (arith, l) in
+    ap (λ x. u.items ∷ x) (present_fill s v h m)
+
+pub packed_fill : (s : List (Option (Vec ℕ Global))) (v : Vec ℕ Global) → is_packed s ≡ true → length (present s) < length s
+    → is_packed (slice_set s (length (present s)) (Some v)) ≡ true
+packed_fill [] v h l = absurd (omega (arith, l))
+packed_fill (None ∷ s) v h l = rw (empty_present s h) (empty_packed s h)
+packed_fill (Some u ∷ s) v h l =
+    let m : length (present s) < length s = omega (arith, l) in
+    packed_fill s v h m
+
+-- an empty slot is put behind the full ones
+empty_slot_behind : (s : List (Option (Vec ℕ Global))) → is_packed s ≡ true
+    → (present (take (length (present s)) s ++ None ∷ drop (length (present s)) s) ≡ present s)
+    × (is_packed (take (length (present s)) s ++ None ∷ drop (length (present s)) s) ≡ true)
+empty_slot_behind [] h = (refl, refl)
+empty_slot_behind (None ∷ s) h = rw (empty_present s h) (empty_present s h, h)
+empty_slot_behind (Some u ∷ s) h =
+    let t = empty_slot_behind s h in (ap (λ x. u.items ∷ x) t.0, t.1)
+
+-- a row that has a line begins with a full slot
+pub first_full : (s : List (Option (Vec ℕ Global))) (d : Option (Vec ℕ Global)) → is_packed s ≡ true → 0 < length (present s) → slice_index_or s 0 d ≡ None → ⊥
+first_full [] d h l e = omega (arith, l)
+first_full (None ∷ s) d h l e = let k : 0 < length (present s) = l in let n = ap length (empty_present s h) in omega (arith, k, n)
+first_full (Some v ∷ s) d h l e = cc
+
+-- the first slot was emptied, and the full slots turned by one
+pub first_out : (s : List (Option (Vec ℕ Global))) (n : ℕ) (d : Option (Vec ℕ Global)) (v : Vec ℕ Global) (turned : List (Option (Vec ℕ Global)))
+    → is_packed s ≡ true → n ≡ length (present s) → 0 < n → slice_index_or s 0 d ≡ Some v
+    → turned ≡ drop 1 (take n (slice_set s 0 None)) ++ take 1 (take n (slice_set s 0 None))
+    → (present s ≡ v.items ∷ present (turned ++ drop n (slice_set s 0 None))) × (is_packed (turned ++ drop n (slice_set s 0 None)) ≡ true)
+first_out [] n d v turned h e l f t = absurd (omega (arith, e, l))
+first_out (None ∷ s) n d v turned h e l f t = cc
+first_out (Some u ∷ s) n d v turned h e l f t =
+    let b = empty_slot_behind s h in
+    let same : u ≡ v = cc in
+    let behind : turned ≡ take (length (present s)) s ++ None ∷ [] = rw e at t in
+    rw (e, behind, append_assoc (take (length (present s)) s) (None ∷ []) (drop (length (present s)) s), same) (ap (λ x. v.items ∷ x) (sym b.0), b.1)

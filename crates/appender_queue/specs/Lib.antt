@@ -1,0 +1,9 @@
+pub mod Slots
+pub mod Queue
+pub mod QueueReplies
+pub mod Rules
+pub mod Core
+pub mod CoreReplies
+pub mod CoreState
+pub mod LineSteps
+pub mod Runs

@@ -1,0 +1,137 @@
+-- The queue of lines between senders and a worker, as its contracts see it.
+use Rattle.std.specs.Prelude.{◌≡◌, ℕ, ◌+◌, ◌-◌, ◌^◌, ◌<◌, ◌≤◌, List, [], ◌∷◌, ◌++◌, Bool, true, false, not, ◌&&◌, ◌==◌, if◌then◌else◌, nat_lt, length, Option, Some, None, min, drop}
+
+-- what a queue shows
+pub record Queue : Type 0 where
+  -- the accepted lines not yet handed to the worker, the first first; none once the queue is closed
+  pub lines : List (List ℕ)
+  -- how many lines were accepted
+  pub accepted : ℕ
+  -- how many of them were handed to the worker
+  pub handed : ℕ
+  -- how many lines were accepted when the shutdown was sent, if it was
+  pub shutdown : Option ℕ
+  -- whether the worker has taken the shutdown, or has found no sender left
+  pub closed : Bool
+  -- how many senders there are
+  pub senders : ℕ
+  -- whether the last take was a waiting one that found nothing
+  pub worker_waits : Bool
+  -- how many offers were refused, in lossy mode
+  pub dropped : ℕ
+  -- how many places there are
+  pub limit : ℕ
+  -- whether a refused line is lost, and counted as dropped
+  pub lossy : Bool
+
+-- whether a shutdown was sent
+abbrev pub is_sent : Option ℕ → Bool
+is_sent None = false
+is_sent (Some place) = true
+
+-- a shutdown that lies in the queue takes one place
+abbrev pub places_of : Option ℕ → ℕ
+places_of None = 0
+places_of (Some place) = 1
+
+-- how many places are taken
+abbrev pub taken_places : Queue → ℕ
+taken_places q = if q.closed then 0 else (length q.lines + places_of q.shutdown)
+
+-- whether one more may lie there: fewer than the limit do; at limit 0 none does and the worker waits for it
+abbrev pub has_room : Queue → Bool
+has_room q =
+    if q.limit == 0 then ((taken_places q == 0) && q.worker_waits)
+    else nat_lt (taken_places q) q.limit
+
+-- whether lines are accepted at all: tickets have 64 bits
+abbrev pub is_open : Queue → Bool
+is_open q = not q.closed && nat_lt q.accepted (2 ^ 64 - 1)
+
+-- one more, by a count of 64 bits that stays at its greatest value
+abbrev pub one_more : ℕ → ℕ
+one_more n = min (n + 1) (2 ^ 64 - 1)
+
+-- one less; 0 stays, and so does a count that has reached its greatest value
+abbrev pub one_less : ℕ → ℕ
+one_less n = if n == 2 ^ 64 - 1 then n else n - 1
+
+-- a new queue: empty, with one sender
+abbrev pub fresh : ℕ → Bool → Queue
+fresh limit lossy = record {
+  lines = [];
+  accepted = 0;
+  handed = 0;
+  shutdown = None;
+  closed = false;
+  senders = 1;
+  worker_waits = false;
+  dropped = 0;
+  limit = limit;
+  lossy = lossy;
+}
+
+-- the queue after a line was accepted
+abbrev pub accepting : Queue → List ℕ → Queue
+accepting q line = record q { lines = q.lines ++ line ∷ []; accepted = q.accepted + 1 }
+
+-- the queue after a line was refused: in lossy mode it counts as dropped
+abbrev pub refusing : Queue → Queue
+refusing q = if q.lossy then record q { dropped = one_more q.dropped } else q
+
+-- the queue after a line was offered
+abbrev pub after_offer : Queue → List ℕ → Queue
+after_offer q line = if is_open q && has_room q then accepting q line else refusing q
+
+-- whether a shutdown is taken in: not closed, none was sent before, and there is room
+abbrev pub may_shut : Queue → Bool
+may_shut q = not q.closed && (not (is_sent q.shutdown) && has_room q)
+
+-- the queue after a shutdown was tried: where it is taken in, it stands behind all lines accepted so far
+abbrev pub after_shut : Queue → Queue
+after_shut q = if may_shut q then record q { shutdown = Some q.accepted } else q
+
+-- whether the next line to be handed was accepted before the shutdown
+abbrev pub is_before : Option ℕ → ℕ → Bool
+is_before None handed = true
+is_before (Some place) handed = nat_lt handed place
+
+-- whether a line is there that the worker may take
+abbrev pub has_line : Queue → Bool
+has_line q = nat_lt q.handed q.accepted && is_before q.shutdown q.handed
+
+-- the queue once it is closed: what lay there is left
+abbrev pub closing : Queue → Queue
+closing q = record q { lines = []; closed = true; worker_waits = false }
+
+-- the queue after a take
+abbrev pub after_take : Queue → Bool → Queue
+after_take q waits =
+    if q.closed then record q { worker_waits = false }
+    else if has_line q then record q { lines = drop 1 q.lines; handed = q.handed + 1; worker_waits = false }
+    else if is_sent q.shutdown then closing q
+    else if q.senders == 0 then closing q
+    else record q { worker_waits = waits }
+
+-- how many accepted lines wait for the worker
+abbrev pub queued_of : Queue → ℕ
+queued_of q = length q.lines
+
+-- how many accepted lines will never be handed
+abbrev pub left_of : Queue → ℕ
+left_of q = if q.closed then q.accepted - q.handed else 0
+
+-- the shutdown stands between the handed and the accepted lines
+abbrev pub Stands : Option ℕ → ℕ → ℕ → Type 0
+Stands shutdown handed accepted = (place : ℕ) → shutdown ≡ Some place → (handed ≤ place) × (place ≤ accepted)
+
+-- what every queue keeps
+pub record IsLawful (q : Queue) : Type 0 where
+  -- no accepted line is lost sight of
+  pub counted : q.accepted ≡ q.handed + queued_of q + left_of q
+  pub shutdown_between : Stands q.shutdown q.handed q.accepted
+  -- a queue that closed for want of senders handed all its lines
+  pub none_left : q.closed ≡ true → q.shutdown ≡ None → left_of q ≡ 0
+  -- in waiting mode no line is dropped
+  pub none_dropped : q.lossy ≡ false → q.dropped ≡ 0
+  pub tickets_fit : q.accepted < 2 ^ 64

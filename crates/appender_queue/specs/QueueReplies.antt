@@ -1,0 +1,56 @@
+-- What a queue answers.
+use Rattle.std.specs.Prelude.{◌≡◌, ℕ, ◌+◌, [], true, false, not, ◌&&◌, ◌||◌, ◌==◌, if◌then◌else◌, Some, None, Result, Ok, Err, Vec, slice_index_or}
+use Rattle.std.specs.declared.alloc.Global.{Global}
+use Rattle.appender_queue.specs.Queue.{Queue, has_room, is_open, is_sent, has_line, queued_of, left_of}
+use Rattle.appender_queue.specs.declared.queue.Counts.{Counts}
+use Rattle.appender_queue.specs.declared.queue.Refused.{Refused}
+use Rattle.appender_queue.specs.declared.queue.Refused.TheVariants.{Full, Closed}
+use Rattle.appender_queue.specs.declared.queue.Shut.{Shut}
+use Rattle.appender_queue.specs.declared.queue.Shut.TheVariants.{Sent as ShutSent, Already, Full as ShutFull, Closed as ShutClosed}
+use Rattle.appender_queue.specs.declared.queue.Taken.{Taken}
+use Rattle.appender_queue.specs.declared.queue.Taken.TheVariants.{Line, Shutdown, Gone, Empty}
+
+-- to an offer: the next ticket, or the very line given back
+abbrev pub offer_reply : Queue → Vec ℕ Global → Result ℕ Refused
+offer_reply q line =
+    if is_open q then (if has_room q then Ok (q.accepted + 1) else Err (Full line)) else Err (Closed line)
+
+-- to a shutdown
+abbrev pub shut_reply : Queue → Shut
+shut_reply q =
+    if q.closed then ShutClosed else if is_sent q.shutdown then Already else if has_room q then ShutSent else ShutFull
+
+-- to a take: the first line with the ticket behind the last one handed, where a line lies before the shutdown;
+-- else the shutdown; else, with no sender left, that all are gone; else that nothing is there
+abbrev pub IsTaken : Queue → Taken → Type 0
+IsTaken q (Line ticket line) =
+    (q.closed ≡ false) × (has_line q ≡ true) × (ticket ≡ q.handed + 1) × (line.items ≡ slice_index_or q.lines 0 [])
+IsTaken q Shutdown = (q.closed ≡ false) × (has_line q ≡ false) × (is_sent q.shutdown ≡ true)
+IsTaken q Gone =
+    (q.closed || (not (has_line q) && (not (is_sent q.shutdown) && (q.senders == 0)))) ≡ true
+IsTaken q Empty =
+    (q.closed ≡ false) × (has_line q ≡ false) × (is_sent q.shutdown ≡ false) × ((q.senders == 0) ≡ false)
+
+-- what a take leaves of counts and shutdown, by its answer: a line raises the handed ones to its ticket,
+-- and the queue is closed exactly after Shutdown and Gone
+abbrev pub TakeLeaves : Queue → Queue → Taken → Type 0
+TakeLeaves q new (Line ticket line) =
+    (new.handed ≡ ticket) × (ticket ≡ q.handed + 1) × (new.accepted ≡ q.accepted) × (new.shutdown ≡ q.shutdown)
+    × (q.closed ≡ false) × (new.closed ≡ false)
+TakeLeaves q new Shutdown =
+    (new.handed ≡ q.handed) × (new.accepted ≡ q.accepted) × (new.shutdown ≡ q.shutdown) × (q.closed ≡ false) × (new.closed ≡ true)
+TakeLeaves q new Gone =
+    (new.handed ≡ q.handed) × (new.accepted ≡ q.accepted) × (new.shutdown ≡ q.shutdown) × (new.closed ≡ true)
+TakeLeaves q new Empty =
+    (new.handed ≡ q.handed) × (new.accepted ≡ q.accepted) × (new.shutdown ≡ q.shutdown) × (q.closed ≡ false) × (new.closed ≡ false)
+
+-- what a shutdown leaves, by its answer: only Sent changes the queue
+abbrev pub ShutLeaves : Queue → Queue → Shut → Type 0
+ShutLeaves q new ShutSent = (q.shutdown ≡ None) × (new ≡ record q { shutdown = Some q.accepted })
+ShutLeaves q new Already = new ≡ q
+ShutLeaves q new ShutFull = new ≡ q
+ShutLeaves q new ShutClosed = new ≡ q
+
+-- the counts of a queue
+abbrev pub counts_of : Queue → Counts
+counts_of q = record { accepted = q.accepted; handed = q.handed; queued = queued_of q; left = left_of q; dropped = q.dropped }
