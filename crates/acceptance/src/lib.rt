@@ -2,4 +2,8 @@
 #![tactic(auto)]
 
 #[cfg(test)]
+mod retention;
+#[cfg(test)]
 mod rolling;
+#[cfg(test)]
+mod runs;

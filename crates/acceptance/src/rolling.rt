@@ -1,68 +1,12 @@
 // Files that begin at boundaries, over a folder in memory.
 
-use std::alloc::{AllocError, Global};
+use crate::runs::{ELEVEN, START, TWELVE, builder, expect_files, puts, run};
+use std::alloc::Global;
 use std::process::Abort;
 use std::test::Fail;
-use tracing_appender::replay::{ReplayError, RollReply, RollRun, RollStep, replay_rolling};
+use tracing_appender::replay::{RollReply, RollStep};
 use tracing_appender::rolling::{Builder, Roller, Rotation, Switch};
 use tracing_appender::store::{Folder, MemoryFolder, NoticeKind};
-
-// 2020-02-01 10:01:00, and the hours after it.
-const START: i64 = 1_580_551_260;
-
-const ELEVEN: i64 = 1_580_554_800;
-
-const TWELVE: i64 = 1_580_558_400;
-
-fn builder(
-    alloc: Global,
-    rotation: Rotation,
-    prefix: &str,
-    suffix: &str,
-) -> Result<Builder, AllocError> {
-    Builder::new()
-        .rotation(rotation)
-        .filename_prefix(alloc, prefix)?
-        .filename_suffix(alloc, suffix)
-}
-
-// A put for each line.
-fn puts(alloc: Global, lines: &[(i64, &str)]) -> Result<Vec<RollStep>, AllocError> {
-    let mut steps = Vec::new(alloc);
-    for (moment, text) in lines {
-        let bytes = Vec::from_slice(alloc, text.as_bytes())?;
-        steps.push(RollStep::Put(*moment, bytes))?;
-    }
-    Ok(steps)
-}
-
-// A run that has to be opened.
-fn run(
-    alloc: Global,
-    builder: &Builder,
-    folder: MemoryFolder,
-    start: i64,
-    steps: &[RollStep],
-) -> Result<RollRun<MemoryFolder>, Fail> {
-    match replay_rolling(alloc, builder, folder, start, steps) {
-        Ok(run) => Ok(run),
-        Err(ReplayError::Memory(_folder)) => Err(Fail::from("no memory")),
-        Err(ReplayError::Init(error, _folder)) => Err(Fail::from(error)),
-    }
-}
-
-// That the folder has exactly these files, with these bytes.
-fn expect_files(
-    rt: &impl Abort,
-    folder: &MemoryFolder,
-    wanted: &[(&str, &str)],
-) -> Result<(), AllocError> {
-    assert_eq!(rt; folder.names()?.len(), wanted.len());
-    for (name, bytes) in wanted {
-        assert_eq!(rt; folder.bytes(name), Some(bytes.as_bytes()), "{name}");
-    }
-    Ok(())
-}
 
 // A log into which one byte is put twice: what the two puts answered, and the files that it is then in.
 struct Row {

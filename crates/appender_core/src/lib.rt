@@ -1,7 +1,9 @@
 //! The parts of log writers that wait for nobody: when a file begins, what it is called, the folder
-//! that it stands in, the queue of lines, and the machine of the worker that empties it.
+//! that it stands in, which files go, the queue of lines, and the machine of the worker that empties
+//! it.
 #![tactic(auto)]
 
 pub use appender_names::{error, laws, names, rotation};
 pub use appender_queue::{laws as worker_laws, queue, worker};
+pub use appender_retain::{laws as retain_laws, retain};
 pub use appender_store::store;

@@ -1,5 +1,6 @@
 -- The names of log files, as in the documentation of tracing-appender: prefix, date and suffix, with a dot between each two.
-use Rattle.std.specs.Prelude.{◌≡◌, ◌≢◌, ◌↔◌, ℕ, List, [], ◌∷◌, ◌++◌, ℤ, pos, ◌<ℤ◌, Some, unwrap_or, codes, ◌⊎◌}
+use Rattle.std.specs.Prelude.{◌≡◌, ◌≢◌, ◌↔◌, ℕ, zero, suc, ◌*◌, ◌/◌, List, [], ◌∷◌, ◌++◌, ℤ, pos, ◌-ℤ◌, ◌<ℤ◌, Option, None, Some, if◌then◌else◌, unwrap_or, codes, ◌⊎◌}
+use Rattle.std.specs.Str.{bytes_eq}
 use Rattle.std.specs.Cmp.Lexicographic.{slice_cmp}
 use Rattle.std.specs.Ordering.{nat_cmp}
 use Rattle.std.specs.declared.cmp.Ordering.TheVariants.{Less}
@@ -77,6 +78,22 @@ pub record Reads (n : Naming) (name : List ℕ) (s : ℤ) : Type 0 where
   pub dated_second : IsDated s
   pub whole : int_rem_euclid s (pos (unit_of n.rotation.kind)) ≡ pos 0
   pub text : name ≡ dated n.prefix n.suffix (date_text n.rotation.kind s)
+
+-- the start of a whole unit, by its number from 0000-01-01 00:00:00 on
+abbrev pub unit_start : Kind → ℕ → ℤ
+unit_start k i = pos (i * unit_of k) -ℤ pos 62167219200
+
+-- of the first so many units the last whose date stands in the name
+unfoldable pub last_named : Naming → List ℕ → ℕ → Option ℤ
+last_named n name zero = None
+last_named n name (suc i) =
+    if bytes_eq name (dated n.prefix n.suffix (date_text n.rotation.kind (unit_start n.rotation.kind i)))
+    then Some (unit_start n.rotation.kind i)
+    else last_named n name i
+
+-- the second that a name reads as, if it does, as a function: all units of the years 0000 to 9999 are tried
+unfoldable pub reading : Naming → List ℕ → Option ℤ
+reading n name = last_named n name (315569520000 / unit_of n.rotation.kind)
 
 -- later periods have greater names, byte by byte
 abbrev pub NamesRise : Naming → Type 0

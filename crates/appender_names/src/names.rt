@@ -39,7 +39,7 @@ impl Model for Names {
 }
 
 impl Names {
-    ghost use Rattle.appender_names.specs.Name.{Naming, name_of, naming, Reads};
+    ghost use Rattle.appender_names.specs.Name.{Naming, name_of, naming, Reads, reading};
 
     /// Whether names may have this prefix and this suffix, where an empty text is none: neither has
     /// a `/` or a zero byte, and under `NEVER` both together don't make `.` or `..`.
@@ -80,6 +80,20 @@ impl Names {
         self.rotation
     }
 
+    /// What each name begins with; empty where nothing is set.
+    pub fn prefix(&self) -> &str
+        ensures { result.now ≡ self.now.prefix }
+    {
+        self.prefix.as_str()
+    }
+
+    /// What each name ends with; empty where nothing is set.
+    pub fn suffix(&self) -> &str
+        ensures { result.now ≡ self.now.suffix }
+    {
+        self.suffix.as_str()
+    }
+
     /// The name of the file that a moment belongs to. Its date is that of the start of the moment's
     /// period, and under `NEVER` of the moment itself. The error is a refusal of memory.
     pub fn file_name(&self, moment: i64) -> Result<String, AllocError>
@@ -99,7 +113,8 @@ impl Names {
     /// The moment at which the minute, hour or day begins whose date stands in a name. It is `None`
     /// for a text that no date of the years 0000 to 9999 has as its name.
     pub fn read(&self, name: &str) -> Option<i64>
-        ensures { (s : ℤ) → (result ≡ Some s) ↔ Reads self.now name.now s }
+        ensures exact { (s : ℤ) → (result ≡ Some s) ↔ Reads self.now name.now s }
+        ensures value { result ≡ reading self.now name.now }
     {
         let dated = behind(name.as_bytes(), self.prefix.as_bytes())?;
         let date = before(dated, self.suffix.as_bytes())?;

@@ -1,5 +1,6 @@
 pub mod Content
 pub mod Folder
+pub mod Notes
 pub mod MemoryCalls
 pub mod MemoryEntries
 pub mod MemoryPut

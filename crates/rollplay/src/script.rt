@@ -38,12 +38,13 @@ impl LineError {
     }
 }
 
-/// What the log files are called, as last set.
+/// What the log files are called and how many are kept, as last set.
 #[derive(Drop)]
 pub struct Settings {
     rotation: Rotation,
     prefix: String,
     suffix: String,
+    max_files: usize,
 }
 
 impl Model for Settings {
@@ -56,6 +57,7 @@ impl Model for Settings {
       rotation = s.rotation;
       prefix = string_bytes s.prefix;
       suffix = string_bytes s.suffix;
+      max_files = s.max_files;
     } };
 }
 
@@ -65,6 +67,7 @@ impl Settings {
             rotation: Rotation::NEVER,
             prefix: String::new(alloc),
             suffix: String::new(alloc),
+            max_files: 0,
         }
     }
 
@@ -74,6 +77,7 @@ impl Settings {
     {
         Builder::new()
             .rotation(self.rotation)
+            .max_log_files(self.max_files)
             .filename_prefix(alloc, self.prefix.as_str())?
             .filename_suffix(alloc, self.suffix.as_str())
     }
@@ -99,7 +103,7 @@ impl Settings {
 /// A whole script, of which each line is known to be good.
 #[derive(Drop)]
 pub struct Script {
-    /// What the log files are called.
+    /// What the log files are called, and how many are kept.
     pub settings: Settings,
     /// The folder before the log is opened.
     pub folder: MemoryFolder,
@@ -133,6 +137,8 @@ enum Setting<'a> {
     Rotation(Rotation),
     Prefix(String),
     Suffix(String),
+    Max(usize),
+    Created(Option<i128>),
     File(&'a str, String),
     Folder(&'a str),
 }
@@ -159,6 +165,8 @@ impl<'a> Line<'a> {
             "rotation" => Line::Setting(Setting::Rotation(read_rotation(words.word()?)?)),
             "prefix" => Line::Setting(Setting::Prefix(words.text(alloc)?)),
             "suffix" => Line::Setting(Setting::Suffix(words.text(alloc)?)),
+            "max" => Line::Setting(Setting::Max(words.count()?)),
+            "created" => Line::Setting(Setting::Created(words.created()?)),
             "file" => Line::Setting(Setting::File(words.word()?, words.text(alloc)?)),
             "folder" => Line::Setting(Setting::Folder(words.word()?)),
             "start" => Line::Start(words.seconds()?),
@@ -230,6 +238,8 @@ impl Draft {
             Setting::Rotation(rotation) => self.settings.rotation = rotation,
             Setting::Prefix(prefix) => self.settings.prefix = prefix,
             Setting::Suffix(suffix) => self.settings.suffix = suffix,
+            Setting::Max(max) => self.settings.max_files = max,
+            Setting::Created(moment) => self.folder.set_created(moment),
             Setting::File(name, text) => self.folder.put_file(name, text.as_bytes())?,
             Setting::Folder(name) => self.folder.put_folder(name)?,
         }

@@ -22,7 +22,7 @@ fn check(rt: &impl Abort, alloc: Global, script: &[u8], status: u8, output: &str
 }
 
 // Scripts whose log is opened, and what is printed.
-static PLAYED: [(&str, &str); 19] = [
+static PLAYED: [(&str, &str); 25] = [
     // Arrivals an hour apart; a clock that goes back keeps the file.
     (
         "rotation hourly\nprefix app\nstart 1580551260\nput 1580554800 a\nput 1580554799 b\n",
@@ -96,6 +96,35 @@ static PLAYED: [(&str, &str); 19] = [
         "prefix app\nstart 0\nput 5  a\nwrite b \nwrite \t\u{e4}\u{20ac}\r\nwrite \0\n",
         "open app\nnone ok 2\nok 2\nok 7\nok 1\nfile app 12  ab \t\u{e4}\u{20ac}\r\0\n",
     ),
+    // The oldest log files go by their names, and by their creation moments where these are known.
+    (
+        "rotation hourly\nprefix app\nmax 2\nfile app.2020-02-01-08 x\nfile app.2020-02-01-09 y\nfile app.notes z\nstart 1580551260\n",
+        "open app.2020-02-01-10\nfile app.2020-02-01-09 1 y\nfile app.2020-02-01-10 0\nfile app.notes 1 z\n",
+    ),
+    (
+        "rotation hourly\nprefix app\nmax 2\ncreated 2\nfile app.2020-02-01-08 x\ncreated 3\nfile app.2020-02-01-09 y\ncreated 1\nfile app.notes z\nstart 1580551260\n",
+        "open app.2020-02-01-10\nfile app.2020-02-01-09 1 y\nfile app.2020-02-01-10 0\n",
+    ),
+    // Creation moments may be unknown again, and lie before 1970; the files of the run carry the last one.
+    (
+        "rotation hourly\nprefix app\nmax 0002\ncreated 5\nfile app.a x\ncreated none\nfile app.b y\ncreated -170141183460469231731687303715884105728\nfile app.c z\nstart 1580551260\nsee 1580554800\n",
+        "open app.2020-02-01-10\nopened\nfile app.2020-02-01-11 0\nfile app.a 1 x\nfile app.b 1 y\n",
+    ),
+    // The last maximum holds, and 0 is none.
+    (
+        "rotation hourly\nprefix app\nmax 1\nmax 0\nfile app.2020-02-01-09 y\nstart 1580551260\n",
+        "open app.2020-02-01-10\nfile app.2020-02-01-09 1 y\nfile app.2020-02-01-10 0\n",
+    ),
+    // The file that is open goes too where one file is kept.
+    (
+        "rotation hourly\nprefix app\nmax 1\nfile other x\nfolder app.d\nstart 1580551260\nput 1580551261 a\nput 1580554800 b\n",
+        "open app.2020-02-01-10\nnone ok 1\nopened ok 1\nfile app.2020-02-01-11 1 b\nfolder app.d\nfile other 1 x\n",
+    ),
+    // With neither prefix nor suffix only dates are log files.
+    (
+        "rotation daily\nmax 1\nfile 2020-01-31 x\nfile 2020-01-32 y\nfile notes z\nstart 1580551260\n",
+        "open 2020-02-01\nfile 2020-01-32 1 y\nfile 2020-02-01 0\nfile notes 1 z\n",
+    ),
     // Numbers may begin with zeros, and lie before 1970.
     ("start -0001\n", "open 1969-12-31\nfile 1969-12-31 0\n"),
     (
@@ -142,7 +171,7 @@ fn tells_why_nothing_is_opened(rt: HostRuntime) {
 }
 
 // Scripts and their first faulty lines.
-static FAULTY: [(&str, usize); 84] = [
+static FAULTY: [(&str, usize); 97] = [
     // No `start`.
     ("", 1),
     ("prefix app\n", 2),
@@ -209,6 +238,24 @@ static FAULTY: [(&str, usize); 84] = [
     ("start \u{664}\n", 1),
     ("start 9223372036854775808\n", 1),
     ("start -9223372036854775809\n", 1),
+    ("max\nstart 0\n", 1),
+    ("max +2\nstart 0\n", 1),
+    ("max -2\nstart 0\n", 1),
+    ("max -0\nstart 0\n", 1),
+    ("max 2 \nstart 0\n", 1),
+    ("max two\nstart 0\n", 1),
+    ("max 18446744073709551616\nstart 0\n", 1),
+    ("start 0\nmax 2\n", 2),
+    ("created\nstart 0\n", 1),
+    ("created None\nstart 0\n", 1),
+    ("created -0\nstart 0\n", 1),
+    ("created +1\nstart 0\n", 1),
+    (
+        "created 170141183460469231731687303715884105728\nstart 0\n",
+        1,
+    ),
+    ("created none none\nstart 0\n", 1),
+    ("start 0\ncreated none\n", 2),
     // Names.
     ("file\nstart 0\n", 1),
     ("file  x\nstart 0\n", 1),
@@ -225,8 +272,6 @@ static FAULTY: [(&str, usize); 84] = [
     // Lines that are not known yet.
     ("absent\nstart 0\n", 1),
     ("link latest\nstart 0\n", 1),
-    ("max 2\nstart 0\n", 1),
-    ("created none\nstart 0\n", 1),
     ("link-at a b\nstart 0\n", 1),
     ("fail 1\nstart 0\n", 1),
     ("short 1 1\nstart 0\n", 1),

@@ -1,9 +1,9 @@
 //! A line of a script, word by word.
-ghost use Rattle.std.specs.Prelude.{◌≡◌, ◌↔◌, ◌<◌, ◌∷◌, ◌++◌, ◌==◌, ℕ, List, [], None, Some, IfOk, IfSome, IsOk, string_bytes, unwrap_or};
+ghost use Rattle.std.specs.Prelude.{◌≡◌, ◌↔◌, ◌<◌, ◌∷◌, ◌++◌, ◌==◌, ℕ, List, [], None, Some, IfOk, IfSome, IsSome, IsOk, MatchOption, codes, string_bytes, unwrap_or};
 ghost use Rattle.std.specs.Option.{option_map};
 ghost use Rattle.std.specs.List.{before_first};
 ghost use Rattle.rollplay.specs.Line.{behind, TakesWord};
-ghost use Rattle.rollplay.specs.Text.{escape_of, IsEscaped, IsSignOf};
+ghost use Rattle.rollplay.specs.Text.{escape_of, IsEscaped, IsSignOf, IsUnsigned};
 
 use std::alloc::{AllocError, Global};
 use std::marker::Model;
@@ -78,7 +78,27 @@ impl<'a> Words<'a> {
         ensures { IfOk result (λ seconds.
             (word : List ℕ) × TakesWord self.old word self.new × IsSignOf word seconds) }
     {
-        read_seconds(self.word()?).ok_or(LineError::Fault)
+        let number = read_signed(self.word()?).ok_or(LineError::Fault)?;
+        i64::try_from(number).map_err(|_| LineError::Fault)
+    }
+
+    /// The next word as a creation moment, in nanoseconds since the epoch, or `none`.
+    pub fn created(&mut self) -> Result<Option<i128>, LineError>
+        ensures { IfOk result (λ created. (word : List ℕ) × TakesWord self.old word self.new
+            × MatchOption created (word ≡ codes "none") (IsSignOf word)) }
+    {
+        match self.word()? {
+            "none" => Ok(None),
+            word => Ok(Some(read_signed(word).ok_or(LineError::Fault)?)),
+        }
+    }
+
+    /// The next word as a count: decimal digits without a sign.
+    pub fn count(&mut self) -> Result<usize, LineError>
+        ensures { IfOk result (λ _. (word : List ℕ) × TakesWord self.old word self.new
+            × IsUnsigned word) }
+    {
+        read_unsigned(self.word()?).ok_or(LineError::Fault)
     }
 
     /// All that is left, spaces too, with its escapes resolved; empty where nothing is left.
@@ -113,17 +133,27 @@ fn split_word(line: &str) -> (&str, Option<&str>)
 }
 
 // A decimal number, whose `-` stands before the negative ones alone.
-fn read_seconds(word: &str) -> Option<i64>
+fn read_signed(word: &str) -> Option<i128>
     ensures { IfSome result (IsSignOf word.now) }
 {
     if word.starts_with('+') {
         return None;
     }
-    let seconds = word.parse::<i64>().ok()?;
-    if word.starts_with('-') != (seconds < 0) {
+    let number = word.parse::<i128>().ok()?;
+    if word.starts_with('-') != (number < 0) {
         return None;
     }
-    Some(seconds)
+    Some(number)
+}
+
+// A decimal number without a sign.
+fn read_unsigned(word: &str) -> Option<usize>
+    ensures { IsSome result → IsUnsigned word.now }
+{
+    if !word.as_bytes().first()?.is_ascii_digit() {
+        return None;
+    }
+    word.parse::<usize>().ok()
 }
 
 // The text with a newline for each `\n` and a backslash for each `\\`; any other backslash is a fault.

@@ -2,7 +2,7 @@
 use Rattle.std.proofs.Common.{◌≡◌, ◌↔◌, ℤ, ◌≤ℤ◌, ◌<ℤ◌, true, false, Option, None, Some, IsNone, IfSome, arith, refl, subst}
 use Rattle.std.proofs.lemmas.Int.{ints}
 use Rattle.appender_names.specs.declared.rotation.Rotation.{Rotation}
-use Rattle.appender_names.specs.Rotation.{IsNever, IsNextBoundary, IsBoundary}
+use Rattle.appender_names.specs.Rotation.{IsMoment, IsNever, IsNextBoundary, IsBoundary}
 use Rattle.tracing_appender.specs.Roller.{LiesAhead, is_due}
 
 same_some : (a b : ℤ) → ◌≡◌ {A = Option ℤ} (Some a) (Some b) → a ≡ b
@@ -22,6 +22,11 @@ next_lies_ahead r m (Some b) none next = record {
   is_boundary = λ x e. subst (λ (y : ℤ). IsBoundary r y) (same_some b x e) next.boundary;
   ahead = λ x e. subst (λ (y : ℤ). m <ℤ y) (same_some b x e) next.after;
 }
+
+-- a moment that is due is one of the range
+pub due_is_moment : (m : ℤ) (b : Option ℤ) → is_due b m ≡ true → IsMoment m
+due_is_moment m None due = absurd (let both : false ≡ true = due in cc)
+due_is_moment m (Some b) due = (grind (arith, ints), grind (arith, ints))
 
 -- a moment that is due lies behind that of the open file
 pub due_is_later : (r : Rotation) (opened m : ℤ) (b : Option ℤ) → LiesAhead r opened b → is_due b m ≡ true → opened ≤ℤ m

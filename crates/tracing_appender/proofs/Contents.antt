@@ -1,7 +1,10 @@
--- What bodies hold after an opening or an append.
-use Rattle.std.proofs.Common.{◌≡◌, ◌≢◌, ℕ, ◌<◌, Bool, true, false, List, [], ◌∷◌, ◌++◌, length, get_or, set, cond, ◌==◌, if◌then◌else◌, arith, inl, inr, refl, ap, sym, ◌∙◌, subst, zero, suc, append_assoc}
+-- What bodies hold after retention, an opening or an append.
+use Rattle.std.proofs.Common.{◌≡◌, ◌≢◌, ℕ, ◌<◌, Bool, true, false, List, [], ◌∷◌, ◌++◌, length, get_or, set, cond, ◌==◌, if◌then◌else◌, arith, inl, inr, refl, ap, sym, ◌∙◌, subst, zero, suc, append_assoc, Option, None, Some}
 use Rattle.std.proofs.lemmas.List.{get_or-set_same, get_or-set_other, append-nil, set-get_or}
-use Rattle.appender_store.specs.Content.{Content, body_at, appended, Opens}
+use Rattle.std.specs.FinMap as fin
+use Rattle.appender_names.specs.Name.{Naming}
+use Rattle.appender_store.specs.Content.{Content, Entry, body_at, appended, Opens}
+use Rattle.appender_retain.specs.Survival.{TakesOnlyOld}
 
 -- nothing was added
 pub appended_nothing : (c : Content) (b : ℕ) → appended c b [] ≡ c
@@ -33,6 +36,24 @@ empty_more [] zero = refl
 empty_more [] (suc x) = refl
 empty_more (b ∷ bodies) zero = refl
 empty_more (b ∷ bodies) (suc x) = empty_more bodies x
+
+-- the same bodies, and no name more
+pub record IsLess (old new : Content) : Type 0 where
+  pub bodies : new.bodies ≡ old.bodies
+  pub names : (name : List ℕ) (e : Entry) → fin.get new.names name ≡ Some e → fin.get old.names name ≡ Some e
+
+-- retention takes nothing but names
+pub is_less : (n : Naming) (max : ℕ) (old new : Content) → TakesOnlyOld n max old new → IsLess old new
+is_less n max old new took = record {
+  bodies = took.bodies;
+  names = λ name e h. elim (took.names name) [
+    | inl same ↦ sym same ∙ h
+    | inr w ↦ absurd (let both : ◌≡◌ {A = Option Entry} None (Some e) = sym w.0 ∙ h in cc)
+  ];
+}
+
+pub less_bytes : (old new : Content) (x : ℕ) → IsLess old new → body_at new x ≡ body_at old x
+less_bytes old new x less = ap (λ (bodies : List (List ℕ)). get_or bodies x []) less.bodies
 
 -- an opening changes no body's bytes
 pub opens_bytes : (name : List ℕ) (old new : Content) (b x : ℕ) → Opens name old new b → body_at new x ≡ body_at old x

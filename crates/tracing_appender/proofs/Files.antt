@@ -2,13 +2,18 @@
 use Rattle.std.proofs.Common.{◌≡◌, ℕ, suc, ◌<◌, ◌≤◌, ℤ, Bool, true, false, nat_le, ◌&&◌, ◌==◌, if◌then◌else◌, List, [], ◌∷◌, ◌++◌, length, map, Option, None, Some, is_some, arith, refl, ap, sym, ◌∙◌, subst, append_assoc}
 use Rattle.std.proofs.lemmas.List.{append-nil, length-set}
 use Rattle.appender_names.specs.declared.rotation.Rotation.{Rotation}
-use Rattle.appender_names.specs.Rotation.{IsMoment, period_of, next_of}
+use Rattle.appender_names.specs.Rotation.{IsMoment, next_of}
 use Rattle.appender_store.specs.Content.{Content, IsSound, body_at, appended, Opens}
-use Rattle.tracing_appender.specs.Run.{Event, Attempt, time_of, times, carrier, passes, written, written_to, written_in, is_number, since, up_to, open_body, Carried, Leads, NoneFailed, FileLaw, latest, period_at, arrives}
+use Rattle.appender_store.specs.Folder.{Counts}
+use Rattle.appender_retain.specs.Survival.{TakesOnlyOld, LeavesSurvivors, candidates_in}
+use Rattle.appender_retain.specs.Pruning.{IsQuiet}
+use Rattle.tracing_appender.specs.Config.{Config, naming_of}
+use Rattle.tracing_appender.specs.Roller.{file_name_of}
+use Rattle.tracing_appender.specs.Run.{Event, Attempt, time_of, times, carrier, passes, written, written_to, written_in, is_number, since, up_to, open_body, Carried, IsQuietSuccess, Leads, NotesLead, FileLaw, latest, period_at, arrives}
 use Rattle.tracing_appender.specs.declared.rolling.Switch.TheVariants.{Opened as Switched, Failed as SwitchFailed}
-use Rattle.tracing_appender.proofs.Contents.{appended_nothing, appended_twice, appended_at, opens_bytes}
-use Rattle.tracing_appender.proofs.Periods.{Laws, IsLater, same_is_same, later_differs, later_still}
-use Rattle.tracing_appender.proofs.Owners.{AreOwners, OtherNames, each_holds, written_before, owners_stay, owners_with_piece, owners_with_failure, owners_with_success, owners_begin}
+use Rattle.tracing_appender.proofs.Contents.{is_less, less_bytes, appended_nothing, appended_twice, appended_at, opens_bytes}
+use Rattle.tracing_appender.proofs.Periods.{Laws, IsLater, later_differs, later_still}
+use Rattle.tracing_appender.proofs.Owners.{AreOwners, OtherNames, each_holds, each_in_its_period, written_before, owners_stay, owners_pruned, owners_with_piece, owners_with_failure, owners_with_success, owners_begin}
 use Rattle.tracing_appender.proofs.Clocks.{turn, due_by}
 
 -- ---- steps before and after an attempt
@@ -72,107 +77,122 @@ newest [] = 0
 newest (a ∷ rest) = a.step
 
 -- The law after so many events, what is open, and that the newest attempt isn't at a later step.
-pub record FilesSoFar (r : Rotation) (name : ℤ → List ℕ) (start : ℤ) (h : List Event) (first last : Content) (opened : ℤ) (b : ℕ) : Type 0 where
-  pub law : FileLaw r name start h first last opened b
+pub record FilesSoFar (c : Config) (start : ℤ) (h : List Event) (first last : Content) (noted_first noted_last : Counts) (opened : ℤ) (b : ℕ) : Type 0 where
+  pub law : FileLaw c start h first last noted_first noted_last opened b
   pub carries : (i : ℕ) → length h ≤ i → carrier law.attempts i ≡ Some law.open_file.file
   pub open_is : open_body law.attempts ≡ Some b
   pub made : newest law.attempts ≤ length h
   pub there : b < length last.bodies
-  pub owners : AreOwners r name law.attempts (period_at r start h) (length h) h last law.open_file.file b
+  pub owners : AreOwners c.rotation (file_name_of c) start law.attempts h h last law.open_file.file b
 
 -- The same after the attempt of a step, if it made one, and before its piece.
-pub record Between (r : Rotation) (name : ℤ → List ℕ) (start : ℤ) (e : Event) (h : List Event) (first now : Content) (opened : ℤ) (b : ℕ) : Type 0 where
+pub record Between (c : Config) (start : ℤ) (e : Event) (h : List Event) (first now : Content) (noted_first noted_now : Counts) (opened : ℤ) (b : ℕ) : Type 0 where
   pub attempts : List Attempt
-  pub are_times : map time_of attempts ≡ times r start (e ∷ h)
-  pub leads : Leads name attempts h first now
+  pub are_times : map time_of attempts ≡ times c.rotation start (e ∷ h)
+  pub leads : Leads c attempts h first now
+  pub notes : NotesLead attempts noted_first noted_now
   pub bodies : (x : ℕ) → body_at now x ≡ body_at first x ++ written_to x attempts h
   pub file : Attempt
   pub carries : (i : ℕ) → suc (length h) ≤ i → carrier attempts i ≡ Some file
   pub moment : file.moment ≡ opened
   pub body : file.opened ≡ Some b
   pub holds : body_at now b ≡ body_at file.before b ++ written file.step attempts h
-  pub in_its_period : NoneFailed (e ∷ h) → written file.step attempts h ≡ written_in r start (period_at r start (e ∷ h)) h
   pub open_is : open_body attempts ≡ Some b
   pub made : newest attempts ≤ suc (length h)
   pub there : b < length now.bodies
-  pub owners : AreOwners r name attempts (period_at r start (e ∷ h)) (suc (length h)) h now file b
+  pub owners : AreOwners c.rotation (file_name_of c) start attempts (e ∷ h) h now file b
 
 -- where the step makes no attempt
-pub no_attempt : (r : Rotation) (name : ℤ → List ℕ) (start : ℤ) (e : Event) (h : List Event) (first now : Content) (opened : ℤ) (b : ℕ) → arrives r start e h ≡ false → period_at r start (e ∷ h) ≡ period_at r start h → FilesSoFar r name start h first now opened b → Between r name start e h first now opened b
-no_attempt r name start e h first now opened b none same so = record {
+pub no_attempt : (c : Config) (start : ℤ) (e : Event) (h : List Event) (first now : Content) (noted_first noted_now : Counts) (opened : ℤ) (b : ℕ) → arrives c.rotation start e h ≡ false → period_at c.rotation start (e ∷ h) ≡ period_at c.rotation start h → FilesSoFar c start h first now noted_first noted_now opened b → Between c start e h first now noted_first noted_now opened b
+no_attempt c start e h first now noted_first noted_now opened b none same so = record {
   attempts = so.law.attempts;
   are_times = so.law.are_times ∙ rw none refl;
   leads = so.law.leads;
+  notes = so.law.notes;
   bodies = so.law.bodies;
   file = so.law.open_file.file;
   carries = λ i le. so.carries i (omega arith);
   moment = so.law.open_file.moment;
   body = so.law.open_file.body;
   holds = so.law.open_file.holds;
-  in_its_period = λ fine. rw same (so.law.open_file.in_its_period fine.1);
   open_is = so.open_is;
   made = omega arith;
   there = so.there;
-  owners = owners_stay r name so.law.attempts (period_at r start h) (period_at r start (e ∷ h)) (length h) h now so.law.open_file.file b same so.owners;
+  owners = owners_stay c.rotation (file_name_of c) start so.law.attempts e h now so.law.open_file.file b same so.owners;
 }
 
 -- where it makes one that fails
-pub a_failure : (r : Rotation) (name : ℤ → List ℕ) (start : ℤ) (e : Event) (h : List Event) (first now : Content) (opened : ℤ) (b : ℕ) → Laws r → IsMoment start → arrives r start e h ≡ true → IsLater (period_at r start h) (period_at r start (e ∷ h)) → e.switch ≡ SwitchFailed → FilesSoFar r name start h first now opened b → Between r name start e h first now opened b
-a_failure r name start e h first now opened b laws g came later is so =
-    let a : Attempt = record { step = suc (length h); moment = latest start (e ∷ h); opened = None; before = now; after = now } in
+pub a_failure : (c : Config) (start : ℤ) (e : Event) (h : List Event) (first old new : Content) (noted_first noted_old noted_new : Counts) (opened : ℤ) (b : ℕ) → Laws c.rotation → IsMoment start → arrives c.rotation start e h ≡ true → IsLater (period_at c.rotation start h) (period_at c.rotation start (e ∷ h)) → e.switch ≡ SwitchFailed → TakesOnlyOld (naming_of c) c.max_files old new → FilesSoFar c start h first old noted_first noted_old opened b → Between c start e h first new noted_first noted_new opened b
+a_failure c start e h first old new noted_first noted_old noted_new opened b laws g came later is took so =
+    let a : Attempt = record { step = suc (length h); moment = latest start (e ∷ h); opened = None; before = old; pruned = new; after = new; noted_before = noted_old; noted_after = noted_new } in
     let rest = so.law.attempts in
     let file = so.law.open_file.file in
+    let less = is_less (naming_of c) c.max_files old new took in
+    let failed : IsQuietSuccess a → ⊥ = λ quiet. let both : false ≡ true = quiet.succeeded in cc in
     record {
       attempts = a ∷ rest;
       are_times = rw (came, is) (ap (λ ts. (suc (length h), latest start (e ∷ h), false) ∷ ts) so.law.are_times);
       leads = (
         rw (up_to_now h (suc (length h)) (omega arith)) so.law.leads,
-        refl,
-        rw (so.open_is, since_now h (suc (length h)) (omega arith)) (sym (appended_nothing now b)),
+        record { only_old = took; survivors = λ quiet. absurd (failed quiet); opens = refl; at_most = λ quiet. absurd (failed quiet) },
+        rw (so.open_is, since_now h (suc (length h)) (omega arith)) (sym (appended_nothing new b)),
       );
-      bodies = λ x. rw (written_before (λ f. is_number x f.opened) a rest h (omega arith)) (so.law.bodies x);
+      notes = (so.law.notes, refl);
+      bodies = λ x. rw (written_before (λ f. is_number x f.opened) a rest h (omega arith)) (less_bytes old new x less ∙ so.law.bodies x);
       file = file;
       carries = λ i le. let from = from_on (suc (length h)) i le in rw from (so.carries i (omega arith));
       moment = so.law.open_file.moment;
       body = so.law.open_file.body;
-      holds = rw (written_before (λ f. f.step == file.step) a rest h (omega arith)) so.law.open_file.holds;
-      in_its_period = λ fine. absurd (fine.0 is);
+      holds = rw (written_before (λ f. f.step == file.step) a rest h (omega arith)) (less_bytes old new b less ∙ so.law.open_file.holds);
       open_is = so.open_is;
       made = omega arith;
-      there = so.there;
-      owners = owners_with_failure r name rest (period_at r start h) (period_at r start (e ∷ h)) h now file b a refl refl (latest_in_range r start (e ∷ h) laws g) refl later so.owners;
+      there = rw less.bodies so.there;
+      owners = owners_with_failure c.rotation (file_name_of c) start rest e h new file b a refl refl (latest_in_range c.rotation start (e ∷ h) laws g) refl later is (owners_pruned c.rotation (file_name_of c) start rest h h old new file b less so.owners);
     }
 
+-- What an attempt that succeeded did.
+pub record Succeeds (c : Config) (name : List ℕ) (old pruned new : Content) (noted_old noted_new : Counts) (b : ℕ) : Type 0 where
+  pub only_old : TakesOnlyOld (naming_of c) c.max_files old pruned
+  pub survivors : IsQuiet noted_old noted_new → LeavesSurvivors (naming_of c) c.max_files old pruned
+  pub opens : Opens name pruned new b
+  pub at_most : IsQuiet noted_old noted_new → 0 < c.max_files → candidates_in (naming_of c) new ≤ c.max_files
+  pub there : b < length new.bodies
+  pub sound : IsSound new
+
 -- where it makes one that succeeds
-pub a_success : (r : Rotation) (name : ℤ → List ℕ) (start : ℤ) (e : Event) (h : List Event) (first old new : Content) (opened : ℤ) (b c : ℕ) → Laws r → OtherNames r name → IsSound new → IsMoment start → arrives r start e h ≡ true → IsLater (period_at r start h) (period_at r start (e ∷ h)) → e.switch ≡ Switched → FilesSoFar r name start h first old opened b → Opens (name (latest start (e ∷ h))) old new c → c < length new.bodies → Between r name start e h first new (latest start (e ∷ h)) c
-a_success r name start e h first old new opened b c laws others sound g came later is so opens there =
-    let a : Attempt = record { step = suc (length h); moment = latest start (e ∷ h); opened = Some c; before = old; after = new } in
+pub a_success : (c : Config) (start : ℤ) (e : Event) (h : List Event) (first old pruned new : Content) (noted_first noted_old noted_new : Counts) (opened : ℤ) (b x : ℕ) → Laws c.rotation → OtherNames c.rotation (file_name_of c) → IsMoment start → arrives c.rotation start e h ≡ true → IsLater (period_at c.rotation start h) (period_at c.rotation start (e ∷ h)) → e.switch ≡ Switched → Succeeds c (file_name_of c (latest start (e ∷ h))) old pruned new noted_old noted_new x → FilesSoFar c start h first old noted_first noted_old opened b → Between c start e h first new noted_first noted_new (latest start (e ∷ h)) x
+a_success c start e h first old pruned new noted_first noted_old noted_new opened b x laws others g came later is did so =
+    let a : Attempt = record { step = suc (length h); moment = latest start (e ∷ h); opened = Some x; before = old; pruned = pruned; after = new; noted_before = noted_old; noted_after = noted_new } in
     let rest = so.law.attempts in
+    let name = file_name_of c (latest start (e ∷ h)) in
+    let less = is_less (naming_of c) c.max_files old pruned did.only_old in
+    let none = written_later (a ∷ rest) h (suc (length h)) (omega arith) in
+    let bytes : (y : ℕ) → body_at new y ≡ body_at old y = λ y. opens_bytes name pruned new x y did.opens ∙ less_bytes old pruned y less in
     record {
       attempts = a ∷ rest;
       are_times = rw (came, is) (ap (λ ts. (suc (length h), latest start (e ∷ h), true) ∷ ts) so.law.are_times);
       leads = (
         rw (up_to_now h (suc (length h)) (omega arith)) so.law.leads,
-        opens,
-        rw (since_now h (suc (length h)) (omega arith)) (sym (appended_nothing new c)),
+        record { only_old = did.only_old; survivors = λ q. did.survivors q.quiet; opens = did.opens; at_most = λ q. did.at_most q.quiet },
+        rw (since_now h (suc (length h)) (omega arith)) (sym (appended_nothing new x)),
       );
-      bodies = λ x. rw (written_before (λ f. is_number x f.opened) a rest h (omega arith)) (opens_bytes (name (latest start (e ∷ h))) old new c x opens ∙ so.law.bodies x);
+      notes = (so.law.notes, refl);
+      bodies = λ y. rw (written_before (λ f. is_number y f.opened) a rest h (omega arith)) (bytes y ∙ so.law.bodies y);
       file = a;
       carries = λ i le. let from = from_on (suc (length h)) i le in rw from refl;
       moment = refl;
       body = refl;
-      holds = rw (written_later (a ∷ rest) h (suc (length h)) (omega arith)) (opens_bytes (name (latest start (e ∷ h))) old new c c opens ∙ sym (append-nil (body_at old c)));
-      in_its_period = λ fine. written_later (a ∷ rest) h (suc (length h)) (omega arith) ∙ sym (none_in_later r start h (period_at r start (e ∷ h)) laws g later);
+      holds = rw none (bytes x ∙ sym (append-nil (body_at old x)));
       open_is = refl;
       made = omega arith;
-      there = there;
-      owners = owners_with_success r name rest (period_at r start h) (period_at r start (e ∷ h)) h old new so.law.open_file.file b c a others sound refl refl refl (latest_in_range r start (e ∷ h) laws g) refl later opens there (written_later (a ∷ rest) h (suc (length h)) (omega arith)) so.owners;
+      there = did.there;
+      owners = owners_with_success c.rotation (file_name_of c) start rest e h pruned new so.law.open_file.file b x a others did.sound refl refl (λ y. less_bytes old pruned y less) (latest_in_range c.rotation start (e ∷ h) laws g) refl later did.opens did.there none (none_in_later c.rotation start h (period_at c.rotation start (e ∷ h)) laws g later) (owners_pruned c.rotation (file_name_of c) start rest h h old pruned so.law.open_file.file b less so.owners);
     }
 
 -- the pieces of one step more
-leads_more : (name : ℤ → List ℕ) (attempts : List Attempt) (e : Event) (h : List Event) (first now : Content) (b : ℕ) → open_body attempts ≡ Some b → newest attempts ≤ suc (length h) → Leads name attempts h first now → Leads name attempts (e ∷ h) first (appended now b e.piece)
-leads_more name [] e h first now b is made leads = absurd (let both : ◌≡◌ {A = Option ℕ} None (Some b) = is in cc)
-leads_more name (a ∷ rest) e h first now b is made leads =
+leads_more : (c : Config) (attempts : List Attempt) (e : Event) (h : List Event) (first now : Content) (b : ℕ) → open_body attempts ≡ Some b → newest attempts ≤ suc (length h) → Leads c attempts h first now → Leads c attempts (e ∷ h) first (appended now b e.piece)
+leads_more c [] e h first now b is made leads = absurd (let both : ◌≡◌ {A = Option ℕ} None (Some b) = is in cc)
+leads_more c (a ∷ rest) e h first now b is made leads =
     let from = from_on a.step (suc (length h)) made in
     let carried : now ≡ appended a.after b (since a.step h) = subst (λ (o : Option ℕ). Carried o (since a.step h) a.after now) is leads.2 in (
       rw from leads.0,
@@ -184,17 +204,19 @@ leads_more name (a ∷ rest) e h first now b is made leads =
 same_number : (n : ℕ) → (n == n) ≡ true
 same_number n = grind arith
 
-pub a_piece : (r : Rotation) (name : ℤ → List ℕ) (start : ℤ) (e : Event) (h : List Event) (first now : Content) (opened : ℤ) (b : ℕ) → Between r name start e h first now opened b → FilesSoFar r name start (e ∷ h) first (appended now b e.piece) opened b
-a_piece r name start e h first now opened b so =
+pub a_piece : (c : Config) (start : ℤ) (e : Event) (h : List Event) (first now : Content) (noted_first noted_now : Counts) (opened : ℤ) (b : ℕ) → Between c start e h first now noted_first noted_now opened b → FilesSoFar c start (e ∷ h) first (appended now b e.piece) noted_first noted_now opened b
+a_piece c start e h first now noted_first noted_now opened b so =
     let here = so.carries (suc (length h)) (omega arith) in
-    let owners = owners_with_piece r name so.attempts (period_at r start (e ∷ h)) e h now so.file b here so.there so.owners in
+    let last = appended now b e.piece in
+    let owners = owners_with_piece c.rotation (file_name_of c) start so.attempts e h now so.file b here so.there so.owners in
     let own : written so.file.step so.attempts (e ∷ h) ≡ written so.file.step so.attempts h ++ e.piece =
     rw (here, same_number so.file.step) refl in
     record {
       law = record {
         attempts = so.attempts;
         are_times = so.are_times;
-        leads = leads_more name so.attempts e h first now b so.open_is so.made so.leads;
+        leads = leads_more c so.attempts e h first now b so.open_is so.made so.leads;
+        notes = so.notes;
         bodies = λ x.
             let to : passes (λ f. is_number x f.opened) (carrier so.attempts (suc (length h))) ≡ (b == x) = rw (here, so.body) refl in
             appended_at now b x e.piece so.there ∙ ap (λ w. w ++ (if b == x then e.piece else [])) (so.bodies x)
@@ -206,10 +228,10 @@ a_piece r name start e h first now opened b so =
           moment = so.moment;
           body = so.body;
           holds = appended_at now b b e.piece so.there ∙ rw (same_number b, own, so.holds) (append_assoc (body_at so.file.before b) (written so.file.step so.attempts h) e.piece);
-          in_its_period = λ fine. own ∙ rw (so.in_its_period fine, same_is_same (period_at r start (e ∷ h))) refl;
         };
         apart = owners.apart;
-        each = each_holds r name so.attempts (period_at r start (e ∷ h)) (suc (length h)) (e ∷ h) (appended now b e.piece) so.file b owners;
+        each = each_holds c.rotation (file_name_of c) start so.attempts (e ∷ h) (e ∷ h) last so.file b owners;
+        in_its_period = each_in_its_period c.rotation (file_name_of c) start so.attempts (e ∷ h) (e ∷ h) last so.file b owners;
       };
       carries = so.carries;
       open_is = so.open_is;
@@ -218,30 +240,37 @@ a_piece r name start e h first now opened b so =
       owners = owners;
     }
 
-pub files_begin : (r : Rotation) (name : ℤ → List ℕ) (start : ℤ) (first last : Content) (b : ℕ) → IsSound last → IsMoment start → Opens (name start) first last b → b < length last.bodies → FilesSoFar r name start [] first last start b
-files_begin r name start first last b sound g opens there =
-    let a : Attempt = record { step = 0; moment = start; opened = Some b; before = first; after = last } in
-    let owners = owners_begin r name a b sound refl refl g opens there in
+pub files_begin : (c : Config) (start : ℤ) (first pruned last : Content) (noted_first noted_last : Counts) (b : ℕ) → IsMoment start → Succeeds c (file_name_of c start) first pruned last noted_first noted_last b → FilesSoFar c start [] first last noted_first noted_last start b
+files_begin c start first pruned last noted_first noted_last b g did =
+    let a : Attempt = record { step = 0; moment = start; opened = Some b; before = first; pruned = pruned; after = last; noted_before = noted_first; noted_after = noted_last } in
+    let less = is_less (naming_of c) c.max_files first pruned did.only_old in
+    let bytes : (x : ℕ) → body_at last x ≡ body_at first x = λ x. opens_bytes (file_name_of c start) pruned last b x did.opens ∙ less_bytes first pruned x less in
+    let owners = owners_begin c.rotation (file_name_of c) a b did.sound refl refl (λ x. less_bytes first pruned x less) g did.opens did.there in
     record {
       law = record {
         attempts = a ∷ [];
         are_times = refl;
-        leads = (refl, opens, sym (appended_nothing last b));
-        bodies = λ x. opens_bytes (name start) first last b x opens ∙ sym (append-nil (body_at first x));
+        leads = (
+          refl,
+          record { only_old = did.only_old; survivors = λ q. did.survivors q.quiet; opens = did.opens; at_most = λ q. did.at_most q.quiet },
+          sym (appended_nothing last b),
+        );
+        notes = (refl, refl);
+        bodies = λ x. bytes x ∙ sym (append-nil (body_at first x));
         open_file = record {
           file = a;
           is_carrier = refl;
           moment = refl;
           body = refl;
-          holds = opens_bytes (name start) first last b b opens ∙ sym (append-nil (body_at first b));
-          in_its_period = λ fine. refl;
+          holds = bytes b ∙ sym (append-nil (body_at first b));
         };
         apart = owners.apart;
-        each = each_holds r name (a ∷ []) (period_of r start) 0 [] last a b owners;
+        each = each_holds c.rotation (file_name_of c) start (a ∷ []) [] [] last a b owners;
+        in_its_period = each_in_its_period c.rotation (file_name_of c) start (a ∷ []) [] [] last a b owners;
       };
       carries = λ i le. let from = from_on 0 i le in rw from refl;
       open_is = refl;
       made = omega arith;
-      there = there;
+      there = did.there;
       owners = owners;
     }

@@ -2,6 +2,7 @@ pub mod Boundaries
 pub mod Refusals
 pub mod Periods
 pub mod Contents
+pub mod Closings
 pub mod Turns
 pub mod Clocks
 pub mod Files

@@ -1,13 +1,15 @@
 -- A run of steps over a roller keeps to the laws of the clock and of the files.
 use Rattle.std.proofs.lemmas.Int.{ints}
-use Rattle.std.proofs.Common.{◌≡◌, ◌≢◌, ℕ, ◌<◌, ℤ, true, false, List, [], ◌∷◌, ◌++◌, length, map, Option, None, Some, IsTrue, arith, refl, ap, sym, ◌∙◌, subst}
+use Rattle.std.proofs.Common.{◌≡◌, ◌≢◌, ℕ, ℤ, true, false, List, [], ◌∷◌, ◌++◌, length, map, Option, None, Some, IsTrue, arith, refl, ap, sym, ◌∙◌, subst}
 use Rattle.appender_names.specs.declared.rotation.Rotation.{Rotation}
 use Rattle.appender_store.specs.declared.store.Folder.{Ghosts}
 use Rattle.appender_names.specs.Name.{NamesArePeriods}
 use Rattle.appender_names.specs.Rotation.{IsMoment, period_of, next_of}
-use Rattle.appender_store.specs.Content.{Content, IsSound, Opens}
+use Rattle.appender_store.specs.Content.{IsSound}
+use Rattle.appender_store.specs.Folder.{Counts}
+use Rattle.appender_retain.specs.Pruning.{IsQuiet}
 use Rattle.tracing_appender.specs.Config.{Config, naming_of}
-use Rattle.tracing_appender.specs.Roller.{Rolling, OpensRoller, file_name_of}
+use Rattle.tracing_appender.specs.Roller.{Rolling, OpensFile, OpensRoller, file_name_of}
 use Rattle.tracing_appender.specs.Run.{Event, latest, period_at, arrives, is_switch}
 use Rattle.tracing_appender.specs.Replay.{Told, Runs, StepDoes, event_of, told_onto}
 use Rattle.tracing_appender.specs.declared.rolling.Switch.{Switch}
@@ -18,7 +20,8 @@ use Rattle.tracing_appender.proofs.Periods.{Laws, IsLater}
 use Rattle.tracing_appender.proofs.Turns.{Looks, Turns, step_turns}
 use Rattle.tracing_appender.proofs.Clocks.{ClockSoFar, turn, Decides, due_by, clock_begins, clock_goes_on, turn_decides, turn_keeps}
 use Rattle.tracing_appender.proofs.Owners.{OtherNames}
-use Rattle.tracing_appender.proofs.Files.{FilesSoFar, Between, no_attempt, a_failure, a_success, a_piece, files_begin}
+use Rattle.tracing_appender.proofs.Closings.{closes_quietly}
+use Rattle.tracing_appender.proofs.Files.{FilesSoFar, Between, Succeeds, no_attempt, a_failure, a_success, a_piece, files_begin}
 
 -- What a run rests on: the laws of periods and names, and that the content of a folder that tells is sound.
 pub record Grounds {S F : Type 0} (kind : Ghosts S F) (config : Config) : Type 0 where
@@ -27,11 +30,13 @@ pub record Grounds {S F : Type 0} (kind : Ghosts S F) (config : Config) : Type 0
   pub sound : (folder : S) → IsTrue kind.tells → IsSound (kind.content folder)
 
 -- the law of the files for a roller
-abbrev pub Holds : {S F : Type 0} → Ghosts S F → Config → ℤ → List Event → Content → Rolling S F → Type 0
-Holds kind config start h first now = FilesSoFar config.rotation (file_name_of config) start h first (kind.content now.folder) now.opened (kind.body now.file)
+abbrev pub Holds : {S F : Type 0} → Ghosts S F → Config → ℤ → List Event → S → Rolling S F → Type 0
+Holds kind config start h first now =
+    FilesSoFar config start h (kind.content first) (kind.content now.folder) (kind.noted first) (kind.noted now.folder) now.opened (kind.body now.file)
 
-abbrev HoldsBetween : {S F : Type 0} → Ghosts S F → Config → ℤ → Event → List Event → Content → Rolling S F → Type 0
-HoldsBetween kind config start e h first now = Between config.rotation (file_name_of config) start e h first (kind.content now.folder) now.opened (kind.body now.file)
+abbrev HoldsBetween : {S F : Type 0} → Ghosts S F → Config → ℤ → Event → List Event → S → Rolling S F → Type 0
+HoldsBetween kind config start e h first now =
+    Between config start e h (kind.content first) (kind.content now.folder) (kind.noted first) (kind.noted now.folder) now.opened (kind.body now.file)
 
 -- What a step does to the latest moment, by its switch.
 record Comes (r : Rotation) (start : ℤ) (e : Event) (h : List Event) : Type 0 where
@@ -50,49 +55,60 @@ comes r start e h old new laws so decides =
 same_moment : (a b : ℤ) → ◌≡◌ {A = Option ℤ} (Some a) (Some b) → a ≡ b
 same_moment a b e = cc
 
+-- what an attempt that opened a file did
+succeeds : {S F : Type 0} (kind : Ghosts S F) (config : Config) (m : ℤ) (old ready new : S) (file : F) → IsTrue kind.tells → Grounds kind config → (o : OpensFile kind config m old file ready) → kind.content new ≡ kind.content ready → (IsQuiet (kind.noted old) (kind.noted new) → IsQuiet (kind.noted old) (kind.noted ready)) → Succeeds config (file_name_of config m) (kind.content old) (kind.content o.pruned) (kind.content new) (kind.noted old) (kind.noted new) (kind.body file)
+succeeds kind config m old ready new file tells grounds o same quieter = record {
+  only_old = o.prunes.only_old tells;
+  survivors = λ quiet. o.prunes.survivors (subst (λ (n : Counts). IsQuiet (kind.noted old) n) o.gets.noted (quieter quiet)) tells;
+  opens = rw same (o.gets.opens tells);
+  at_most = λ quiet some. rw same (o.at_most (quieter quiet) tells some);
+  there = rw same (o.gets.body_is_there tells);
+  sound = grounds.sound new tells;
+}
+
 -- after the look at the clock
-looked : {S F : Type 0} (kind : Ghosts S F) (config : Config) (start : ℤ) (read : Option ℤ) (switch : Switch) (piece : List ℕ) (h : List Event) (first : Content) (old now : Rolling S F) → IsTrue kind.tells → Grounds kind config → IsMoment start → Comes config.rotation start (record { read = read; switch = switch; piece = piece }) h → old.config ≡ config → Holds kind config start h first old → Looks kind read switch old now → HoldsBetween kind config start (record { read = read; switch = switch; piece = piece }) h first now
+looked : {S F : Type 0} (kind : Ghosts S F) (config : Config) (start : ℤ) (read : Option ℤ) (switch : Switch) (piece : List ℕ) (h : List Event) (first : S) (old now : Rolling S F) → IsTrue kind.tells → Grounds kind config → IsMoment start → Comes config.rotation start (record { read = read; switch = switch; piece = piece }) h → old.config ≡ config → Holds kind config start h first old → Looks kind read switch old now → HoldsBetween kind config start (record { read = read; switch = switch; piece = piece }) h first now
 looked kind config start None switch piece h first old now tells grounds g come same so (stayed, is) =
     let e : Event = record { read = None; switch = switch; piece = piece } in
     let no = come.stays (ap is_switch stayed) in
-    rw is (no_attempt config.rotation (file_name_of config) start e h first (kind.content old.folder) old.opened (kind.body old.file) no.0 no.1 so)
+    rw is (no_attempt config start e h (kind.content first) (kind.content old.folder) (kind.noted first) (kind.noted old.folder) old.opened (kind.body old.file) no.0 no.1 so)
 looked kind config start (Some m) Stayed piece h first old now tells grounds g come same so sees =
     let e : Event = record { read = Some m; switch = Stayed; piece = piece } in
     let no = come.stays refl in
-    rw sees.1 (no_attempt config.rotation (file_name_of config) start e h first (kind.content old.folder) old.opened (kind.body old.file) no.0 no.1 so)
+    rw sees.1 (no_attempt config start e h (kind.content first) (kind.content old.folder) (kind.noted first) (kind.noted old.folder) old.opened (kind.body old.file) no.0 no.1 so)
 looked kind config start (Some m) Switched piece h first old now tells grounds g come same so sees =
     let e : Event = record { read = Some m; switch = Switched; piece = piece } in
     let is = come.goes refl in
     let it : m ≡ latest start (e ∷ h) = same_moment m (latest start (e ∷ h)) is.2 in
-    let opens : Opens (file_name_of config (latest start (e ∷ h))) (kind.content old.folder) (kind.content now.folder) (kind.body now.file) =
-    rw (sees.content, ← it, ← same) (sees.gets.opens tells) in
-    let there : kind.body now.file < length (kind.content now.folder).bodies = rw sees.content (sees.gets.body_is_there tells) in
-    subst (λ (x : ℤ). Between config.rotation (file_name_of config) start e h first (kind.content now.folder) x (kind.body now.file)) (sym (sees.opened ∙ it))
-    (a_success config.rotation (file_name_of config) start e h first (kind.content old.folder) (kind.content now.folder) old.opened (kind.body old.file) (kind.body now.file) grounds.laws grounds.others (grounds.sound now.folder tells) g is.0 is.1 refl so opens there)
+    let opens : OpensFile kind config (latest start (e ∷ h)) old.folder now.file sees.ready = rw (← it, ← same) sees.opens in
+    let did = succeeds kind config (latest start (e ∷ h)) old.folder sees.ready now.folder now.file tells grounds opens sees.content (closes_quietly kind old.folder sees.ready old.file now.folder sees.closes) in
+    subst (λ (x : ℤ). Between config start e h (kind.content first) (kind.content now.folder) (kind.noted first) (kind.noted now.folder) x (kind.body now.file)) (sym (sees.opened ∙ it))
+    (a_success config start e h (kind.content first) (kind.content old.folder) (kind.content opens.pruned) (kind.content now.folder) (kind.noted first) (kind.noted old.folder) (kind.noted now.folder) old.opened (kind.body old.file) (kind.body now.file) grounds.laws grounds.others g is.0 is.1 refl did so)
 looked kind config start (Some m) SwitchFailed piece h first old now tells grounds g come same so sees =
     let e : Event = record { read = Some m; switch = SwitchFailed; piece = piece } in
     let is = come.goes refl in
-    rw (sees.content, sees.opened, sees.file)
-    (a_failure config.rotation (file_name_of config) start e h first (kind.content old.folder) old.opened (kind.body old.file) grounds.laws g is.0 is.1 refl so)
+    let took = rw same at (sees.only_old tells) in
+    rw (sees.opened, sees.file)
+    (a_failure config start e h (kind.content first) (kind.content old.folder) (kind.content now.folder) (kind.noted first) (kind.noted old.folder) (kind.noted now.folder) old.opened (kind.body old.file) grounds.laws g is.0 is.1 refl took so)
 
 -- after its piece
-turned : {S F : Type 0} (kind : Ghosts S F) (config : Config) (start : ℤ) (e : Event) (h : List Event) (first : Content) (old new : Rolling S F) → IsTrue kind.tells → Grounds kind config → IsMoment start → Comes config.rotation start e h → old.config ≡ config → Holds kind config start h first old → Turns kind e old new → Holds kind config start (e ∷ h) first new
+turned : {S F : Type 0} (kind : Ghosts S F) (config : Config) (start : ℤ) (e : Event) (h : List Event) (first : S) (old new : Rolling S F) → IsTrue kind.tells → Grounds kind config → IsMoment start → Comes config.rotation start e h → old.config ≡ config → Holds kind config start h first old → Turns kind e old new → Holds kind config start (e ∷ h) first new
 turned kind config start e h first old new tells grounds g come same so t =
     let between = looked kind config start e.read e.switch e.piece h first old t.between tells grounds g come same so t.looks in
-    rw (t.content tells, t.stays.opened, t.stays.file)
-    (a_piece config.rotation (file_name_of config) start e h first (kind.content t.between.folder) t.between.opened (kind.body t.between.file) between)
+    rw (t.content tells, t.stays.opened, t.stays.file, t.stays.noted)
+    (a_piece config start e h (kind.content first) (kind.content t.between.folder) (kind.noted first) (kind.noted t.between.folder) t.between.opened (kind.body t.between.file) between)
 
 -- What is known after a run.
 pub record RunSoFar {S F : Type 0} (kind : Ghosts S F) (config : Config) (start : ℤ) (h : List Event) (first : S) (now : Rolling S F) : Type 0 where
   pub config_is : now.config ≡ config
   pub clock : ClockSoFar config.rotation start h now.boundary
-  pub files : IsTrue kind.tells → Holds kind config start h (kind.content first) now
+  pub files : IsTrue kind.tells → Holds kind config start h first now
 
 run_begins : {S F : Type 0} (kind : Ghosts S F) (config : Config) (start : ℤ) (first : S) (now : Rolling S F) → Grounds kind config → OpensRoller kind config start first now → RunSoFar kind config start [] first now
 run_begins kind config start first now grounds o = record {
   config_is = o.config_is;
   clock = clock_begins config.rotation start now.boundary o.in_range o.boundary;
-  files = λ tells. rw o.opened (files_begin config.rotation (file_name_of config) start (kind.content first) (kind.content now.folder) (kind.body now.file) (grounds.sound now.folder tells) o.in_range (o.gets.opens tells) (o.gets.body_is_there tells));
+  files = λ tells. rw o.opened (files_begin config start (kind.content first) (kind.content o.opens.pruned) (kind.content now.folder) (kind.noted first) (kind.noted now.folder) (kind.body now.file) o.in_range (succeeds kind config start first now.folder now.folder now.file tells grounds o.opens refl (λ quiet. quiet)));
 }
 
 run_goes_on : {S F : Type 0} (kind : Ghosts S F) (config : Config) (start : ℤ) (t : Told) (h : List Event) (first : S) (old new : Rolling S F) → Grounds kind config → IsMoment start → RunSoFar kind config start h first old → StepDoes kind t old new → RunSoFar kind config start (event_of t ∷ h) first new
@@ -102,7 +118,7 @@ run_goes_on kind config start t h first old new grounds g so does =
     record {
       config_is = turn_keeps kind (event_of t) old new turns ∙ so.config_is;
       clock = clock_goes_on config.rotation start h (event_of t) old.boundary new.boundary grounds.laws so.clock decides;
-      files = λ tells. turned kind config start (event_of t) h (kind.content first) old new tells grounds g (comes config.rotation start (event_of t) h old.boundary new.boundary grounds.laws so.clock decides) so.config_is (so.files tells) turns;
+      files = λ tells. turned kind config start (event_of t) h first old new tells grounds g (comes config.rotation start (event_of t) h old.boundary new.boundary grounds.laws so.clock decides) so.config_is (so.files tells) turns;
     }
 
 -- a run keeps to the laws

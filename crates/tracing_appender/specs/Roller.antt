@@ -8,7 +8,10 @@ use Rattle.appender_names.specs.declared.rotation.Rotation.{Rotation}
 use Rattle.appender_names.specs.Rotation.{IsMoment, is_moment, IsNever, IsBoundary, next_of}
 use Rattle.appender_names.specs.Name.{Naming, IsAllowed, name_of}
 use Rattle.appender_store.specs.Content.{Opens, ForbidsOpen, appended}
-use Rattle.appender_store.specs.Folder.{counted, kind_of, HasCause, Noted, NotedFlush, NotedOpen}
+use Rattle.appender_store.specs.Folder.{HasCause, NotedFlush, NotedOpen}
+use Rattle.appender_store.specs.Notes.{Notes}
+use Rattle.appender_retain.specs.Survival.{TakesOnlyOld, candidates_in}
+use Rattle.appender_retain.specs.Pruning.{Prunes, IsQuiet}
 use Rattle.tracing_appender.specs.Config.{Config, naming_of}
 use Rattle.tracing_appender.specs.declared.rolling.Switch.{Switch}
 use Rattle.tracing_appender.specs.declared.rolling.Switch.TheVariants.{None as Stayed, Opened as Switched, Failed as SwitchFailed}
@@ -57,12 +60,25 @@ pub record GetsNoFile {S F : Type 0} (kind : Ghosts S F) (name : List ℕ) (old 
   pub cause : HasCause {T = F} kind.tells (ForbidsOpen name (kind.content old)) (kind.failures old) (kind.failures new) (Err fault)
   pub noted : kind.noted new ≡ kind.noted old
 
--- no file of this name was opened, for this reason: without memory for the name no call was made
-abbrev pub Refuses : {S F : Type 0} → Ghosts S F → List ℕ → S → InitError → S → Type 0
-Refuses kind name old (File fault) new = GetsNoFile kind name old fault new
-Refuses kind name old Memory new = new ≡ old
-Refuses kind name old Moment new = ⊥
-Refuses kind name old Name new = ⊥
+-- where neither List nor Remove was noted, no more log files stand than the maximum, if one is set
+abbrev pub AtMost : {S F : Type 0} → Ghosts S F → Config → S → S → Type 0
+AtMost kind config old new =
+    IsQuiet (kind.noted old) (kind.noted new) → IsTrue kind.tells → 0 < config.max_files → candidates_in (naming_of config) (kind.content new) ≤ config.max_files
+
+-- Old log files were removed, and in the folder that this left the file of m was opened.
+pub record OpensFile {S F : Type 0} (kind : Ghosts S F) (config : Config) (m : ℤ) (old : S) (file : F) (new : S) : Type 0 where
+  pub pruned : S
+  pub prunes : Prunes kind (naming_of config) config.max_files old pruned
+  pub gets : GetsFile kind (file_name_of config m) pruned file new
+  pub at_most : AtMost kind config old new
+
+-- It was not opened, for this reason: without memory for its name no call was made, and else old log files were removed.
+abbrev pub RefusesFile : {S F : Type 0} → Ghosts S F → Config → ℤ → S → InitError → S → Type 0
+RefusesFile kind config m old (File fault) new =
+    (pruned : _) × Prunes kind (naming_of config) config.max_files old pruned × GetsNoFile kind (file_name_of config m) pruned fault new
+RefusesFile kind config m old Memory new = new ≡ old
+RefusesFile kind config m old Moment new = ⊥
+RefusesFile kind config m old Name new = ⊥
 
 -- a roller was opened
 pub record OpensRoller {S F : Type 0} (kind : Ghosts S F) (config : Config) (m : ℤ) (old : S) (new : Rolling S F) : Type 0 where
@@ -71,7 +87,7 @@ pub record OpensRoller {S F : Type 0} (kind : Ghosts S F) (config : Config) (m :
   pub config_is : new.config ≡ config
   pub opened : new.opened ≡ m
   pub boundary : new.boundary ≡ next_of config.rotation m
-  pub gets : GetsFile kind (file_name_of config m) old new.file new.folder
+  pub opens : OpensFile kind config m old new.file new.folder
 
 -- None was, for this reason, and the folder is handed back. The checks come in this order: names, moment, memory, file.
 abbrev pub OpensNoRoller : {S F : Type 0} → Ghosts S F → Config → ℤ → S → InitError → S → Type 0
@@ -82,7 +98,7 @@ OpensNoRoller kind config m old Moment new =
 OpensNoRoller kind config m old Memory new =
     IsAllowed config.rotation config.prefix config.suffix × IsMoment m × (new ≡ old)
 OpensNoRoller kind config m old (File fault) new =
-    IsAllowed config.rotation config.prefix config.suffix × IsMoment m × GetsNoFile kind (file_name_of config m) old fault new
+    IsAllowed config.rotation config.prefix config.suffix × IsMoment m × RefusesFile kind config m old (File fault) new
 
 -- ---- a look at the clock
 
@@ -90,13 +106,6 @@ OpensNoRoller kind config m old (File fault) new =
 abbrev pub is_due : Option ℤ → ℤ → Bool
 is_due None m = false
 is_due (Some b) m = is_moment m && not (int_lt m b)
-
--- the folder took a note, and nothing else changed
-pub record Notes {S F : Type 0} (kind : Ghosts S F) (old : S) (told : Noted) (new : S) : Type 0 where
-  pub call : kind.note_gives old told new
-  pub content : kind.content new ≡ kind.content old
-  pub failures : kind.failures new ≡ kind.failures old
-  pub noted : kind.noted new ≡ counted (kind_of told) (kind.noted old)
 
 -- the folder flushed a file that gives way to the next, and took a note of a fault
 pub record ClosesLast {S F : Type 0} (kind : Ghosts S F) (old : S) (file : F) (new : S) : Type 0 where
@@ -116,11 +125,13 @@ pub record SwitchesFile {S F : Type 0} (kind : Ghosts S F) (m : ℤ) (old new : 
   pub opened : new.opened ≡ m
   pub boundary : new.boundary ≡ next_of old.config.rotation m
   pub ready : S
-  pub gets : GetsFile kind (file_name_of old.config m) old.folder new.file ready
+  pub opens : OpensFile kind old.config m old.folder new.file ready
   pub closes : ClosesLast kind ready old.file new.folder
   pub content : kind.content new.folder ≡ kind.content ready
+  pub at_most : AtMost kind old.config old.folder new.folder
 
--- None was, for a reason of which the folder took a note: the last file stays open, and the next boundary is set.
+-- None was, for a reason of which the folder took a note: the last file stays open, the next boundary is set, and of the
+-- folder at most old log files are gone.
 pub record KeepsFile {S F : Type 0} (kind : Ghosts S F) (m : ℤ) (old new : Rolling S F) : Type 0 where
   pub due : is_due old.boundary m ≡ true
   pub config_is : new.config ≡ old.config
@@ -129,9 +140,9 @@ pub record KeepsFile {S F : Type 0} (kind : Ghosts S F) (m : ℤ) (old new : Rol
   pub file : new.file ≡ old.file
   pub reason : InitError
   pub refused : S
-  pub refuses : Refuses kind (file_name_of old.config m) old.folder reason refused
+  pub refuses : RefusesFile kind old.config m old.folder reason refused
   pub notes : Notes kind refused (NotedOpen reason) new.folder
-  pub content : kind.content new.folder ≡ kind.content old.folder
+  pub only_old : IsTrue kind.tells → TakesOnlyOld (naming_of old.config) old.config.max_files (kind.content old.folder) (kind.content new.folder)
 
 -- What a look at the clock at m does: nothing at all unless a boundary has come.
 abbrev pub Sees : {S F : Type 0} → Ghosts S F → ℤ → Switch → Rolling S F → Rolling S F → Type 0

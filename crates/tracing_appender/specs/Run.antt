@@ -1,11 +1,16 @@
 -- A run of an appender, read after the fact: when it switched files, and what the files hold. Steps are numbered from 1,
 -- the opening is step 0, and a history has the newest step first.
-use Rattle.std.specs.Prelude.{◌≡◌, ◌≢◌, ℕ, suc, ◌==◌, nat_le, ℤ, int_lt, Bool, true, false, not, ◌&&◌, if◌then◌else◌, List, [], ◌∷◌, ◌++◌, length, filter, map, Option, None, Some, is_some, MatchOption}
+use Rattle.std.specs.Prelude.{◌≡◌, ◌≢◌, ℕ, suc, ◌<◌, ◌≤◌, ◌==◌, nat_le, ℤ, int_lt, Bool, true, false, not, ◌&&◌, if◌then◌else◌, List, [], ◌∷◌, ◌++◌, length, filter, map, Option, None, Some, is_some, MatchOption}
 use Rattle.std.specs.List.{filter_map}
 use Rattle.std.specs.Int.{int_max}
 use Rattle.appender_names.specs.declared.rotation.Rotation.{Rotation}
 use Rattle.appender_names.specs.Rotation.{is_moment, period_of}
 use Rattle.appender_store.specs.Content.{Content, Opens, appended, body_at}
+use Rattle.appender_store.specs.Folder.{Counts}
+use Rattle.appender_retain.specs.Survival.{TakesOnlyOld, LeavesSurvivors, candidates_in}
+use Rattle.appender_retain.specs.Pruning.{IsQuiet}
+use Rattle.tracing_appender.specs.Config.{Config, naming_of}
+use Rattle.tracing_appender.specs.Roller.{file_name_of}
 use Rattle.tracing_appender.specs.declared.rolling.Switch.{Switch}
 use Rattle.tracing_appender.specs.declared.rolling.Switch.TheVariants.{None as Stayed, Opened as Switched, Failed as SwitchFailed}
 
@@ -59,14 +64,17 @@ SwitchesAtArrivals r start (e ∷ earlier) =
 
 -- ---- attempts
 
--- One attempt to open a file: at which step, for which moment, the number of the body that it opened if it succeeded, and
--- the folder's content before and after it.
+-- One attempt to open a file: at which step, for which moment, the number of the body that it opened if it succeeded, the
+-- folder's content before it, as retention left it, and after the attempt, and the counts of notices before and after.
 pub record Attempt : Type 0 where
   pub step : ℕ
   pub moment : ℤ
   pub opened : Option ℕ
   pub before : Content
+  pub pruned : Content
   pub after : Content
+  pub noted_before : Counts
+  pub noted_after : Counts
 
 -- an attempt's step, moment and success
 abbrev pub Time : Type 0
@@ -83,9 +91,18 @@ times r start (e ∷ earlier) =
     then (suc (length earlier), latest start (e ∷ earlier), is_opened e.switch) ∷ times r start earlier
     else times r start earlier
 
--- what an attempt did: it opened the file of its moment's name, or changed nothing
-abbrev pub Tried : (ℤ → List ℕ) → Attempt → Type 0
-Tried name a = MatchOption a.opened (a.after ≡ a.before) (Opens (name a.moment) a.before a.after)
+-- it succeeded, and noted neither List nor Remove
+pub record IsQuietSuccess (a : Attempt) : Type 0 where
+  pub succeeded : is_some a.opened ≡ true
+  pub quiet : IsQuiet a.noted_before a.noted_after
+
+-- What an attempt did. It removed only log files that don't survive, and, where it was a quiet success, all of them. Then it
+-- opened the file of its moment's name, or changed nothing more.
+pub record Tried (c : Config) (a : Attempt) : Type 0 where
+  pub only_old : TakesOnlyOld (naming_of c) c.max_files a.before a.pruned
+  pub survivors : IsQuietSuccess a → LeavesSurvivors (naming_of c) c.max_files a.before a.pruned
+  pub opens : MatchOption a.opened (a.after ≡ a.pruned) (Opens (file_name_of c a.moment) a.pruned a.after)
+  pub at_most : IsQuietSuccess a → 0 < c.max_files → candidates_in (naming_of c) a.after ≤ c.max_files
 
 -- the carrier of a step: the last attempt up to it that succeeded
 abbrev pub carrier : List Attempt → ℕ → Option Attempt
@@ -145,13 +162,19 @@ Carried None bytes old new = new ≡ old
 Carried (Some b) bytes old new = new ≡ appended old b bytes
 
 -- The attempts lead from the first content to the last: nothing changed the folder but they, and between two of them the
--- pieces of the steps.
-abbrev pub Leads : (ℤ → List ℕ) → List Attempt → List Event → Content → Content → Type 0
-Leads name [] h first last = last ≡ first
-Leads name (a ∷ rest) h first last =
-    Leads name rest (up_to a.step h) first a.before
-    × Tried name a
+-- pieces of the steps. So the maps of names are a chain, one more for each attempt: what retention left of the one before,
+-- and the attempt's name.
+abbrev pub Leads : Config → List Attempt → List Event → Content → Content → Type 0
+Leads c [] h first last = last ≡ first
+Leads c (a ∷ rest) h first last =
+    Leads c rest (up_to a.step h) first a.before
+    × Tried c a
     × Carried (open_body (a ∷ rest)) (since a.step h) a.after last
+
+-- notices are taken at attempts alone
+abbrev pub NotesLead : List Attempt → Counts → Counts → Type 0
+NotesLead [] first last = last ≡ first
+NotesLead (a ∷ rest) first last = NotesLead rest first a.noted_before × (last ≡ a.noted_after)
 
 -- no switch failed
 abbrev pub NoneFailed : List Event → Type 0
@@ -159,14 +182,13 @@ NoneFailed [] = Unit {0}
 NoneFailed (e ∷ earlier) = (e.switch ≢ SwitchFailed) × NoneFailed earlier
 
 -- The law of the file that is open at the end: it holds what it held at its opening, followed by exactly the pieces that it
--- carries. These are, unless a switch failed, the pieces of the steps at which the latest moment lay in its period.
-pub record OpenFileLaw (r : Rotation) (start : ℤ) (h : List Event) (attempts : List Attempt) (last : Content) (opened : ℤ) (b : ℕ) : Type 0 where
+-- carries.
+pub record OpenFileLaw (h : List Event) (attempts : List Attempt) (last : Content) (opened : ℤ) (b : ℕ) : Type 0 where
   pub file : Attempt
   pub is_carrier : carrier attempts (length h) ≡ Some file
   pub moment : file.moment ≡ opened
   pub body : file.opened ≡ Some b
   pub holds : body_at last b ≡ body_at file.before b ++ written file.step attempts h
-  pub in_its_period : NoneFailed h → written file.step attempts h ≡ written_in r start (period_at r start h) h
 
 -- no attempt of these opened the body that this one opened
 abbrev pub OpensNoneOf : Attempt → List Attempt → Type 0
@@ -183,18 +205,26 @@ abbrev pub HoldsItsOwn : List Attempt → List Event → Content → Attempt →
 HoldsItsOwn attempts h last a =
     (b : ℕ) → a.opened ≡ Some b → body_at last b ≡ body_at a.before b ++ written a.step attempts h
 
+-- what the attempt carries are the pieces of the steps at which the latest moment lay in its period
+abbrev pub CarriesItsPeriod : Rotation → ℤ → List Attempt → List Event → Attempt → Type 0
+CarriesItsPeriod r start attempts h a =
+    (b : ℕ) → a.opened ≡ Some b → written a.step attempts h ≡ written_in r start (period_of r a.moment) h
+
 -- each of these attempts
 abbrev pub EachOf : (Attempt → Type 0) → List Attempt → Type 0
 EachOf P [] = Unit {0}
 EachOf P (a ∷ rest) = P a × EachOf P rest
 
 -- The law of the files of a run: every body, whether or not a name leads to it, holds what it held at first, followed by
--- exactly what was written to it.
-pub record FileLaw (r : Rotation) (name : ℤ → List ℕ) (start : ℤ) (h : List Event) (first last : Content) (opened : ℤ) (b : ℕ) : Type 0 where
+-- exactly what was written to it. What each attempt opened holds what it held then, followed by what the attempt carries,
+-- which is, unless a switch failed, exactly what was written while the latest moment lay in its period.
+pub record FileLaw (c : Config) (start : ℤ) (h : List Event) (first last : Content) (noted_first noted_last : Counts) (opened : ℤ) (b : ℕ) : Type 0 where
   pub attempts : List Attempt
-  pub are_times : map time_of attempts ≡ times r start h
-  pub leads : Leads name attempts h first last
+  pub are_times : map time_of attempts ≡ times c.rotation start h
+  pub leads : Leads c attempts h first last
+  pub notes : NotesLead attempts noted_first noted_last
   pub bodies : (x : ℕ) → body_at last x ≡ body_at first x ++ written_to x attempts h
-  pub open_file : OpenFileLaw r start h attempts last opened b
+  pub open_file : OpenFileLaw h attempts last opened b
   pub apart : AreApart attempts
   pub each : EachOf (HoldsItsOwn attempts h last) attempts
+  pub in_its_period : NoneFailed h → EachOf (CarriesItsPeriod c.rotation start attempts h) attempts

@@ -2,7 +2,9 @@
 //! `tracing-appender`, in which what a file holds is proved.
 #![tactic(auto)]
 
-pub use appender_core::{laws, names, queue, rotation, store, worker, worker_laws};
+pub use appender_core::{
+    laws, names, queue, retain, retain_laws, rotation, store, worker, worker_laws,
+};
 
 pub mod replay;
 pub mod rolling;

@@ -1,7 +1,6 @@
 //! Runs of an appender that are given as lists of steps, for tests and scripts.
 ghost use Rattle.std.specs.Prelude.{◌≡◌, ◌<◌, ◌≤◌, [], ◌∷◌, ◌++◌, length, IsTrue, IfOk, IfErr, vec_len, vec_capacity};
 ghost use Rattle.appender_names.specs.Rotation.{next_of};
-ghost use Rattle.tracing_appender.specs.Roller.{file_name_of};
 ghost use Rattle.tracing_appender.specs.Run.{SwitchesAtArrivals, FileLaw, latest};
 ghost use Rattle.tracing_appender.specs.Replay.{kind_told, told_of, history, StepDoes, RunsFrom, IsNotRun};
 
@@ -104,9 +103,9 @@ pub fn replay_rolling<S: Folder>(
         (history steps.now run.replies.items)) }
     ensures boundary { IfOk result (λ run. run.roller.boundary ≡ next_of builder.now.rotation
         (latest start (history steps.now run.replies.items))) }
-    ensures files { IfOk result (λ run. IsTrue S.tells → FileLaw builder.now.rotation
-        (file_name_of builder.now) start (history steps.now run.replies.items)
-        (S.content folder) (S.content run.roller.folder) run.roller.opened (S.body run.roller.file)) }
+    ensures files { IfOk result (λ run. IsTrue S.tells → FileLaw builder.now
+        start (history steps.now run.replies.items) (S.content folder) (S.content run.roller.folder)
+        (S.noted folder) (S.noted run.roller.folder) run.roller.opened (S.body run.roller.file)) }
     ensures err { IfErr result (λ error. IsNotRun S.Folder builder.now start folder error) }
 {
     periods_lie_between_boundaries();

@@ -1,6 +1,7 @@
 //! Log files that begin anew at each boundary of a rotation.
 ghost use Rattle.std.specs.Prelude.{◌≡◌, IfOk, IfErr, IsTrue, string_bytes};
-ghost use Rattle.tracing_appender.specs.Roller.{GetsFile, Refuses, ClosesLast, file_name_of};
+ghost use Rattle.tracing_appender.specs.Config.{config_of};
+ghost use Rattle.tracing_appender.specs.Roller.{OpensFile, RefusesFile, ClosesLast, file_name_of};
 ghost use Rattle.appender_names.specs.Name.{name_of};
 ghost use Rattle.appender_names.specs.Rotation.{IsMoment};
 
@@ -8,6 +9,8 @@ mod builder;
 
 pub use appender_core::error::InitError;
 use appender_core::names::Names;
+use appender_core::retain::prune_old_logs;
+use appender_core::retain_laws::openings_add_one;
 pub use appender_core::rotation::Rotation;
 use appender_core::rotation::in_range;
 use appender_core::store::{Folder, Notice};
@@ -30,7 +33,9 @@ pub enum Switch {
 /// An open log file in a folder, and the second at which the next one begins.
 #[derive(Drop)]
 pub struct Roller<S: Folder> {
+    alloc: Global,
     names: Names,
+    max_files: usize,
     folder: S,
     file: S::File,
     name: String,
@@ -45,7 +50,12 @@ impl<S: Folder> Model for Roller<S> {
     ghost Value = { Rolling S S.File };
 
     ghost view = { λ r. record {
-      config = record { rotation = r.names.rotation; prefix = r.names.prefix; suffix = r.names.suffix };
+      config = record {
+        rotation = r.names.rotation;
+        prefix = r.names.prefix;
+        suffix = r.names.suffix;
+        max_files = r.max_files;
+      };
       folder = r.folder;
       file = r.file;
       opened = r.opened;
@@ -62,18 +72,24 @@ struct Opened<F: Drop> {
     name: String,
 }
 
-// Opens the file of a moment.
+// Removes old log files, and opens the file of a moment.
 fn open_file<S: Folder>(
+    alloc: Global,
     names: &Names,
+    max_files: usize,
     folder: &mut S,
     moment: i64,
 ) -> Result<Opened<S::File>, InitError>
     requires { IsMoment moment }
     ensures name { IfOk result (λ opened. string_bytes opened.name ≡ name_of names.now moment) }
-    ensures ok { IfOk result (λ opened. GetsFile S.Folder (name_of names.now moment) folder.old opened.file folder.new) }
-    ensures err { IfErr result (λ error. Refuses S.Folder (name_of names.now moment) folder.old error folder.new) }
+    ensures ok { IfOk result (λ opened. OpensFile S.Folder (config_of names.now max_files) moment
+        folder.old opened.file folder.new) }
+    ensures err { IfErr result (λ error. RefusesFile S.Folder (config_of names.now max_files) moment
+        folder.old error folder.new) }
 {
+    openings_add_one();
     let name = names.file_name(moment)?;
+    prune_old_logs(alloc, folder, names, max_files);
     match folder.open(name.as_str()) {
         Ok(file) => Ok(Opened { file, name }),
         Err(fault) => Err(InitError::File(fault)),
@@ -120,10 +136,13 @@ impl<S: Folder> Roller<S> {
             Ok(names) => names,
             Err(error) => return Err((error, folder)),
         };
-        match open_file(&names, &mut folder, moment) {
+        let max_files = builder.max_files();
+        match open_file(alloc, &names, max_files, &mut folder, moment) {
             Err(error) => Err((error, folder)),
             Ok(Opened { file, name }) => Ok(Roller {
+                alloc,
                 names,
+                max_files,
                 folder,
                 file,
                 name,
@@ -153,7 +172,13 @@ impl<S: Folder> Roller<S> {
             return Switch::None;
         }
         self.boundary = self.names.rotation().next_date(moment);
-        match open_file(&self.names, &mut self.folder, moment) {
+        match open_file(
+            self.alloc,
+            &self.names,
+            self.max_files,
+            &mut self.folder,
+            moment,
+        ) {
             Ok(Opened { file, name }) => {
                 close_last(&mut self.folder, &mut self.file);
                 self.file = file;

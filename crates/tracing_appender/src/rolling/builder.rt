@@ -6,12 +6,14 @@ use appender_core::rotation::Rotation;
 use std::alloc::{AllocError, Global};
 use std::marker::Model;
 
-/// What an appender is set up with: how often a new file begins, and what the files are called.
+/// What an appender is set up with: how often a new file begins, what the files are called, and how
+/// many are kept.
 #[derive(Debug, Drop)]
 pub struct Builder {
     rotation: Rotation,
     prefix: Option<String>,
     suffix: Option<String>,
+    max_files: usize,
 }
 
 impl Model for Builder {
@@ -19,11 +21,16 @@ impl Model for Builder {
 
     ghost Value = { Config };
 
-    ghost view = { λ b. record { rotation = b.rotation; prefix = text_of b.prefix; suffix = text_of b.suffix } };
+    ghost view = { λ b. record {
+      rotation = b.rotation;
+      prefix = text_of b.prefix;
+      suffix = text_of b.suffix;
+      max_files = b.max_files;
+    } };
 }
 
 impl Builder {
-    /// One file for all time, with neither prefix nor suffix.
+    /// One file for all time, with neither prefix nor suffix, and no maximum of files.
     #[must_use]
     pub fn new() -> Builder
         ensures { result ≡ defaults }
@@ -32,6 +39,7 @@ impl Builder {
             rotation: Rotation::NEVER,
             prefix: None,
             suffix: None,
+            max_files: 0,
         }
     }
 
@@ -64,6 +72,15 @@ impl Builder {
         Ok(self)
     }
 
+    /// How many log files are kept; 0 is no maximum. When a file is opened, the oldest go.
+    #[must_use]
+    pub fn max_log_files(mut self, max: usize) -> Builder
+        ensures { result ≡ record self { max_files = max } }
+    {
+        self.max_files = max;
+        self
+    }
+
     pub(crate) fn chosen_rotation(&self) -> Rotation
         ensures { result ≡ self.now.rotation }
     {
@@ -80,6 +97,12 @@ impl Builder {
         ensures { result.now ≡ self.now.suffix }
     {
         text(&self.suffix)
+    }
+
+    pub(crate) fn max_files(&self) -> usize
+        ensures { result ≡ self.now.max_files }
+    {
+        self.max_files
     }
 }
 

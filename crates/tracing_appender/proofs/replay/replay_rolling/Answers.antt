@@ -35,7 +35,7 @@ returns g c =
     let periods = c.periods_lie_between_boundaries.ensures in
     let grounds : Grounds g.S.Folder c.args.builder.now = record {
       laws = record { begins = periods.begin _; ends = periods.end _ };
-      others = other_names _ (c.names_are_periods.ensures _);
+      others = other_names c.args.builder.now (c.names_are_periods.ensures _);
       sound = g.met.S.Folder.sound;
     } in
     let so = run_law _ _ _ _ _ _ _ grounds runs.opens runs.runs in

@@ -1,8 +1,9 @@
 use Rattle.std.proofs.Common.{w64, FitsSigned, ◌≡◌, true, rules}
 use Rattle.std.proofs.lemmas.Int.{to_z-of_z}
 use Rattle.tracing_appender.specs.Roller.{LiesAhead, is_due}
-use Rattle.tracing_appender.proofs.Boundaries.{next_lies_ahead, due_is_later, ahead_of_earlier}
-use Rattle.tracing_appender.proofs.Refusals.{refuses_content}
+use Rattle.tracing_appender.proofs.Boundaries.{next_lies_ahead, due_is_moment, due_is_later, ahead_of_earlier}
+use Rattle.tracing_appender.proofs.Closings.{closes_quietly}
+use Rattle.tracing_appender.proofs.Refusals.{refuses_only_old}
 use Rattle.tracing_appender.proofs.rolling.Roller.see.Goals as goal
 
 pub invariant_of-self : goal.invariant_of-self
@@ -11,11 +12,12 @@ invariant_of-self g c =
     let next = simp to_z-of_z at c.next_date-self-inside.ensures in
     let opened = simp to_z-of_z at c.in-Ok.ensures.ok in
     let named = simp to_z-of_z at c.in-Ok.ensures.name in
+    let due : is_due c.self.inside.boundary c.args.moment ≡ true = search rules in
     let ahead : LiesAhead c.self.inside.names.rotation c.args.moment c.next_date-self-inside.result =
     rw (← c.rotation.ensures) (next_lies_ahead _ _ _ next.none next.boundary) in
     simp to_z-of_z (record {
-      body_is_there = λ tells. rw c.close_last.ensures.content (opened.body_is_there tells);
-      in_range = search rules;
+      body_is_there = λ tells. rw c.close_last.ensures.content (opened.gets.body_is_there tells);
+      in_range = due_is_moment _ _ due;
       name_is = named;
       lies_ahead = ahead;
     })
@@ -28,9 +30,8 @@ invariant_of-self-in-Err g c =
     let later = due_is_later _ _ _ _ c.self.invariant.lies_ahead due in
     let ahead : LiesAhead c.self.inside.names.rotation c.args.moment c.next_date-self-inside.result =
     rw (← c.rotation.ensures) (next_lies_ahead _ _ _ next.none next.boundary) in
-    let same = refuses_content _ _ _ _ _ c.in-Err.ensures.err in
     record {
-      body_is_there = λ tells. rw (c.note.ensures.content, same) (c.self.invariant.body_is_there tells);
+      body_is_there = λ tells. rw (c.note.ensures.content, (refuses_only_old _ _ _ _ _ _ tells c.in-Err.ensures.err).bodies) (c.self.invariant.body_is_there tells);
       in_range = c.self.invariant.in_range;
       name_is = c.self.invariant.name_is;
       lies_ahead = ahead_of_earlier _ _ _ _ later ahead;
@@ -46,7 +47,25 @@ returns-in-Ok g c =
       opened = search rules;
       boundary = search rules;
       ready = c.open_file.new.folder;
-      gets = opened;
+      opens = opened;
       closes = c.close_last.ensures;
       content = c.close_last.ensures.content;
+      at_most = λ quiet tells some. rw c.close_last.ensures.content (opened.at_most (closes_quietly _ _ _ _ _ c.close_last.ensures quiet) tells some);
     }))
+
+pub returns-in-Err : goal.returns-in-Err
+returns-in-Err g c =
+    let fits : FitsSigned w64 c.args.moment = c.ranges.moment in
+    let refused = simp to_z-of_z at c.in-Err.ensures.err in
+    rw (← c.self.view_is) (record {
+      due = search rules;
+      config_is = search rules;
+      opened = search rules;
+      boundary = search rules;
+      file = search rules;
+      reason = c.in-Err.error;
+      refused = c.open_file.new.folder;
+      refuses = refused;
+      notes = search rules;
+      only_old = λ tells. rw c.note.ensures.content (refuses_only_old _ _ _ _ _ _ tells refused);
+    })

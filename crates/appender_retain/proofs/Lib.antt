@@ -1,0 +1,10 @@
+pub mod Elements
+pub mod Entries
+pub mod Order
+pub mod Ranks
+pub mod Candidates
+pub mod Listing
+pub mod Few
+pub mod Standing
+pub mod Removals
+pub mod Planned

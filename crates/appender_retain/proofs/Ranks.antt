@@ -1,0 +1,181 @@
+-- The candidates of a listing, and which of them go.
+use Rattle.std.proofs.Common.{◌≡◌, ◌≢◌, ◌∙◌, ℕ, ◌+◌, ◌-◌, ◌<◌, ◌≤◌, ℤ, pos, Bool, true, false, cond, eqb, leb, ◌||◌, List, [], length, get_or, take, map, Option, None, Some, refl, sym, ap, arith, Ordering}
+use Rattle.std.specs.Prelude.{◌==◌}
+use Rattle.std.specs.Option.{option_map, option_map_or, option_and_then}
+use Rattle.std.specs.List.{Contains, AllPairs, IsDistinct, enumerate_from, slice_get}
+use Rattle.std.specs.List.Sorted.{IsPermutation, IsSorted, IsStrictlySortedBy}
+use Rattle.std.specs.Cmp.{IsTotalOrder}
+use Rattle.std.specs.Cmp.Lexicographic.{slice_cmp, nat_list_cmp_total}
+use Rattle.std.specs.Ordering.{nat_cmp, int_cmp, ordering_then, is_lt}
+use Rattle.std.specs.declared.cmp.Ordering.TheVariants.{Less, Equal, Greater}
+use Rattle.std.proofs.lemmas.Bool.{ne_eqb}
+use Rattle.std.proofs.lemmas.Bool.Decides.{nat_tests}
+use Rattle.std.proofs.lemmas.Cmp.{tied_itself, then_total, on_total, int_cmp_total, nat_cmp_total, nat_eq_equiv}
+use Rattle.std.proofs.lemmas.List.{length-map, length-take, get_or-map, get_or-take}
+use Rattle.std.proofs.lemmas.List.Elements.{Contains-get_or}
+use Rattle.std.proofs.lemmas.List.Sorted.{Contains-permutation, IsPermutation-sym, sum_by-IsPermutation}
+use Rattle.std.proofs.lemmas.Map.Keys.{IsDistinct-IsPermutation, IsDistinct-from_apart, Less-from_sorted}
+use Rattle.appender_names.specs.Name.{Naming}
+use Rattle.appender_store.specs.Folder.{Line}
+use Rattle.appender_store.specs.declared.store.Kind.TheVariants.{File, Folder, Link, Other}
+use Rattle.appender_retain.specs.Rank.{Rank, rank_cmp, rank_of, rank_at, ranks, key_of, count_above, survives, how_many_go, IsRankedBelow, IsPlan}
+use Rattle.appender_retain.proofs.Elements.{Contains_map, map_Contains, Contains_filter_map, filter_map_Contains, all_pairs_filter_map, Contains_enumerated, enumerated_Contains, numbers_rise}
+use Rattle.appender_retain.proofs.Order.{above, lowest_go, go_lowest, strict_from_sorted}
+
+-- ---- ranks
+
+-- a candidate is a file, and its rank has its name and its place
+pub record IsCandidate (at : ℕ) (line : Line) (r : Rank) : Type 0 where
+  pub name : line.0 ≡ Some r.1
+  pub kind : line.1 ≡ File
+  pub place : r.2 ≡ at
+
+pub candidate : (n : Naming) (e : ℕ × Line) (r : Rank) → rank_of n e ≡ Some r → IsCandidate e.0 e.1 r
+candidate n (place, (Some name, File, created)) r h = by (key_of n name created) h
+  where
+    by : (o : Option ℤ) → option_map (λ (key : ℤ). (key, name, place)) o ≡ Some r → IsCandidate place (Some name, File, created) r
+    by None never = absurd (let nothing : None ≡ Some r = never in cc)
+    by (Some key) is =
+        let same : Some (key, name, place) ≡ Some r = is in
+        let rank : (key, name, place) ≡ r = (cc) in
+        record { name = ap (λ (r : Rank). Some r.1) rank; kind = refl; place = sym (ap (λ (r : Rank). r.2) rank) }
+candidate n (place, (Some name, Folder, created)) r h = absurd (let nothing : None ≡ Some r = h in cc)
+candidate n (place, (Some name, Link, created)) r h = absurd (let nothing : None ≡ Some r = h in cc)
+candidate n (place, (Some name, Other, created)) r h = absurd (let nothing : None ≡ Some r = h in cc)
+candidate n (place, (None, kind, created)) r h = absurd (let nothing : None ≡ Some r = h in cc)
+
+-- what is listed at a candidate's place has its rank
+pub at_place : (n : Naming) (lines : List Line) (r : Rank) → Contains (ranks n lines) r → rank_at n lines r.2 ≡ Some r
+at_place n lines r there =
+    let w = filter_map_Contains (rank_of n) (enumerate_from 0 lines) r there in
+    let number : r.2 ≡ w.0.0 = (candidate n w.0 r w.2).place in
+    let line : slice_get lines r.2 ≡ Some w.0.1 = ap (slice_get lines) number ∙ enumerated_Contains lines w.0 w.1 in
+    ap (option_and_then (λ (l : Line). rank_of n (r.2, l))) line ∙ ap (λ (place : ℕ). rank_of n (place, w.0.1)) number ∙ w.2
+
+-- a rank at a place is that of the line there
+pub line_of_rank : (n : Naming) (lines : List Line) (place : ℕ) (r : Rank) → rank_at n lines place ≡ Some r → (l : Line) × (slice_get lines place ≡ Some l) × (rank_of n (place, l) ≡ Some r)
+line_of_rank n lines place r h = by (slice_get lines place) refl h
+  where
+    by : (o : Option Line) → slice_get lines place ≡ o → option_and_then (λ (l : Line). rank_of n (place, l)) o ≡ Some r → (l : Line) × (slice_get lines place ≡ Some l) × (rank_of n (place, l) ≡ Some r)
+    by None e never = absurd (let nothing : None ≡ Some r = never in cc)
+    by (Some line) e is = (line, e, is)
+
+-- and what has a rank is a candidate
+candidate_at : (n : Naming) (lines : List Line) (place : ℕ) (r : Rank) → rank_at n lines place ≡ Some r → Contains (ranks n lines) r × (r.2 ≡ place)
+candidate_at n lines place r h =
+    let w = line_of_rank n lines place r h in
+    (Contains_filter_map (rank_of n) (enumerate_from 0 lines) (place, w.0) r (Contains_enumerated lines place w.0 w.1) w.2, (candidate n (place, w.0) r w.2).place)
+
+abbrev same_place : Rank → Rank → Bool
+same_place a b = eqb a.2 b.2
+
+-- candidates have places of their own
+places_apart : (n : Naming) (lines : List Line) → IsDistinct same_place (ranks n lines)
+places_apart n lines =
+    IsDistinct-from_apart same_place (ranks n lines) (λ i j d less short.
+    let rise : (get_or (ranks n lines) i d).2 < (get_or (ranks n lines) j d).2 =
+    all_pairs_filter_map (λ (a b : ℕ × Line). a.0 < b.0) (λ (r s : Rank). r.2 < s.2) (rank_of n)
+    (λ a b r s less is_r is_s. omega (arith, (candidate n a r is_r).place, (candidate n b s is_s).place)) (enumerate_from 0 lines) (numbers_rise lines) i j d less short in
+    ne_eqb _ _ (λ same. omega arith))
+
+-- ---- order
+
+pub rank_cmp_total : IsTotalOrder rank_cmp
+rank_cmp_total = then_total (on_total (λ (r : Rank). r.0) int_cmp_total) (then_total (on_total (λ (r : Rank). r.1) nat_list_cmp_total) (on_total (λ (r : Rank). r.2) nat_cmp_total))
+
+-- ranks that tie have one place
+tied_place : (a b : Rank) → rank_cmp a b ≡ Equal → same_place a b ≡ true
+tied_place a b e = by (int_cmp a.0 b.0) (slice_cmp nat_cmp a.1 b.1) e
+  where
+    by : (keys names : Ordering) → ordering_then keys (ordering_then names (nat_cmp a.2 b.2)) ≡ Equal → same_place a b ≡ true
+    by Less names never = absurd (let nothing : Less ≡ Equal = never in cc)
+    by Equal Less never = absurd (let nothing : Less ≡ Equal = never in cc)
+    by Equal Equal is = grind (arith, nat_tests)
+    by Equal Greater never = absurd (let nothing : Greater ≡ Equal = never in cc)
+    by Greater names never = absurd (let nothing : Greater ≡ Equal = never in cc)
+
+no_rank : Rank
+no_rank = (pos 0, [], 0)
+
+-- the candidates in order
+pub record InOrder (n : Naming) (lines : List Line) (ordered : List Rank) : Type 0 where
+  pub moved : IsPermutation (ranks n lines) ordered
+  pub rising : IsStrictlySortedBy rank_cmp ordered
+
+pub in_order : (n : Naming) (lines : List Line) (ordered : List Rank) → IsPermutation (ranks n lines) ordered → IsSorted rank_cmp ordered → InOrder n lines ordered
+in_order n lines ordered moved sorted = record {
+  moved = moved;
+  rising = strict_from_sorted rank_cmp_total same_place ordered no_rank tied_place sorted
+      (IsDistinct-IsPermutation same_place (λ a b. nat_eq_equiv.symm a.2 b.2) (ranks n lines) ordered moved (places_apart n lines));
+}
+
+-- the places of those that go
+abbrev pub gone : ℕ → List Rank → List ℕ
+gone max ordered = map (λ (r : Rank). r.2) (take (how_many_go max (length ordered)) ordered)
+
+same_count : (n : Naming) (lines : List Line) (ordered : List Rank) (r : Rank) → InOrder n lines ordered → above rank_cmp r ordered ≡ count_above n lines r
+same_count n lines ordered r o = sum_by-IsPermutation (λ b. cond (is_lt (rank_cmp r b)) 1 0) (ranks n lines) ordered o.moved
+
+listed_at : (n : Naming) (lines : List Line) (ordered : List Rank) (r : Rank) → InOrder n lines ordered → Contains ordered r → rank_at n lines r.2 ≡ Some r
+listed_at n lines ordered r o there = at_place n lines r (Contains-permutation ordered (ranks n lines) r (IsPermutation-sym (ranks n lines) ordered o.moved) there)
+
+-- what goes doesn't survive
+gone_falls : (n : Naming) (max : ℕ) (lines : List Line) (ordered : List Rank) (place : ℕ) → InOrder n lines ordered → Contains (gone max ordered) place → survives n max lines place ≡ false
+gone_falls n max lines ordered place o there = by (max == 0) refl there
+  where
+    by : (b : Bool) → (max == 0) ≡ b → Contains (map (λ (r : Rank). r.2) (take (cond b 0 (length ordered - (max - 1))) ordered)) place → (b || option_map_or (λ (a : Rank). leb (count_above n lines a + 2) max) (rank_at n lines place) true) ≡ false
+    by true e (k, l, is) = absurd (omega arith)
+    by false e c =
+        let positive : 0 < max = grind (arith, nat_tests) in
+        let w = map_Contains (λ (r : Rank). r.2) (take (length ordered - (max - 1)) ordered) place c in
+        let low = lowest_go rank_cmp_total ordered max w.0 o.rising positive w.1 in
+        let found : rank_at n lines place ≡ Some w.0 = ap (rank_at n lines) (sym w.2) ∙ listed_at n lines ordered w.0 o low.0 in
+        rw (found, ← same_count n lines ordered w.0 o) low.1
+
+-- and what doesn't survive goes
+fallen_goes : (n : Naming) (max : ℕ) (lines : List Line) (ordered : List Rank) (place : ℕ) → InOrder n lines ordered → survives n max lines place ≡ false → Contains (gone max ordered) place
+fallen_goes n max lines ordered place o falls = by (max == 0) refl (rank_at n lines place) refl falls
+  where
+    by : (b : Bool) → (max == 0) ≡ b → (r : Option Rank) → rank_at n lines place ≡ r → (b || option_map_or (λ (a : Rank). leb (count_above n lines a + 2) max) r true) ≡ false → Contains (map (λ (r : Rank). r.2) (take (cond b 0 (length ordered - (max - 1))) ordered)) place
+    by true e r f no_way = absurd (let both : true ≡ false = no_way in cc)
+    by false e None f no_way = absurd (let both : true ≡ false = no_way in cc)
+    by false e (Some a) f many =
+        let positive : 0 < max = grind (arith, nat_tests) in
+        let at = candidate_at n lines place a f in
+        let more : leb (above rank_cmp a ordered + 2) max ≡ false = rw (same_count n lines ordered a o) many in
+        let there : Contains (take (length ordered - (max - 1)) ordered) a = go_lowest rank_cmp_total ordered max a o.rising positive (Contains-permutation (ranks n lines) ordered a o.moved at.0) more in
+        rw at.1 at (Contains_map (λ (r : Rank). r.2) (take (length ordered - (max - 1)) ordered) a there)
+
+-- the places that go stand in rank order
+gone_rises : (n : Naming) (max : ℕ) (lines : List Line) (ordered : List Rank) → InOrder n lines ordered → AllPairs (IsRankedBelow n lines) (gone max ordered)
+gone_rises n max lines ordered o i j d less short =
+    let many = how_many_go max (length ordered) in
+    let few : (j < many) × (j < length ordered) = (omega (arith, length-map (take many ordered) (λ (r : Rank). r.2), length-take many ordered), omega (arith, length-map (take many ordered) (λ (r : Rank). r.2), length-take many ordered)) in
+    let at : (k : ℕ) → k ≤ j → rank_at n lines (get_or (gone max ordered) k d) ≡ Some (get_or ordered k no_rank) =
+    λ k h.
+    ap (rank_at n lines) (get_or-map (λ (r : Rank). r.2) (take many ordered) k no_rank d (omega (arith, length-take many ordered)) ∙ ap (λ (r : Rank). r.2) (get_or-take many ordered k no_rank (omega arith)))
+    ∙ listed_at n lines ordered (get_or ordered k no_rank) o (Contains-get_or ordered k no_rank (omega arith)) in
+    record {
+      lower = get_or ordered i no_rank;
+      higher = get_or ordered j no_rank;
+      at_low = at i (omega arith);
+      at_high = at j (omega arith);
+      below = Less-from_sorted rank_cmp ordered i j no_rank o.rising less few.1;
+    }
+
+-- places ranked below one another differ
+below_differs : (n : Naming) (lines : List Line) (low high : ℕ) → IsRankedBelow n lines low high → low ≢ high
+below_differs n lines low high b same =
+    let one : Some b.lower ≡ Some b.higher = sym b.at_low ∙ ap (rank_at n lines) same ∙ b.at_high in
+    let same_rank : b.lower ≡ b.higher = (cc) in
+    let tie : rank_cmp b.lower b.higher ≡ Equal = rw (← same_rank) (tied_itself rank_cmp_total b.lower) in
+    let nothing : Less ≡ Equal = sym b.below ∙ tie in
+    cc
+
+-- so the places are a plan
+pub plans : (n : Naming) (max : ℕ) (lines : List Line) (ordered : List Rank) → InOrder n lines ordered → IsPlan n max lines (gone max ordered)
+plans n max lines ordered o = record {
+  exact = λ place. (gone_falls n max lines ordered place o, fallen_goes n max lines ordered place o);
+  once = λ i j d less short. below_differs n lines _ _ (gone_rises n max lines ordered o i j d less short);
+  in_rank_order = gone_rises n max lines ordered o;
+}

@@ -1,0 +1,71 @@
+-- How many candidates stand after retention.
+use Rattle.std.proofs.Common.{◌≡◌, ◌∙◌, ◌||◌, ℕ, ◌+◌, ◌<◌, ◌≤◌, if◌then◌else◌, Bool, true, false, leb, List, get_or, Option, None, Some, refl, sym, ap, arith, Ordering}
+use Rattle.std.specs.Prelude.{◌==◌}
+use Rattle.std.specs.List.{Contains, IsDistinct, count_by}
+use Rattle.std.specs.Option.{option_map_or, option_and_then}
+use Rattle.std.specs.Ordering.{nat_cmp, int_cmp, ordering_then, is_lt, is_eq, eq_by_cmp}
+use Rattle.std.specs.Cmp.Lexicographic.{slice_cmp, nat_list_cmp_total}
+use Rattle.std.specs.declared.cmp.Ordering.TheVariants.{Less, Equal, Greater}
+use Rattle.std.specs.FinMap as fin
+use Rattle.std.proofs.lemmas.Bool.{leb-true, ne_eqb}
+use Rattle.std.proofs.lemmas.Map.Keys.{IsDistinct-from_apart}
+use Rattle.std.proofs.lemmas.Map.Lookups.{exact_bytes}
+use Rattle.appender_names.specs.Name.{Naming}
+use Rattle.appender_store.specs.Content.{Content, Names, Entry}
+use Rattle.appender_store.specs.Folder.{line_of}
+use Rattle.appender_retain.specs.Rank.{Rank, rank_cmp, rank_of}
+use Rattle.appender_retain.specs.Survival.{LeavesSurvivors, name_survives, name_ranks, candidates_in}
+use Rattle.appender_retain.proofs.Elements.{filter_map_Contains, Contains_filter_map, all_pairs_filter_map}
+use Rattle.appender_retain.proofs.Entries.{entries_rise, entry_there, there_entry}
+use Rattle.appender_retain.proofs.Few.{few}
+use Rattle.appender_retain.proofs.Listing.{line_name}
+use Rattle.appender_retain.proofs.Ranks.{rank_cmp_total, candidate}
+
+-- a candidate's rank has its name
+rank_name : (n : Naming) (e : List ℕ × Entry) (r : Rank) → rank_of n (0, line_of e) ≡ Some r → e.0 ≡ r.1
+rank_name n e r h = let both : Some e.0 ≡ Some r.1 = sym (line_name e) ∙ (candidate n (0, line_of e) r h).name in cc
+
+-- candidates of one folder have ranks that differ
+ranks_apart : (n : Naming) (names : Names) → IsDistinct (eq_by_cmp rank_cmp) (name_ranks n names)
+ranks_apart n names =
+    IsDistinct-from_apart (eq_by_cmp rank_cmp) (name_ranks n names) (λ i j d before short.
+    let less : slice_cmp nat_cmp (get_or (name_ranks n names) i d).1 (get_or (name_ranks n names) j d).1 ≡ Less =
+    all_pairs_filter_map (λ (a b : List ℕ × Entry). slice_cmp nat_cmp a.0 b.0 ≡ Less) (λ (r s : Rank). slice_cmp nat_cmp r.1 s.1 ≡ Less) (λ e. rank_of n (0, line_of e))
+    (λ a b r s less is_r is_s. rw (← rank_name n a r is_r, ← rank_name n b s is_s) less) (fin.entries names) (entries_rise names) i j d before short in
+    not_tied (get_or (name_ranks n names) i d) (get_or (name_ranks n names) j d) less)
+  where
+    not_tied : (a b : Rank) → slice_cmp nat_cmp a.1 b.1 ≡ Less → eq_by_cmp rank_cmp a b ≡ false
+    not_tied a b less = rw less (by (int_cmp a.0 b.0))
+      where
+        by : (o : Ordering) → is_eq (ordering_then o Less) ≡ false
+        by Less = refl
+        by Equal = refl
+        by Greater = refl
+
+-- where exactly the survivors are left, fewer candidates than the maximum stand
+pub fewer_stand : (n : Naming) (max : ℕ) (old new : Content) → 0 < max → LeavesSurvivors n max old new → candidates_in n new < max
+fewer_stand n max old new positive left =
+    few rank_cmp_total (name_ranks n new.names) (name_ranks n old.names) max positive (ranks_apart n new.names) fit
+  where
+    at_most : (c : ℕ) → ((max == 0) || leb c max) ≡ true → c ≤ max
+    at_most c h =
+        let some : (max == 0) ≡ false = ne_eqb max 0 (λ e. omega arith) in
+        leb-true c max (rw some at h)
+
+    survivor : (name : List ℕ) (v : Entry) → fin.get new.names name ≡ Some v → (name_survives n max old.names name ≡ true) × (fin.get old.names name ≡ Some v)
+    survivor name v now = by (name_survives n max old.names name) refl (sym (left name) ∙ now)
+      where
+        by : (b : Bool) → name_survives n max old.names name ≡ b → (if b then fin.get old.names name else None) ≡ Some v → (name_survives n max old.names name ≡ true) × (fin.get old.names name ≡ Some v)
+        by true e is = (e, is)
+        by false e is = absurd (let nothing : None ≡ Some v = is in cc)
+
+    fit : (b : Rank) → Contains (name_ranks n new.names) b → Contains (name_ranks n old.names) b × (count_by (λ (c : Rank). is_lt (rank_cmp b c)) (name_ranks n old.names) + 2 ≤ max)
+    fit b there =
+        let w = filter_map_Contains (λ (e : List ℕ × Entry). rank_of n (0, line_of e)) (fin.entries new.names) b there in
+        let s = survivor w.0.0 w.0.1 (entry_there nat_list_cmp_total new.names w.0 w.1) in
+        let value : name_survives n max old.names w.0.0 ≡ ((max == 0) || leb (count_by (λ (c : Rank). is_lt (rank_cmp b c)) (name_ranks n old.names) + 2) max) =
+        ap (λ (o : Option Entry). (max == 0) || option_map_or (λ (a : Rank). leb (count_by (λ (c : Rank). is_lt (rank_cmp a c)) (name_ranks n old.names) + 2) max) (option_and_then (λ (e : Entry). rank_of n (0, line_of (w.0.0, e))) o) true) s.1
+        ∙ ap (λ (o : Option Rank). (max == 0) || option_map_or (λ (a : Rank). leb (count_by (λ (c : Rank). is_lt (rank_cmp a c)) (name_ranks n old.names) + 2) max) o true) w.2 in (
+          Contains_filter_map (λ (e : List ℕ × Entry). rank_of n (0, line_of e)) (fin.entries old.names) w.0 b (there_entry exact_bytes old.names w.0.0 w.0.1 s.1) w.2,
+          at_most (count_by (λ (c : Rank). is_lt (rank_cmp b c)) (name_ranks n old.names) + 2) (sym value ∙ s.0),
+        )

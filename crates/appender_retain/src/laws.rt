@@ -1,0 +1,9 @@
+//! What holds of the log files in a folder. A caller cites a law by a call: the function does
+//! nothing, and its contract is the law.
+ghost use Rattle.appender_names.specs.Name.{Naming};
+ghost use Rattle.appender_retain.specs.Survival.{OpeningsAddOne};
+
+/// With one file more, at most one candidate more stands.
+pub fn openings_add_one()
+    ensures { (n : Naming) → OpeningsAddOne n }
+{}

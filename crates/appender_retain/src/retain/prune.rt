@@ -1,0 +1,66 @@
+// The removal of the log files that don't survive.
+ghost use Rattle.std.specs.Prelude.{◌≡◌, IsTrue, map, filter_map};
+ghost use Rattle.std.specs.Option.{option_map};
+ghost use Rattle.appender_store.specs.Content.{IsFile};
+ghost use Rattle.std.specs.FinMap as fin;
+ghost use Rattle.appender_store.specs.Folder.{shown};
+ghost use Rattle.appender_retain.specs.Pruning.{Prunes, RemovesFile, RemovesEach, AreFiles, name_at};
+
+use super::plan;
+use appender_names::names::Names;
+use appender_store::store::{Folder, Listed, Notice};
+use std::alloc::Global;
+use std::io;
+
+/// Removes the log files that don't survive, so that at most `max` remain once one more is made;
+/// none where `max` is 0. A listing or a plan that can't be had is noted as `Notice::List`, and
+/// nothing goes; a removal that fails is noted as `Notice::Remove`, and the next is tried.
+pub fn prune_old_logs<S: Folder>(alloc: Global, folder: &mut S, names: &Names, max: usize)
+    ensures { Prunes S.Folder names.now max folder.old folder.new }
+{
+    if max == 0 {
+        return;
+    }
+    let listed = match folder.list() {
+        Ok(listed) => listed,
+        Err(fault) => {
+            folder.note(Notice::List(&fault));
+            return;
+        }
+    };
+    match plan(alloc, names, max, &listed) {
+        Ok(gone) => remove_planned(folder, &listed, &gone),
+        Err(fault) => folder.note(Notice::List(&io::Error::from(fault))),
+    }
+}
+
+// Removes the files at these places, one after another.
+fn remove_planned<S: Folder>(folder: &mut S, listed: &[Listed], gone: &[usize])
+    requires { IsTrue S.tells → AreFiles (S.content folder.old).names
+        (filter_map (name_at (map shown listed.now)) gone.now) }
+    ensures { RemovesEach S.Folder (filter_map (name_at (map shown listed.now)) gone.now)
+        folder.old folder.new }
+{
+    for place in gone {
+        if let Some(name) = listed_name(listed, *place) {
+            remove_file(folder, name);
+        }
+    }
+}
+
+// The name listed at a place, if it can be read.
+fn listed_name(listed: &[Listed], place: usize) -> Option<&str>
+    ensures { option_map (λ name. name.now) result ≡ name_at (map shown listed.now) place }
+{
+    Some(listed.get(place)?.name.as_ref()?.as_str())
+}
+
+// Removes a file, and notes a fault.
+fn remove_file<S: Folder>(folder: &mut S, name: &str)
+    requires { IsTrue S.tells → IsFile (fin.get (S.content folder.old).names name.now) }
+    ensures { RemovesFile S.Folder name.now folder.old folder.new }
+{
+    if let Err(fault) = folder.remove(name) {
+        folder.note(Notice::Remove(name, &fault));
+    }
+}
