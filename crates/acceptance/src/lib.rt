@@ -2,6 +2,8 @@
 #![tactic(auto)]
 
 #[cfg(test)]
+mod opening;
+#[cfg(test)]
 mod retention;
 #[cfg(test)]
 mod rolling;

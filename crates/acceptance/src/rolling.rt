@@ -146,30 +146,22 @@ fn every_step_has_its_reply(rt: HostRuntime) -> Result<(), Fail> {
 }
 
 #[test]
-fn a_failed_switch_keeps_the_file_until_the_next_boundary(rt: HostRuntime) -> Result<(), Fail> {
+fn a_fault_of_the_last_flush_is_noted(rt: HostRuntime) -> Result<(), Fail> {
     let alloc = rt.alloc();
     let builder = builder(alloc, Rotation::HOURLY, "app", "")?;
     let mut folder = MemoryFolder::new(alloc);
-    // Call 1 is the opening, call 2 that of the first switch, call 6 the flush of the second.
-    folder.fail_call(2)?;
-    folder.fail_call(6)?;
-    let steps = puts(
-        alloc,
-        &[(ELEVEN, "a"), (ELEVEN + 1_800, "b"), (TWELVE, "c")],
-    )?;
+    // Calls 1 and 2 open, call 3 flushes the file that gives way.
+    folder.fail_call(3)?;
+    let steps = puts(alloc, &[(ELEVEN, "a")])?;
     let run = run(alloc, &builder, folder, START, &steps)?;
-    let wanted = [
-        RollReply::Put(Switch::Failed, Ok(1)),
-        RollReply::Put(Switch::None, Ok(1)),
-        RollReply::Put(Switch::Opened, Ok(1)),
-    ];
+    let wanted = [RollReply::Put(Switch::Opened, Ok(1))];
     assert_eq!(rt; run.replies.as_slice(), wanted.as_slice());
     let folder = run.roller.folder();
-    let files = [("app.2020-02-01-10", "ab"), ("app.2020-02-01-12", "c")];
+    let files = [("app.2020-02-01-10", ""), ("app.2020-02-01-11", "a")];
     expect_files(&rt, folder, &files)?;
-    assert_eq!(rt; folder.notices(NoticeKind::Open), 1);
     assert_eq!(rt; folder.notices(NoticeKind::Flush), 1);
-    assert_eq!(rt; folder.failures(), 2);
+    assert_eq!(rt; folder.notices(NoticeKind::Open), 0);
+    assert_eq!(rt; folder.failures(), 1);
     Ok(())
 }
 

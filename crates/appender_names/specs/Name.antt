@@ -1,11 +1,11 @@
 -- The names of log files, as in the documentation of tracing-appender: prefix, date and suffix, with a dot between each two.
-use Rattle.std.specs.Prelude.{◌≡◌, ◌≢◌, ◌↔◌, ℕ, zero, suc, ◌*◌, ◌/◌, List, [], ◌∷◌, ◌++◌, ℤ, pos, ◌-ℤ◌, ◌<ℤ◌, Option, None, Some, if◌then◌else◌, unwrap_or, codes, ◌⊎◌}
+use Rattle.std.specs.Prelude.{◌≡◌, ◌≢◌, ◌↔◌, ℕ, zero, suc, ◌*◌, ◌/◌, ◌==◌, Bool, not, ◌&&◌, List, [], ◌∷◌, ◌++◌, ℤ, pos, ◌-ℤ◌, ◌<ℤ◌, Option, None, Some, if◌then◌else◌, unwrap_or, codes, ◌⊎◌}
 use Rattle.std.specs.Str.{bytes_eq}
 use Rattle.std.specs.Cmp.Lexicographic.{slice_cmp}
 use Rattle.std.specs.Ordering.{nat_cmp}
 use Rattle.std.specs.declared.cmp.Ordering.TheVariants.{Less}
 use Rattle.std.specs.Int.{int_rem_euclid}
-use Rattle.std.specs.List.{All}
+use Rattle.std.specs.List.{All, list_all}
 use Rattle.appender_names.specs.declared.rotation.Kind.{Kind}
 use Rattle.appender_names.specs.declared.rotation.Kind.TheVariants.{Never}
 use Rattle.appender_names.specs.declared.rotation.Rotation.{Rotation}
@@ -72,6 +72,13 @@ pub record IsEntry (name : List ℕ) : Type 0 where
   pub is_part : IsPart name
   pub no_dots : ¬ (IsDots name)
   pub some_byte : name ≢ []
+
+-- the same as a test
+abbrev pub is_name_byte : ℕ → Bool
+is_name_byte b = not (b == 47) && not (b == 0)
+
+abbrev pub is_entry : List ℕ → Bool
+is_entry name = not (bytes_eq name []) && not (bytes_eq name (codes ".")) && not (bytes_eq name (codes "..")) && list_all is_name_byte name
 
 -- the name reads as s: the whole minute, hour or day, as the shape is, of the years 0000 to 9999 whose date stands in it
 pub record Reads (n : Naming) (name : List ℕ) (s : ℤ) : Type 0 where

@@ -9,13 +9,20 @@ use thiserror::Error;
 /// Why an appender cannot be opened.
 #[derive(Debug, Drop, Error)]
 pub enum InitError {
+    /// The folder was not there and could not be made.
+    #[error("failed to create log directory: {0}")]
+    Directory(io::Error),
     /// The log file could not be opened.
     #[error("failed to create log file: {0}")]
     File(io::Error),
+    /// The link to the newest log file could not be made; the log file stands.
+    #[error("failed to create symlink to latest log file: {0}")]
+    Symlink(io::Error),
     /// The moment lies outside the years 1 to 9998 of UTC.
     #[error("moment out of range")]
     Moment,
-    /// Prefix and suffix, or the name that they make, cannot name one entry of a folder.
+    /// Prefix and suffix, the name that they make, or the link's name cannot name one entry of a
+    /// folder; or the link has the name of a log file.
     #[error("name not allowed")]
     Name,
     /// Memory was refused.
@@ -24,12 +31,14 @@ pub enum InitError {
 }
 
 impl InitError {
-    /// The number of the case, from 2 on.
+    /// The number of the case, from 1 on.
     pub fn code(&self) -> u8
         ensures { result ≡ code_of self.now }
     {
         match self {
+            InitError::Directory(_) => 1,
             InitError::File(_) => 2,
+            InitError::Symlink(_) => 3,
             InitError::Moment => 4,
             InitError::Name => 5,
             InitError::Memory => 6,

@@ -5,8 +5,9 @@ ghost use Rattle.std.specs.Prelude.{◌≡◌, ◌≢◌, ◌↔◌, ℕ, ℤ, L
 ghost use Rattle.appender_names.specs.declared.rotation.Kind.TheVariants.{Never};
 ghost use Rattle.appender_names.specs.Rotation.{IsMoment, IsNever};
 ghost use Rattle.appender_names.specs.DateText.{date_text};
+ghost use Rattle.std.specs.List.{list_all};
 ghost use Rattle.appender_names.specs.Name as spec;
-ghost use Rattle.appender_names.specs.Name.{IsPart, IsDots, IsAllowed};
+ghost use Rattle.appender_names.specs.Name.{IsPart, IsDots, IsEntry, IsAllowed};
 
 use crate::civil;
 use crate::error::InitError;
@@ -122,8 +123,18 @@ impl Names {
     }
 }
 
+/// Whether a text names one entry of a folder: it is not empty, `.` or `..`, and it has no `/` and no
+/// zero byte.
+pub fn is_entry_name(name: &str) -> bool
+    ensures entry { IsTrue result ↔ IsEntry name.now }
+    ensures test { result ≡ spec.is_entry name.now }
+{
+    !name.is_empty() && !is_dots(name) && is_part(name)
+}
+
 fn is_part(text: &str) -> bool
-    ensures { IsTrue result ↔ IsPart text.now }
+    ensures part { IsTrue result ↔ IsPart text.now }
+    ensures test { result ≡ list_all spec.is_name_byte text.now }
 {
     text.as_bytes().iter().all(|b| *b != b'/' && *b != 0)
 }

@@ -1,6 +1,7 @@
 use crate::error::InitError;
 use crate::names::Names;
 use crate::rotation::{Rotation, in_range};
+use std::io;
 use std::test::Fail;
 
 const FIRST: i64 = -62_135_596_800;
@@ -296,6 +297,32 @@ fn texts_of_errors(rt: HostRuntime) -> Result<(), Fail> {
     for (error, code, text) in &errors {
         assert_eq!(rt; error.code(), *code);
         assert_eq!(rt; error.to_string(rt.alloc())?.as_str(), *text);
+    }
+    // The fault's own text stands behind that of its case.
+    let fault = io::ErrorKind::PermissionDenied;
+    let told = io::Error::from(fault).to_string(rt.alloc())?;
+    let told = told.as_str();
+    let cases = [
+        (
+            InitError::Directory(fault.into()),
+            1,
+            "failed to create log directory: ",
+        ),
+        (
+            InitError::File(fault.into()),
+            2,
+            "failed to create log file: ",
+        ),
+        (
+            InitError::Symlink(fault.into()),
+            3,
+            "failed to create symlink to latest log file: ",
+        ),
+    ];
+    for (error, code, begin) in &cases {
+        let text = error.to_string(rt.alloc())?;
+        assert_eq!(rt; error.code(), *code);
+        assert_eq!(rt; text.strip_prefix(*begin), Some(told));
     }
     Ok(())
 }

@@ -16,19 +16,22 @@ sorted_keys : {X K : Type 0} (f : X → K) (R : K → K → Ordering) (xs : List
 sorted_keys f R [] sorted k d low high = absurd (omega arith)
 sorted_keys f R (x ∷ xs) sorted k d low high =
     let short : k + 1 < length (x ∷ xs) = omega (arith, length-map (x ∷ xs) f) in
-    let short2 : k < length (x ∷ xs) = omega arith in
-    rw (get_or-map f (x ∷ xs) (k + 1) x d short, get_or-map f (x ∷ xs) k x d short2) (sorted k x low short)
+    let shorter : k < length (x ∷ xs) = omega arith in
+    rw (get_or-map f (x ∷ xs) (k + 1) x d short, get_or-map f (x ∷ xs) k x d shorter) (sorted k x low short)
 
+-- sorted candidates have ranks in order
 pub candidates_in_order : (n : Naming) (lines : List Line) (cs ds : List Candidate) → map rank_in cs ≡ ranks n lines → IsPermutation cs ds → IsSortedBy (λ x y. is_lt (rank_cmp (rank_in x) (rank_in y))) ds → InOrder n lines (map rank_in ds)
 candidates_in_order n lines cs ds all moved sorted =
     in_order n lines (map rank_in ds)
     (subst (λ (rs : List Rank). IsPermutation rs (map rank_in ds)) all (IsPermutation-map rank_in cs ds moved))
     (sorted_keys rank_in rank_cmp ds sorted)
 
+-- a candidate's place is that of its rank
 places_map : (cs : List Candidate) → map (λ (c : Candidate). c.place) cs ≡ map (λ (r : Rank). r.2) (map rank_in cs)
 places_map [] = refl
 places_map (c ∷ cs) = ap (λ ns. c.place ∷ ns) (places_map cs)
 
+-- the first of them have the places that go
 pub places_gone : (max count : ℕ) (ds : List Candidate) → count ≡ how_many_go max (length ds) → map (λ (c : Candidate). c.place) (take count ds) ≡ gone max (map rank_in ds)
 places_gone max count ds e =
     places_map (take count ds) ∙ ap (map (λ (r : Rank). r.2)) (sym (take-map rank_in count ds) ∙ ap (λ (m : ℕ). take m (map rank_in ds)) (e ∙ ap (how_many_go max) (sym (length-map ds rank_in))))

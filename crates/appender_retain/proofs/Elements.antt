@@ -17,15 +17,17 @@ Contains_later x xs y (k, l, is) = (suc k, omega arith, is)
 pub Contains_found : {X : Type 0} (xs : List X) (k : ℕ) (x : X) → slice_get xs k ≡ Some x → Contains xs x
 Contains_found xs k x at = (k, slice_get_within xs k x at, get_or_from_slice_get xs k x x at)
 
--- and the other way
+-- and each element is found
 pub found_Contains : {X : Type 0} (xs : List X) (x : X) → Contains xs x → (k : ℕ) × (slice_get xs k ≡ Some x)
 found_Contains xs x (k, l, is) = (k, slice_get-get_or xs k x l ∙ ap Some is)
 
 -- ---- map
 
+-- the values have that of each element
 pub Contains_map : {X Y : Type 0} (f : X → Y) (xs : List X) (x : X) → Contains xs x → Contains (map f xs) (f x)
 Contains_map f xs x (k, l, is) = (k, omega (arith, length-map xs f), get_or-map f xs k x (f x) l ∙ ap f is)
 
+-- and each value is that of some element
 pub map_Contains : {X Y : Type 0} (f : X → Y) (xs : List X) (y : Y) → Contains (map f xs) y → (x : X) × Contains xs x × (f x ≡ y)
 map_Contains f [] y (k, l, is) = absurd (omega arith)
 map_Contains f (x ∷ xs) y (zero, l, is) = (x, (0, omega arith, refl), is)
@@ -35,6 +37,7 @@ map_Contains f (x ∷ xs) y (suc k, l, is) =
 
 -- ---- filter_map
 
+-- what it makes of an element is there
 pub Contains_filter_map : {X Y : Type 0} (h : X → Option Y) (xs : List X) (x : X) (y : Y) → Contains xs x → h x ≡ Some y → Contains (filter_map h xs) y
 Contains_filter_map h [] x y (k, l, is) e = absurd (omega arith)
 Contains_filter_map h (z ∷ xs) x y (zero, l, is) e =
@@ -46,6 +49,7 @@ Contains_filter_map h (z ∷ xs) x y (suc k, l, is) e = later (h z) (filter_map 
     later None ys y c = c
     later (Some v) ys y c = Contains_later v ys y c
 
+-- and all that is there was made of some element
 pub filter_map_Contains : {X Y : Type 0} (h : X → Option Y) (xs : List X) (y : Y) → Contains (filter_map h xs) y → (x : X) × Contains xs x × (h x ≡ Some y)
 filter_map_Contains h [] y (k, l, is) = absurd (omega arith)
 filter_map_Contains {X} {Y} h (x ∷ xs) y there = by (h x) refl (λ c. let w = filter_map_Contains h xs y c in (w.0, Contains_later x xs w.0 w.1, w.2)) there
@@ -55,7 +59,7 @@ filter_map_Contains {X} {Y} h (x ∷ xs) y there = by (h x) refl (λ c. let w = 
     by (Some v) e later (zero, l, is) = (x, (0, omega arith, refl), e ∙ ap Some is)
     by (Some v) e later (suc k, l, is) = later (k, omega arith, is)
 
--- it makes at most one of each
+-- of each element it makes at most one value
 pub length_filter_map : {X Y : Type 0} (h : X → Option Y) (xs : List X) → length (filter_map h xs) ≤ length xs
 length_filter_map h [] = omega arith
 length_filter_map h (x ∷ xs) = by (h x) (filter_map h xs) (length_filter_map h xs)
@@ -64,14 +68,15 @@ length_filter_map h (x ∷ xs) = by (h x) (filter_map h xs) (length_filter_map h
     by None ys l = omega arith
     by (Some v) ys l = omega arith
 
--- it makes one of these more of one element more
+-- one element more makes one value more, if any
 pub filter_map_take : {X Y : Type 0} (h : X → Option Y) (xs : List X) (i : ℕ) (d : X) → i < length xs → filter_map h (take (i + 1) xs) ≡ filter_map h (take i xs) ++ cons_option (h (get_or xs i d)) []
 filter_map_take h xs i d short = ap (filter_map h) (take_more xs i d short) ∙ filter_map-append h (take i xs) (get_or xs i d ∷ [])
 
+-- what it makes of the rest begins with what it makes of the first of them
 pub filter_map_drop : {X Y : Type 0} (h : X → Option Y) (xs : List X) (i : ℕ) (d : X) → i < length xs → filter_map h (drop i xs) ≡ cons_option (h (get_or xs i d)) (filter_map h (drop (i + 1) xs))
 filter_map_drop h xs i d short = rw (add-one, drop-cons xs i d) refl
 
--- What holds of each two values of `h` holds of each two that it makes of a list.
+-- Where R of two elements gives S of their values, and R holds of each two elements, S holds of each two values.
 pub all_pairs_filter_map : {X Y : Type 0} (R : X → X → Type 0) (S : Y → Y → Type 0) (h : X → Option Y) → ((a b : X) (v w : Y) → R a b → h a ≡ Some v → h b ≡ Some w → S v w) → (xs : List X) → AllPairs R xs → AllPairs S (filter_map h xs)
 all_pairs_filter_map R S h keeps [] all = λ i j d less short. absurd (omega arith)
 all_pairs_filter_map {X} {Y} R S h keeps (x ∷ xs) all = by (h x) refl (all_pairs_filter_map R S h keeps xs (λ i j d less short. all (suc i) (suc j) d (omega arith) (omega arith)))
@@ -89,12 +94,14 @@ all_pairs_filter_map {X} {Y} R S h keeps (x ∷ xs) all = by (h x) refl (all_pai
 
 -- ---- enumerate_from
 
+-- each element stands beside its place
 pub Contains_enumerated : {X : Type 0} (xs : List X) (k : ℕ) (x : X) → slice_get xs k ≡ Some x → Contains (enumerate_from 0 xs) (k, x)
 Contains_enumerated xs k x at =
     let short : k < length xs = slice_get_within xs k x at in
     let number : 0 + k ≡ k = omega arith in
     (k, omega (arith, length-enumerate_from 0 xs), get_or-enumerate_from 0 xs k (k, x) short ∙ rw (number, get_or_from_slice_get xs k x x at) refl)
 
+-- and beside each place the element there
 pub enumerated_Contains : {X : Type 0} (xs : List X) (e : ℕ × X) → Contains (enumerate_from 0 xs) e → slice_get xs e.0 ≡ Some e.1
 enumerated_Contains {X} xs e (k, l, is) =
     let short : k < length xs = omega (arith, length-enumerate_from 0 xs) in
@@ -102,6 +109,7 @@ enumerated_Contains {X} xs e (k, l, is) =
     let number : e.0 ≡ k = sym (ap (λ (p : ℕ × X). p.0) both) ∙ omega arith in
     ap (slice_get xs) number ∙ slice_get-get_or xs k e.1 short ∙ ap (λ (p : ℕ × X). Some p.1) both
 
+-- the places rise
 pub numbers_rise : {X : Type 0} (xs : List X) → AllPairs (λ (a b : ℕ × X). a.0 < b.0) (enumerate_from 0 xs)
 numbers_rise xs i j d less short =
     let high : j < length xs = omega (arith, length-enumerate_from 0 xs) in
@@ -110,7 +118,7 @@ numbers_rise xs i j d less short =
 
 -- ---- counts
 
--- a count of what `filter_map` makes
+-- as many values pass as elements whose value passes
 pub count_filter_map : {X Y : Type 0} (q : Y → Bool) (h : X → Option Y) (xs : List X) → count_by q (filter_map h xs) ≡ count_by (λ x. option_map_or q (h x) false) xs
 count_filter_map q h [] = refl
 count_filter_map {X} {Y} q h (x ∷ xs) =
@@ -121,6 +129,7 @@ count_filter_map {X} {Y} q h (x ∷ xs) =
     option None ys = omega arith
     option (Some v) ys = sum_by-cons (λ y. cond (q y) 1 0) v ys
 
+-- the same of a map
 pub count_map : {X Y : Type 0} (q : Y → Bool) (f : X → Y) (xs : List X) → count_by q (map f xs) ≡ count_by (λ x. q (f x)) xs
 count_map q f [] = refl
 count_map q f (x ∷ xs) =

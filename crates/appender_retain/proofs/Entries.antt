@@ -12,6 +12,7 @@ use Rattle.std.proofs.lemmas.Map.Views.{tells_apart}
 use Rattle.std.proofs.lemmas.Map.Lookups.{CmpEqualImpliesEq}
 use Rattle.appender_retain.proofs.Elements.{Contains_later}
 
+-- both sides of a test that holds
 both_of : (a b : Bool) → T (a && b) → T a × T b
 both_of true b t = (tt, t)
 both_of false b t = absurd t

@@ -4,7 +4,6 @@ pub mod Order
 pub mod Ranks
 pub mod Candidates
 pub mod Listing
-pub mod Few
 pub mod Standing
 pub mod Removals
 pub mod Planned

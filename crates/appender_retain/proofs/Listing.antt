@@ -32,11 +32,13 @@ use Rattle.appender_retain.proofs.Entries.{entries_rise, entry_there, there_entr
 pub record IsListing (names : Names) (lines : List Line) : Type 0 where
   pub moved : IsPermutation lines (map line_of (fin.entries names))
 
+-- a line has its entry's name
 pub line_name : (e : List ℕ × Entry) → (line_of e).0 ≡ Some e.0
 line_name (name, File b t) = refl
 line_name (name, Link target) = refl
 line_name (name, Folder) = refl
 
+-- whether two lines have one name
 abbrev same_name : Line → Line → Bool
 same_name l m = bytes_eq (unwrap_or l.0 []) (unwrap_or m.0 [])
 
@@ -62,6 +64,7 @@ not_before names lines j k l m name all at_j at_k name_j name_k before =
     let both : true ≡ false = sym same ∙ differ in
     cc
 
+-- so a name has one place
 pub one_place : (names : Names) (lines : List Line) (j k : ℕ) (l m : Line) (name : List ℕ) → IsListing names lines → slice_get lines j ≡ Some l → slice_get lines k ≡ Some m → l.0 ≡ Some name → m.0 ≡ Some name → j ≡ k
 one_place names lines j k l m name all at_j at_k name_j name_k =
     let first : ¬ (j < k) = not_before names lines j k l m name all at_j at_k name_j name_k in

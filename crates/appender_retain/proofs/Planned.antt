@@ -56,6 +56,7 @@ planned_name n max names lines gone name all plan there =
     file name (Link target) is = absurd (let both : PlainLink ≡ PlainFile = is in cc)
     file name Folder is = absurd (let both : PlainFolder ≡ PlainFile = is in cc)
 
+-- the planned names are files, and differ
 pub planned_files : (n : Naming) (max : ℕ) (names : Names) (lines : List Line) (gone : List ℕ) → IsListing names lines → IsPlan n max lines gone → AreFiles names (filter_map (name_at lines) gone)
 planned_files n max names lines gone all plan = record {
   files = λ name there. (planned_name n max names lines gone name all plan there).0;
@@ -104,7 +105,7 @@ prunes kind fit n max old listed new lines gone some short all plan content note
   only_old = takes;
   survivors = left;
   fewer = λ quiet tells positive. fewer_stand n max (kind.content old) (kind.content new) positive (left quiet tells);
-  nothing_else = record { flushes = effect.nothing_else.flushes ∙ ap (λ (c : Counts). c.flushes) noted; opens = effect.nothing_else.opens ∙ ap (λ (c : Counts). c.opens) noted };
+  nothing_else = record { flushes = ap (λ (c : Counts). c.flushes) effect.noted ∙ ap (λ (c : Counts). c.flushes) noted; opens = ap (λ (c : Counts). c.opens) effect.noted ∙ ap (λ (c : Counts). c.opens) noted };
 }
   where
     effect : Removed kind (filter_map (name_at lines) gone) listed new
@@ -116,5 +117,5 @@ prunes kind fit n max old listed new lines gone some short all plan content note
     left : IsQuiet (kind.noted old) (kind.noted new) → IsTrue kind.tells → LeavesSurvivors n max (kind.content old) (kind.content new)
     left quiet tells =
         let start : (kind.noted listed).removes ≡ (kind.noted old).removes = ap (λ (c : Counts). c.removes) noted in
-        let none : effect.faults.0 ≡ 0 = omega (arith, quiet.removes, start, effect.faults.1, effect.faults.2, length_filter_map (name_at lines) gone, (fit old).removes) in
-        leaves_survivors n max (kind.content old) (kind.content new) lines gone (all tells) plan (takes tells) (effect.faults.3 none tells)
+        let none : effect.faults ≡ 0 = omega (arith, quiet.removes, start, effect.some, ap (λ (c : Counts). c.removes) effect.noted, length_filter_map (name_at lines) gone, (fit old).removes) in
+        leaves_survivors n max (kind.content old) (kind.content new) lines gone (all tells) plan (takes tells) (effect.all none tells)

@@ -15,6 +15,7 @@ use Rattle.std.proofs.lemmas.List.{length-map, length-take, get_or-map, get_or-t
 use Rattle.std.proofs.lemmas.List.Elements.{Contains-get_or}
 use Rattle.std.proofs.lemmas.List.Sorted.{Contains-permutation, IsPermutation-sym, sum_by-IsPermutation}
 use Rattle.std.proofs.lemmas.Map.Keys.{IsDistinct-IsPermutation, IsDistinct-from_apart, Less-from_sorted}
+use Rattle.std.proofs.lemmas.Map.Lookups.{CmpEqualImpliesEq, exact_bytes, exact_signed, exact_unsigned}
 use Rattle.appender_names.specs.Name.{Naming}
 use Rattle.appender_store.specs.Folder.{Line}
 use Rattle.appender_store.specs.declared.store.Kind.TheVariants.{File, Folder, Link, Other}
@@ -30,6 +31,7 @@ pub record IsCandidate (at : ℕ) (line : Line) (r : Rank) : Type 0 where
   pub kind : line.1 ≡ File
   pub place : r.2 ≡ at
 
+-- it is so wherever there is a rank
 pub candidate : (n : Naming) (e : ℕ × Line) (r : Rank) → rank_of n e ≡ Some r → IsCandidate e.0 e.1 r
 candidate n (place, (Some name, File, created)) r h = by (key_of n name created) h
   where
@@ -66,6 +68,7 @@ candidate_at n lines place r h =
     let w = line_of_rank n lines place r h in
     (Contains_filter_map (rank_of n) (enumerate_from 0 lines) (place, w.0) r (Contains_enumerated lines place w.0 w.1) w.2, (candidate n (place, w.0) r w.2).place)
 
+-- whether two ranks have one place
 abbrev same_place : Rank → Rank → Bool
 same_place a b = eqb a.2 b.2
 
@@ -80,20 +83,24 @@ places_apart n lines =
 
 -- ---- order
 
+-- ranks compare as their parts do
 pub rank_cmp_total : IsTotalOrder rank_cmp
 rank_cmp_total = then_total (on_total (λ (r : Rank). r.0) int_cmp_total) (then_total (on_total (λ (r : Rank). r.1) nat_list_cmp_total) (on_total (λ (r : Rank). r.2) nat_cmp_total))
 
--- ranks that tie have one place
-tied_place : (a b : Rank) → rank_cmp a b ≡ Equal → same_place a b ≡ true
-tied_place a b e = by (int_cmp a.0 b.0) (slice_cmp nat_cmp a.1 b.1) e
-  where
-    by : (keys names : Ordering) → ordering_then keys (ordering_then names (nat_cmp a.2 b.2)) ≡ Equal → same_place a b ≡ true
-    by Less names never = absurd (let nothing : Less ≡ Equal = never in cc)
-    by Equal Less never = absurd (let nothing : Less ≡ Equal = never in cc)
-    by Equal Equal is = grind (arith, nat_tests)
-    by Equal Greater never = absurd (let nothing : Greater ≡ Equal = never in cc)
-    by Greater names never = absurd (let nothing : Greater ≡ Equal = never in cc)
+-- both parts of an order that says Equal do
+both_equal : (a b : Ordering) → ordering_then a b ≡ Equal → (a ≡ Equal) × (b ≡ Equal)
+both_equal Less b never = absurd (let nothing : Less ≡ Equal = never in cc)
+both_equal Equal b e = (refl, e)
+both_equal Greater b never = absurd (let nothing : Greater ≡ Equal = never in cc)
 
+-- ranks that tie are one
+pub exact_rank : CmpEqualImpliesEq rank_cmp
+exact_rank (key, name, place) (its_key, its_name, its_place) tie =
+    let keys = both_equal (int_cmp key its_key) _ tie in
+    let names = both_equal (slice_cmp nat_cmp name its_name) (nat_cmp place its_place) keys.1 in
+    cc (exact_signed key its_key keys.0, exact_bytes name its_name names.0, exact_unsigned place its_place names.1)
+
+-- stands where there is no rank
 no_rank : Rank
 no_rank = (pos 0, [], 0)
 
@@ -102,10 +109,11 @@ pub record InOrder (n : Naming) (lines : List Line) (ordered : List Rank) : Type
   pub moved : IsPermutation (ranks n lines) ordered
   pub rising : IsStrictlySortedBy rank_cmp ordered
 
+-- candidates that are sorted are strictly so
 pub in_order : (n : Naming) (lines : List Line) (ordered : List Rank) → IsPermutation (ranks n lines) ordered → IsSorted rank_cmp ordered → InOrder n lines ordered
 in_order n lines ordered moved sorted = record {
   moved = moved;
-  rising = strict_from_sorted rank_cmp_total same_place ordered no_rank tied_place sorted
+  rising = strict_from_sorted rank_cmp_total same_place ordered no_rank (λ a b tie. rw (exact_rank a b tie) (nat_eq_equiv.refl b.2)) sorted
       (IsDistinct-IsPermutation same_place (λ a b. nat_eq_equiv.symm a.2 b.2) (ranks n lines) ordered moved (places_apart n lines));
 }
 
@@ -113,9 +121,11 @@ in_order n lines ordered moved sorted = record {
 abbrev pub gone : ℕ → List Rank → List ℕ
 gone max ordered = map (λ (r : Rank). r.2) (take (how_many_go max (length ordered)) ordered)
 
+-- as many stand above in order as in the listing
 same_count : (n : Naming) (lines : List Line) (ordered : List Rank) (r : Rank) → InOrder n lines ordered → above rank_cmp r ordered ≡ count_above n lines r
 same_count n lines ordered r o = sum_by-IsPermutation (λ b. cond (is_lt (rank_cmp r b)) 1 0) (ranks n lines) ordered o.moved
 
+-- what is in order is listed at its place
 listed_at : (n : Naming) (lines : List Line) (ordered : List Rank) (r : Rank) → InOrder n lines ordered → Contains ordered r → rank_at n lines r.2 ≡ Some r
 listed_at n lines ordered r o there = at_place n lines r (Contains-permutation ordered (ranks n lines) r (IsPermutation-sym (ranks n lines) ordered o.moved) there)
 

@@ -16,11 +16,12 @@ use Rattle.appender_store.specs.Folder.{AreCounts, Counts, NotedRemove, counted,
 use Rattle.appender_store.specs.Notes.{Notes}
 use Rattle.appender_store.specs.declared.store.Folder.{Ghosts}
 use Rattle.appender_store.specs.declared.store.NoticeKind.TheVariants.{Remove as OfRemove}
-use Rattle.appender_retain.specs.Pruning.{AreFiles, RemovesFile, RemovesEach, NotesNothingElse}
+use Rattle.appender_retain.specs.Pruning.{AreFiles, RemovesFile, RemovesEach}
 use Rattle.appender_retain.proofs.Elements.{Contains_later, filter_map_take, filter_map_drop}
 
 -- ---- the names after a removal
 
+-- a name that was taken away leads to nothing
 removed_name : (names : Names) (name : List ℕ) → fin.get (fin.remove names name) name ≡ None
 removed_name names name =
     let same : eq_by_cmp (slice_cmp nat_cmp) name name ≡ true = (eq_by_cmp_equiv nat_list_cmp_total).refl name in
@@ -42,6 +43,7 @@ FileEffect kind name old new =
     ((kind.noted new ≡ kind.noted old) × (IsTrue kind.tells → Removes name (kind.content old) (kind.content new)))
     ⊎ ((kind.noted new ≡ counted OfRemove (kind.noted old)) × (kind.content new ≡ kind.content old))
 
+-- a removal has one of these two effects
 pub file_effect : {S F : Type 0} (kind : Ghosts S F) (name : List ℕ) (old new : S) → RemovesFile kind name old new → FileEffect kind name old new
 file_effect {S} {F} kind name old new r = by r.answer r.ok r.err r.notes
   where
@@ -79,12 +81,14 @@ pub record Progress {S F : Type 0} (kind : Ghosts S F) (names : ℕ → Option (
   pub done : RemovesEach kind (filter_map names (take i places)) old now
   pub rest : IsTrue kind.tells → AreFiles (kind.content now).names (filter_map names (drop i places))
 
+-- one place more whose name was removed
 pub one_removed : {S F : Type 0} (kind : Ghosts S F) (names : ℕ → Option (List ℕ)) (places : List ℕ) (i : ℕ) (name : List ℕ) (old now new : S) → i < length places → names (get_or places i 0) ≡ Some name → Progress kind names places i old now → RemovesFile kind name now new → Progress kind names places (i + 1) old new
 one_removed kind names places i name old now new short is before file = record {
   done = rw (filter_map_take names places i 0, is) (each_more kind (filter_map names (take i places)) name old now new before.done file);
   rest = λ tells. files_after kind name (filter_map names (drop (i + 1) places)) now new tells (file_effect kind name now new file) (rw (filter_map_drop names places i 0, is) at (before.rest tells));
 }
 
+-- one place more without a name
 pub none_removed : {S F : Type 0} (kind : Ghosts S F) (names : ℕ → Option (List ℕ)) (places : List ℕ) (i : ℕ) (old now : S) → i < length places → names (get_or places i 0) ≡ None → Progress kind names places i old now → Progress kind names places (i + 1) old now
 none_removed kind names places i old now short is before = record {
   done = rw (filter_map_take names places i 0, is, append-nil) before.done;
@@ -97,16 +101,23 @@ pub record RemovesAmong (gone : List (List ℕ)) (old new : Content) : Type 0 wh
   pub bodies : new.bodies ≡ old.bodies
   pub names : (name : List ℕ) → (fin.get new.names name ≡ fin.get old.names name) ⊎ ((fin.get new.names name ≡ None) × Contains gone name)
 
+-- each of these names is gone
 abbrev pub AllRemoved : List (List ℕ) → Content → Type 0
 AllRemoved gone c = (name : List ℕ) → Contains gone name → fin.get c.names name ≡ None
 
+-- so many failed removals noted
+abbrev pub with_faults : ℕ → Counts → Counts
+with_faults k c = record c { removes = (c.removes + k) % 2 ^ 64 }
+
 -- What many removals leave: each that failed was noted once, so where none was noted all succeeded.
 pub record Removed {S F : Type 0} (kind : Ghosts S F) (gone : List (List ℕ)) (old new : S) : Type 0 where
+  pub faults : ℕ
+  pub some : faults ≤ length gone
+  pub noted : kind.noted new ≡ with_faults faults (kind.noted old)
   pub among : IsTrue kind.tells → RemovesAmong gone (kind.content old) (kind.content new)
-  pub lists : (kind.noted new).lists ≡ (kind.noted old).lists
-  pub nothing_else : NotesNothingElse (kind.noted old) (kind.noted new)
-  pub faults : (k : ℕ) × (k ≤ length gone) × ((kind.noted new).removes ≡ ((kind.noted old).removes + k) % 2 ^ 64) × (k ≡ 0 → IsTrue kind.tells → AllRemoved gone (kind.content new))
+  pub all : faults ≡ 0 → IsTrue kind.tells → AllRemoved gone (kind.content new)
 
+-- nothing is gone where nothing changed
 among_none : (gone : List (List ℕ)) (old new : Content) → new ≡ old → RemovesAmong gone old new
 among_none gone old new same = record {
   there = ap (λ (c : Content). c.there) same;
@@ -114,9 +125,11 @@ among_none gone old new same = record {
   names = λ name. inl (ap (λ (c : Content). fin.get c.names name) same);
 }
 
+-- the name of a removal leads to nothing
 removed_now : (name other : List ℕ) (old new : Content) → Removes name old new → other ≡ name → fin.get new.names other ≡ None
 removed_now name other old new r is = ap (λ (c : Content). fin.get c.names other) r.after ∙ rw is (removed_name old.names name)
 
+-- one name is gone
 among_one : (name : List ℕ) (old new : Content) → Removes name old new → RemovesAmong (name ∷ []) old new
 among_one name old new r = record {
   there = ap (λ (c : Content). c.there) r.after;
@@ -127,6 +140,7 @@ among_one name old new r = record {
   ];
 }
 
+-- one name and those after it
 among_more : (name : List ℕ) (rest : List (List ℕ)) (a b c : Content) → RemovesAmong (name ∷ []) a b → RemovesAmong rest b c → RemovesAmong (name ∷ rest) a c
 among_more name rest a b c first second = record {
   there = second.there ∙ first.there;
@@ -140,6 +154,7 @@ among_more name rest a b c first second = record {
   ];
 }
 
+-- all are gone where each was removed
 all_removed : (name : List ℕ) (rest : List (List ℕ)) (a b c : Content) → Removes name a b → RemovesAmong rest b c → AllRemoved rest c → AllRemoved (name ∷ rest) c
 all_removed name rest a b c r among all other (zero, l, is) =
     elim (among.names other) [
@@ -149,41 +164,37 @@ all_removed name rest a b c r among all other (zero, l, is) =
 all_removed name rest a b c r among all other (suc k, l, is) = all other (k, omega arith, is)
 
 -- one fault more
-one_fault_more : (a b c k : ℕ) → b ≡ one_more a → c ≡ (b + k) % 2 ^ 64 → c ≡ (a + suc k) % 2 ^ 64
-one_fault_more a b c k first rest = omega arith
+one_fault_more : (k : ℕ) (c : Counts) → with_faults k (counted OfRemove c) ≡ with_faults (suc k) c
+one_fault_more k c =
+    let same : (one_more c.removes + k) % 2 ^ 64 ≡ (c.removes + suc k) % 2 ^ 64 = omega arith in
+    ap (λ (n : ℕ). record c { removes = n }) same
 
+-- removals leave just that
 pub removed : {S F : Type 0} (kind : Ghosts S F) → ((s : S) → AreCounts (kind.noted s)) → (gone : List (List ℕ)) (old new : S) → RemovesEach kind gone old new → Removed kind gone old new
 removed {S} kind fit [] old new same =
-    let counts : kind.noted new ≡ kind.noted old = ap (λ (s : S). kind.noted s) same in
+    let none : (kind.noted old).removes ≡ ((kind.noted old).removes + 0) % 2 ^ 64 = omega (arith, (fit old).removes) in
     record {
+      faults = 0;
+      some = omega arith;
+      noted = ap (λ (s : S). kind.noted s) same ∙ ap (λ (n : ℕ). record (kind.noted old) { removes = n }) none;
       among = λ tells. among_none [] (kind.content old) (kind.content new) (ap (λ (s : S). kind.content s) same);
-      lists = ap (λ (c : Counts). c.lists) counts;
-      nothing_else = record { flushes = ap (λ (c : Counts). c.flushes) counts; opens = ap (λ (c : Counts). c.opens) counts };
-      faults = (0, omega arith, omega (arith, ap (λ (c : Counts). c.removes) counts, (fit old).removes), λ z tells name there. absurd (omega arith));
+      all = λ z tells name there. absurd (omega arith);
     }
 removed {S} kind fit (name ∷ rest) old new (between, file, each) =
     by (file_effect kind name old between file) (removed kind fit rest between new each)
   where
     by : FileEffect kind name old between → Removed kind rest between new → Removed kind (name ∷ rest) old new
     by (inl (counts, removes)) later = record {
+      faults = later.faults;
+      some = omega (arith, later.some);
+      noted = later.noted ∙ ap (with_faults later.faults) counts;
       among = λ tells. among_more name rest (kind.content old) (kind.content between) (kind.content new) (among_one name (kind.content old) (kind.content between) (removes tells)) (later.among tells);
-      lists = later.lists ∙ ap (λ (c : Counts). c.lists) counts;
-      nothing_else = record { flushes = later.nothing_else.flushes ∙ ap (λ (c : Counts). c.flushes) counts; opens = later.nothing_else.opens ∙ ap (λ (c : Counts). c.opens) counts };
-      faults = (
-        later.faults.0,
-        omega (arith, later.faults.1),
-        later.faults.2 ∙ ap (λ (c : Counts). (c.removes + later.faults.0) % 2 ^ 64) counts,
-        λ z tells. all_removed name rest (kind.content old) (kind.content between) (kind.content new) (removes tells) (later.among tells) (later.faults.3 z tells),
-      );
+      all = λ z tells. all_removed name rest (kind.content old) (kind.content between) (kind.content new) (removes tells) (later.among tells) (later.all z tells);
     }
     by (inr (counts, same)) later = record {
+      faults = suc later.faults;
+      some = omega (arith, later.some);
+      noted = later.noted ∙ ap (with_faults later.faults) counts ∙ one_fault_more later.faults (kind.noted old);
       among = λ tells. among_more name rest (kind.content old) (kind.content between) (kind.content new) (among_none (name ∷ []) (kind.content old) (kind.content between) same) (later.among tells);
-      lists = later.lists ∙ ap (λ (c : Counts). c.lists) counts;
-      nothing_else = record { flushes = later.nothing_else.flushes ∙ ap (λ (c : Counts). c.flushes) counts; opens = later.nothing_else.opens ∙ ap (λ (c : Counts). c.opens) counts };
-      faults = (
-        suc later.faults.0,
-        omega (arith, later.faults.1),
-        one_fault_more (kind.noted old).removes (kind.noted between).removes (kind.noted new).removes later.faults.0 (ap (λ (c : Counts). c.removes) counts) later.faults.2,
-        λ z tells. absurd (omega arith),
-      );
+      all = λ z tells. absurd (omega arith);
     }

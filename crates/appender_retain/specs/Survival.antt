@@ -4,7 +4,7 @@ use Rattle.std.specs.Option.{option_map_or}
 use Rattle.std.specs.Ordering.{is_lt}
 use Rattle.std.specs.FinMap as fin
 use Rattle.appender_names.specs.Name.{Naming}
-use Rattle.appender_store.specs.Content.{Content, Names, Opens}
+use Rattle.appender_store.specs.Content.{Content, Names, Opens, RemovesLink, MakesLink}
 use Rattle.appender_store.specs.Folder.{line_of}
 use Rattle.appender_retain.specs.Rank.{Rank, rank_cmp, rank_of}
 
@@ -40,3 +40,8 @@ LeavesSurvivors n max old new =
 -- a file that is opened is at most one candidate more
 abbrev pub OpeningsAddOne : Naming → Type 0
 OpeningsAddOne n = (name : List ℕ) (old new : Content) (b : ℕ) → Opens name old new b → candidates_in n new ≤ candidates_in n old + 1
+
+-- neither a link that is made nor one that is taken away is a candidate more
+pub record LinksAddNone (n : Naming) : Type 0 where
+  pub made : (link target : List ℕ) (old new : Content) → MakesLink link target old new → candidates_in n new ≤ candidates_in n old
+  pub removed : (link : List ℕ) (old new : Content) → RemovesLink link old new → candidates_in n new ≤ candidates_in n old

@@ -1,9 +1,14 @@
 //! What holds of the log files in a folder. A caller cites a law by a call: the function does
 //! nothing, and its contract is the law.
 ghost use Rattle.appender_names.specs.Name.{Naming};
-ghost use Rattle.appender_retain.specs.Survival.{OpeningsAddOne};
+ghost use Rattle.appender_retain.specs.Survival.{OpeningsAddOne, LinksAddNone};
 
 /// With one file more, at most one candidate more stands.
 pub fn openings_add_one()
     ensures { (n : Naming) → OpeningsAddOne n }
+{}
+
+/// A link is no candidate.
+pub fn links_add_none()
+    ensures { (n : Naming) → LinksAddNone n }
 {}

@@ -1,6 +1,6 @@
 -- What follows from the calls of a folder.
-use Rattle.std.proofs.Common.{◌≡◌, ◌≢◌, ◌⊎◌, ℕ, ℤ, true, false, List, [], ◌∷◌, ◌++◌, length, Option, None, Some, arith, inl, inr, refl, ap, sym, length-append, Bool, cond, ◌∙◌, is_some, get_or, zero, suc}
-use Rattle.appender_store.specs.Content.{Content, body_at, Opens, IsSound, IsLinkOrFolder, Names, Entry, File, Link, Folder}
+use Rattle.std.proofs.Common.{◌≡◌, ◌≢◌, ◌⊎◌, ℕ, ℤ, true, false, List, [], ◌∷◌, ◌++◌, length, Option, None, Some, arith, inl, inr, refl, sym, length-append, Bool, cond, ◌∙◌, is_some}
+use Rattle.appender_store.specs.Content.{Content, IsSound, IsLinkOrFolder, Names, Entry, File, Link, Folder}
 use Rattle.std.specs.Ordering.{nat_cmp, eq_by_cmp}
 use Rattle.std.specs.Cmp.Lexicographic.{slice_cmp, nat_list_cmp_total}
 use Rattle.std.specs.FinMap as map
@@ -78,19 +78,3 @@ sound_without c name sound = record {
   bodies_there = λ n b u h. sound.bodies_there n b u (kept c.names name n (File b u) h);
   one_name = λ n m b u v h k. sound.one_name n m b u v (kept c.names name n (File b u) h) (kept c.names name m (File b v) k);
 }
-
--- ---- bytes
-
-empty_more : (bs : List (List ℕ)) (x : ℕ) → get_or (bs ++ [] ∷ []) x [] ≡ get_or bs x []
-empty_more [] zero = refl
-empty_more [] (suc x) = refl
-empty_more (b ∷ bs) zero = refl
-empty_more (b ∷ bs) (suc x) = empty_more bs x
-
--- an opening changes no body's bytes
-pub opens_bytes : (name : List ℕ) (old new : Content) (b x : ℕ) → Opens name old new b → body_at new x ≡ body_at old x
-opens_bytes name old new b x o =
-    elim o.1 [
-      | inl w ↦ ap (λ c. body_at c x) w.2
-      | inr w ↦ ap (λ c. body_at c x) w.3 ∙ empty_more old.bodies x
-    ]

@@ -1,23 +1,14 @@
 -- What may be put into a folder in memory.
-use Rattle.std.specs.Prelude.{◌≡◌, ℕ, ◌==◌, Bool, not, ◌&&◌, if◌then◌else◌, List, [], ◌∷◌, Option, None, Some, is_some, Result, MatchResult, unwrap_or}
-use Rattle.std.specs.List.{list_all}
-use Rattle.std.specs.Str.{bytes_eq}
+use Rattle.std.specs.Prelude.{◌≡◌, ℕ, if◌then◌else◌, List, Option, None, Some, is_some, Result, MatchResult, unwrap_or}
 use Rattle.std.specs.FinMap as fin
+use Rattle.appender_names.specs.Name.{is_entry}
 use Rattle.appender_store.specs.Content.{Names}
 use Rattle.appender_store.specs.declared.store.put.PutError.{PutError}
 use Rattle.appender_store.specs.declared.store.put.PutError.TheVariants.{Name, Used, Memory}
 
--- neither `/` nor zero
-abbrev pub is_name_byte : ℕ → Bool
-is_name_byte b = not (b == 47) && not (b == 0)
-
--- a name of one entry: not empty, not `.` or `..`, with no `/` and no zero byte
-abbrev pub is_entry_name : List ℕ → Bool
-is_entry_name n = not (bytes_eq n []) && not (bytes_eq n (46 ∷ [])) && not (bytes_eq n (46 ∷ 46 ∷ [])) && list_all is_name_byte n
-
 -- why nothing can be put under a name
 abbrev pub refusal : Names → List ℕ → Option PutError
-refusal names n = if is_entry_name n then (if is_some (fin.get names n) then Some Used else None) else Some Name
+refusal names n = if is_entry n then (if is_some (fin.get names n) then Some Used else None) else Some Name
 
 -- What a put answers: its refusal, and `Memory` only where there is none.
 abbrev pub AnswersPut : Names → List ℕ → Result (Unit {0}) PutError → Type 0

@@ -1,7 +1,8 @@
 //! A script: what is set up, then the moment at which the log is opened, then the steps.
 
-ghost use Rattle.std.specs.Prelude.{◌≡◌, ◌≤◌, length, IfOk, IfErr, OnOk, IfSome, IsNone, IsSome, Some, string_bytes};
-ghost use Rattle.tracing_appender.specs.Roller.{file_name_of};
+ghost use Rattle.std.specs.Prelude.{◌≡◌, ◌≤◌, [], length, IfOk, IfErr, OnOk, IfSome, IsNone, IsSome, None, Some, string_bytes};
+ghost use Rattle.tracing_appender.specs.Config.{defaults};
+ghost use Rattle.tracing_appender.specs.Opening.{file_name_of};
 
 use crate::words::{LineError, Words};
 use std::alloc::{AllocError, Global};
@@ -38,12 +39,13 @@ impl LineError {
     }
 }
 
-/// What the log files are called and how many are kept, as last set.
+/// What the log files are called, how many are kept, and which link follows them, as last set.
 #[derive(Drop)]
 pub struct Settings {
     rotation: Rotation,
     prefix: String,
     suffix: String,
+    link: String,
     max_files: usize,
 }
 
@@ -57,16 +59,20 @@ impl Model for Settings {
       rotation = s.rotation;
       prefix = string_bytes s.prefix;
       suffix = string_bytes s.suffix;
+      link = string_bytes s.link;
       max_files = s.max_files;
     } };
 }
 
 impl Settings {
-    fn new(alloc: Global) -> Settings {
+    fn new(alloc: Global) -> Settings
+        ensures { result ≡ defaults }
+    {
         Settings {
             rotation: Rotation::NEVER,
             prefix: String::new(alloc),
             suffix: String::new(alloc),
+            link: String::new(alloc),
             max_files: 0,
         }
     }
@@ -79,7 +85,8 @@ impl Settings {
             .rotation(self.rotation)
             .max_log_files(self.max_files)
             .filename_prefix(alloc, self.prefix.as_str())?
-            .filename_suffix(alloc, self.suffix.as_str())
+            .filename_suffix(alloc, self.suffix.as_str())?
+            .latest_symlink(alloc, self.link.as_str())
     }
 
     /// The name of the file that a moment belongs to, in seconds of UTC since the epoch. The errors are those of an
@@ -103,7 +110,7 @@ impl Settings {
 /// A whole script, of which each line is known to be good.
 #[derive(Drop)]
 pub struct Script {
-    /// What the log files are called, and how many are kept.
+    /// What the log files are called, how many are kept, and which link follows them.
     pub settings: Settings,
     /// The folder before the log is opened.
     pub folder: MemoryFolder,
@@ -137,10 +144,15 @@ enum Setting<'a> {
     Rotation(Rotation),
     Prefix(String),
     Suffix(String),
+    Link(String),
     Max(usize),
     Created(Option<i128>),
     File(&'a str, String),
     Folder(&'a str),
+    LinkAt(&'a str, &'a str),
+    Absent,
+    Fail(u64),
+    Short(u64, usize),
 }
 
 // A line that is good by itself, wherever it stands.
@@ -165,10 +177,15 @@ impl<'a> Line<'a> {
             "rotation" => Line::Setting(Setting::Rotation(read_rotation(words.word()?)?)),
             "prefix" => Line::Setting(Setting::Prefix(words.text(alloc)?)),
             "suffix" => Line::Setting(Setting::Suffix(words.text(alloc)?)),
+            "link" => Line::Setting(Setting::Link(words.text(alloc)?)),
             "max" => Line::Setting(Setting::Max(words.count()?)),
             "created" => Line::Setting(Setting::Created(words.created()?)),
             "file" => Line::Setting(Setting::File(words.word()?, words.text(alloc)?)),
             "folder" => Line::Setting(Setting::Folder(words.word()?)),
+            "link-at" => Line::Setting(Setting::LinkAt(words.word()?, words.word()?)),
+            "absent" => Line::Setting(Setting::Absent),
+            "fail" => Line::Setting(Setting::Fail(words.call()?)),
+            "short" => Line::Setting(Setting::Short(words.call()?, words.count()?)),
             "start" => Line::Start(words.seconds()?),
             "see" => Line::Step(RollStep::See(words.seconds()?)),
             "put" => Line::Step(RollStep::Put(words.seconds()?, words.text(alloc)?.into_bytes())),
@@ -193,6 +210,8 @@ fn read_rotation(word: &str) -> Result<Rotation, LineError> {
 // A script as far as it was read.
 #[derive(Drop)]
 struct Draft {
+    // Whether a line was taken.
+    begun: bool,
     settings: Settings,
     folder: MemoryFolder,
     start: Option<i64>,
@@ -200,8 +219,13 @@ struct Draft {
 }
 
 impl Draft {
-    fn new(alloc: Global) -> Draft {
+    fn new(alloc: Global) -> Draft
+        ensures settings { result.settings ≡ defaults }
+        ensures start { result.start ≡ None }
+        ensures steps { result.steps.items ≡ [] }
+    {
         Draft {
+            begun: false,
             settings: Settings::new(alloc),
             folder: MemoryFolder::new(alloc),
             start: None,
@@ -218,7 +242,7 @@ impl Draft {
     {
         let line = Line::read(alloc, line)?;
         match (self.start, line) {
-            (None, Line::Setting(setting)) => self.set(setting),
+            (None, Line::Setting(setting)) => self.set(alloc, setting),
             (None, Line::Start(moment)) => {
                 self.start = Some(moment);
                 Ok(())
@@ -231,18 +255,25 @@ impl Draft {
         }
     }
 
-    fn set(&mut self, setting: Setting<'_>) -> Result<(), LineError>
+    fn set(&mut self, alloc: Global, setting: Setting<'_>) -> Result<(), LineError>
         ensures steps { self.new.steps ≡ self.old.steps }
     {
         match setting {
             Setting::Rotation(rotation) => self.settings.rotation = rotation,
             Setting::Prefix(prefix) => self.settings.prefix = prefix,
             Setting::Suffix(suffix) => self.settings.suffix = suffix,
+            Setting::Link(link) => self.settings.link = link,
             Setting::Max(max) => self.settings.max_files = max,
             Setting::Created(moment) => self.folder.set_created(moment),
             Setting::File(name, text) => self.folder.put_file(name, text.as_bytes())?,
             Setting::Folder(name) => self.folder.put_folder(name)?,
+            Setting::LinkAt(name, target) => self.folder.put_link(name, target)?,
+            Setting::Absent if self.begun => return Err(LineError::Fault),
+            Setting::Absent => self.folder = MemoryFolder::absent(alloc),
+            Setting::Fail(call) => self.folder.fail_call(call)?,
+            Setting::Short(call, limit) => self.folder.short_append(call, limit)?,
         }
+        self.begun = true;
         Ok(())
     }
 

@@ -22,7 +22,7 @@ fn check(rt: &impl Abort, alloc: Global, script: &[u8], status: u8, output: &str
 }
 
 // Scripts whose log is opened, and what is printed.
-static PLAYED: [(&str, &str); 25] = [
+static PLAYED: [(&str, &str); 31] = [
     // Arrivals an hour apart; a clock that goes back keeps the file.
     (
         "rotation hourly\nprefix app\nstart 1580551260\nput 1580554800 a\nput 1580554799 b\n",
@@ -125,6 +125,35 @@ static PLAYED: [(&str, &str); 25] = [
         "rotation daily\nmax 1\nfile 2020-01-31 x\nfile 2020-01-32 y\nfile notes z\nstart 1580551260\n",
         "open 2020-02-01\nfile 2020-01-32 1 y\nfile 2020-02-01 0\nfile notes 1 z\n",
     ),
+    // The link follows the newest file, in place of what link stood there; its text may be empty.
+    (
+        "rotation hourly\nprefix app\nlink latest.log\nlink-at latest.log old\\\nlink-at other x\nstart 1580551260\nput 1580554860 test\\n\n",
+        "open app.2020-02-01-10\nopened ok 5\nfile app.2020-02-01-10 0\nfile app.2020-02-01-11 5 test\\n\nlink latest.log app.2020-02-01-11\nlink other x\n",
+    ),
+    (
+        "prefix app\nlink a\nlink\nlink-at a /b/../c\nstart 0\n",
+        "open app\nlink a /b/../c\nfile app 0\n",
+    ),
+    // A folder that is absent is made.
+    (
+        "absent\nrotation hourly\nprefix app\nlink latest\nstart 1580551260\n",
+        "open app.2020-02-01-10\nfile app.2020-02-01-10 0\nlink latest app.2020-02-01-10\n",
+    ),
+    // Calls that fail: the restart that keeps one file loses its name, and its body goes on.
+    (
+        "rotation hourly\nprefix app\nmax 1\nfile app.2020-02-01-10 x\nfail 6\nfail 8\nstart 1580551260\nput 1580554800 y\n",
+        "open app.2020-02-01-10\nfailed ok 1\n",
+    ),
+    // A switch whose opening fails twice, and the one after it.
+    (
+        "rotation hourly\nprefix app\nfail 2\nfail 4\nstart 1580551260\nput 1580554800 a\nput 1580556600 b\nput 1580558400 c\n",
+        "open app.2020-02-01-10\nfailed ok 1\nnone ok 1\nopened ok 1\nfile app.2020-02-01-10 2 ab\nfile app.2020-02-01-12 1 c\n",
+    ),
+    // An append that fails, a flush that fails, and an append that falls short; the lesser of two counts holds.
+    (
+        "prefix app\nfail 0002\nfail 3\nshort 4 3\nshort 4 2\nshort 5 0\nfail 6\nshort 6 1\nstart 0\nwrite a\nflush\nwrite hello\nwrite b\nwrite c\n",
+        "open app\nerr\nerr\nok 2\nok 0\nerr\nfile app 2 he\n",
+    ),
     // Numbers may begin with zeros, and lie before 1970.
     ("start -0001\n", "open 1969-12-31\nfile 1969-12-31 0\n"),
     (
@@ -141,7 +170,7 @@ fn plays(rt: HostRuntime) {
 }
 
 // Scripts whose log is not opened, and what is printed.
-static REFUSED: [(&str, &str); 8] = [
+static REFUSED: [(&str, &str); 18] = [
     (
         "rotation hourly\nprefix a/b\nstart 1580551260\n",
         "init error 5\n",
@@ -161,6 +190,42 @@ static REFUSED: [(&str, &str); 8] = [
         "prefix app\nfolder app\nstart 1580551260\nflush\n",
         "init error 2\nfolder app\n",
     ),
+    (
+        "prefix app\nlink-at app x\nstart 0\n",
+        "init error 2\nlink app x\n",
+    ),
+    // The link has the name of the first file, or one that another file can have, or none of one entry.
+    (
+        "rotation hourly\nprefix app\nlink app.2020-02-01-11\nstart 1580551260\n",
+        "init error 5\n",
+    ),
+    ("prefix app\nlink app\nstart 0\n", "init error 5\n"),
+    (
+        "prefix app\nlink ..\nstart 253370764800\n",
+        "init error 5\n",
+    ),
+    ("prefix app\nlink a/b\nstart 0\n", "init error 5\n"),
+    // The moment is looked at before the link's name is compared.
+    (
+        "rotation daily\nlink 2020-02-01\nstart 253370764800\n",
+        "init error 4\n",
+    ),
+    // A plain file or a folder under the link's name stays, and the new log file too.
+    (
+        "rotation hourly\nprefix app\nlink latest.log\nfile latest.log k\nstart 1580551260\n",
+        "init error 3\nfile app.2020-02-01-10 0\nfile latest.log 1 k\n",
+    ),
+    (
+        "prefix app\nlink latest\nfolder latest\nstart 0\n",
+        "init error 3\nfile app 0\nfolder latest\n",
+    ),
+    // A folder that can't be made.
+    ("absent\nprefix app\nfail 2\nstart 0\n", "init error 1\n"),
+    // What retention removed stays removed.
+    (
+        "rotation hourly\nprefix app\nmax 1\nfile app.2020-02-01-09 x\nfolder app.2020-02-01-10\nstart 1580551260\n",
+        "init error 2\nfolder app.2020-02-01-10\n",
+    ),
 ];
 
 #[test]
@@ -171,7 +236,7 @@ fn tells_why_nothing_is_opened(rt: HostRuntime) {
 }
 
 // Scripts and their first faulty lines.
-static FAULTY: [(&str, usize); 97] = [
+static FAULTY: [(&str, usize); 119] = [
     // No `start`.
     ("", 1),
     ("prefix app\n", 2),
@@ -256,6 +321,35 @@ static FAULTY: [(&str, usize); 97] = [
     ),
     ("created none none\nstart 0\n", 1),
     ("start 0\ncreated none\n", 2),
+    ("fail\nstart 0\n", 1),
+    ("fail 0\nstart 0\n", 1),
+    ("fail 00\nstart 0\n", 1),
+    ("fail -1\nstart 0\n", 1),
+    ("fail +1\nstart 0\n", 1),
+    ("fail 18446744073709551616\nstart 0\n", 1),
+    ("fail 1 1\nstart 0\n", 1),
+    ("start 0\nfail 1\n", 2),
+    ("short 1\nstart 0\n", 1),
+    ("short 0 1\nstart 0\n", 1),
+    ("short 1 -1\nstart 0\n", 1),
+    ("short 1 18446744073709551616\nstart 0\n", 1),
+    ("short 1 1 \nstart 0\n", 1),
+    ("start 0\nshort 1 1\n", 2),
+    // The folder that isn't there.
+    ("prefix app\nabsent\nstart 0\n", 2),
+    ("absent\nabsent\nstart 0\n", 2),
+    ("absent \nstart 0\n", 1),
+    ("absent now\nstart 0\n", 1),
+    ("start 0\nabsent\n", 2),
+    // Links.
+    ("link \\x\nstart 0\n", 1),
+    ("start 0\nlink a\n", 2),
+    ("link-at a\nstart 0\n", 1),
+    ("link-at a \nstart 0\n", 1),
+    ("link-at a b c\nstart 0\n", 1),
+    ("link-at  a b\nstart 0\n", 1),
+    ("link-at .. b\nstart 0\n", 1),
+    ("link-at a b\nlink-at a c\nstart 0\n", 2),
     // Names.
     ("file\nstart 0\n", 1),
     ("file  x\nstart 0\n", 1),
@@ -270,11 +364,6 @@ static FAULTY: [(&str, usize); 97] = [
     ("folder a\nfile a x\nstart 0\n", 2),
     ("file a x\nfile b x\nfolder a\nstart 0\n", 3),
     // Lines that are not known yet.
-    ("absent\nstart 0\n", 1),
-    ("link latest\nstart 0\n", 1),
-    ("link-at a b\nstart 0\n", 1),
-    ("fail 1\nstart 0\n", 1),
-    ("short 1 1\nstart 0\n", 1),
     ("queue 1 lossy\nstart 0\n", 1),
     ("start 0\noffer 1 a\n", 2),
     ("start 0\nshut\n", 2),

@@ -1,5 +1,5 @@
 //! A line of a script, word by word.
-ghost use Rattle.std.specs.Prelude.{◌≡◌, ◌↔◌, ◌<◌, ◌∷◌, ◌++◌, ◌==◌, ℕ, List, [], None, Some, IfOk, IfSome, IsSome, IsOk, MatchOption, codes, string_bytes, unwrap_or};
+ghost use Rattle.std.specs.Prelude.{◌≡◌, ◌↔◌, ◌<◌, ◌≤◌, ◌∷◌, ◌++◌, ◌==◌, ℕ, List, [], None, Some, IfOk, IfSome, IsSome, IsOk, MatchOption, codes, string_bytes, unwrap_or};
 ghost use Rattle.std.specs.Option.{option_map};
 ghost use Rattle.std.specs.List.{before_first};
 ghost use Rattle.rollplay.specs.Line.{behind, TakesWord};
@@ -98,7 +98,20 @@ impl<'a> Words<'a> {
         ensures { IfOk result (λ _. (word : List ℕ) × TakesWord self.old word self.new
             × IsUnsigned word) }
     {
-        read_unsigned(self.word()?).ok_or(LineError::Fault)
+        let number = read_unsigned(self.word()?).ok_or(LineError::Fault)?;
+        usize::try_from(number).map_err(|_| LineError::Fault)
+    }
+
+    /// The next word as the number of a call, from 1 on.
+    pub fn call(&mut self) -> Result<u64, LineError>
+        ensures { IfOk result (λ number. (1 ≤ number) × ((word : List ℕ)
+            × TakesWord self.old word self.new × IsUnsigned word)) }
+    {
+        let number = read_unsigned(self.word()?).ok_or(LineError::Fault)?;
+        if number == 0 {
+            return Err(LineError::Fault);
+        }
+        Ok(number)
     }
 
     /// All that is left, spaces too, with its escapes resolved; empty where nothing is left.
@@ -147,13 +160,13 @@ fn read_signed(word: &str) -> Option<i128>
 }
 
 // A decimal number without a sign.
-fn read_unsigned(word: &str) -> Option<usize>
+fn read_unsigned(word: &str) -> Option<u64>
     ensures { IsSome result → IsUnsigned word.now }
 {
     if !word.as_bytes().first()?.is_ascii_digit() {
         return None;
     }
-    word.parse::<usize>().ok()
+    word.parse::<u64>().ok()
 }
 
 // The text with a newline for each `\n` and a backslash for each `\\`; any other backslash is a fault.

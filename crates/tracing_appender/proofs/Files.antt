@@ -1,19 +1,18 @@
 -- The law of the files goes on by one step.
 use Rattle.std.proofs.Common.{◌≡◌, ℕ, suc, ◌<◌, ◌≤◌, ℤ, Bool, true, false, nat_le, ◌&&◌, ◌==◌, if◌then◌else◌, List, [], ◌∷◌, ◌++◌, length, map, Option, None, Some, is_some, arith, refl, ap, sym, ◌∙◌, subst, append_assoc}
+use Rattle.std.specs.Prelude.{MatchOption}
 use Rattle.std.proofs.lemmas.List.{append-nil, length-set}
 use Rattle.appender_names.specs.declared.rotation.Rotation.{Rotation}
-use Rattle.appender_names.specs.Rotation.{IsMoment, next_of}
-use Rattle.appender_store.specs.Content.{Content, IsSound, body_at, appended, Opens}
+use Rattle.appender_names.specs.Rotation.{IsMoment, period_of, next_of}
+use Rattle.appender_store.specs.Content.{Content, IsSound, body_at, appended, made}
 use Rattle.appender_store.specs.Folder.{Counts}
-use Rattle.appender_retain.specs.Survival.{TakesOnlyOld, LeavesSurvivors, candidates_in}
-use Rattle.appender_retain.specs.Pruning.{IsQuiet}
 use Rattle.tracing_appender.specs.Config.{Config, naming_of}
-use Rattle.tracing_appender.specs.Roller.{file_name_of}
-use Rattle.tracing_appender.specs.Run.{Event, Attempt, time_of, times, carrier, passes, written, written_to, written_in, is_number, since, up_to, open_body, Carried, IsQuietSuccess, Leads, NotesLead, FileLaw, latest, period_at, arrives}
+use Rattle.tracing_appender.specs.Opening.{file_name_of, LeavesLittle}
+use Rattle.tracing_appender.specs.Run.{Event, Attempt, time_of, times, carrier, passes, written, written_to, written_in, is_number, since, up_to, open_body, Carried, Succeeded, Tried, Leads, NotesLead, FileLaw, latest, period_at, arrives}
 use Rattle.tracing_appender.specs.declared.rolling.Switch.TheVariants.{Opened as Switched, Failed as SwitchFailed}
-use Rattle.tracing_appender.proofs.Contents.{is_less, less_bytes, appended_nothing, appended_twice, appended_at, opens_bytes}
+use Rattle.tracing_appender.proofs.Contents.{Keeps, keeps_on, keeps_pruned, keeps_made, keeps_opened, keeps_linked, keeps_little, appended_nothing, appended_twice, appended_at}
 use Rattle.tracing_appender.proofs.Periods.{Laws, IsLater, later_differs, later_still}
-use Rattle.tracing_appender.proofs.Owners.{AreOwners, OtherNames, each_holds, each_in_its_period, written_before, owners_stay, owners_pruned, owners_with_piece, owners_with_failure, owners_with_success, owners_begin}
+use Rattle.tracing_appender.proofs.Owners.{AreOwners, OtherNames, each_holds, each_in_its_period, written_before, owners_stay, owners_kept, owners_with_piece, owners_with_failure, owners_with_success, owners_begin}
 use Rattle.tracing_appender.proofs.Clocks.{turn, due_by}
 
 -- ---- steps before and after an attempt
@@ -122,71 +121,89 @@ no_attempt c start e h first now noted_first noted_now opened b none same so = r
 }
 
 -- where it makes one that fails
-pub a_failure : (c : Config) (start : ℤ) (e : Event) (h : List Event) (first old new : Content) (noted_first noted_old noted_new : Counts) (opened : ℤ) (b : ℕ) → Laws c.rotation → IsMoment start → arrives c.rotation start e h ≡ true → IsLater (period_at c.rotation start h) (period_at c.rotation start (e ∷ h)) → e.switch ≡ SwitchFailed → TakesOnlyOld (naming_of c) c.max_files old new → FilesSoFar c start h first old noted_first noted_old opened b → Between c start e h first new noted_first noted_new opened b
-a_failure c start e h first old new noted_first noted_old noted_new opened b laws g came later is took so =
-    let a : Attempt = record { step = suc (length h); moment = latest start (e ∷ h); opened = None; before = old; pruned = new; after = new; noted_before = noted_old; noted_after = noted_new } in
+pub a_failure : (c : Config) (start : ℤ) (e : Event) (h : List Event) (first old new : Content) (noted_first noted_old noted_new : Counts) (opened : ℤ) (b : ℕ) → Laws c.rotation → IsMoment start → arrives c.rotation start e h ≡ true → IsLater (period_at c.rotation start h) (period_at c.rotation start (e ∷ h)) → e.switch ≡ SwitchFailed → LeavesLittle c (file_name_of c (latest start (e ∷ h))) old new → FilesSoFar c start h first old noted_first noted_old opened b → Between c start e h first new noted_first noted_new opened b
+a_failure c start e h first old new noted_first noted_old noted_new opened b laws g came later is little so =
+    let a : Attempt = record { step = suc (length h); moment = latest start (e ∷ h); opened = None; before = old; after = new; noted_before = noted_old; noted_after = noted_new } in
     let rest = so.law.attempts in
     let file = so.law.open_file.file in
-    let less = is_less (naming_of c) c.max_files old new took in
-    let failed : IsQuietSuccess a → ⊥ = λ quiet. let both : false ≡ true = quiet.succeeded in cc in
+    let keeps = keeps_little c (file_name_of c (latest start (e ∷ h))) old new little in
     record {
       attempts = a ∷ rest;
       are_times = rw (came, is) (ap (λ ts. (suc (length h), latest start (e ∷ h), false) ∷ ts) so.law.are_times);
       leads = (
         rw (up_to_now h (suc (length h)) (omega arith)) so.law.leads,
-        record { only_old = took; survivors = λ quiet. absurd (failed quiet); opens = refl; at_most = λ quiet. absurd (failed quiet) },
+        little,
         rw (so.open_is, since_now h (suc (length h)) (omega arith)) (sym (appended_nothing new b)),
       );
       notes = (so.law.notes, refl);
-      bodies = λ x. rw (written_before (λ f. is_number x f.opened) a rest h (omega arith)) (less_bytes old new x less ∙ so.law.bodies x);
+      bodies = λ x. rw (written_before (λ f. is_number x f.opened) a rest h (omega arith)) (keeps.bytes x ∙ so.law.bodies x);
       file = file;
       carries = λ i le. let from = from_on (suc (length h)) i le in rw from (so.carries i (omega arith));
       moment = so.law.open_file.moment;
       body = so.law.open_file.body;
-      holds = rw (written_before (λ f. f.step == file.step) a rest h (omega arith)) (less_bytes old new b less ∙ so.law.open_file.holds);
+      holds = rw (written_before (λ f. f.step == file.step) a rest h (omega arith)) (keeps.bytes b ∙ so.law.open_file.holds);
       open_is = so.open_is;
       made = omega arith;
-      there = rw less.bodies so.there;
-      owners = owners_with_failure c.rotation (file_name_of c) start rest e h new file b a refl refl (latest_in_range c.rotation start (e ∷ h) laws g) refl later is (owners_pruned c.rotation (file_name_of c) start rest h h old new file b less so.owners);
+      there = keeps.more b so.there;
+      owners = owners_with_failure c.rotation (file_name_of c) start rest e h new file b a refl refl (latest_in_range c.rotation start (e ∷ h) laws g) refl later is (owners_kept c.rotation (file_name_of c) start rest h h old new file b keeps so.owners);
     }
 
--- What an attempt that succeeded did.
-pub record Succeeds (c : Config) (name : List ℕ) (old pruned new : Content) (noted_old noted_new : Counts) (b : ℕ) : Type 0 where
-  pub only_old : TakesOnlyOld (naming_of c) c.max_files old pruned
-  pub survivors : IsQuiet noted_old noted_new → LeavesSurvivors (naming_of c) c.max_files old pruned
-  pub opens : Opens name pruned new b
-  pub at_most : IsQuiet noted_old noted_new → 0 < c.max_files → candidates_in (naming_of c) new ≤ c.max_files
-  pub there : b < length new.bodies
-  pub sound : IsSound new
+-- What is known of an attempt that succeeded.
+pub record Succeeds (c : Config) (a : Attempt) (b : ℕ) : Type 0 where
+  pub did : Succeeded c a b
+  pub sound : IsSound did.unlinked
+  pub unlinked_there : b < length did.unlinked.bodies
+  pub there : b < length a.after.bodies
+
+tried : (c : Config) (a : Attempt) (b : ℕ) → a.opened ≡ Some b → Succeeded c a b → Tried c a
+tried c a b body did = subst (λ (o : Option ℕ). MatchOption o (LeavesLittle c (file_name_of c a.moment) a.before a.after) (Succeeded c a)) (sym body) did
+
+-- the parts of such an attempt keep what was there
+record KeepsParts (c : Config) (a : Attempt) (did_pruned did_unlinked : Content) : Type 0 where
+  ready : Keeps a.before (made did_pruned)
+  linked : Keeps did_unlinked a.after
+  all : Keeps a.before a.after
+
+keeps_parts : (c : Config) (a : Attempt) (b : ℕ) → (did : Succeeded c a b) → KeepsParts c a did.pruned did.unlinked
+keeps_parts c a b did =
+    let ready = keeps_on a.before did.pruned (made did.pruned) (keeps_pruned (naming_of c) c.max_files a.before did.pruned did.only_old) (keeps_made did.pruned) in
+    let linked = keeps_linked c.link (file_name_of c a.moment) did.unlinked a.after did.links in
+    record {
+      ready = ready;
+      linked = linked;
+      all = keeps_on a.before (made did.pruned) a.after ready (keeps_on (made did.pruned) did.unlinked a.after (keeps_opened (file_name_of c a.moment) (made did.pruned) did.unlinked b did.opens) linked);
+    }
 
 -- where it makes one that succeeds
-pub a_success : (c : Config) (start : ℤ) (e : Event) (h : List Event) (first old pruned new : Content) (noted_first noted_old noted_new : Counts) (opened : ℤ) (b x : ℕ) → Laws c.rotation → OtherNames c.rotation (file_name_of c) → IsMoment start → arrives c.rotation start e h ≡ true → IsLater (period_at c.rotation start h) (period_at c.rotation start (e ∷ h)) → e.switch ≡ Switched → Succeeds c (file_name_of c (latest start (e ∷ h))) old pruned new noted_old noted_new x → FilesSoFar c start h first old noted_first noted_old opened b → Between c start e h first new noted_first noted_new (latest start (e ∷ h)) x
-a_success c start e h first old pruned new noted_first noted_old noted_new opened b x laws others g came later is did so =
-    let a : Attempt = record { step = suc (length h); moment = latest start (e ∷ h); opened = Some x; before = old; pruned = pruned; after = new; noted_before = noted_old; noted_after = noted_new } in
+pub a_success : (c : Config) (start : ℤ) (e : Event) (h : List Event) (first : Content) (noted_first : Counts) (a : Attempt) (opened : ℤ) (b x : ℕ) → Laws c.rotation → OtherNames c.rotation (file_name_of c) → IsMoment start → arrives c.rotation start e h ≡ true → IsLater (period_at c.rotation start h) (period_at c.rotation start (e ∷ h)) → e.switch ≡ Switched → a.step ≡ suc (length h) → a.moment ≡ latest start (e ∷ h) → a.opened ≡ Some x → Succeeds c a x → FilesSoFar c start h first a.before noted_first a.noted_before opened b → Between c start e h first a.after noted_first a.noted_after a.moment x
+a_success c start e h first noted_first a opened b x laws others g came later is at moment body did so =
     let rest = so.law.attempts in
-    let name = file_name_of c (latest start (e ∷ h)) in
-    let less = is_less (naming_of c) c.max_files old pruned did.only_old in
-    let none = written_later (a ∷ rest) h (suc (length h)) (omega arith) in
-    let bytes : (y : ℕ) → body_at new y ≡ body_at old y = λ y. opens_bytes name pruned new x y did.opens ∙ less_bytes old pruned y less in
+    let keeps = keeps_parts c a x did.did in
+    let lt : length h < a.step = rw at (omega arith) in
+    let none = written_later (a ∷ rest) h a.step lt in
+    let range : IsMoment a.moment = rw moment (latest_in_range c.rotation start (e ∷ h) laws g) in
+    let here : period_of c.rotation a.moment ≡ period_at c.rotation start (e ∷ h) = ap (period_of c.rotation) moment in
     record {
       attempts = a ∷ rest;
-      are_times = rw (came, is) (ap (λ ts. (suc (length h), latest start (e ∷ h), true) ∷ ts) so.law.are_times);
+      are_times = rw (came, is, at, moment, body) (ap (λ ts. (suc (length h), latest start (e ∷ h), true) ∷ ts) so.law.are_times);
       leads = (
-        rw (up_to_now h (suc (length h)) (omega arith)) so.law.leads,
-        record { only_old = did.only_old; survivors = λ q. did.survivors q.quiet; opens = did.opens; at_most = λ q. did.at_most q.quiet },
-        rw (since_now h (suc (length h)) (omega arith)) (sym (appended_nothing new x)),
+        rw (up_to_now h a.step lt) so.law.leads,
+        tried c a x body did.did,
+        rw (body, since_now h a.step lt) (sym (appended_nothing a.after x)),
       );
       notes = (so.law.notes, refl);
-      bodies = λ y. rw (written_before (λ f. is_number y f.opened) a rest h (omega arith)) (bytes y ∙ so.law.bodies y);
+      bodies = λ y. rw (written_before (λ f. is_number y f.opened) a rest h lt) (keeps.all.bytes y ∙ so.law.bodies y);
       file = a;
-      carries = λ i le. let from = from_on (suc (length h)) i le in rw from refl;
+      carries = λ i le. let from = from_on a.step i (rw at le) in rw (from, body) refl;
       moment = refl;
-      body = refl;
-      holds = rw none (bytes x ∙ sym (append-nil (body_at old x)));
-      open_is = refl;
-      made = omega arith;
+      body = body;
+      holds = rw none (keeps.all.bytes x ∙ sym (append-nil (body_at a.before x)));
+      open_is = rw body refl;
+      made = rw at (omega arith);
       there = did.there;
-      owners = owners_with_success c.rotation (file_name_of c) start rest e h pruned new so.law.open_file.file b x a others did.sound refl refl (λ y. less_bytes old pruned y less) (latest_in_range c.rotation start (e ∷ h) laws g) refl later did.opens did.there none (none_in_later c.rotation start h (period_at c.rotation start (e ∷ h)) laws g later) (owners_pruned c.rotation (file_name_of c) start rest h h old pruned so.law.open_file.file b less so.owners);
+      owners = owners_kept c.rotation (file_name_of c) start (a ∷ rest) (e ∷ h) h did.did.unlinked a.after a x keeps.linked
+          (owners_with_success c.rotation (file_name_of c) start rest e h (made did.did.pruned) did.did.unlinked so.law.open_file.file b x a others did.sound at body keeps.ready.bytes range here later did.did.opens did.unlinked_there none (none_in_later c.rotation start h (period_at c.rotation start (e ∷ h)) laws g later)
+          (owners_kept c.rotation (file_name_of c) start rest h h a.before (made did.did.pruned) so.law.open_file.file b keeps.ready so.owners));
     }
 
 -- the pieces of one step more
@@ -240,37 +257,32 @@ a_piece c start e h first now noted_first noted_now opened b so =
       owners = owners;
     }
 
-pub files_begin : (c : Config) (start : ℤ) (first pruned last : Content) (noted_first noted_last : Counts) (b : ℕ) → IsMoment start → Succeeds c (file_name_of c start) first pruned last noted_first noted_last b → FilesSoFar c start [] first last noted_first noted_last start b
-files_begin c start first pruned last noted_first noted_last b g did =
-    let a : Attempt = record { step = 0; moment = start; opened = Some b; before = first; pruned = pruned; after = last; noted_before = noted_first; noted_after = noted_last } in
-    let less = is_less (naming_of c) c.max_files first pruned did.only_old in
-    let bytes : (x : ℕ) → body_at last x ≡ body_at first x = λ x. opens_bytes (file_name_of c start) pruned last b x did.opens ∙ less_bytes first pruned x less in
-    let owners = owners_begin c.rotation (file_name_of c) a b did.sound refl refl (λ x. less_bytes first pruned x less) g did.opens did.there in
+pub files_begin : (c : Config) (a : Attempt) (b : ℕ) → a.step ≡ 0 → a.opened ≡ Some b → IsMoment a.moment → Succeeds c a b → FilesSoFar c a.moment [] a.before a.after a.noted_before a.noted_after a.moment b
+files_begin c a b at body g did =
+    let keeps = keeps_parts c a b did.did in
+    let owners = owners_kept c.rotation (file_name_of c) a.moment (a ∷ []) [] [] did.did.unlinked a.after a b keeps.linked
+    (owners_begin c.rotation (file_name_of c) (made did.did.pruned) did.did.unlinked a b did.sound at body keeps.ready.bytes g did.did.opens did.unlinked_there) in
     record {
       law = record {
         attempts = a ∷ [];
-        are_times = refl;
-        leads = (
-          refl,
-          record { only_old = did.only_old; survivors = λ q. did.survivors q.quiet; opens = did.opens; at_most = λ q. did.at_most q.quiet },
-          sym (appended_nothing last b),
-        );
+        are_times = rw (at, body) refl;
+        leads = (refl, tried c a b body did.did, rw body (sym (appended_nothing a.after b)));
         notes = (refl, refl);
-        bodies = λ x. bytes x ∙ sym (append-nil (body_at first x));
+        bodies = λ x. keeps.all.bytes x ∙ sym (append-nil (body_at a.before x));
         open_file = record {
           file = a;
-          is_carrier = refl;
+          is_carrier = rw (at, body) refl;
           moment = refl;
-          body = refl;
-          holds = bytes b ∙ sym (append-nil (body_at first b));
+          body = body;
+          holds = keeps.all.bytes b ∙ sym (append-nil (body_at a.before b));
         };
         apart = owners.apart;
-        each = each_holds c.rotation (file_name_of c) start (a ∷ []) [] [] last a b owners;
-        in_its_period = each_in_its_period c.rotation (file_name_of c) start (a ∷ []) [] [] last a b owners;
+        each = each_holds c.rotation (file_name_of c) a.moment (a ∷ []) [] [] a.after a b owners;
+        in_its_period = each_in_its_period c.rotation (file_name_of c) a.moment (a ∷ []) [] [] a.after a b owners;
       };
-      carries = λ i le. let from = from_on 0 i le in rw from refl;
-      open_is = refl;
-      made = omega arith;
+      carries = λ i le. let from = from_on 0 i le in rw (at, body, from) refl;
+      open_is = rw body refl;
+      made = rw at (omega arith);
       there = did.there;
       owners = owners;
     }

@@ -1,7 +1,10 @@
 pub mod Boundaries
 pub mod Refusals
 pub mod Periods
+pub mod NameMaps
 pub mod Contents
+pub mod Openings
+pub mod Clashes
 pub mod Closings
 pub mod Turns
 pub mod Clocks

@@ -1,43 +1,18 @@
 -- Different attempts open different bodies, so that each of them has its own.
-use Rattle.std.proofs.Common.{◌≡◌, ◌≢◌, ◌⊎◌, ℕ, suc, ◌<◌, ◌≤◌, ◌==◌, ℤ, Bool, true, false, cond, nat_le, if◌then◌else◌, List, [], ◌∷◌, ◌++◌, length, length-append, Option, None, Some, arith, inl, inr, refl, ap, sym, ◌∙◌, subst, append_assoc}
+use Rattle.std.proofs.Common.{◌≡◌, ◌≢◌, ◌⊎◌, ℕ, suc, ◌<◌, ◌≤◌, ◌==◌, ℤ, Bool, true, false, nat_le, if◌then◌else◌, List, [], ◌∷◌, ◌++◌, length, Option, None, Some, arith, inl, inr, refl, ap, sym, ◌∙◌, subst, append_assoc}
 use Rattle.std.proofs.lemmas.List.{append-nil, length-set}
-use Rattle.std.proofs.lemmas.Map.Views.{tells_apart}
-use Rattle.std.proofs.lemmas.Map.Lookups.{exact_bytes}
-use Rattle.std.specs.Ordering.{nat_cmp, eq_by_cmp}
-use Rattle.std.specs.Cmp.{eq_by_cmp_equiv}
-use Rattle.std.specs.Cmp.Lexicographic.{slice_cmp, nat_list_cmp_total}
 use Rattle.std.specs.FinMap as fin
-use Rattle.std.specs.FinMap.{get-insert}
 use Rattle.appender_names.specs.declared.rotation.Rotation.{Rotation}
 use Rattle.appender_names.specs.Rotation.{IsMoment, period_of}
-use Rattle.appender_store.specs.Content.{Content, Names, Entry, File, IsSound, body_at, appended, Opens}
+use Rattle.appender_store.specs.Content.{Content, File, IsSound, body_at, appended, Opens}
 use Rattle.tracing_appender.specs.Run.{Event, Attempt, is_same, period_at, carrier, passes, written_by, written, written_in, NoneFailed, OpensNoneOf, AreApart, HoldsItsOwn, CarriesItsPeriod, EachOf}
 use Rattle.tracing_appender.specs.declared.rolling.Switch.TheVariants.{Failed as SwitchFailed}
-use Rattle.tracing_appender.proofs.Contents.{IsLess, less_bytes, appended_at, opens_bytes}
+use Rattle.tracing_appender.proofs.NameMaps.{inserted_name}
+use Rattle.tracing_appender.proofs.Contents.{Keeps, keeps_opened, appended_at}
 use Rattle.tracing_appender.proofs.Periods.{IsLater, same_is_same, later_differs, later_still}
-
--- ---- the map of names
-
-same_file : (a b : ℕ) (t u : Option ℤ) → File a t ≡ File b u → a ≡ b
-same_file a b t u e = cc
 
 same_body : (a b : ℕ) → ◌≡◌ {A = Option ℕ} (Some a) (Some b) → a ≡ b
 same_body a b e = cc
-
--- what a map with one name more has
-got : (names : Names) (name : List ℕ) (entry : Entry) (n : List ℕ) (e : Entry) → fin.get (fin.insert names name entry) n ≡ Some e → ((n ≡ name) × (entry ≡ e)) ⊎ (fin.get names n ≡ Some e)
-got names name entry n e h =
-    let h2 : cond (eq_by_cmp (slice_cmp nat_cmp) n name) (Some entry) (fin.get names n) ≡ Some e = sym (get-insert nat_list_cmp_total names name entry n) ∙ h in
-    let by : (t : Bool) → eq_by_cmp (slice_cmp nat_cmp) n name ≡ t → cond t (Some entry) (fin.get names n) ≡ Some e → ((n ≡ name) × (entry ≡ e)) ⊎ (fin.get names n ≡ Some e) = λ t. elim t as (λ (v : Bool). eq_by_cmp (slice_cmp nat_cmp) n name ≡ v → cond v (Some entry) (fin.get names n) ≡ Some e → ((n ≡ name) × (entry ≡ e)) ⊎ (fin.get names n ≡ Some e)) [
-      | true ↦ λ is k. inl (tells_apart exact_bytes n name is, (cc))
-      | false ↦ λ is k. inr k
-    ] in
-    by (eq_by_cmp (slice_cmp nat_cmp) n name) refl h2
-
-get_new : (names : Names) (name : List ℕ) (entry : Entry) → fin.get (fin.insert names name entry) name ≡ Some entry
-get_new names name entry =
-    let same : eq_by_cmp (slice_cmp nat_cmp) name name ≡ true = (eq_by_cmp_equiv nat_list_cmp_total).refl name in
-    rw (get-insert nat_list_cmp_total names name entry name) (rw same refl)
 
 -- ---- what is known of each attempt
 
@@ -98,19 +73,19 @@ owners_stay r name start attempts e h now file b same so = record {
       }) so.owners;
 }
 
--- retention
-pub owners_pruned : (r : Rotation) (name : ℤ → List ℕ) (start : ℤ) (attempts : List Attempt) (told h : List Event) (old new : Content) (file : Attempt) (b : ℕ) → IsLess old new → AreOwners r name start attempts told h old file b → AreOwners r name start attempts told h new file b
-owners_pruned r name start attempts told h old new file b less so = record {
+-- a change that keeps every body and its name
+pub owners_kept : (r : Rotation) (name : ℤ → List ℕ) (start : ℤ) (attempts : List Attempt) (told h : List Event) (old new : Content) (file : Attempt) (b : ℕ) → Keeps old new → AreOwners r name start attempts told h old file b → AreOwners r name start attempts told h new file b
+owners_kept r name start attempts told h old new file b keeps so = record {
   apart = so.apart;
   owners = each_map (IsOwner r name start attempts told h old file b) (IsOwner r name start attempts told h new file b) attempts
       (λ a o. record {
         in_range = o.in_range;
         not_after = o.not_after;
         made = o.made;
-        there = λ x is. rw less.bodies (o.there x is);
-        own = λ x is m t k. o.own x is m t (less.names m (File x t) k);
+        there = λ x is. keeps.more x (o.there x is);
+        own = λ x is m t k. o.own x is m t (keeps.names x (o.there x is) m t k);
         mine = o.mine;
-        holds = λ x is. less_bytes old new x less ∙ o.holds x is;
+        holds = λ x is. keeps.bytes x ∙ o.holds x is;
         in_time = o.in_time;
         in_its_period = o.in_its_period;
       }) so.owners;
@@ -198,29 +173,11 @@ other_body r name start attempts h old new file b c x e m differs opens o is sam
       | inr k ↦ let below : x < length old.bodies = o.there x is in absurd (omega (arith, k.2))
     ]
 
--- an opening leaves each body its name
-own_still : (name : ℤ → List ℕ) (e : Attempt) (m : List ℕ) (old new : Content) (c x : ℕ) → Opens m old new c → x < length old.bodies → ((k : List ℕ) (t : Option ℤ) → fin.get old.names k ≡ Some (File x t) → k ≡ name e.moment) → (k : List ℕ) (t : Option ℤ) → fin.get new.names k ≡ Some (File x t) → k ≡ name e.moment
-own_still name e m old new c x opens below own k t h =
-    elim opens.1 [
-      | inl w ↦ own k t (subst (λ (d : Content). fin.get d.names k ≡ Some (File x t)) w.2 h)
-      | inr w ↦ elim (got old.names m (File c w.0) k (File x t) (subst (λ (d : Content). fin.get d.names k ≡ Some (File x t)) w.3 h)) [
-        | inl z ↦ absurd (let same : c ≡ x = same_file c x w.0 t z.1 in omega (arith, w.2))
-        | inr z ↦ own k t z
-      ]
-    ]
-
-more_bodies : (m : List ℕ) (old new : Content) (c x : ℕ) → Opens m old new c → x < length old.bodies → x < length new.bodies
-more_bodies m old new c x opens below =
-    elim opens.1 [
-      | inl w ↦ subst (λ (d : Content). x < length d.bodies) (sym w.2) below
-      | inr w ↦ subst (λ (d : Content). x < length d.bodies) (sym w.3) (let more = length-append old.bodies ([] ∷ []) in omega arith)
-    ]
-
 leads_to : (m : List ℕ) (old new : Content) (c : ℕ) → Opens m old new c → (t : Option ℤ) × (fin.get new.names m ≡ Some (File c t))
 leads_to m old new c opens =
     elim opens.1 [
       | inl w ↦ (w.0, subst (λ (d : Content). fin.get d.names m ≡ Some (File c w.0)) (sym w.2) w.1)
-      | inr w ↦ (w.0, subst (λ (d : Content). fin.get d.names m ≡ Some (File c w.0)) (sym w.3) (get_new old.names m (File c w.0)))
+      | inr w ↦ (w.0, subst (λ (d : Content). fin.get d.names m ≡ Some (File c w.0)) (sym w.3) (inserted_name old.names m (File c w.0)))
     ]
 
 not_equal : (x y : ℕ) → x ≢ y → (x == y) ≡ false
@@ -248,6 +205,7 @@ owners_with_success r name start rest e h old new file b c a others sound at is 
     let q = period_at r start (e ∷ h) in
     let lt : length h < a.step = rw at (omega arith) in
     let to = leads_to (name a.moment) old new c opens in
+    let keeps = keeps_opened (name a.moment) old new c opens in
     record {
       apart = (opens_no_other r name start rest q h old new file b c a rest others g here later is opens so.owners, so.apart);
       owners = (
@@ -258,7 +216,7 @@ owners_with_success r name start rest e h old new file b c a others sound at is 
           there = λ x ax. subst (λ (y : ℕ). y < length new.bodies) (same_body c x (sym is ∙ ax)) there;
           own = λ x ax m t k. sound.one_name m (name a.moment) c t to.0 (subst (λ (y : ℕ). fin.get new.names m ≡ Some (File y t)) (sym (same_body c x (sym is ∙ ax))) k) to.1;
           mine = λ x ax. equal a.step a.step refl ∙ sym (equal c x (same_body c x (sym is ∙ ax)));
-          holds = λ x ax. rw none (opens_bytes (name a.moment) old new c x opens ∙ was x ∙ sym (append-nil (body_at a.before x)));
+          holds = λ x ax. rw none (keeps.bytes x ∙ was x ∙ sym (append-nil (body_at a.before x)));
           in_time = λ fine x ax. equal a.step a.step refl ∙ sym (rw here (same_is_same q));
           in_its_period = λ fine x ax. none ∙ sym (rw here none_in);
         },
@@ -271,10 +229,10 @@ owners_with_success r name start rest e h old new file b c a others sound at is 
               in_range = o.in_range;
               not_after = inr after;
               made = let le = o.made in omega arith;
-              there = λ x fx. more_bodies (name a.moment) old new c x opens (o.there x fx);
-              own = λ x fx. own_still name f (name a.moment) old new c x opens (o.there x fx) (o.own x fx);
+              there = λ x fx. keeps.more x (o.there x fx);
+              own = λ x fx m t k. o.own x fx m t (keeps.names x (o.there x fx) m t k);
               mine = λ x fx. apart ∙ sym (not_equal c x (other_body r name start rest h old new file b c x f (name a.moment) differs opens o fx));
-              holds = λ x fx. rw (written_before (λ g. g.step == f.step) a rest h lt) (opens_bytes (name a.moment) old new c x opens ∙ o.holds x fx);
+              holds = λ x fx. rw (written_before (λ g. g.step == f.step) a rest h lt) (keeps.bytes x ∙ o.holds x fx);
               in_time = λ fine x fx. apart ∙ sym (later_differs (period_of r f.moment) q after).0;
               in_its_period = λ fine x fx. rw (written_before (λ g. g.step == f.step) a rest h lt) (o.in_its_period fine.1 x fx);
             }) so.owners,
@@ -282,9 +240,9 @@ owners_with_success r name start rest e h old new file b c a others sound at is 
     }
 
 -- the opening
-pub owners_begin : (r : Rotation) (name : ℤ → List ℕ) (a : Attempt) (c : ℕ) → IsSound a.after → a.step ≡ 0 → a.opened ≡ Some c → ((x : ℕ) → body_at a.pruned x ≡ body_at a.before x) → IsMoment a.moment → Opens (name a.moment) a.pruned a.after c → c < length a.after.bodies → AreOwners r name a.moment (a ∷ []) [] [] a.after a c
-owners_begin r name a c sound at is was g opens there =
-    let to = leads_to (name a.moment) a.pruned a.after c opens in
+pub owners_begin : (r : Rotation) (name : ℤ → List ℕ) (old new : Content) (a : Attempt) (c : ℕ) → IsSound new → a.step ≡ 0 → a.opened ≡ Some c → ((x : ℕ) → body_at old x ≡ body_at a.before x) → IsMoment a.moment → Opens (name a.moment) old new c → c < length new.bodies → AreOwners r name a.moment (a ∷ []) [] [] new a c
+owners_begin r name old new a c sound at is was g opens there =
+    let to = leads_to (name a.moment) old new c opens in
     record {
       apart = (tt, tt);
       owners = (
@@ -292,10 +250,10 @@ owners_begin r name a c sound at is was g opens there =
           in_range = g;
           not_after = inl refl;
           made = rw at (omega arith);
-          there = λ x ax. subst (λ (y : ℕ). y < length a.after.bodies) (same_body c x (sym is ∙ ax)) there;
-          own = λ x ax m t k. sound.one_name m (name a.moment) c t to.0 (subst (λ (y : ℕ). fin.get a.after.names m ≡ Some (File y t)) (sym (same_body c x (sym is ∙ ax))) k) to.1;
+          there = λ x ax. subst (λ (y : ℕ). y < length new.bodies) (same_body c x (sym is ∙ ax)) there;
+          own = λ x ax m t k. sound.one_name m (name a.moment) c t to.0 (subst (λ (y : ℕ). fin.get new.names m ≡ Some (File y t)) (sym (same_body c x (sym is ∙ ax))) k) to.1;
           mine = λ x ax. equal a.step a.step refl ∙ sym (equal c x (same_body c x (sym is ∙ ax)));
-          holds = λ x ax. opens_bytes (name a.moment) a.pruned a.after c x opens ∙ was x ∙ sym (append-nil (body_at a.before x));
+          holds = λ x ax. (keeps_opened (name a.moment) old new c opens).bytes x ∙ was x ∙ sym (append-nil (body_at a.before x));
           in_time = λ fine x ax. equal a.step a.step refl ∙ sym (same_is_same (period_of r a.moment));
           in_its_period = λ fine x ax. refl;
         },

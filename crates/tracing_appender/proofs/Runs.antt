@@ -1,6 +1,6 @@
 -- A run of steps over a roller keeps to the laws of the clock and of the files.
 use Rattle.std.proofs.lemmas.Int.{ints}
-use Rattle.std.proofs.Common.{◌≡◌, ◌≢◌, ℕ, ℤ, true, false, List, [], ◌∷◌, ◌++◌, length, map, Option, None, Some, IsTrue, arith, refl, ap, sym, ◌∙◌, subst}
+use Rattle.std.proofs.Common.{◌≡◌, ◌≢◌, ℕ, ℤ, true, false, List, [], ◌∷◌, ◌++◌, length, map, Option, None, Some, IsTrue, arith, refl, ap, sym, ◌∙◌, subst, suc}
 use Rattle.appender_names.specs.declared.rotation.Rotation.{Rotation}
 use Rattle.appender_store.specs.declared.store.Folder.{Ghosts}
 use Rattle.appender_names.specs.Name.{NamesArePeriods}
@@ -9,8 +9,9 @@ use Rattle.appender_store.specs.Content.{IsSound}
 use Rattle.appender_store.specs.Folder.{Counts}
 use Rattle.appender_retain.specs.Pruning.{IsQuiet}
 use Rattle.tracing_appender.specs.Config.{Config, naming_of}
-use Rattle.tracing_appender.specs.Roller.{Rolling, OpensFile, OpensRoller, file_name_of}
-use Rattle.tracing_appender.specs.Run.{Event, latest, period_at, arrives, is_switch}
+use Rattle.tracing_appender.specs.Opening.{file_name_of, OpensFile, LeavesLittle}
+use Rattle.tracing_appender.specs.Roller.{Rolling, OpensRoller}
+use Rattle.tracing_appender.specs.Run.{Event, Attempt, latest, period_at, arrives, is_switch}
 use Rattle.tracing_appender.specs.Replay.{Told, Runs, StepDoes, event_of, told_onto}
 use Rattle.tracing_appender.specs.declared.rolling.Switch.{Switch}
 use Rattle.tracing_appender.specs.declared.rolling.Switch.TheVariants.{None as Stayed, Opened as Switched, Failed as SwitchFailed}
@@ -55,15 +56,33 @@ comes r start e h old new laws so decides =
 same_moment : (a b : ℤ) → ◌≡◌ {A = Option ℤ} (Some a) (Some b) → a ≡ b
 same_moment a b e = cc
 
--- what an attempt that opened a file did
-succeeds : {S F : Type 0} (kind : Ghosts S F) (config : Config) (m : ℤ) (old ready new : S) (file : F) → IsTrue kind.tells → Grounds kind config → (o : OpensFile kind config m old file ready) → kind.content new ≡ kind.content ready → (IsQuiet (kind.noted old) (kind.noted new) → IsQuiet (kind.noted old) (kind.noted ready)) → Succeeds config (file_name_of config m) (kind.content old) (kind.content o.pruned) (kind.content new) (kind.noted old) (kind.noted new) (kind.body file)
-succeeds kind config m old ready new file tells grounds o same quieter = record {
-  only_old = o.prunes.only_old tells;
-  survivors = λ quiet. o.prunes.survivors (subst (λ (n : Counts). IsQuiet (kind.noted old) n) o.gets.noted (quieter quiet)) tells;
-  opens = rw same (o.gets.opens tells);
-  at_most = λ quiet some. rw same (o.at_most (quieter quiet) tells some);
-  there = rw same (o.gets.body_is_there tells);
-  sound = grounds.sound new tells;
+-- an attempt that opened a file
+abbrev attempted : {S F : Type 0} (kind : Ghosts S F) (step : ℕ) (m : ℤ) (old new : S) (file : F) → Attempt
+attempted kind step m old new file = record {
+  step = step;
+  moment = m;
+  opened = Some (kind.body file);
+  before = kind.content old;
+  after = kind.content new;
+  noted_before = kind.noted old;
+  noted_after = kind.noted new;
+}
+
+-- and what it did
+succeeds : {S F : Type 0} (kind : Ghosts S F) (config : Config) (step : ℕ) (m : ℤ) (old ready new : S) (file : F) → IsTrue kind.tells → Grounds kind config → OpensFile kind config (file_name_of config m) old file ready → kind.content new ≡ kind.content ready → (IsQuiet (kind.noted old) (kind.noted new) → IsQuiet (kind.noted old) (kind.noted ready)) → Succeeds config (attempted kind step m old new file) (kind.body file)
+succeeds kind config step m old ready new file tells grounds o same quieter = record {
+  did = record {
+    pruned = kind.content o.pruned;
+    unlinked = kind.content o.unlinked;
+    only_old = o.prunes.only_old tells;
+    survivors = λ quiet. o.prunes.survivors (subst (λ (n : Counts). IsQuiet (kind.noted old) n) o.noted (quieter quiet)) tells;
+    opens = o.gets.opens tells;
+    links = rw same (o.linked tells);
+    at_most = λ quiet some. rw same (o.at_most (quieter quiet) tells some);
+  };
+  sound = grounds.sound o.unlinked tells;
+  unlinked_there = o.gets.body_is_there tells;
+  there = rw same (o.body_is_there tells);
 }
 
 -- after the look at the clock
@@ -80,16 +99,17 @@ looked kind config start (Some m) Switched piece h first old now tells grounds g
     let e : Event = record { read = Some m; switch = Switched; piece = piece } in
     let is = come.goes refl in
     let it : m ≡ latest start (e ∷ h) = same_moment m (latest start (e ∷ h)) is.2 in
-    let opens : OpensFile kind config (latest start (e ∷ h)) old.folder now.file sees.ready = rw (← it, ← same) sees.opens in
-    let did = succeeds kind config (latest start (e ∷ h)) old.folder sees.ready now.folder now.file tells grounds opens sees.content (closes_quietly kind old.folder sees.ready old.file now.folder sees.closes) in
-    subst (λ (x : ℤ). Between config start e h (kind.content first) (kind.content now.folder) (kind.noted first) (kind.noted now.folder) x (kind.body now.file)) (sym (sees.opened ∙ it))
-    (a_success config start e h (kind.content first) (kind.content old.folder) (kind.content opens.pruned) (kind.content now.folder) (kind.noted first) (kind.noted old.folder) (kind.noted now.folder) old.opened (kind.body old.file) (kind.body now.file) grounds.laws grounds.others g is.0 is.1 refl did so)
+    let opens : OpensFile kind config (file_name_of config m) old.folder now.file sees.ready = rw (← same) sees.opens in
+    let did = succeeds kind config (suc (length h)) m old.folder sees.ready now.folder now.file tells grounds opens sees.content (closes_quietly kind old.folder sees.ready old.file now.folder sees.closes) in
+    subst (λ (x : ℤ). Between config start e h (kind.content first) (kind.content now.folder) (kind.noted first) (kind.noted now.folder) x (kind.body now.file)) (sym sees.opened)
+    (a_success config start e h (kind.content first) (kind.noted first) (attempted kind (suc (length h)) m old.folder now.folder now.file) old.opened (kind.body old.file) (kind.body now.file) grounds.laws grounds.others g is.0 is.1 refl refl it refl did so)
 looked kind config start (Some m) SwitchFailed piece h first old now tells grounds g come same so sees =
     let e : Event = record { read = Some m; switch = SwitchFailed; piece = piece } in
     let is = come.goes refl in
-    let took = rw same at (sees.only_old tells) in
+    let it : m ≡ latest start (e ∷ h) = same_moment m (latest start (e ∷ h)) is.2 in
+    let little : LeavesLittle config (file_name_of config (latest start (e ∷ h))) (kind.content old.folder) (kind.content now.folder) = rw (← it, ← same) (sees.content tells) in
     rw (sees.opened, sees.file)
-    (a_failure config start e h (kind.content first) (kind.content old.folder) (kind.content now.folder) (kind.noted first) (kind.noted old.folder) (kind.noted now.folder) old.opened (kind.body old.file) grounds.laws g is.0 is.1 refl took so)
+    (a_failure config start e h (kind.content first) (kind.content old.folder) (kind.content now.folder) (kind.noted first) (kind.noted old.folder) (kind.noted now.folder) old.opened (kind.body old.file) grounds.laws g is.0 is.1 refl little so)
 
 -- after its piece
 turned : {S F : Type 0} (kind : Ghosts S F) (config : Config) (start : ℤ) (e : Event) (h : List Event) (first : S) (old new : Rolling S F) → IsTrue kind.tells → Grounds kind config → IsMoment start → Comes config.rotation start e h → old.config ≡ config → Holds kind config start h first old → Turns kind e old new → Holds kind config start (e ∷ h) first new
@@ -108,7 +128,7 @@ run_begins : {S F : Type 0} (kind : Ghosts S F) (config : Config) (start : ℤ) 
 run_begins kind config start first now grounds o = record {
   config_is = o.config_is;
   clock = clock_begins config.rotation start now.boundary o.in_range o.boundary;
-  files = λ tells. rw o.opened (files_begin config start (kind.content first) (kind.content o.opens.pruned) (kind.content now.folder) (kind.noted first) (kind.noted now.folder) (kind.body now.file) o.in_range (succeeds kind config start first now.folder now.folder now.file tells grounds o.opens refl (λ quiet. quiet)));
+  files = λ tells. rw o.opened (files_begin config (attempted kind 0 start first now.folder now.file) (kind.body now.file) refl refl o.in_range (succeeds kind config 0 start first now.folder now.folder now.file tells grounds o.opens refl (λ quiet. quiet)));
 }
 
 run_goes_on : {S F : Type 0} (kind : Ghosts S F) (config : Config) (start : ℤ) (t : Told) (h : List Event) (first : S) (old new : Rolling S F) → Grounds kind config → IsMoment start → RunSoFar kind config start h first old → StepDoes kind t old new → RunSoFar kind config start (event_of t ∷ h) first new

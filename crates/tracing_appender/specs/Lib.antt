@@ -1,4 +1,5 @@
 pub mod Config
+pub mod Opening
 pub mod Roller
 pub mod Run
 pub mod Replay

@@ -5,12 +5,12 @@ use Rattle.std.specs.List.{filter_map}
 use Rattle.std.specs.Int.{int_max}
 use Rattle.appender_names.specs.declared.rotation.Rotation.{Rotation}
 use Rattle.appender_names.specs.Rotation.{is_moment, period_of}
-use Rattle.appender_store.specs.Content.{Content, Opens, appended, body_at}
+use Rattle.appender_store.specs.Content.{Content, Opens, appended, made, body_at}
 use Rattle.appender_store.specs.Folder.{Counts}
 use Rattle.appender_retain.specs.Survival.{TakesOnlyOld, LeavesSurvivors, candidates_in}
 use Rattle.appender_retain.specs.Pruning.{IsQuiet}
 use Rattle.tracing_appender.specs.Config.{Config, naming_of}
-use Rattle.tracing_appender.specs.Roller.{file_name_of}
+use Rattle.tracing_appender.specs.Opening.{file_name_of, Linked, LeavesLittle}
 use Rattle.tracing_appender.specs.declared.rolling.Switch.{Switch}
 use Rattle.tracing_appender.specs.declared.rolling.Switch.TheVariants.{None as Stayed, Opened as Switched, Failed as SwitchFailed}
 
@@ -65,13 +65,12 @@ SwitchesAtArrivals r start (e ∷ earlier) =
 -- ---- attempts
 
 -- One attempt to open a file: at which step, for which moment, the number of the body that it opened if it succeeded, the
--- folder's content before it, as retention left it, and after the attempt, and the counts of notices before and after.
+-- folder's content before and after it, and the counts of notices before and after.
 pub record Attempt : Type 0 where
   pub step : ℕ
   pub moment : ℤ
   pub opened : Option ℕ
   pub before : Content
-  pub pruned : Content
   pub after : Content
   pub noted_before : Counts
   pub noted_after : Counts
@@ -91,18 +90,20 @@ times r start (e ∷ earlier) =
     then (suc (length earlier), latest start (e ∷ earlier), is_opened e.switch) ∷ times r start earlier
     else times r start earlier
 
--- it succeeded, and noted neither List nor Remove
-pub record IsQuietSuccess (a : Attempt) : Type 0 where
-  pub succeeded : is_some a.opened ≡ true
-  pub quiet : IsQuiet a.noted_before a.noted_after
+-- What an attempt that opened a body did. It removed only log files that don't survive, and, where it was quiet, all of them.
+-- In the folder, which is there now, it opened the file of its moment's name, and let the link lead to it.
+pub record Succeeded (c : Config) (a : Attempt) (b : ℕ) : Type 0 where
+  pub pruned : Content
+  pub unlinked : Content
+  pub only_old : TakesOnlyOld (naming_of c) c.max_files a.before pruned
+  pub survivors : IsQuiet a.noted_before a.noted_after → LeavesSurvivors (naming_of c) c.max_files a.before pruned
+  pub opens : Opens (file_name_of c a.moment) (made pruned) unlinked b
+  pub links : Linked c.link (file_name_of c a.moment) unlinked a.after
+  pub at_most : IsQuiet a.noted_before a.noted_after → 0 < c.max_files → candidates_in (naming_of c) a.after ≤ c.max_files
 
--- What an attempt did. It removed only log files that don't survive, and, where it was a quiet success, all of them. Then it
--- opened the file of its moment's name, or changed nothing more.
-pub record Tried (c : Config) (a : Attempt) : Type 0 where
-  pub only_old : TakesOnlyOld (naming_of c) c.max_files a.before a.pruned
-  pub survivors : IsQuietSuccess a → LeavesSurvivors (naming_of c) c.max_files a.before a.pruned
-  pub opens : MatchOption a.opened (a.after ≡ a.pruned) (Opens (file_name_of c a.moment) a.pruned a.after)
-  pub at_most : IsQuietSuccess a → 0 < c.max_files → candidates_in (naming_of c) a.after ≤ c.max_files
+-- what an attempt did
+abbrev pub Tried : Config → Attempt → Type 0
+Tried c a = MatchOption a.opened (LeavesLittle c (file_name_of c a.moment) a.before a.after) (Succeeded c a)
 
 -- the carrier of a step: the last attempt up to it that succeeded
 abbrev pub carrier : List Attempt → ℕ → Option Attempt
@@ -163,7 +164,7 @@ Carried (Some b) bytes old new = new ≡ appended old b bytes
 
 -- The attempts lead from the first content to the last: nothing changed the folder but they, and between two of them the
 -- pieces of the steps. So the maps of names are a chain, one more for each attempt: what retention left of the one before,
--- and the attempt's name.
+-- the attempt's name, and the link.
 abbrev pub Leads : Config → List Attempt → List Event → Content → Content → Type 0
 Leads c [] h first last = last ≡ first
 Leads c (a ∷ rest) h first last =

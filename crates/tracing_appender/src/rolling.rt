@@ -1,20 +1,16 @@
 //! Log files that begin anew at each boundary of a rotation.
-ghost use Rattle.std.specs.Prelude.{◌≡◌, IfOk, IfErr, IsTrue, string_bytes};
-ghost use Rattle.tracing_appender.specs.Config.{config_of};
-ghost use Rattle.tracing_appender.specs.Roller.{OpensFile, RefusesFile, ClosesLast, file_name_of};
-ghost use Rattle.appender_names.specs.Name.{name_of};
-ghost use Rattle.appender_names.specs.Rotation.{IsMoment};
+ghost use Rattle.std.specs.Prelude.{◌≡◌};
+ghost use Rattle.tracing_appender.specs.Roller.{ClosesLast};
 
 mod builder;
+mod setup;
 
 pub use appender_core::error::InitError;
-use appender_core::names::Names;
-use appender_core::retain::prune_old_logs;
-use appender_core::retain_laws::openings_add_one;
 pub use appender_core::rotation::Rotation;
 use appender_core::rotation::in_range;
 use appender_core::store::{Folder, Notice};
 pub use builder::Builder;
+use setup::{Opened, Setup};
 use std::alloc::Global;
 use std::io;
 use std::marker::Model;
@@ -33,9 +29,7 @@ pub enum Switch {
 /// An open log file in a folder, and the second at which the next one begins.
 #[derive(Drop)]
 pub struct Roller<S: Folder> {
-    alloc: Global,
-    names: Names,
-    max_files: usize,
+    setup: Setup,
     folder: S,
     file: S::File,
     name: String,
@@ -50,50 +44,14 @@ impl<S: Folder> Model for Roller<S> {
     ghost Value = { Rolling S S.File };
 
     ghost view = { λ r. record {
-      config = record {
-        rotation = r.names.rotation;
-        prefix = r.names.prefix;
-        suffix = r.names.suffix;
-        max_files = r.max_files;
-      };
+      config = r.setup;
       folder = r.folder;
       file = r.file;
       opened = r.opened;
       boundary = r.boundary;
     } };
 
-    ghost invariant = { λ r. IsRolling S.Folder r.names r.folder r.file (string_bytes r.name) r.opened r.boundary };
-}
-
-// A file that was opened, and its name.
-#[derive(Drop)]
-struct Opened<F: Drop> {
-    file: F,
-    name: String,
-}
-
-// Removes old log files, and opens the file of a moment.
-fn open_file<S: Folder>(
-    alloc: Global,
-    names: &Names,
-    max_files: usize,
-    folder: &mut S,
-    moment: i64,
-) -> Result<Opened<S::File>, InitError>
-    requires { IsMoment moment }
-    ensures name { IfOk result (λ opened. string_bytes opened.name ≡ name_of names.now moment) }
-    ensures ok { IfOk result (λ opened. OpensFile S.Folder (config_of names.now max_files) moment
-        folder.old opened.file folder.new) }
-    ensures err { IfErr result (λ error. RefusesFile S.Folder (config_of names.now max_files) moment
-        folder.old error folder.new) }
-{
-    openings_add_one();
-    let name = names.file_name(moment)?;
-    prune_old_logs(alloc, folder, names, max_files);
-    match folder.open(name.as_str()) {
-        Ok(file) => Ok(Opened { file, name }),
-        Err(fault) => Err(InitError::File(fault)),
-    }
+    ghost invariant = { λ r. IsRolling S.Folder r.setup r.folder r.file (string_bytes r.name) r.opened r.boundary };
 }
 
 // Flushes a file that gives way to the next.
@@ -107,11 +65,13 @@ fn close_last<S: Folder>(folder: &mut S, file: &mut S::File)
 
 impl<S: Folder> Roller<S> {
     ghost use Rattle.std.specs.Prelude.{◌≡◌, IfOk, IfErr};
-    ghost use Rattle.tracing_appender.specs.Roller.{OpensRoller, OpensNoRoller, Sees, Writes, Puts, Flushes, LiesAhead, is_due, file_name_of};
+    ghost use Rattle.tracing_appender.specs.Opening.{file_name_of};
+    ghost use Rattle.tracing_appender.specs.Roller.{OpensRoller, OpensNoRoller, Sees, Writes, Puts, Flushes, LiesAhead, is_due};
 
-    /// Opens the file of a moment, in seconds of UTC since the epoch, and hands the folder back
-    /// where that is refused: `Name` where prefix and suffix make no names, `Moment` out of range,
-    /// `Memory` before any call, each with nothing changed, and `File` where the folder opened none.
+    /// Opens the file of a moment, in seconds of UTC since the epoch, and hands the folder back where
+    /// that is refused. `Name` (prefix, suffix or link make no names), `Moment` (out of range),
+    /// `Memory`, and `Name` again (the link has the name of a log file) come in this order, before
+    /// any call; then `Directory`, `File` or `Symlink`, with the fault of the folder.
     pub fn open(
         alloc: Global,
         builder: &Builder,
@@ -121,33 +81,32 @@ impl<S: Folder> Roller<S> {
         ensures ok { IfOk result (OpensRoller S.Folder builder.now moment folder) }
         ensures err { IfErr result (λ refused. OpensNoRoller S.Folder builder.now moment folder refused.0 refused.1) }
     {
-        let (rotation, prefix, suffix) = (
-            builder.chosen_rotation(),
-            builder.prefix(),
-            builder.suffix(),
-        );
-        if !Names::is_allowed(rotation, prefix, suffix) {
+        if !builder.names_entries() {
             return Err((InitError::Name, folder));
         }
         if !in_range(moment) {
             return Err((InitError::Moment, folder));
         }
-        let names = match Names::new(alloc, rotation, prefix, suffix) {
-            Ok(names) => names,
+        let setup = match Setup::new(alloc, builder) {
+            Ok(setup) => setup,
             Err(error) => return Err((error, folder)),
         };
-        let max_files = builder.max_files();
-        match open_file(alloc, &names, max_files, &mut folder, moment) {
+        let name = match setup.file_name(moment) {
+            Ok(name) => name,
+            Err(error) => return Err((error, folder)),
+        };
+        if setup.link_clashes(name.as_str(), moment) {
+            return Err((InitError::Name, folder));
+        }
+        match setup.open_file(&mut folder, name.as_str()) {
             Err(error) => Err((error, folder)),
-            Ok(Opened { file, name }) => Ok(Roller {
-                alloc,
-                names,
-                max_files,
+            Ok(file) => Ok(Roller {
+                boundary: setup.rotation().next_date(moment),
+                setup,
                 folder,
                 file,
                 name,
                 opened: moment,
-                boundary: rotation.next_date(moment),
             }),
         }
     }
@@ -171,14 +130,8 @@ impl<S: Folder> Roller<S> {
         if !self.due(moment) {
             return Switch::None;
         }
-        self.boundary = self.names.rotation().next_date(moment);
-        match open_file(
-            self.alloc,
-            &self.names,
-            self.max_files,
-            &mut self.folder,
-            moment,
-        ) {
+        self.boundary = self.setup.rotation().next_date(moment);
+        match self.setup.open_next(&mut self.folder, moment) {
             Ok(Opened { file, name }) => {
                 close_last(&mut self.folder, &mut self.file);
                 self.file = file;

@@ -50,10 +50,6 @@ impl Store for Slots {
         self.full
     }
 
-    fn capacity(&self) -> usize {
-        self.slots.len()
-    }
-
     fn put(&mut self, line: Vec<u8>) {
         fill(self.slots.as_mut_slice(), self.full, line);
         self.full += 1;

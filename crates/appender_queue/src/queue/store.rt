@@ -13,10 +13,6 @@ pub(crate) trait Store: Drop {
         ensures len { result ≡ length (lines self.now) }
         ensures within { result ≤ room self.now };
 
-    /// How many lines there may be.
-    fn capacity(&self) -> usize
-        ensures { result ≡ room self.now };
-
     /// Puts a line at the end.
     fn put(&mut self, line: Vec<u8>)
         requires { length (lines self.old) < room self.old }

@@ -1,8 +1,8 @@
 // What may be put into a folder in memory, and why not.
 ghost use Rattle.std.specs.Prelude.{◌≡◌};
-ghost use Rattle.std.specs.List.{list_all};
 
 use super::entries::Item;
+use appender_names::names::is_entry_name;
 use std::alloc::AllocError;
 use std::collections::BTreeMap;
 use thiserror::Error;
@@ -34,7 +34,7 @@ impl From<AllocError> for PutError {
 impl PutError {
     ghost use Rattle.std.specs.Prelude.{None, Some, OnOk, IfErr};
     ghost use Rattle.appender_store.specs.MemoryEntries.{names_of};
-    ghost use Rattle.appender_store.specs.MemoryPut.{is_name_byte, is_entry_name, refusal};
+    ghost use Rattle.appender_store.specs.MemoryPut.{refusal};
 
     // Whether something may be put under this name.
     #[tactic(auto, using(crate::proofs::MemoryEntryLemmas::in_use))]
@@ -42,29 +42,12 @@ impl PutError {
         ensures ok { OnOk result (refusal (names_of names.now) name.now ≡ None) }
         ensures err { IfErr result (λ e. refusal (names_of names.now) name.now ≡ Some e) }
     {
-        if !PutError::names_one_entry(name) {
+        if !is_entry_name(name) {
             return Err(PutError::Name);
         }
         if names.contains_key(name) {
             return Err(PutError::Used);
         }
         Ok(())
-    }
-
-    // Whether it can name one entry of a folder.
-    fn names_one_entry(name: &str) -> bool
-        ensures { result ≡ is_entry_name name.now }
-    {
-        if name.is_empty() || name == "." || name == ".." {
-            return false;
-        }
-        PutError::has_name_bytes(name.as_bytes())
-    }
-
-    // Whether no byte separates or ends names.
-    fn has_name_bytes(bytes: &[u8]) -> bool
-        ensures { result ≡ list_all is_name_byte bytes.now }
-    {
-        bytes.iter().all(|byte| *byte != b'/' && *byte != 0)
     }
 }

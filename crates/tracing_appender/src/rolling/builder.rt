@@ -1,18 +1,21 @@
 //! What an appender is set up with.
-ghost use Rattle.std.specs.Prelude.{◌≡◌, IfOk};
+ghost use Rattle.std.specs.Prelude.{◌≡◌, ◌↔◌, IfOk, IsTrue};
 ghost use Rattle.tracing_appender.specs.Config.{defaults, text_of};
+ghost use Rattle.tracing_appender.specs.Opening.{NamesEntries};
 
+use appender_core::names::{Names, is_entry_name};
 use appender_core::rotation::Rotation;
 use std::alloc::{AllocError, Global};
 use std::marker::Model;
 
-/// What an appender is set up with: how often a new file begins, what the files are called, and how
-/// many are kept.
+/// What an appender is set up with: how often a new file begins, what the files are called, how many
+/// are kept, and which link follows the newest.
 #[derive(Debug, Drop)]
 pub struct Builder {
     rotation: Rotation,
     prefix: Option<String>,
     suffix: Option<String>,
+    link: Option<String>,
     max_files: usize,
 }
 
@@ -25,12 +28,13 @@ impl Model for Builder {
       rotation = b.rotation;
       prefix = text_of b.prefix;
       suffix = text_of b.suffix;
+      link = text_of b.link;
       max_files = b.max_files;
     } };
 }
 
 impl Builder {
-    /// One file for all time, with neither prefix nor suffix, and no maximum of files.
+    /// One file for all time, with neither prefix nor suffix, no link and no maximum of files.
     #[must_use]
     pub fn new() -> Builder
         ensures { result ≡ defaults }
@@ -39,6 +43,7 @@ impl Builder {
             rotation: Rotation::NEVER,
             prefix: None,
             suffix: None,
+            link: None,
             max_files: 0,
         }
     }
@@ -72,6 +77,16 @@ impl Builder {
         Ok(self)
     }
 
+    /// The name of a symbolic link that leads to the newest log file; an empty text is none. It must
+    /// not be a name that a log file can have. A refusal of memory drops the builder.
+    #[must_use]
+    pub fn latest_symlink(mut self, alloc: Global, name: &str) -> Result<Builder, AllocError>
+        ensures { IfOk result (λ builder. builder ≡ record self { link = name.now }) }
+    {
+        self.link = Some(String::from_str(alloc, name)?);
+        Ok(self)
+    }
+
     /// How many log files are kept; 0 is no maximum. When a file is opened, the oldest go.
     #[must_use]
     pub fn max_log_files(mut self, max: usize) -> Builder
@@ -79,6 +94,14 @@ impl Builder {
     {
         self.max_files = max;
         self
+    }
+
+    // Whether prefix, suffix and link make names of entries of a folder.
+    pub(crate) fn names_entries(&self) -> bool
+        ensures { IsTrue result ↔ NamesEntries self.now }
+    {
+        Names::is_allowed(self.rotation, self.prefix(), self.suffix())
+            && (self.link().is_empty() || is_entry_name(self.link()))
     }
 
     pub(crate) fn chosen_rotation(&self) -> Rotation
@@ -97,6 +120,12 @@ impl Builder {
         ensures { result.now ≡ self.now.suffix }
     {
         text(&self.suffix)
+    }
+
+    pub(crate) fn link(&self) -> &str
+        ensures { result.now ≡ self.now.link }
+    {
+        text(&self.link)
     }
 
     pub(crate) fn max_files(&self) -> usize

@@ -3,7 +3,8 @@ use Rattle.std.proofs.lemmas.Int.{to_z-of_z}
 use Rattle.tracing_appender.specs.Roller.{LiesAhead, is_due}
 use Rattle.tracing_appender.proofs.Boundaries.{next_lies_ahead, due_is_moment, due_is_later, ahead_of_earlier}
 use Rattle.tracing_appender.proofs.Closings.{closes_quietly}
-use Rattle.tracing_appender.proofs.Refusals.{refuses_only_old}
+use Rattle.tracing_appender.proofs.Contents.{keeps_little}
+use Rattle.tracing_appender.proofs.Refusals.{refuses_little}
 use Rattle.tracing_appender.proofs.rolling.Roller.see.Goals as goal
 
 pub invariant_of-self : goal.invariant_of-self
@@ -13,10 +14,10 @@ invariant_of-self g c =
     let opened = simp to_z-of_z at c.in-Ok.ensures.ok in
     let named = simp to_z-of_z at c.in-Ok.ensures.name in
     let due : is_due c.self.inside.boundary c.args.moment ≡ true = search rules in
-    let ahead : LiesAhead c.self.inside.names.rotation c.args.moment c.next_date-self-inside.result =
+    let ahead : LiesAhead c.self.inside.setup.rotation c.args.moment c.next_date-self-inside.result =
     rw (← c.rotation.ensures) (next_lies_ahead _ _ _ next.none next.boundary) in
     simp to_z-of_z (record {
-      body_is_there = λ tells. rw c.close_last.ensures.content (opened.gets.body_is_there tells);
+      body_is_there = λ tells. rw c.close_last.ensures.content (opened.body_is_there tells);
       in_range = due_is_moment _ _ due;
       name_is = named;
       lies_ahead = ahead;
@@ -28,10 +29,10 @@ invariant_of-self-in-Err g c =
     let next = simp to_z-of_z at c.next_date-self-inside.ensures in
     let due : is_due c.self.inside.boundary c.args.moment ≡ true = search rules in
     let later = due_is_later _ _ _ _ c.self.invariant.lies_ahead due in
-    let ahead : LiesAhead c.self.inside.names.rotation c.args.moment c.next_date-self-inside.result =
+    let ahead : LiesAhead c.self.inside.setup.rotation c.args.moment c.next_date-self-inside.result =
     rw (← c.rotation.ensures) (next_lies_ahead _ _ _ next.none next.boundary) in
     record {
-      body_is_there = λ tells. rw (c.note.ensures.content, (refuses_only_old _ _ _ _ _ _ tells c.in-Err.ensures.err).bodies) (c.self.invariant.body_is_there tells);
+      body_is_there = λ tells. rw c.note.ensures.content ((keeps_little _ _ _ _ (refuses_little _ _ _ _ _ _ tells c.in-Err.ensures.err)).more _ (c.self.invariant.body_is_there tells));
       in_range = c.self.invariant.in_range;
       name_is = c.self.invariant.name_is;
       lies_ahead = ahead_of_earlier _ _ _ _ later ahead;
@@ -46,7 +47,7 @@ returns-in-Ok g c =
       config_is = search rules;
       opened = search rules;
       boundary = search rules;
-      ready = c.open_file.new.folder;
+      ready = c.open_next.new.folder;
       opens = opened;
       closes = c.close_last.ensures;
       content = c.close_last.ensures.content;
@@ -64,8 +65,8 @@ returns-in-Err g c =
       boundary = search rules;
       file = search rules;
       reason = c.in-Err.error;
-      refused = c.open_file.new.folder;
+      refused = c.open_next.new.folder;
       refuses = refused;
       notes = search rules;
-      only_old = λ tells. rw c.note.ensures.content (refuses_only_old _ _ _ _ _ _ tells refused);
+      content = λ tells. rw c.note.ensures.content (refuses_little _ _ _ _ _ _ tells refused);
     })
