@@ -106,15 +106,16 @@ fn what_is_no_link_stays_under_its_name(rt: HostRuntime) -> Result<(), Fail> {
 #[test]
 fn an_absent_folder_is_made(rt: HostRuntime) -> Result<(), Fail> {
     let alloc = rt.alloc();
-    let run = hourly(alloc, MemoryFolder::absent(alloc), &[])?;
-    let folder = run.roller.into_folder();
+    let made = hourly(alloc, MemoryFolder::absent(alloc), &[])?;
+    let folder = made.roller.into_folder();
     expect_files(&rt, &folder, &[("app.2020-02-01-10", "")])?;
     assert_eq!(rt; folder.failures(), 0);
     // Retention finds no folder, and takes a note of it.
     let builder = builder(alloc, Rotation::HOURLY, "app", "")?.max_log_files(2);
-    let run = crate::runs::run(alloc, &builder, MemoryFolder::absent(alloc), START, &[])?;
-    assert_eq!(rt; run.roller.folder().notices(NoticeKind::List), 1);
-    assert_eq!(rt; run.roller.folder().failures(), 0);
+    let made = run(alloc, &builder, MemoryFolder::absent(alloc), START, &[])?;
+    let folder = made.roller.folder();
+    assert_eq!(rt; folder.notices(NoticeKind::List), 1);
+    assert_eq!(rt; folder.failures(), 0);
     Ok(())
 }
 

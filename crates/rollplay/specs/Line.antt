@@ -1,5 +1,5 @@
 -- The words of a line.
-use Rattle.std.specs.Prelude.{◌≡◌, ◌≢◌, ◌==◌, ◌++◌, ℕ, List, [], ◌∷◌, Option, None, Some, IsSomeAnd}
+use Rattle.std.specs.Prelude.{◌≡◌, ◌≢◌, ◌⊎◌, ◌==◌, ◌++◌, ℕ, List, [], ◌∷◌, Option, None, Some, IsSomeAnd}
 use Rattle.std.specs.List.{before_first}
 
 -- what stands behind a word: nothing, or one space and the rest
@@ -12,3 +12,12 @@ pub record TakesWord (old : Option (List ℕ)) (word : List ℕ) (new : Option (
   pub some : word ≢ []
   pub first : IsSomeAnd old (λ line. word ≡ before_first (λ b. b == 32) line)
   pub rest : IsSomeAnd old (λ line. line ≡ word ++ behind new)
+
+-- no word is left: nothing is, or it begins with a space or is empty
+abbrev pub HasNoWord : Option (List ℕ) → Type 0
+HasNoWord None = Unit {0}
+HasNoWord (Some line) = before_first (λ b. b == 32) line ≡ []
+
+-- no word was left, or one that isn't of this kind was taken
+abbrev pub TakesNo : (List ℕ → Type 0) → Option (List ℕ) → Option (List ℕ) → Type 0
+TakesNo Is old new = HasNoWord old ⊎ ((word : List ℕ) × TakesWord old word new × (¬ Is word))

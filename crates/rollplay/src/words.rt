@@ -1,9 +1,10 @@
 //! A line of a script, word by word.
-ghost use Rattle.std.specs.Prelude.{◌≡◌, ◌↔◌, ◌<◌, ◌≤◌, ◌∷◌, ◌++◌, ◌==◌, ℕ, List, [], None, Some, IfOk, IfSome, IsSome, IsOk, MatchOption, codes, string_bytes, unwrap_or};
+ghost use Rattle.std.specs.Prelude.{◌≡◌, ◌⊎◌, ◌↔◌, ◌<◌, ◌≤◌, ◌^◌, ℤ, FitsSigned, ◌∷◌, ◌++◌, ◌==◌, ℕ, List, [], None, Some, IfOk, OnErr, IfSome, IsOk, MatchOption, codes, string_bytes, unwrap_or};
+ghost use Rattle.std.specs.Int.{w64, w128};
 ghost use Rattle.std.specs.Option.{option_map};
 ghost use Rattle.std.specs.List.{before_first};
-ghost use Rattle.rollplay.specs.Line.{behind, TakesWord};
-ghost use Rattle.rollplay.specs.Text.{escape_of, IsEscaped, IsSignOf, IsUnsigned};
+ghost use Rattle.rollplay.specs.Line.{behind, TakesWord, HasNoWord, TakesNo};
+ghost use Rattle.rollplay.specs.Text.{escape_of, IsEscaped, IsSigned, IsUnsigned};
 
 use std::alloc::{AllocError, Global};
 use std::marker::Model;
@@ -62,7 +63,8 @@ impl<'a> Words<'a> {
 
     /// The next word, which is not empty. Words stand apart by one space each.
     pub fn word(&mut self) -> Result<&'a str, LineError>
-        ensures { IfOk result (λ word. TakesWord self.old word.now self.new) }
+        ensures ok { IfOk result (λ word. TakesWord self.old word.now self.new) }
+        ensures err { OnErr result (HasNoWord self.old) }
     {
         let line = self.rest.ok_or(LineError::Fault)?;
         let (word, rest) = split_word(line);
@@ -75,8 +77,10 @@ impl<'a> Words<'a> {
 
     /// The next word as a moment, in seconds of UTC since the epoch.
     pub fn seconds(&mut self) -> Result<i64, LineError>
-        ensures { IfOk result (λ seconds.
-            (word : List ℕ) × TakesWord self.old word self.new × IsSignOf word seconds) }
+        ensures ok { IfOk result (λ seconds.
+            (word : List ℕ) × TakesWord self.old word self.new × IsSigned word seconds) }
+        ensures err { OnErr result (TakesNo (λ word. (n : ℤ) × FitsSigned w64 n × IsSigned word n)
+            self.old self.new) }
     {
         let number = read_signed(self.word()?).ok_or(LineError::Fault)?;
         i64::try_from(number).map_err(|_| LineError::Fault)
@@ -84,8 +88,10 @@ impl<'a> Words<'a> {
 
     /// The next word as a creation moment, in nanoseconds since the epoch, or `none`.
     pub fn created(&mut self) -> Result<Option<i128>, LineError>
-        ensures { IfOk result (λ created. (word : List ℕ) × TakesWord self.old word self.new
-            × MatchOption created (word ≡ codes "none") (IsSignOf word)) }
+        ensures ok { IfOk result (λ created. (word : List ℕ) × TakesWord self.old word self.new
+            × MatchOption created (word ≡ codes "none") (IsSigned word)) }
+        ensures err { OnErr result (TakesNo (λ word. (word ≡ codes "none")
+            ⊎ ((n : ℤ) × FitsSigned w128 n × IsSigned word n)) self.old self.new) }
     {
         match self.word()? {
             "none" => Ok(None),
@@ -95,8 +101,10 @@ impl<'a> Words<'a> {
 
     /// The next word as a count: decimal digits without a sign.
     pub fn count(&mut self) -> Result<usize, LineError>
-        ensures { IfOk result (λ _. (word : List ℕ) × TakesWord self.old word self.new
-            × IsUnsigned word) }
+        ensures ok { IfOk result (λ count. (word : List ℕ) × TakesWord self.old word self.new
+            × IsUnsigned word count) }
+        ensures err { OnErr result (TakesNo (λ word. (n : ℕ) × (n < 2 ^ 64) × IsUnsigned word n)
+            self.old self.new) }
     {
         let number = read_unsigned(self.word()?).ok_or(LineError::Fault)?;
         usize::try_from(number).map_err(|_| LineError::Fault)
@@ -104,8 +112,10 @@ impl<'a> Words<'a> {
 
     /// The next word as the number of a call, from 1 on.
     pub fn call(&mut self) -> Result<u64, LineError>
-        ensures { IfOk result (λ number. (1 ≤ number) × ((word : List ℕ)
-            × TakesWord self.old word self.new × IsUnsigned word)) }
+        ensures ok { IfOk result (λ number. (1 ≤ number) × ((word : List ℕ)
+            × TakesWord self.old word self.new × IsUnsigned word number)) }
+        ensures err { OnErr result (TakesNo (λ word. (n : ℕ) × (1 ≤ n) × (n < 2 ^ 64)
+            × IsUnsigned word n) self.old self.new) }
     {
         let number = read_unsigned(self.word()?).ok_or(LineError::Fault)?;
         if number == 0 {
@@ -147,7 +157,8 @@ fn split_word(line: &str) -> (&str, Option<&str>)
 
 // A decimal number, whose `-` stands before the negative ones alone.
 fn read_signed(word: &str) -> Option<i128>
-    ensures { IfSome result (IsSignOf word.now) }
+    ensures { MatchOption result ((n : ℤ) → FitsSigned w128 n → ¬ (IsSigned word.now n))
+        (IsSigned word.now) }
 {
     if word.starts_with('+') {
         return None;
@@ -161,7 +172,8 @@ fn read_signed(word: &str) -> Option<i128>
 
 // A decimal number without a sign.
 fn read_unsigned(word: &str) -> Option<u64>
-    ensures { IsSome result → IsUnsigned word.now }
+    ensures { MatchOption result ((n : ℕ) → n < 2 ^ 64 → ¬ (IsUnsigned word.now n))
+        (IsUnsigned word.now) }
 {
     if !word.as_bytes().first()?.is_ascii_digit() {
         return None;

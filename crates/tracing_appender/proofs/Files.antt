@@ -25,9 +25,6 @@ since_now : (h : List Event) (n : ℕ) → length h < n → since n h ≡ []
 since_now [] n lt = refl
 since_now (e ∷ h) n lt = let no : nat_le n (suc (length h)) ≡ false = grind arith in rw (since_now h n (omega arith), no) refl
 
-nothing_more : (t : Bool) (xs : List ℕ) → t ≡ false → (ys : List ℕ) → xs ++ (if t then ys else []) ≡ xs
-nothing_more t xs e ys = rw e (append-nil xs)
-
 -- no step is carried by an attempt at a later one
 carried_by_later : (attempts : List Attempt) (i j : ℕ) → i < j → passes (λ a. a.step == j) (carrier attempts i) ≡ false
 carried_by_later [] i j lt = refl

@@ -5,7 +5,7 @@ use Rattle.std.specs.declared.io.Error.{Error}
 use Rattle.std.specs.FinMap as fin
 use Rattle.appender_names.specs.Name.{Naming}
 use Rattle.appender_store.specs.declared.store.Folder.{Ghosts}
-use Rattle.appender_store.specs.Content.{Content, Entry, File, Link, Folder, Opens, RemovesLink, made, IsLink, ForbidsMakeLink, ForbidsRemoveLink}
+use Rattle.appender_store.specs.Content.{Content, Entry, File, Link, Folder, RemovesLink, made, IsLink, ForbidsMakeLink, ForbidsRemoveLink}
 use Rattle.appender_store.specs.Folder.{Counts, HasCause, HasRisen}
 use Rattle.appender_retain.specs.Survival.{OpeningsAddOne, LinksAddNone, candidates_in}
 use Rattle.appender_retain.specs.Pruning.{Prunes, IsQuiet}
@@ -13,11 +13,6 @@ use Rattle.tracing_appender.specs.Config.{Config, naming_of}
 use Rattle.tracing_appender.specs.Opening.{GetsFile, MayRemoveLink, TriesRemoveLink, IsFileOrFolder, Relinks, RelinksNot, LinksTo, Linked, OpensFile}
 use Rattle.tracing_appender.proofs.NameMaps.{removed_name}
 use Rattle.tracing_appender.proofs.Contents.{keeps_linked}
-
--- an opened file's folder is there
-pub opened_there : (name : List ℕ) (old new : Content) (b : ℕ) → Opens name old new b → new.there ≡ true
-opened_there name old new b (there, inl (t, at, same)) = ap (λ (c : Content). c.there) same ∙ there
-opened_there name old new b (there, inr (t, free, number, after)) = ap (λ (c : Content). c.there) after ∙ there
 
 -- ---- the link
 
