@@ -8,7 +8,7 @@ use Rattle.appender_store.specs.Content.{Content, IsSound, body_at, appended, ma
 use Rattle.appender_store.specs.Folder.{Counts}
 use Rattle.tracing_appender.specs.Config.{Config, naming_of}
 use Rattle.tracing_appender.specs.Opening.{file_name_of, LeavesLittle}
-use Rattle.tracing_appender.specs.Run.{Event, Attempt, time_of, times, carrier, passes, written, written_to, written_in, is_number, since, up_to, open_body, Carried, Succeeded, Tried, Leads, NotesLead, FileLaw, latest, period_at, arrives}
+use Rattle.tracing_appender.specs.Run.{Event, Attempt, time_of, times, carrier, passes, written, written_to, written_in, is_number, since, up_to, open_body, Carried, Succeeded, Tried, Leads, NamesLead, NotesLead, FileLaw, latest, period_at, arrives}
 use Rattle.tracing_appender.specs.declared.rolling.Switch.TheVariants.{Opened as Switched, Failed as SwitchFailed}
 use Rattle.tracing_appender.proofs.Contents.{Keeps, keeps_on, keeps_pruned, keeps_made, keeps_opened, keeps_linked, keeps_little, appended_nothing, appended_twice, appended_at}
 use Rattle.tracing_appender.proofs.Periods.{Laws, IsLater, later_differs, later_still}
@@ -86,6 +86,7 @@ pub record Between (c : Config) (start : ℤ) (e : Event) (h : List Event) (firs
   pub attempts : List Attempt
   pub are_times : map time_of attempts ≡ times c.rotation start (e ∷ h)
   pub leads : Leads c attempts h first now
+  pub names : NamesLead attempts first.names now.names
   pub notes : NotesLead attempts noted_first noted_now
   pub bodies : (x : ℕ) → body_at now x ≡ body_at first x ++ written_to x attempts h
   pub file : Attempt
@@ -104,6 +105,7 @@ no_attempt c start e h first now noted_first noted_now opened b none same so = r
   attempts = so.law.attempts;
   are_times = so.law.are_times ∙ rw none refl;
   leads = so.law.leads;
+  names = so.law.names;
   notes = so.law.notes;
   bodies = so.law.bodies;
   file = so.law.open_file.file;
@@ -132,6 +134,7 @@ a_failure c start e h first old new noted_first noted_old noted_new opened b law
         little,
         rw (so.open_is, since_now h (suc (length h)) (omega arith)) (sym (appended_nothing new b)),
       );
+      names = (so.law.names, refl);
       notes = (so.law.notes, refl);
       bodies = λ x. rw (written_before (λ f. is_number x f.opened) a rest h (omega arith)) (keeps.bytes x ∙ so.law.bodies x);
       file = file;
@@ -188,6 +191,7 @@ a_success c start e h first noted_first a opened b x laws others g came later is
         tried c a x body did.did,
         rw (body, since_now h a.step lt) (sym (appended_nothing a.after x)),
       );
+      names = (so.law.names, refl);
       notes = (so.law.notes, refl);
       bodies = λ y. rw (written_before (λ f. is_number y f.opened) a rest h lt) (keeps.all.bytes y ∙ so.law.bodies y);
       file = a;
@@ -230,6 +234,7 @@ a_piece c start e h first now noted_first noted_now opened b so =
         attempts = so.attempts;
         are_times = so.are_times;
         leads = leads_more c so.attempts e h first now b so.open_is so.made so.leads;
+        names = so.names;
         notes = so.notes;
         bodies = λ x.
             let to : passes (λ f. is_number x f.opened) (carrier so.attempts (suc (length h))) ≡ (b == x) = rw (here, so.body) refl in
@@ -264,6 +269,7 @@ files_begin c a b at body g did =
         attempts = a ∷ [];
         are_times = rw (at, body) refl;
         leads = (refl, tried c a b body did.did, rw body (sym (appended_nothing a.after b)));
+        names = (refl, refl);
         notes = (refl, refl);
         bodies = λ x. keeps.all.bytes x ∙ sym (append-nil (body_at a.before x));
         open_file = record {

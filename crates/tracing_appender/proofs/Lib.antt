@@ -2,6 +2,7 @@ pub mod Boundaries
 pub mod Refusals
 pub mod Periods
 pub mod NameMaps
+pub mod NamesLeft
 pub mod Contents
 pub mod Openings
 pub mod Clashes

@@ -1,5 +1,6 @@
 -- The names of a folder after one was taken away or added.
-use Rattle.std.proofs.Common.{◌≡◌, ◌∙◌, ◌⊎◌, ℕ, ℤ, Bool, true, false, cond, List, Option, None, Some, inl, inr, refl, sym}
+use Rattle.std.proofs.Common.{◌≡◌, ◌≢◌, ◌∙◌, ◌⊎◌, ℕ, ℤ, Bool, true, false, cond, List, Option, None, Some, inl, inr, refl, sym}
+use Rattle.std.proofs.lemmas.Bool.{false_from_ne_true}
 use Rattle.std.proofs.lemmas.Map.Views.{tells_apart}
 use Rattle.std.proofs.lemmas.Map.Lookups.{exact_bytes}
 use Rattle.std.specs.Ordering.{nat_cmp, eq_by_cmp}
@@ -36,3 +37,13 @@ got names name entry n e h = by (eq_by_cmp (slice_cmp nat_cmp) n name) refl (sym
     by : (t : Bool) → eq_by_cmp (slice_cmp nat_cmp) n name ≡ t → cond t (Some entry) (fin.get names n) ≡ Some e → ((n ≡ name) × (entry ≡ e)) ⊎ (fin.get names n ≡ Some e)
     by true is found = inl (tells_apart exact_bytes n name is, (cc))
     by false is found = inr found
+
+different : (n name : List ℕ) → n ≢ name → eq_by_cmp (slice_cmp nat_cmp) n name ≡ false
+different n name ne = false_from_ne_true (eq_by_cmp (slice_cmp nat_cmp) n name) (λ is. ne (tells_apart exact_bytes n name is))
+
+-- other names stay as they are
+pub removed_other : (names : Names) (name n : List ℕ) → n ≢ name → fin.get (fin.remove names name) n ≡ fin.get names n
+removed_other names name n ne = get-remove nat_list_cmp_total names name n ∙ rw (different n name ne) refl
+
+pub inserted_other : (names : Names) (name : List ℕ) (entry : Entry) (n : List ℕ) → n ≢ name → fin.get (fin.insert names name entry) n ≡ fin.get names n
+inserted_other names name entry n ne = get-insert nat_list_cmp_total names name entry n ∙ rw (different n name ne) refl

@@ -7,7 +7,7 @@ use Rattle.appender_names.specs.Rotation.{IsMoment, period_of}
 use Rattle.appender_store.specs.Content.{Content, File, IsSound, body_at, appended, Opens}
 use Rattle.tracing_appender.specs.Run.{Event, Attempt, is_same, period_at, carrier, passes, written_by, written, written_in, NoneFailed, OpensNoneOf, AreApart, HoldsItsOwn, CarriesItsPeriod, EachOf}
 use Rattle.tracing_appender.specs.declared.rolling.Switch.TheVariants.{Failed as SwitchFailed}
-use Rattle.tracing_appender.proofs.NameMaps.{inserted_name}
+use Rattle.tracing_appender.proofs.NamesLeft.{leads_to}
 use Rattle.tracing_appender.proofs.Contents.{Keeps, keeps_opened, appended_at}
 use Rattle.tracing_appender.proofs.Periods.{IsLater, same_is_same, later_differs, later_still}
 
@@ -171,13 +171,6 @@ other_body r name start attempts h old new file b c x e m differs opens o is sam
     elim opens.1 [
       | inl k ↦ differs (o.own x is m k.0 (subst (λ (y : ℕ). fin.get old.names m ≡ Some (File y k.0)) same k.1))
       | inr k ↦ let below : x < length old.bodies = o.there x is in absurd (omega (arith, k.2))
-    ]
-
-leads_to : (m : List ℕ) (old new : Content) (c : ℕ) → Opens m old new c → (t : Option ℤ) × (fin.get new.names m ≡ Some (File c t))
-leads_to m old new c opens =
-    elim opens.1 [
-      | inl w ↦ (w.0, subst (λ (d : Content). fin.get d.names m ≡ Some (File c w.0)) (sym w.2) w.1)
-      | inr w ↦ (w.0, subst (λ (d : Content). fin.get d.names m ≡ Some (File c w.0)) (sym w.3) (inserted_name old.names m (File c w.0)))
     ]
 
 not_equal : (x y : ℕ) → x ≢ y → (x == y) ≡ false

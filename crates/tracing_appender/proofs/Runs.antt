@@ -21,6 +21,7 @@ use Rattle.tracing_appender.proofs.Periods.{Laws, IsLater}
 use Rattle.tracing_appender.proofs.Turns.{Looks, Turns, step_turns}
 use Rattle.tracing_appender.proofs.Clocks.{ClockSoFar, turn, Decides, due_by, clock_begins, clock_goes_on, turn_decides, turn_keeps}
 use Rattle.tracing_appender.proofs.Owners.{OtherNames}
+use Rattle.tracing_appender.proofs.NamesLeft.{names_after}
 use Rattle.tracing_appender.proofs.Closings.{closes_quietly}
 use Rattle.tracing_appender.proofs.Files.{FilesSoFar, Between, Succeeds, no_attempt, a_failure, a_success, a_piece, files_begin}
 
@@ -76,6 +77,8 @@ succeeds kind config step m old ready new file tells grounds o same quieter = re
     unlinked = kind.content o.unlinked;
     only_old = o.prunes.only_old tells;
     survivors = λ quiet. o.prunes.survivors (subst (λ (n : Counts). IsQuiet (kind.noted old) n) o.noted (quieter quiet)) tells;
+    names = λ quiet. names_after config (attempted kind step m old new file) (kind.body file) (kind.content o.pruned) (kind.content o.unlinked)
+        (o.prunes.survivors (subst (λ (n : Counts). IsQuiet (kind.noted old) n) o.noted (quieter quiet)) tells) (o.gets.opens tells) (rw same (o.linked tells));
     opens = o.gets.opens tells;
     links = rw same (o.linked tells);
     at_most = λ quiet some. rw same (o.at_most (quieter quiet) tells some);

@@ -5,9 +5,10 @@ use Rattle.std.specs.List.{filter_map}
 use Rattle.std.specs.Int.{int_max}
 use Rattle.appender_names.specs.declared.rotation.Rotation.{Rotation}
 use Rattle.appender_names.specs.Rotation.{is_moment, period_of}
-use Rattle.appender_store.specs.Content.{Content, Opens, appended, made, body_at}
+use Rattle.std.specs.FinMap as fin
+use Rattle.appender_store.specs.Content.{Content, Names, File, Link, Opens, appended, made, body_at}
 use Rattle.appender_store.specs.Folder.{Counts}
-use Rattle.appender_retain.specs.Survival.{TakesOnlyOld, LeavesSurvivors, candidates_in}
+use Rattle.appender_retain.specs.Survival.{TakesOnlyOld, LeavesSurvivors, name_survives, candidates_in}
 use Rattle.appender_retain.specs.Pruning.{IsQuiet}
 use Rattle.tracing_appender.specs.Config.{Config, naming_of}
 use Rattle.tracing_appender.specs.Opening.{file_name_of, Linked, LeavesLittle}
@@ -90,8 +91,16 @@ times r start (e ∷ earlier) =
     then (suc (length earlier), latest start (e ∷ earlier), is_opened e.switch) ∷ times r start earlier
     else times r start earlier
 
--- What an attempt that opened a body did. It removed only log files that don't survive, and, where it was quiet, all of them.
--- In the folder, which is there now, it opened the file of its moment's name, and let the link lead to it.
+-- The names after an attempt that opened a body and noted neither List nor Remove: its own, the link, where one is set, and of
+-- the others exactly the survivors.
+pub record NamesAfter (c : Config) (a : Attempt) (b : ℕ) : Type 0 where
+  pub own : (t : Option ℤ) × (fin.get a.after.names (file_name_of c a.moment) ≡ Some (File b t))
+  pub link : c.link ≢ [] → fin.get a.after.names c.link ≡ Some (Link (file_name_of c a.moment))
+  pub others : (name : List ℕ) → name ≢ file_name_of c a.moment → (name ≡ c.link → c.link ≡ [])
+      → fin.get a.after.names name ≡ (if name_survives (naming_of c) c.max_files a.before.names name then fin.get a.before.names name else None)
+
+-- What an attempt that opened a body did. It removed only log files that don't survive, and, where it noted neither List nor
+-- Remove, all of them. In the folder, which is there now, it opened the file of its moment's name, and let the link lead to it.
 pub record Succeeded (c : Config) (a : Attempt) (b : ℕ) : Type 0 where
   pub pruned : Content
   pub unlinked : Content
@@ -99,6 +108,7 @@ pub record Succeeded (c : Config) (a : Attempt) (b : ℕ) : Type 0 where
   pub survivors : IsQuiet a.noted_before a.noted_after → LeavesSurvivors (naming_of c) c.max_files a.before pruned
   pub opens : Opens (file_name_of c a.moment) (made pruned) unlinked b
   pub links : Linked c.link (file_name_of c a.moment) unlinked a.after
+  pub names : IsQuiet a.noted_before a.noted_after → NamesAfter c a b
   pub at_most : IsQuiet a.noted_before a.noted_after → 0 < c.max_files → candidates_in (naming_of c) a.after ≤ c.max_files
 
 -- what an attempt did
@@ -163,8 +173,7 @@ Carried None bytes old new = new ≡ old
 Carried (Some b) bytes old new = new ≡ appended old b bytes
 
 -- The attempts lead from the first content to the last: nothing changed the folder but they, and between two of them the
--- pieces of the steps. So the maps of names are a chain, one more for each attempt: what retention left of the one before,
--- the attempt's name, and the link.
+-- pieces of the steps.
 abbrev pub Leads : Config → List Attempt → List Event → Content → Content → Type 0
 Leads c [] h first last = last ≡ first
 Leads c (a ∷ rest) h first last =
@@ -172,10 +181,17 @@ Leads c (a ∷ rest) h first last =
     × Tried c a
     × Carried (open_body (a ∷ rest)) (since a.step h) a.after last
 
--- notices are taken at attempts alone
+-- What changes at attempts alone is a chain, one more for each attempt, that begins with the first and ends with the last.
+abbrev pub Chain : {X : Type 0} → (Attempt → X) → (Attempt → X) → List Attempt → X → X → Type 0
+Chain before after [] first last = last ≡ first
+Chain before after (a ∷ rest) first last = Chain before after rest first (before a) × (last ≡ after a)
+
+-- so are the maps of names, and the counts of notices
+abbrev pub NamesLead : List Attempt → Names → Names → Type 0
+NamesLead = Chain (λ a. a.before.names) (λ a. a.after.names)
+
 abbrev pub NotesLead : List Attempt → Counts → Counts → Type 0
-NotesLead [] first last = last ≡ first
-NotesLead (a ∷ rest) first last = NotesLead rest first a.noted_before × (last ≡ a.noted_after)
+NotesLead = Chain (λ a. a.noted_before) (λ a. a.noted_after)
 
 -- no switch failed
 abbrev pub NoneFailed : List Event → Type 0
@@ -223,6 +239,7 @@ pub record FileLaw (c : Config) (start : ℤ) (h : List Event) (first last : Con
   pub attempts : List Attempt
   pub are_times : map time_of attempts ≡ times c.rotation start h
   pub leads : Leads c attempts h first last
+  pub names : NamesLead attempts first.names last.names
   pub notes : NotesLead attempts noted_first noted_last
   pub bodies : (x : ℕ) → body_at last x ≡ body_at first x ++ written_to x attempts h
   pub open_file : OpenFileLaw h attempts last opened b
