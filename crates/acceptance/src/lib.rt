@@ -2,6 +2,10 @@
 #![tactic(auto)]
 
 #[cfg(test)]
+mod folders;
+#[cfg(test)]
+mod names;
+#[cfg(test)]
 mod opening;
 #[cfg(test)]
 mod retention;
@@ -9,3 +13,5 @@ mod retention;
 mod rolling;
 #[cfg(test)]
 mod runs;
+#[cfg(test)]
+mod whole;

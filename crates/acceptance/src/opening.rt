@@ -198,7 +198,7 @@ fn a_short_append_is_no_fault(rt: HostRuntime) -> Result<(), Fail> {
 }
 
 // How many bytes the replies to puts count.
-fn counted(run: &RollRun<MemoryFolder>) -> usize {
+fn bytes_told(run: &RollRun<MemoryFolder>) -> usize {
     let mut count: usize = 0;
     for reply in &run.replies {
         if let RollReply::Put(_, Ok(taken)) = reply {
@@ -234,7 +234,7 @@ fn no_byte_is_lost_whichever_call_fails(rt: HostRuntime) -> Result<(), Fail> {
         match replay_rolling(alloc, &builder, folder, START, &steps) {
             Ok(run) => {
                 let folder = run.roller.folder();
-                assert_eq!(rt; held(folder), counted(&run), "{call}");
+                assert_eq!(rt; held(folder), bytes_told(&run), "{call}");
                 assert_eq!(rt; folder.failures(), u64::from(call < 20), "{call}");
             }
             Err(ReplayError::Init(error, _folder)) => {

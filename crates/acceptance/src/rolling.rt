@@ -5,7 +5,7 @@ use std::alloc::Global;
 use std::process::Abort;
 use std::test::Fail;
 use tracing_appender::replay::{RollReply, RollStep};
-use tracing_appender::rolling::{Builder, Roller, Rotation, Switch};
+use tracing_appender::rolling::{Builder, InitError, Roller, Rotation, Switch};
 use tracing_appender::store::{Folder, MemoryFolder, NoticeKind};
 
 // A log into which one byte is put twice: what the two puts answered, and the files that it is then in.
@@ -225,5 +225,16 @@ fn a_roller_tells_what_is_open(rt: HostRuntime) -> Result<(), Fail> {
     );
     let shown = format!(in alloc; "{:?}", Builder::default())?;
     assert!(rt; !shown.is_empty());
+    Ok(())
+}
+
+#[test]
+fn a_builder_gives_its_names(rt: HostRuntime) -> Result<(), Fail> {
+    let alloc = rt.alloc();
+    let names = builder(alloc, Rotation::WEEKLY, "my_prefix", "log")?.names(alloc)?;
+    let name = names.file_name(1_739_786_460)?;
+    assert_eq!(rt; name.as_str(), "my_prefix.2025-02-16.log");
+    let slash = builder(alloc, Rotation::WEEKLY, "a/b", "log")?;
+    assert!(rt; matches!(slash.names(alloc), Err(InitError::Name)));
     Ok(())
 }

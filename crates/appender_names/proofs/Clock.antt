@@ -10,8 +10,8 @@ use Rattle.jiff_core.specs.Date.{epoch_day}
 use Rattle.jiff_core.specs.declared.civil.date.Date.{Date}
 use Rattle.jiff_core.specs.declared.civil.datetime.DateTime.{DateTime}
 use Rattle.jiff_core.proofs.DateTimeLemmas.{civil_nanos-parts}
-use Rattle.appender_names.specs.declared.rotation.Kind.{Kind}
-use Rattle.appender_names.specs.declared.rotation.Kind.TheVariants.{Minutely, Hourly, Daily, Weekly, Never}
+use Rattle.appender_names.specs.declared.rotation.RotationKind.{RotationKind}
+use Rattle.appender_names.specs.declared.rotation.RotationKind.TheVariants.{Minutely, Hourly, Daily, Weekly, Never}
 use Rattle.appender_names.specs.Calendar.{CivilDate, date_of}
 use Rattle.appender_names.specs.DateText.{IsDated, second_of, two_digits, day_text, day_at, hour_at, minute_at, text_at}
 use Rattle.appender_names.proofs.Dates.{IsCivil, date_is}
@@ -84,10 +84,10 @@ prints m dt years e =
     }
 
 -- the kinds whose date text is the day
-abbrev pub IsDayKind : Kind → Type 0
+abbrev pub IsDayKind : RotationKind → Type 0
 IsDayKind kind = (kind ≡ Daily) ⊎ ((kind ≡ Weekly) ⊎ (kind ≡ Never))
 
-pub text_at-day : (kind : Kind) (s : ℕ) → IsDayKind kind → text_at kind s ≡ day_at s
+pub text_at-day : (kind : RotationKind) (s : ℕ) → IsDayKind kind → text_at kind s ≡ day_at s
 text_at-day Daily s is = refl
 text_at-day Weekly s is = refl
 text_at-day Never s is = refl

@@ -2,8 +2,8 @@
 use Rattle.std.proofs.Common.{◌≡◌, ◌≢◌, ℕ, zero, suc, ◌+◌, ◌-◌, ◌*◌, ◌/◌, ◌%◌, ◌<◌, ◌≤◌, ℤ, pos, List, [], ◌∷◌, ◌++◌, length, get_or, take, lit<, arith, refl, ap, sym, ◌∙◌, Option, Some, None}
 use Rattle.std.specs.Prelude.{MatchOption}
 use Rattle.std.specs.Int.{int_rem_euclid}
-use Rattle.appender_names.specs.declared.rotation.Kind.{Kind}
-use Rattle.appender_names.specs.declared.rotation.Kind.TheVariants.{Minutely, Hourly, Daily, Weekly, Never}
+use Rattle.appender_names.specs.declared.rotation.RotationKind.{RotationKind}
+use Rattle.appender_names.specs.declared.rotation.RotationKind.TheVariants.{Minutely, Hourly, Daily, Weekly, Never}
 use Rattle.std.proofs.lemmas.Int.{ints, int_rem_euclid_is}
 use Rattle.std.proofs.lemmas.Slice.Eq.{text_from_reads, HasBytesAt}
 use Rattle.jiff_core.proofs.CalendarLemmas.{days_in_month_bounds}
@@ -80,14 +80,14 @@ no_part part text place h mi s stands none w =
     none (part d) there.0 there.1
 
 -- a text ends with the bytes that stand from a place on
-shifted : (x : ℕ) (xs p : List ℕ) (n : ℕ) → HasBytesAt (x ∷ xs) (suc n) p → HasBytesAt xs n p
-shifted x xs [] n h = tt
-shifted x xs (c ∷ p) n h = (h.0, shifted x xs p (suc n) h.1)
+bytes_behind : (x : ℕ) (xs p : List ℕ) (n : ℕ) → HasBytesAt (x ∷ xs) (suc n) p → HasBytesAt xs n p
+bytes_behind x xs [] n h = tt
+bytes_behind x xs (c ∷ p) n h = (h.0, bytes_behind x xs p (suc n) h.1)
 
 pub ends_with : (text p : List ℕ) (n : ℕ) → length text ≡ n + length p → HasBytesAt text n p → text ≡ take n text ++ p
 ends_with text p zero len h = text_from_reads text p (omega arith) h
 ends_with [] p (suc n) len h = absurd (omega arith)
-ends_with (x ∷ xs) p (suc n) len h = ap (λ u. x ∷ u) (ends_with xs p n (omega arith) (shifted x xs p n h))
+ends_with (x ∷ xs) p (suc n) len h = ap (λ u. x ∷ u) (ends_with xs p n (omega arith) (bytes_behind x xs p n h))
 
 stands : (text : List ℕ) (i j b : ℕ) → i ≡ j → b ≡ get_or text j 0 → get_or text i 0 ≡ b
 stands text i j b e h = rw e (sym h)
@@ -98,7 +98,7 @@ record IsUnit (u : ℕ) : Type 0 where
   pub count : ℕ
   pub meets : count * u ≡ 62167219200
 
-unit_is : (k : Kind) → IsUnit (unit_of k)
+unit_is : (k : RotationKind) → IsUnit (unit_of k)
 unit_is Minutely = record { some = lit< tt; count = 1036120320; meets = refl }
 unit_is Hourly = record { some = lit< tt; count = 17268672; meets = refl }
 unit_is Daily = record { some = lit< tt; count = 719528; meets = refl }
@@ -106,12 +106,12 @@ unit_is Weekly = record { some = lit< tt; count = 719528; meets = refl }
 unit_is Never = record { some = lit< tt; count = 719528; meets = refl }
 
 -- what a second leaves over in whole units
-pub over : (k : Kind) (s : ℤ) → IsDated s → int_rem_euclid s (pos (unit_of k)) ≡ pos (second_of s % unit_of k)
+pub over : (k : RotationKind) (s : ℤ) → IsDated s → int_rem_euclid s (pos (unit_of k)) ≡ pos (second_of s % unit_of k)
 over k s years =
     let u = unit_is k in
     int_rem_euclid_is s (pos (unit_of k)) (unit_of k) u.count (second_of s) u.some refl (rw u.meets (second_is s years).0)
 
-pub whole_second : (k : Kind) (s : ℤ) → IsDated s → int_rem_euclid s (pos (unit_of k)) ≡ pos 0 → second_of s % unit_of k ≡ 0
+pub whole_second : (k : RotationKind) (s : ℤ) → IsDated s → int_rem_euclid s (pos (unit_of k)) ≡ pos 0 → second_of s % unit_of k ≡ 0
 whole_second k s years e = let same : pos (second_of s % unit_of k) ≡ pos 0 = sym (over k s years) ∙ e in cc
 
 pub minute_read : (text : List ℕ) (h mi : ℕ) (r : Option ℤ) → 6 ≤ length text

@@ -1,11 +1,11 @@
 -- A name is that of one entry of a folder.
 use Rattle.std.proofs.Common.{◌≡◌, ◌≢◌, ℕ, ◌+◌, ◌/◌, ◌≤◌, List, [], ◌∷◌, ◌++◌, length, arith, refl, ap, inl, inr, length-append, lit≤}
 use Rattle.std.proofs.lemmas.List.Elements.{All-append, All-from_recursion}
-use Rattle.appender_names.specs.declared.rotation.Kind.{Kind}
-use Rattle.appender_names.specs.declared.rotation.Kind.TheVariants.{Minutely, Hourly, Daily, Weekly, Never}
+use Rattle.appender_names.specs.declared.rotation.RotationKind.{RotationKind}
+use Rattle.appender_names.specs.declared.rotation.RotationKind.TheVariants.{Minutely, Hourly, Daily, Weekly, Never}
 use Rattle.appender_names.specs.Calendar.{CivilDate, date_of}
 use Rattle.appender_names.specs.DateText.{day_text, day_at, hour_at, minute_at, text_at, second_of}
-use Rattle.appender_names.specs.Name.{Naming, IsPart, IsDots, IsEntry, NamesAreEntries, behind, before, dated, undated, name_by, named_moment}
+use Rattle.appender_names.specs.Name.{Naming, IsPart, IsDots, IsEntry, NamesAreEntries, behind, before, dated_name, undated_name, name_by, named_moment}
 
 -- a byte that may stand in a name
 abbrev pub IsNameByte : ℕ → Type 0
@@ -23,14 +23,14 @@ dot = All-from_recursion IsNameByte (46 ∷ []) (((λ e. absurd (omega arith)), 
 day_is_part : (d : CivilDate) → IsPart (day_text d)
 day_is_part d = All-from_recursion IsNameByte (day_text d) (digit _, (digit _, (digit _, (digit _, (dash, (digit _, (digit _, (dash, (digit _, (digit _, tt))))))))))
 
-text_is_part : (k : Kind) (s : ℕ) → IsPart (text_at k s)
+text_is_part : (k : RotationKind) (s : ℕ) → IsPart (text_at k s)
 text_is_part Minutely s = All-append IsNameByte (day_at s) (45 ∷ hour_at s ++ 45 ∷ minute_at s) (day_is_part (date_of (s / 86400))) (All-from_recursion IsNameByte (45 ∷ hour_at s ++ 45 ∷ minute_at s) (dash, (digit _, (digit _, (dash, (digit _, (digit _, tt)))))))
 text_is_part Hourly s = All-append IsNameByte (day_at s) (45 ∷ hour_at s) (day_is_part (date_of (s / 86400))) (All-from_recursion IsNameByte (45 ∷ hour_at s) (dash, (digit _, (digit _, tt))))
 text_is_part Daily s = day_is_part (date_of (s / 86400))
 text_is_part Weekly s = day_is_part (date_of (s / 86400))
 text_is_part Never s = day_is_part (date_of (s / 86400))
 
-text_is_long : (k : Kind) (s : ℕ) → 10 ≤ length (text_at k s)
+text_is_long : (k : RotationKind) (s : ℕ) → 10 ≤ length (text_at k s)
 text_is_long Minutely s = lit≤ tt
 text_is_long Hourly s = lit≤ tt
 text_is_long Daily s = lit≤ tt
@@ -60,7 +60,7 @@ long_is_entry name part long = record {
   some_byte = λ e. absurd (omega (arith, ap length e));
 }
 
-undated_is_entry : (p s date : List ℕ) → IsPart p → IsPart s → ¬ (IsDots (undated p s [])) → IsEntry date → IsEntry (undated p s date)
+undated_is_entry : (p s date : List ℕ) → IsPart p → IsPart s → ¬ (IsDots (undated_name p s [])) → IsEntry date → IsEntry (undated_name p s date)
 undated_is_entry [] [] date a b d entry = entry
 undated_is_entry [] (y ∷ ys) date a b d entry = record { is_part = b; no_dots = d; some_byte = λ e. cc }
 undated_is_entry (x ∷ xs) s date a b d entry = record {
@@ -69,12 +69,12 @@ undated_is_entry (x ∷ xs) s date a b d entry = record {
   some_byte = λ e. absurd (omega (arith, before_is_long (x ∷ xs) s, ap length e));
 }
 
-dated_is_entry : (p s date : List ℕ) → IsPart p → IsPart s → IsPart date → 10 ≤ length date → IsEntry (dated p s date)
+dated_is_entry : (p s date : List ℕ) → IsPart p → IsPart s → IsPart date → 10 ≤ length date → IsEntry (dated_name p s date)
 dated_is_entry p s date a b c long =
-    long_is_entry (dated p s date) (behind_is_part p (before date s) a (before_is_part date s c b))
+    long_is_entry (dated_name p s date) (behind_is_part p (before date s) a (before_is_part date s c b))
     (omega (arith, behind_is_long p (before date s), before_is_long date s))
 
-by_kind : (k : Kind) (p s : List ℕ) (second : ℕ) → IsPart p → IsPart s → (k ≡ Never → ¬ (IsDots (undated p s []))) → IsEntry (name_by k p s (text_at k second))
+by_kind : (k : RotationKind) (p s : List ℕ) (second : ℕ) → IsPart p → IsPart s → (k ≡ Never → ¬ (IsDots (undated_name p s []))) → IsEntry (name_by k p s (text_at k second))
 by_kind Never p s second a b d = undated_is_entry p s (text_at Never second) a b (d refl) (long_is_entry _ (text_is_part Never second) (text_is_long Never second))
 by_kind Minutely p s second a b d = dated_is_entry p s (text_at Minutely second) a b (text_is_part Minutely second) (text_is_long Minutely second)
 by_kind Hourly p s second a b d = dated_is_entry p s (text_at Hourly second) a b (text_is_part Hourly second) (text_is_long Hourly second)

@@ -1,11 +1,11 @@
 -- Names, as prefix, date and suffix joined by dots.
 use Rattle.std.proofs.Common.{◌≡◌, ◌≢◌, ℕ, ℤ, true, false, List, [], ◌∷◌, ◌++◌, length, Some, arith, refl, ap, inl, inr, length-append}
 use Rattle.std.specs.Prelude.{◌==◌}
-use Rattle.appender_names.specs.declared.rotation.Kind.{Kind}
-use Rattle.appender_names.specs.declared.rotation.Kind.TheVariants.{Minutely, Hourly, Daily, Weekly, Never}
+use Rattle.appender_names.specs.declared.rotation.RotationKind.{RotationKind}
+use Rattle.appender_names.specs.declared.rotation.RotationKind.TheVariants.{Minutely, Hourly, Daily, Weekly, Never}
 use Rattle.appender_names.specs.Rotation.{period_of}
 use Rattle.appender_names.specs.DateText.{date_text}
-use Rattle.appender_names.specs.Name.{Naming, name_of, name_by, dated, undated, behind, before, IsDots}
+use Rattle.appender_names.specs.Name.{Naming, name_of, name_by, dated_name, undated_name, behind, before, IsDots}
 
 pub behind_set : (p text : List ℕ) → false ≡ (length p == 0) → p ++ (46 ∷ text) ≡ behind p text
 behind_set [] text e = cc
@@ -15,18 +15,18 @@ pub before_set : (text s : List ℕ) → false ≡ (length s == 0) → text ++ (
 before_set text [] e = cc
 before_set text (x ∷ xs) e = refl
 
-pub name_by-dated : (k : Kind) (p s d : List ℕ) → k ≢ Never → name_by k p s d ≡ dated p s d
-name_by-dated Minutely p s d h = refl
-name_by-dated Hourly p s d h = refl
-name_by-dated Daily p s d h = refl
-name_by-dated Weekly p s d h = refl
-name_by-dated Never p s d h = absurd (h refl)
+pub name_by-dated_name : (k : RotationKind) (p s d : List ℕ) → k ≢ Never → name_by k p s d ≡ dated_name p s d
+name_by-dated_name Minutely p s d h = refl
+name_by-dated_name Hourly p s d h = refl
+name_by-dated_name Daily p s d h = refl
+name_by-dated_name Weekly p s d h = refl
+name_by-dated_name Never p s d h = absurd (h refl)
 
-pub name_of-dated : (n : Naming) (m s : ℤ) → n.rotation.kind ≢ Never → period_of n.rotation m ≡ Some s → name_of n m ≡ dated n.prefix n.suffix (date_text n.rotation.kind s)
-name_of-dated n m s h e = rw e (name_by-dated n.rotation.kind n.prefix n.suffix (date_text n.rotation.kind s) h)
+pub name_of-dated_name : (n : Naming) (m s : ℤ) → n.rotation.kind ≢ Never → period_of n.rotation m ≡ Some s → name_of n m ≡ dated_name n.prefix n.suffix (date_text n.rotation.kind s)
+name_of-dated_name n m s h e = rw e (name_by-dated_name n.rotation.kind n.prefix n.suffix (date_text n.rotation.kind s) h)
 
 -- a name of two parts and a dot is longer than two dots
-pub parts_are_plain : (p s : List ℕ) → false ≡ (length p == 0) → false ≡ (length s == 0) → ¬ (IsDots (undated p s []))
+pub parts_are_plain : (p s : List ℕ) → false ≡ (length p == 0) → false ≡ (length s == 0) → ¬ (IsDots (undated_name p s []))
 parts_are_plain [] s a b d = absurd (let no : false ≡ true = a in cc)
 parts_are_plain (x ∷ xs) [] a b d = absurd (let no : false ≡ true = b in cc)
 parts_are_plain (x ∷ xs) (y ∷ ys) a b d = elim d [

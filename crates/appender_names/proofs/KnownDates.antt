@@ -1,7 +1,7 @@
 -- Dates, texts and names that are known from elsewhere, so that the definitions say what is meant.
 use Rattle.std.proofs.Common.{◌≡◌, pos, negsuc, [], ◌∷◌, map, refl}
 use Rattle.std.specs.Prelude.{codes}
-use Rattle.appender_names.specs.declared.rotation.Kind.TheVariants.{Minutely, Hourly, Weekly, Never}
+use Rattle.appender_names.specs.declared.rotation.RotationKind.TheVariants.{Minutely, Hourly, Weekly, Never}
 use Rattle.appender_names.specs.Calendar.{year_of, date_after, date_of}
 use Rattle.appender_names.specs.DateText.{date_text}
 use Rattle.appender_names.specs.Name.{naming, name_of}

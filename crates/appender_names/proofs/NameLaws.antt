@@ -1,4 +1,4 @@
--- The laws of names: a period's name reads as its start, one name for one period, and greater names for later periods.
+-- The laws of names: what the name of a period reads as, that each period has a name of its own, and that names rise.
 use Rattle.std.proofs.Common.{◌≡◌, ◌≢◌, ℕ, ◌+◌, ◌/◌, ◌%◌, ℤ, pos, List, [], ◌∷◌, length, Some, arith, refl, ap, sym, ◌∙◌, subst}
 use Rattle.std.specs.Cmp.Lexicographic.{slice_cmp}
 use Rattle.std.specs.Ordering.{nat_cmp}
@@ -6,21 +6,21 @@ use Rattle.std.specs.declared.cmp.Ordering.TheVariants.{Less}
 use Rattle.std.proofs.Math.Nat.{dvd-add, dvd-mul_left}
 use Rattle.std.proofs.lemmas.Nat.Gcd.{dvd_trans, dvd_of_mod-eq-zero, mod-eq-zero_of_dvd}
 use Rattle.std.proofs.lemmas.Int.{ints}
-use Rattle.appender_names.specs.declared.rotation.Kind.{Kind}
-use Rattle.appender_names.specs.declared.rotation.Kind.TheVariants.{Minutely, Hourly, Daily, Weekly, Never}
+use Rattle.appender_names.specs.declared.rotation.RotationKind.{RotationKind}
+use Rattle.appender_names.specs.declared.rotation.RotationKind.TheVariants.{Minutely, Hourly, Daily, Weekly, Never}
 use Rattle.appender_names.specs.declared.rotation.Rotation.{Rotation}
 use Rattle.appender_names.specs.Rotation.{IsMoment, period_of, period_of_kind, step_of, StartsItself}
 use Rattle.appender_names.specs.DateText.{IsDated, second_of, date_text, text_at, unit_of}
-use Rattle.appender_names.specs.Name.{Naming, name_of, dated, behind, before, Reads, NamesRise, NamesArePeriods, NamesReadAsStarts, NamesReadOnce}
+use Rattle.appender_names.specs.Name.{Naming, name_of, dated_name, behind, before, Reads, NamesRise, NamesArePeriods, NamesReadAsStarts, NamesReadOnce}
 use Rattle.appender_names.proofs.Periods.{floor, floor_whole, whole_is, period_is, start_is}
 use Rattle.appender_names.proofs.Clock.{second_is}
 use Rattle.appender_names.proofs.Digits.{over}
-use Rattle.appender_names.proofs.Joins.{name_of-dated}
+use Rattle.appender_names.proofs.Joins.{name_of-dated_name}
 use Rattle.appender_names.proofs.Reading.{reads_once}
 use Rattle.appender_names.proofs.Order.{cmp_front, cmp_behind, text_less}
 
 -- a period with a start is one of a rotation with boundaries
-rotates : (k : Kind) (m p : ℤ) → period_of_kind k m ≡ Some p → k ≢ Never
+rotates : (k : RotationKind) (m p : ℤ) → period_of_kind k m ≡ Some p → k ≢ Never
 rotates Minutely m p e = λ n. cc
 rotates Hourly m p e = λ n. cc
 rotates Daily m p e = λ n. cc
@@ -28,7 +28,7 @@ rotates Weekly m p e = λ n. cc
 rotates Never m p e = λ n. cc
 
 -- a rotation's step and its count of seconds from 0000-01-01 to a Sunday are whole units of its date texts
-units_divide : (k : Kind) → (step_of k % unit_of k ≡ 0) × (31536000 % unit_of k ≡ 0)
+units_divide : (k : RotationKind) → (step_of k % unit_of k ≡ 0) × (31536000 % unit_of k ≡ 0)
 units_divide Minutely = (refl, refl)
 units_divide Hourly = (refl, refl)
 units_divide Daily = (refl, refl)
@@ -36,7 +36,7 @@ units_divide Weekly = (refl, refl)
 units_divide Never = (refl, refl)
 
 -- so the start of a period is a whole minute, hour or day
-whole_start : (k : Kind) (n : ℕ) → (floor (step_of k) n + 31536000) % unit_of k ≡ 0
+whole_start : (k : RotationKind) (n : ℕ) → (floor (step_of k) n + 31536000) % unit_of k ≡ 0
 whole_start k n =
     let u = unit_of k in
     let divide = units_divide k in
@@ -47,8 +47,8 @@ record IsNamed (r : Rotation) (p : ℤ) : Type 0 where
   pub years : IsDated p
   pub whole : second_of p % unit_of r.kind ≡ 0
 
-named : (r : Rotation) (m p : ℤ) → IsMoment m → period_of r m ≡ Some p → IsNamed r p
-named r m p g e =
+start_named : (r : Rotation) (m p : ℤ) → IsMoment m → period_of r m ≡ Some p → IsNamed r p
+start_named r m p g e =
     let h = rotates r.kind m p e in
     let from = start_is r m p h g e in
     let years : IsDated p = (omega (arith, ints, from.start), omega (arith, ints, from.here, from.start, from.low)) in
@@ -57,20 +57,20 @@ named r m p g e =
 
 pub reads_as_start : (n : Naming) → NamesReadAsStarts n
 reads_as_start n m p g e =
-    let start = named n.rotation m p g e in
+    let start = start_named n.rotation m p g e in
     record {
       dated_second = start.years;
       whole = over n.rotation.kind p start.years ∙ ap pos start.whole;
-      text = name_of-dated n m p start.rotates_is e;
+      text = name_of-dated_name n m p start.rotates_is e;
     }
 
 pub one_name : (n : Naming) → NamesArePeriods n
 one_name n a b p q ga gb ea eb = (
   λ e. reads_once n (name_of n b) p q (subst (λ (name : List ℕ). Reads n name p) e (reads_as_start n a p ga ea)) (reads_as_start n b q gb eb),
-  λ e. name_of-dated n a p (named n.rotation a p ga ea).rotates_is ea ∙ ap (λ s. dated n.prefix n.suffix (date_text n.rotation.kind s)) e ∙ sym (name_of-dated n b q (named n.rotation b q gb eb).rotates_is eb),
+  λ e. name_of-dated_name n a p (start_named n.rotation a p ga ea).rotates_is ea ∙ ap (λ s. dated_name n.prefix n.suffix (date_text n.rotation.kind s)) e ∙ sym (name_of-dated_name n b q (start_named n.rotation b q gb eb).rotates_is eb),
 )
 
-same_length : (k : Kind) (a b : ℕ) → length (text_at k a) ≡ length (text_at k b)
+same_length : (k : RotationKind) (a b : ℕ) → length (text_at k a) ≡ length (text_at k b)
 same_length Minutely a b = refl
 same_length Hourly a b = refl
 same_length Daily a b = refl
@@ -87,10 +87,10 @@ behind_less (x ∷ xs) a b h = cmp_front (x ∷ xs) (46 ∷ a) (46 ∷ b) ∙ cm
 
 pub rise : (n : Naming) → NamesRise n
 rise n a b p q ga gb ea eb lt =
-    let x = named n.rotation a p ga ea in
-    let y = named n.rotation b q gb eb in
+    let x = start_named n.rotation a p ga ea in
+    let y = start_named n.rotation b q gb eb in
     let text = text_less n.rotation.kind p q x.years y.years x.whole y.whole lt in
-    rw (name_of-dated n a p x.rotates_is ea, name_of-dated n b q y.rotates_is eb)
+    rw (name_of-dated_name n a p x.rotates_is ea, name_of-dated_name n b q y.rotates_is eb)
     (behind_less n.prefix (before (date_text n.rotation.kind p) n.suffix) (before (date_text n.rotation.kind q) n.suffix)
     (before_less (date_text n.rotation.kind p) (date_text n.rotation.kind q) n.suffix (same_length n.rotation.kind (second_of p) (second_of q)) text))
 

@@ -8,8 +8,8 @@ use Rattle.std.proofs.lemmas.Bool.{cases_lt}
 use Rattle.std.proofs.lemmas.Int.{ints}
 use Rattle.jiff_core.specs.declared.civil.date.Date.{Date}
 use Rattle.jiff_core.proofs.DateLemmas.{IsEarlier, epoch_day-lt, epoch_day_same, cases_date}
-use Rattle.appender_names.specs.declared.rotation.Kind.{Kind}
-use Rattle.appender_names.specs.declared.rotation.Kind.TheVariants.{Minutely, Hourly, Daily, Weekly, Never}
+use Rattle.appender_names.specs.declared.rotation.RotationKind.{RotationKind}
+use Rattle.appender_names.specs.declared.rotation.RotationKind.TheVariants.{Minutely, Hourly, Daily, Weekly, Never}
 use Rattle.appender_names.specs.Calendar.{CivilDate, date_of}
 use Rattle.appender_names.specs.DateText.{IsDated, second_of, two_digits, day_text, day_at, date_text, text_at, unit_of}
 use Rattle.appender_names.proofs.Dates.{IsCivil, date_on}
@@ -120,7 +120,7 @@ minute_less m n h small = digits_less (text_at Hourly m ++ 45 ∷ []) (text_at H
       inr (rw (day, hour) refl, omega arith))
 ])
 
-by_kind : (kind : Kind) (m n : ℕ) → m % unit_of kind ≡ 0 → n % unit_of kind ≡ 0 → m < n → n < 315569520000 → slice_cmp nat_cmp (text_at kind m) (text_at kind n) ≡ Less
+by_kind : (kind : RotationKind) (m n : ℕ) → m % unit_of kind ≡ 0 → n % unit_of kind ≡ 0 → m < n → n < 315569520000 → slice_cmp nat_cmp (text_at kind m) (text_at kind n) ≡ Less
 by_kind Minutely m n v w h small = minute_less m n (omega arith) small [] []
 by_kind Hourly m n v w h small = hour_less m n (omega arith) small [] []
 by_kind Daily m n v w h small = day_less m n (omega arith) small [] []
@@ -128,7 +128,7 @@ by_kind Weekly m n v w h small = day_less m n (omega arith) small [] []
 by_kind Never m n v w h small = day_less m n (omega arith) small [] []
 
 -- of two whole minutes, hours or days, the later has the greater text
-pub text_less : (kind : Kind) (s t : ℤ) → IsDated s → IsDated t → second_of s % unit_of kind ≡ 0 → second_of t % unit_of kind ≡ 0 → s <ℤ t → slice_cmp nat_cmp (date_text kind s) (date_text kind t) ≡ Less
+pub text_less : (kind : RotationKind) (s t : ℤ) → IsDated s → IsDated t → second_of s % unit_of kind ≡ 0 → second_of t % unit_of kind ≡ 0 → s <ℤ t → slice_cmp nat_cmp (date_text kind s) (date_text kind t) ≡ Less
 text_less kind s t a b v w h =
     let here = second_is s a in
     let there = second_is t b in

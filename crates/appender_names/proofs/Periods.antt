@@ -7,8 +7,8 @@ use Rattle.std.proofs.lemmas.Nat.{div-add-mod', le-div, div_below, mod_below}
 use Rattle.std.proofs.lemmas.Nat.Gcd.{mod-eq-zero_of_dvd}
 use Rattle.std.proofs.lemmas.Int.{ints, int_rem_euclid_is}
 use Rattle.appender_names.specs.Rotation.{IsMoment, period_of_kind, period_of, next_of, step_of, anchor_of, IsGreatestBoundary, IsNextBoundary}
-use Rattle.appender_names.specs.declared.rotation.Kind.{Kind}
-use Rattle.appender_names.specs.declared.rotation.Kind.TheVariants.{Minutely, Hourly, Daily, Weekly, Never}
+use Rattle.appender_names.specs.declared.rotation.RotationKind.{RotationKind}
+use Rattle.appender_names.specs.declared.rotation.RotationKind.TheVariants.{Minutely, Hourly, Daily, Weekly, Never}
 use Rattle.appender_names.specs.declared.rotation.Rotation.{Rotation}
 
 -- A step s and its anchor a, to which whole steps lead from -62135683200, the Sunday before the first moment. Below, n and y count seconds from that Sunday.
@@ -18,7 +18,7 @@ pub record IsStep (s a : ℕ) : Type 0 where
   pub count : ℕ
   pub meets : count * s ≡ 62135683200 + a
 
-pub step_is : (k : Kind) → k ≢ Never → IsStep (step_of k) (anchor_of k)
+pub step_is : (k : RotationKind) → k ≢ Never → IsStep (step_of k) (anchor_of k)
 step_is Minutely h = record { some = lit< tt; week = lit≤ tt; count = 1035594720; meets = refl }
 step_is Hourly h = record { some = lit< tt; week = lit≤ tt; count = 17259912; meets = refl }
 step_is Daily h = record { some = lit< tt; week = lit≤ tt; count = 719163; meets = refl }
@@ -55,12 +55,12 @@ whole_above s y n h w lt =
     omega (arith, whole_is s y w, mul-le-mul_right s q, suc-mul (n / s) s)
 
 -- a second c is a boundary exactly if it lies whole steps after that Sunday
-anchored : (s a : ℕ) (c : ℤ) (y : ℕ) → IsStep s a → c +ℤ pos 62135683200 ≡ pos y → int_rem_euclid c (pos s) ≡ pos ((y + a) % s)
-anchored s a c y is at = int_rem_euclid_is c (pos s) s is.count (y + a) is.some refl (rw is.meets (omega (arith, ints)))
+rest_of : (s a : ℕ) (c : ℤ) (y : ℕ) → IsStep s a → c +ℤ pos 62135683200 ≡ pos y → int_rem_euclid c (pos s) ≡ pos ((y + a) % s)
+rest_of s a c y is at = int_rem_euclid_is c (pos s) s is.count (y + a) is.some refl (rw is.meets (omega (arith, ints)))
 
 from_boundary : (s a : ℕ) (c : ℤ) (y : ℕ) → IsStep s a → c +ℤ pos 62135683200 ≡ pos y → int_rem_euclid c (pos s) ≡ int_rem_euclid (pos a) (pos s) → y % s ≡ 0
 from_boundary s a c y is at e =
-    let rem : pos ((y + a) % s) ≡ pos (a % s) = sym (anchored s a c y is at) ∙ e in
+    let rem : pos ((y + a) % s) ≡ pos (a % s) = sym (rest_of s a c y is at) ∙ e in
     let same : (y + a) % s ≡ a % s = cc in
     let between : floor s (y + a) - floor s a ≡ y = omega (arith, div-add-mod' (y + a) s, div-add-mod' a s) in
     rw (← between) (mod-eq-zero_of_dvd s (dvd-sub s (dvd-mul_left s ((y + a) / s)) (dvd-mul_left s (a / s))))
@@ -68,7 +68,7 @@ from_boundary s a c y is at e =
 to_boundary : (s a : ℕ) (c : ℤ) (y : ℕ) → IsStep s a → c +ℤ pos 62135683200 ≡ pos y → y % s ≡ 0 → int_rem_euclid c (pos s) ≡ int_rem_euclid (pos a) (pos s)
 to_boundary s a c y is at w =
     let same : (floor s y + a) % s ≡ a % s = mul-add-mod_self_right (y / s) s a in
-    anchored s a c y is at ∙ ap pos (rw (whole_is s y w) at same)
+    rest_of s a c y is at ∙ ap pos (rw (whole_is s y w) at same)
 
 -- no boundary lies between n and the whole steps around it; z is c, counted from that Sunday
 not_later : (s a n : ℕ) (m c z : ℤ) → IsStep s a → m +ℤ pos 62135683200 ≡ pos n → int_rem_euclid c (pos s) ≡ int_rem_euclid (pos a) (pos s) → c +ℤ pos 62135683200 ≡ z → c ≤ℤ m → c ≤ℤ (pos (floor s n) -ℤ pos 62135683200)
@@ -88,19 +88,19 @@ start_of s a n m is here =
     let rem : int_rem_euclid (m -ℤ pos a) (pos s) ≡ pos (n % s) = int_rem_euclid_is (m -ℤ pos a) (pos s) s is.count n is.some refl (rw is.meets (omega (arith, ints))) in
     rw rem (omega (arith, ints, div-add-mod' n s))
 
-rotating : (k : Kind) (m : ℤ) → k ≢ Never → period_of_kind k m ≡ Some (m -ℤ int_rem_euclid (m -ℤ pos (anchor_of k)) (pos (step_of k)))
-rotating Minutely m h = refl
-rotating Hourly m h = refl
-rotating Daily m h = refl
-rotating Weekly m h = refl
-rotating Never m h = absurd (h refl)
+period_by_kind : (k : RotationKind) (m : ℤ) → k ≢ Never → period_of_kind k m ≡ Some (m -ℤ int_rem_euclid (m -ℤ pos (anchor_of k)) (pos (step_of k)))
+period_by_kind Minutely m h = refl
+period_by_kind Hourly m h = refl
+period_by_kind Daily m h = refl
+period_by_kind Weekly m h = refl
+period_by_kind Never m h = absurd (h refl)
 
 pub same_some : (a b : ℤ) → ◌≡◌ {A = Option ℤ} (Some a) (Some b) → a ≡ b
 same_some a b e = cc
 
 -- the period by whole steps
 pub period_is : (r : Rotation) (m : ℤ) (n : ℕ) → r.kind ≢ Never → m +ℤ pos 62135683200 ≡ pos n → period_of r m ≡ Some (pos (floor (step_of r.kind) n) -ℤ pos 62135683200)
-period_is r m n h here = rotating r.kind m h ∙ ap Some (start_of (step_of r.kind) (anchor_of r.kind) n m (step_is r.kind h) here)
+period_is r m n h here = period_by_kind r.kind m h ∙ ap Some (start_of (step_of r.kind) (anchor_of r.kind) n m (step_is r.kind h) here)
 
 -- where a period starts
 pub record IsStart (r : Rotation) (m b : ℤ) : Type 0 where
@@ -160,4 +160,4 @@ start_in_range r m b h g e =
 -- under NEVER no period has a start
 pub has_start : (r : Rotation) (m b : ℤ) → period_of r m ≡ Some b → r.kind ≢ Never
 has_start r m b e never =
-    let none : ◌≡◌ {A = Option ℤ} None (Some b) = subst (λ (k : Kind). period_of_kind k m ≡ Some b) never e in cc
+    let none : ◌≡◌ {A = Option ℤ} None (Some b) = subst (λ (k : RotationKind). period_of_kind k m ≡ Some b) never e in cc

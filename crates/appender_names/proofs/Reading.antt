@@ -11,22 +11,22 @@ use Rattle.std.specs.declared.cmp.Ordering.TheVariants.{Equal}
 use Rattle.std.proofs.lemmas.Bool.{cases_order}
 use Rattle.std.proofs.lemmas.Int.{ints}
 use Rattle.std.proofs.lemmas.List.{append_cancel_left, append_cancel_right}
-use Rattle.appender_names.specs.declared.rotation.Kind.{Kind}
-use Rattle.appender_names.specs.declared.rotation.Kind.TheVariants.{Minutely, Hourly, Daily, Weekly, Never}
+use Rattle.appender_names.specs.declared.rotation.RotationKind.{RotationKind}
+use Rattle.appender_names.specs.declared.rotation.RotationKind.TheVariants.{Minutely, Hourly, Daily, Weekly, Never}
 use Rattle.appender_names.specs.DateText.{IsDated, second_of, unit_of, IsDateText, date_text}
-use Rattle.appender_names.specs.Name.{Naming, Reads, behind, before, dated, unit_start, last_named, reading}
+use Rattle.appender_names.specs.Name.{Naming, Reads, behind, before, dated_name, unit_start, last_named, reading}
 use Rattle.appender_names.proofs.Clock.{second_is}
 use Rattle.appender_names.proofs.Digits.{over, whole_second}
 use Rattle.appender_names.proofs.Order.{cmp_same, text_less}
 
 -- one date text, one second, since later ones have greater texts
-apart : (kind : Kind) (text : List ℕ) (s t : ℤ) → IsDateText kind text s → IsDateText kind text t → ¬ (s <ℤ t)
+apart : (kind : RotationKind) (text : List ℕ) (s t : ℤ) → IsDateText kind text s → IsDateText kind text t → ¬ (s <ℤ t)
 apart kind text s t a b lt =
     let less = text_less kind s t a.years b.years (whole_second kind s a.years a.whole) (whole_second kind t b.years b.whole) lt in
     let same : slice_cmp nat_cmp (date_text kind s) (date_text kind t) ≡ Equal = rw (← a.same, ← b.same) (cmp_same text) in
     cc
 
-once : (kind : Kind) (text : List ℕ) (s t : ℤ) → IsDateText kind text s → IsDateText kind text t → s ≡ t
+once : (kind : RotationKind) (text : List ℕ) (s t : ℤ) → IsDateText kind text s → IsDateText kind text t → s ≡ t
 once kind text s t a b =
     let here = (second_is s a.years).0 in
     let there = (second_is t b.years).0 in
@@ -77,19 +77,19 @@ reads_none n name rest r front e miss s = (
 -- ---- the same as a function
 
 -- each whole unit of those years
-record IsUnitStart (k : Kind) (i : ℕ) : Type 0 where
+record IsUnitStart (k : RotationKind) (i : ℕ) : Type 0 where
   pub years : IsDated (unit_start k i)
   pub second : second_of (unit_start k i) ≡ i * unit_of k
   pub whole : int_rem_euclid (unit_start k i) (pos (unit_of k)) ≡ pos 0
 
-below_end : (k : Kind) (i : ℕ) → i < 315569520000 / unit_of k → i * unit_of k < 315569520000
+below_end : (k : RotationKind) (i : ℕ) → i < 315569520000 / unit_of k → i * unit_of k < 315569520000
 below_end Minutely i low = omega arith
 below_end Hourly i low = omega arith
 below_end Daily i low = omega arith
 below_end Weekly i low = omega arith
 below_end Never i low = omega arith
 
-unit_starts : (k : Kind) (i : ℕ) → i < 315569520000 / unit_of k → IsUnitStart k i
+unit_starts : (k : RotationKind) (i : ℕ) → i < 315569520000 / unit_of k → IsUnitStart k i
 unit_starts k i low =
     let below = below_end k i low in
     let years : IsDated (unit_start k i) = (omega (arith, ints), omega (arith, ints)) in
@@ -97,15 +97,15 @@ unit_starts k i low =
     record { years = years; second = second; whole = over k (unit_start k i) years ∙ ap (λ n. pos (n % unit_of k)) second ∙ ap pos (mul-mod_left i (unit_of k)) }
 
 -- and every second that a name can read as is one
-record IsUnitNumber (k : Kind) (s : ℤ) : Type 0 where
+record IsUnitNumber (k : RotationKind) (s : ℤ) : Type 0 where
   pub number : ℕ
   pub low : number < 315569520000 / unit_of k
   pub is : unit_start k number ≡ s
 
-unit_number : (k : Kind) (s : ℤ) → IsDated s → int_rem_euclid s (pos (unit_of k)) ≡ pos 0 → IsUnitNumber k s
+unit_number : (k : RotationKind) (s : ℤ) → IsDated s → int_rem_euclid s (pos (unit_of k)) ≡ pos 0 → IsUnitNumber k s
 unit_number k s years whole = by k (second_of s) (whole_second k s years whole) (second_is s years)
   where
-    by : (k : Kind) (n : ℕ) → n % unit_of k ≡ 0 → (s +ℤ pos 62167219200 ≡ pos n) × (n < 315569520000) → IsUnitNumber k s
+    by : (k : RotationKind) (n : ℕ) → n % unit_of k ≡ 0 → (s +ℤ pos 62167219200 ≡ pos n) × (n < 315569520000) → IsUnitNumber k s
     by Minutely n e h = record { number = n / 60; low = omega (arith, h.1); is = omega (arith, ints, h.0) }
     by Hourly n e h = record { number = n / 3600; low = omega (arith, h.1); is = omega (arith, ints, h.0) }
     by Daily n e h = record { number = n / 86400; low = omega (arith, h.1); is = omega (arith, ints, h.0) }
@@ -113,7 +113,7 @@ unit_number k s years whole = by k (second_of s) (whole_second k s years whole) 
     by Never n e h = record { number = n / 86400; low = omega (arith, h.1); is = omega (arith, ints, h.0) }
 
 abbrev name_at : Naming → ℕ → List ℕ
-name_at n i = dated n.prefix n.suffix (date_text n.rotation.kind (unit_start n.rotation.kind i))
+name_at n i = dated_name n.prefix n.suffix (date_text n.rotation.kind (unit_start n.rotation.kind i))
 
 -- what was tried and found
 found : (n : Naming) (name : List ℕ) (k : ℕ) (s : ℤ) → last_named n name k ≡ Some s → (i : ℕ) × (i < k) × (s ≡ unit_start n.rotation.kind i) × (name ≡ name_at n i)
@@ -154,7 +154,7 @@ reads_reading : (n : Naming) (name : List ℕ) (s : ℤ) → Reads n name s → 
 unfolding reading
 reads_reading n name s r =
     let u = unit_number n.rotation.kind s r.dated_second r.whole in
-    let w = finds n name (315569520000 / unit_of n.rotation.kind) u.number u.low (r.text ∙ ap (λ t. dated n.prefix n.suffix (date_text n.rotation.kind t)) (sym u.is)) in
+    let w = finds n name (315569520000 / unit_of n.rotation.kind) u.number u.low (r.text ∙ ap (λ t. dated_name n.prefix n.suffix (date_text n.rotation.kind t)) (sym u.is)) in
     w.1 ∙ ap Some (reads_once n name w.0 s (reading_reads n name w.0 w.1) r)
 
 pub reading_is : (n : Naming) (name : List ℕ) (r : Option ℤ) → ((s : ℤ) → (r ≡ Some s) ↔ Reads n name s) → r ≡ reading n name

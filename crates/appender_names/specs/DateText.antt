@@ -1,8 +1,8 @@
 -- Date texts, as in the documentation of tracing-appender: a date of ISO 8601, and an hour and a minute where files begin that often, all with leading zeros.
 use Rattle.std.specs.Int.{int_rem_euclid}
 use Rattle.std.specs.Prelude.{◌≡◌, ℕ, ◌+◌, ◌/◌, ◌%◌, List, [], ◌∷◌, ◌++◌, ℤ, pos, negsuc, ◌+ℤ◌, ◌≤ℤ◌, unsigned_abs}
-use Rattle.appender_names.specs.declared.rotation.Kind.{Kind}
-use Rattle.appender_names.specs.declared.rotation.Kind.TheVariants.{Minutely, Hourly}
+use Rattle.appender_names.specs.declared.rotation.RotationKind.{RotationKind}
+use Rattle.appender_names.specs.declared.rotation.RotationKind.TheVariants.{Minutely, Hourly}
 use Rattle.appender_names.specs.Calendar.{CivilDate, date_of}
 
 -- a moment of the years 0000 to 9999, which are those that four digits write
@@ -32,23 +32,23 @@ abbrev pub minute_at : ℕ → List ℕ
 minute_at s = two_digits (s % 3600 / 60)
 
 -- `2020-02-01-10-01`, `2020-02-01-10` or `2020-02-01`
-abbrev pub text_at : Kind → ℕ → List ℕ
+abbrev pub text_at : RotationKind → ℕ → List ℕ
 text_at Minutely s = day_at s ++ 45 ∷ hour_at s ++ 45 ∷ minute_at s
 text_at Hourly s = day_at s ++ 45 ∷ hour_at s
 text_at k s = day_at s
 
 -- the date text of a moment
-abbrev pub date_text : Kind → ℤ → List ℕ
+abbrev pub date_text : RotationKind → ℤ → List ℕ
 date_text kind m = text_at kind (second_of m)
 
 -- the seconds of what a date text tells apart: a minute, an hour or a day
-abbrev pub unit_of : Kind → ℕ
+abbrev pub unit_of : RotationKind → ℕ
 unit_of Minutely = 60
 unit_of Hourly = 3600
 unit_of k = 86400
 
--- the text is the date text of s, a whole minute, hour or day, as the shape is, of the years 0000 to 9999
-pub record IsDateText (kind : Kind) (text : List ℕ) (s : ℤ) : Type 0 where
+-- the text writes the date of s, where s begins a unit of the kind (a minute, an hour or a day) in the years 0000 to 9999
+pub record IsDateText (kind : RotationKind) (text : List ℕ) (s : ℤ) : Type 0 where
   pub years : IsDated s
   pub whole : int_rem_euclid s (pos (unit_of kind)) ≡ pos 0
   pub same : text ≡ date_text kind s

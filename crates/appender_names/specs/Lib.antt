@@ -1,5 +1,6 @@
 pub mod Calendar
 pub mod DateText
+pub mod Equality
 pub mod InitError
 pub mod Name
 pub mod Rotation

@@ -6,8 +6,8 @@ use Rattle.std.specs.Ordering.{nat_cmp}
 use Rattle.std.specs.declared.cmp.Ordering.TheVariants.{Less}
 use Rattle.std.specs.Int.{int_rem_euclid}
 use Rattle.std.specs.List.{All, list_all}
-use Rattle.appender_names.specs.declared.rotation.Kind.{Kind}
-use Rattle.appender_names.specs.declared.rotation.Kind.TheVariants.{Never}
+use Rattle.appender_names.specs.declared.rotation.RotationKind.{RotationKind}
+use Rattle.appender_names.specs.declared.rotation.RotationKind.TheVariants.{Never}
 use Rattle.appender_names.specs.declared.rotation.Rotation.{Rotation}
 use Rattle.appender_names.specs.Rotation.{IsMoment, period_of, IsNever}
 use Rattle.appender_names.specs.DateText.{date_text, unit_of, IsDated}
@@ -32,18 +32,18 @@ before text [] = text
 before text (s ∷ ss) = text ++ (46 ∷ s ∷ ss)
 
 -- the name that a date has: `prefix.date.suffix`, `prefix.date`, `date.suffix` or `date`
-abbrev pub dated : List ℕ → List ℕ → List ℕ → List ℕ
-dated prefix suffix date = behind prefix (before date suffix)
+abbrev pub dated_name : List ℕ → List ℕ → List ℕ → List ℕ
+dated_name prefix suffix date = behind prefix (before date suffix)
 
 -- the name under NEVER: `prefix.suffix`, `prefix`, `suffix` or `date`
-abbrev pub undated : List ℕ → List ℕ → List ℕ → List ℕ
-undated [] [] date = date
-undated [] (s ∷ ss) date = s ∷ ss
-undated (p ∷ ps) suffix date = before (p ∷ ps) suffix
+abbrev pub undated_name : List ℕ → List ℕ → List ℕ → List ℕ
+undated_name [] [] date = date
+undated_name [] (s ∷ ss) date = s ∷ ss
+undated_name (p ∷ ps) suffix date = before (p ∷ ps) suffix
 
-abbrev pub name_by : Kind → List ℕ → List ℕ → List ℕ → List ℕ
-name_by Never prefix suffix date = undated prefix suffix date
-name_by k prefix suffix date = dated prefix suffix date
+abbrev pub name_by : RotationKind → List ℕ → List ℕ → List ℕ → List ℕ
+name_by Never prefix suffix date = undated_name prefix suffix date
+name_by k prefix suffix date = dated_name prefix suffix date
 
 -- the moment whose date stands in the name of a moment: the start of its period, and under NEVER the moment itself
 abbrev pub named_moment : Rotation → ℤ → ℤ
@@ -65,7 +65,7 @@ IsDots name = (name ≡ codes ".") ⊎ (name ≡ codes "..")
 pub record IsAllowed (r : Rotation) (prefix suffix : List ℕ) : Type 0 where
   pub prefix_is_part : IsPart prefix
   pub suffix_is_part : IsPart suffix
-  pub no_dots : IsNever r → ¬ (IsDots (undated prefix suffix []))
+  pub no_dots : IsNever r → ¬ (IsDots (undated_name prefix suffix []))
 
 -- the name of one entry of a folder: not empty, no `/` and no zero byte in it, and neither `.` nor `..`
 pub record IsEntry (name : List ℕ) : Type 0 where
@@ -80,21 +80,21 @@ is_name_byte b = not (b == 47) && not (b == 0)
 abbrev pub is_entry : List ℕ → Bool
 is_entry name = not (bytes_eq name []) && not (bytes_eq name (codes ".")) && not (bytes_eq name (codes "..")) && list_all is_name_byte name
 
--- the name reads as s: the whole minute, hour or day, as the shape is, of the years 0000 to 9999 whose date stands in it
+-- the name reads as s: s begins a unit of the rotation (a minute, an hour or a day) in the years 0000 to 9999, and its date stands in the name
 pub record Reads (n : Naming) (name : List ℕ) (s : ℤ) : Type 0 where
   pub dated_second : IsDated s
   pub whole : int_rem_euclid s (pos (unit_of n.rotation.kind)) ≡ pos 0
-  pub text : name ≡ dated n.prefix n.suffix (date_text n.rotation.kind s)
+  pub text : name ≡ dated_name n.prefix n.suffix (date_text n.rotation.kind s)
 
 -- the start of a whole unit, by its number from 0000-01-01 00:00:00 on
-abbrev pub unit_start : Kind → ℕ → ℤ
+abbrev pub unit_start : RotationKind → ℕ → ℤ
 unit_start k i = pos (i * unit_of k) -ℤ pos 62167219200
 
 -- of the first so many units the last whose date stands in the name
 unfoldable pub last_named : Naming → List ℕ → ℕ → Option ℤ
 last_named n name zero = None
 last_named n name (suc i) =
-    if bytes_eq name (dated n.prefix n.suffix (date_text n.rotation.kind (unit_start n.rotation.kind i)))
+    if bytes_eq name (dated_name n.prefix n.suffix (date_text n.rotation.kind (unit_start n.rotation.kind i)))
     then Some (unit_start n.rotation.kind i)
     else last_named n name i
 
@@ -106,7 +106,7 @@ reading n name = last_named n name (315569520000 / unit_of n.rotation.kind)
 abbrev pub NamesRise : Naming → Type 0
 NamesRise n = (a b p q : ℤ) → IsMoment a → IsMoment b → period_of n.rotation a ≡ Some p → period_of n.rotation b ≡ Some q → p <ℤ q → slice_cmp nat_cmp (name_of n a) (name_of n b) ≡ Less
 
--- two moments have one name exactly if they lie in one period
+-- moments whose periods have a start, which those of NEVER lack, share a name exactly where they share the period
 abbrev pub NamesArePeriods : Naming → Type 0
 NamesArePeriods n = (a b p q : ℤ) → IsMoment a → IsMoment b → period_of n.rotation a ≡ Some p → period_of n.rotation b ≡ Some q → (name_of n a ≡ name_of n b) ↔ (p ≡ q)
 

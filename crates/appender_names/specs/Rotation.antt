@@ -1,9 +1,9 @@
 -- Moments, and the boundaries at which the files of a rotation begin. A moment is in whole seconds of UTC since 1970-01-01 00:00:00, with days of 86400 seconds.
-use Rattle.std.specs.Prelude.{◌≡◌, ◌≢◌, ℕ, ℤ, pos, negsuc, ◌+ℤ◌, ◌-ℤ◌, ◌≤ℤ◌, ◌<ℤ◌, Option, None, Some, Bool, not, ◌&&◌, int_lt}
+use Rattle.std.specs.Prelude.{◌≡◌, ◌≢◌, ◌↔◌, ℕ, ℤ, pos, negsuc, ◌+ℤ◌, ◌-ℤ◌, ◌≤ℤ◌, ◌<ℤ◌, Option, None, Some, Bool, not, ◌&&◌, int_lt}
 use Rattle.std.specs.Int.{int_rem_euclid}
 use Rattle.std.specs.Option.{option_map}
-use Rattle.appender_names.specs.declared.rotation.Kind.{Kind}
-use Rattle.appender_names.specs.declared.rotation.Kind.TheVariants.{Minutely, Hourly, Daily, Weekly, Never}
+use Rattle.appender_names.specs.declared.rotation.RotationKind.{RotationKind}
+use Rattle.appender_names.specs.declared.rotation.RotationKind.TheVariants.{Minutely, Hourly, Daily, Weekly, Never}
 use Rattle.appender_names.specs.declared.rotation.Rotation.{Rotation}
 
 -- the range of moments: from 0001-01-01 00:00:00 to 9998-12-31 23:59:59
@@ -15,7 +15,7 @@ abbrev pub is_moment : ℤ → Bool
 is_moment m = not (int_lt m (negsuc 62135596799)) && not (int_lt (pos 253370764799) m)
 
 -- the step from one boundary to the next: a minute, an hour, a day or a week; NEVER has none
-abbrev pub step_of : Kind → ℕ
+abbrev pub step_of : RotationKind → ℕ
 step_of Minutely = 60
 step_of Hourly = 3600
 step_of Daily = 86400
@@ -23,7 +23,7 @@ step_of Weekly = 604800
 step_of Never = 0
 
 -- the anchor, one boundary: weeks begin on Sunday, as 1970-01-04 is, and the others at second 0
-abbrev pub anchor_of : Kind → ℕ
+abbrev pub anchor_of : RotationKind → ℕ
 anchor_of Weekly = 259200
 anchor_of k = 0
 
@@ -34,6 +34,11 @@ IsNever r = r.kind ≡ Never
 -- a boundary: b mod step = anchor mod step
 abbrev pub IsBoundary : Rotation → ℤ → Type 0
 IsBoundary r b = (r.kind ≢ Never) × (int_rem_euclid b (pos (step_of r.kind)) ≡ int_rem_euclid (pos (anchor_of r.kind)) (pos (step_of r.kind)))
+
+-- a rotation of this kind, whose boundaries are the seconds that leave this rest when they are divided by the step
+pub record IsRotation (r : Rotation) (kind : RotationKind) (step rest : ℕ) : Type 0 where
+  pub kind_is : r.kind ≡ kind
+  pub boundaries : (b : ℤ) → IsBoundary r b ↔ (int_rem_euclid b (pos step) ≡ pos rest)
 
 -- the start of the period of m: the greatest boundary that isn't after m
 pub record IsGreatestBoundary (r : Rotation) (m b : ℤ) : Type 0 where
@@ -48,7 +53,7 @@ pub record IsNextBoundary (r : Rotation) (m b : ℤ) : Type 0 where
   pub least : (c : ℤ) → IsBoundary r c → m <ℤ c → b ≤ℤ c
 
 -- the start of the period of m as a number, m less what it lies after the boundary; under NEVER the whole range is one period, which has no start
-abbrev pub period_of_kind : Kind → ℤ → Option ℤ
+abbrev pub period_of_kind : RotationKind → ℤ → Option ℤ
 period_of_kind Never m = None
 period_of_kind k m = Some (m -ℤ int_rem_euclid (m -ℤ pos (anchor_of k)) (pos (step_of k)))
 

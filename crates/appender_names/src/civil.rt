@@ -3,7 +3,7 @@ ghost use Rattle.std.specs.Prelude.{◌≡◌, ◌≢◌, ℕ, ℤ, pos, negsuc,
 ghost use Rattle.jiff.specs.Words.{civil_nanos, IsBetween};
 ghost use Rattle.appender_names.specs.DateText.{date_text as text_of, two_digits, BeginsMinute, IsReadAt, IsDateText};
 
-use crate::rotation::Kind;
+use crate::rotation::RotationKind;
 use jiff::Timestamp;
 use jiff::civil::DateTime;
 use jiff::tz::Offset;
@@ -18,7 +18,11 @@ fn civil(moment: i64) -> DateTime
 }
 
 /// The date text of a moment, to the minute, the hour or the day.
-pub(crate) fn date_text(alloc: Global, kind: Kind, moment: i64) -> Result<String, AllocError>
+pub(crate) fn date_text(
+    alloc: Global,
+    kind: RotationKind,
+    moment: i64,
+) -> Result<String, AllocError>
     requires { IsBetween (negsuc 62135683199) (pos 253370764799) moment }
     ensures { IfOk result (λ text. string_bytes text ≡ text_of kind moment) }
 {
@@ -27,30 +31,32 @@ pub(crate) fn date_text(alloc: Global, kind: Kind, moment: i64) -> Result<String
     let hour = civil.hour();
     let minute = civil.minute();
     match kind {
-        Kind::Minutely => format!(in alloc; "{date}-{hour:02}-{minute:02}"),
-        Kind::Hourly => format!(in alloc; "{date}-{hour:02}"),
-        Kind::Daily | Kind::Weekly | Kind::Never => format!(in alloc; "{date}"),
+        RotationKind::Minutely => format!(in alloc; "{date}-{hour:02}-{minute:02}"),
+        RotationKind::Hourly => format!(in alloc; "{date}-{hour:02}"),
+        RotationKind::Daily | RotationKind::Weekly | RotationKind::Never => {
+            format!(in alloc; "{date}")
+        }
     }
 }
 
 /// The second that a date text stands for. The date must exist in the years 0000 to 9999 of the
 /// proleptic Gregorian calendar.
-pub(crate) fn read_date(kind: Kind, text: &[u8]) -> Option<i64>
+pub(crate) fn read_date(kind: RotationKind, text: &[u8]) -> Option<i64>
     ensures { MatchOption result ((s : ℤ) → ¬ (IsDateText kind text.now s))
         (IsDateText kind text.now) }
 {
     match kind {
-        Kind::Minutely => match text {
+        RotationKind::Minutely => match text {
             [date @ .., b'-', h1, h0, b'-', m1, m0] => {
                 read_second(date, number(*h1, *h0)?, number(*m1, *m0)?)
             }
             _ => None,
         },
-        Kind::Hourly => match text {
+        RotationKind::Hourly => match text {
             [date @ .., b'-', h1, h0] => read_second(date, number(*h1, *h0)?, 0),
             _ => None,
         },
-        Kind::Daily | Kind::Weekly | Kind::Never => read_second(text, 0, 0),
+        RotationKind::Daily | RotationKind::Weekly | RotationKind::Never => read_second(text, 0, 0),
     }
 }
 

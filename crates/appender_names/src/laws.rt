@@ -1,8 +1,28 @@
 //! What holds of all rotations and all names. A caller cites a law by a call: the function does
 //! nothing, and its contract is the law.
+ghost use Rattle.std.specs.Prelude.{◌≡◌, ◌↔◌, IsTrue};
 ghost use Rattle.appender_names.specs.declared.rotation.Rotation.{Rotation};
+ghost use Rattle.appender_names.specs.declared.rotation.RotationKind.TheVariants.{Minutely, Hourly, Daily, Weekly};
+ghost use Rattle.appender_names.specs.Equality.{rotation_eq};
 ghost use Rattle.appender_names.specs.Name.{Naming, NamesRise, NamesArePeriods, NamesReadAsStarts, NamesReadOnce, NamesAreEntries};
-ghost use Rattle.appender_names.specs.Rotation.{StartsItself, PeriodsBeginAtBoundaries, PeriodsEndAtBoundaries};
+ghost use Rattle.appender_names.specs.Rotation.{IsRotation, IsNever, StartsItself, PeriodsBeginAtBoundaries, PeriodsEndAtBoundaries};
+
+use crate::rotation::Rotation;
+
+/// What each constant stands for: its kind, and which seconds are its boundaries, by the rest that
+/// they leave when they are divided by its step. Weeks begin on Sunday, as 1970-01-04 is.
+pub fn constants_have_their_boundaries()
+    ensures minutely { IsRotation Rotation.MINUTELY Minutely 60 0 }
+    ensures hourly { IsRotation Rotation.HOURLY Hourly 3600 0 }
+    ensures daily { IsRotation Rotation.DAILY Daily 86400 0 }
+    ensures weekly { IsRotation Rotation.WEEKLY Weekly 604800 259200 }
+    ensures never { IsNever Rotation.NEVER }
+{}
+
+/// `==` of rotations holds exactly where both are the same rotation.
+pub fn equal_rotations_are_the_same()
+    ensures { (r s : Rotation) → IsTrue (rotation_eq r s) ↔ (r ≡ s) }
+{}
 
 /// The start of a period lies in that period, so that rounding twice is rounding once.
 pub fn periods_start_themselves()
@@ -20,7 +40,8 @@ pub fn names_rise()
     ensures { (n : Naming) → NamesRise n }
 {}
 
-/// Two moments have one name exactly if they lie in one period.
+/// Under each rotation but `NEVER`, which has no boundaries, moments share a name exactly where they
+/// share a period.
 pub fn names_are_periods()
     ensures { (n : Naming) → NamesArePeriods n }
 {}

@@ -6,5 +6,3 @@ pub mod error;
 pub mod laws;
 pub mod names;
 pub mod rotation;
-#[cfg(test)]
-mod tests;

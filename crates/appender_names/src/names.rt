@@ -1,8 +1,8 @@
 //! What the log files are called, as in the documentation of the crate tracing-appender: prefix,
 //! date and suffix, with a dot between. Dates are those of UTC in the proleptic Gregorian calendar
 //! of ISO 8601.
-ghost use Rattle.std.specs.Prelude.{◌≡◌, ◌≢◌, ◌↔◌, ℕ, ℤ, List, [], IsTrue, IsOk, IfOk, IfErr, MatchOption, Some, Err, string_bytes, ◌⊎◌};
-ghost use Rattle.appender_names.specs.declared.rotation.Kind.TheVariants.{Never};
+ghost use Rattle.std.specs.Prelude.{◌≡◌, ◌≢◌, ◌↔◌, ℕ, ℤ, pos, negsuc, List, [], IsTrue, IsOk, IfOk, IfErr, MatchOption, Some, Err, string_bytes, ◌⊎◌};
+ghost use Rattle.appender_names.specs.declared.rotation.RotationKind.TheVariants.{Never};
 ghost use Rattle.appender_names.specs.Rotation.{IsMoment, IsNever};
 ghost use Rattle.appender_names.specs.DateText.{date_text};
 ghost use Rattle.std.specs.List.{list_all};
@@ -11,7 +11,7 @@ ghost use Rattle.appender_names.specs.Name.{IsPart, IsDots, IsEntry, IsAllowed};
 
 use crate::civil;
 use crate::error::InitError;
-use crate::rotation::{Kind, Rotation};
+use crate::rotation::{Rotation, RotationKind};
 use std::alloc::{AllocError, Global};
 use std::marker::Model;
 
@@ -40,7 +40,8 @@ impl Model for Names {
 }
 
 impl Names {
-    ghost use Rattle.appender_names.specs.Name.{Naming, name_of, naming, Reads, reading};
+    ghost use Rattle.appender_names.specs.Name.{Naming, name_of, naming, named_moment, Reads, reading};
+    ghost use Rattle.jiff.specs.Words.{IsBetween};
 
     /// Whether names may have this prefix and this suffix, where an empty text is none: neither has
     /// a `/` or a zero byte, and under `NEVER` both together don't make `.` or `..`.
@@ -59,8 +60,8 @@ impl Names {
         suffix: &str,
     ) -> Result<Names, InitError>
         ensures ok { IfOk result (λ names. names ≡ naming rotation prefix.now suffix.now) }
-        ensures allowed { IsOk result → IsAllowed rotation prefix.now suffix.now }
-        ensures name { (result ≡ Err InitError.Name) ↔ ¬ (IsAllowed rotation prefix.now suffix.now) }
+        ensures allowed { result ≢ Err InitError.Name → IsAllowed rotation prefix.now suffix.now }
+        ensures name { result ≡ Err InitError.Name → ¬ (IsAllowed rotation prefix.now suffix.now) }
         ensures err { IfErr result (λ e. (e ≡ InitError.Name) ⊎ (e ≡ InitError.Memory)) }
     {
         if !Names::is_allowed(rotation, prefix, suffix) {
@@ -104,11 +105,21 @@ impl Names {
         let prefix = self.prefix.as_str();
         let suffix = self.suffix.as_str();
         if self.rotation.is_never() {
-            return undated(self.alloc, prefix, suffix, moment);
+            return undated_name(self.alloc, prefix, suffix, moment);
         }
-        let start = self.rotation.round_date(moment);
+        let start = self.named_start(moment);
         let date = civil::date_text(self.alloc, self.rotation.kind(), start)?;
-        dated(self.alloc, prefix, suffix, date)
+        dated_name(self.alloc, prefix, suffix, date)
+    }
+
+    // The moment whose date stands in the name, where periods have a start: the start.
+    fn named_start(&self, moment: i64) -> i64
+        requires rotates { ¬ (IsNever self.now.rotation) }
+        requires moment { IsMoment moment }
+        ensures start { result ≡ named_moment self.now.rotation moment }
+        ensures within { IsBetween (negsuc 62135683199) (pos 253370764799) result }
+    {
+        self.rotation.round_date(moment)
     }
 
     /// The moment at which the minute, hour or day begins whose date stands in a name. It is `None`
@@ -117,8 +128,8 @@ impl Names {
         ensures exact { (s : ℤ) → (result ≡ Some s) ↔ Reads self.now name.now s }
         ensures value { result ≡ reading self.now name.now }
     {
-        let dated = behind(name.as_bytes(), self.prefix.as_bytes())?;
-        let date = before(dated, self.suffix.as_bytes())?;
+        let rest = behind(name.as_bytes(), self.prefix.as_bytes())?;
+        let date = before(rest, self.suffix.as_bytes())?;
         civil::read_date(self.rotation.kind(), date)
     }
 }
@@ -141,7 +152,7 @@ fn is_part(text: &str) -> bool
 
 // Whether these two make another name than `.` and `..` where no date stands between them.
 fn is_plain(prefix: &str, suffix: &str) -> bool
-    ensures { IsTrue result ↔ ¬ (IsDots (spec.undated prefix.now suffix.now [])) }
+    ensures { IsTrue result ↔ ¬ (IsDots (spec.undated_name prefix.now suffix.now [])) }
 {
     if prefix.is_empty() {
         !is_dots(suffix)
@@ -157,9 +168,9 @@ fn is_dots(name: &str) -> bool
 }
 
 // The name that a date has.
-fn dated(alloc: Global, prefix: &str, suffix: &str, date: String) -> Result<String, AllocError>
+fn dated_name(alloc: Global, prefix: &str, suffix: &str, date: String) -> Result<String, AllocError>
     ensures { IfOk result (λ name.
-        string_bytes name ≡ spec.dated prefix.now suffix.now (string_bytes date)) }
+        string_bytes name ≡ spec.dated_name prefix.now suffix.now (string_bytes date)) }
 {
     match (prefix.is_empty(), suffix.is_empty()) {
         (true, true) => Ok(date),
@@ -170,13 +181,18 @@ fn dated(alloc: Global, prefix: &str, suffix: &str, date: String) -> Result<Stri
 }
 
 // The name under `NEVER`, which has a date only where nothing else can stand in it.
-fn undated(alloc: Global, prefix: &str, suffix: &str, moment: i64) -> Result<String, AllocError>
+fn undated_name(
+    alloc: Global,
+    prefix: &str,
+    suffix: &str,
+    moment: i64,
+) -> Result<String, AllocError>
     requires { IsMoment moment }
     ensures { IfOk result (λ name.
-        string_bytes name ≡ spec.undated prefix.now suffix.now (date_text Never moment)) }
+        string_bytes name ≡ spec.undated_name prefix.now suffix.now (date_text Never moment)) }
 {
     match (prefix.is_empty(), suffix.is_empty()) {
-        (true, true) => civil::date_text(alloc, Kind::Never, moment),
+        (true, true) => civil::date_text(alloc, RotationKind::Never, moment),
         (true, false) => String::from_str(alloc, suffix),
         (false, true) => String::from_str(alloc, prefix),
         (false, false) => format!(in alloc; "{prefix}.{suffix}"),

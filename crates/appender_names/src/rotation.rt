@@ -1,17 +1,17 @@
 //! When a new log file begins, as in the documentation of the crate tracing-appender. A moment is
 //! in whole seconds of UTC since 1970-01-01 00:00:00, with days of 86,400 seconds.
-ghost use Rattle.std.specs.Prelude.{◌≡◌, ◌≢◌, ◌↔◌, IsTrue, IsNone, IfSome};
+ghost use Rattle.std.specs.Prelude.{◌≡◌, ◌≢◌, ◌↔◌, negsuc, ◌≤ℤ◌, IsTrue, IsNone, IfSome};
 ghost use Rattle.appender_names.specs.Rotation.{IsMoment, IsNever, IsGreatestBoundary, IsNextBoundary, step_of, period_of, next_of};
 
 /// How often a new log file begins. Its boundaries are whole minutes, hours, days or weeks of UTC.
 #[derive(Clone, Copy, Debug, PartialEq, Eq)]
 pub struct Rotation {
-    kind: Kind,
+    kind: RotationKind,
 }
 
 /// The five rotations, as contracts name them.
 #[derive(Clone, Copy, Debug, PartialEq, Eq)]
-pub enum Kind {
+pub enum RotationKind {
     Minutely,
     Hourly,
     Daily,
@@ -29,17 +29,17 @@ const LAST: i64 = 253_370_764_799;
 // steps after that Sunday.
 const BEFORE: i64 = 62_135_683_200;
 
-impl Kind {
+impl RotationKind {
     // Seconds from a boundary to the next.
     fn step(self) -> u64
         ensures step { result ≡ step_of self }
     {
         match self {
-            Kind::Minutely => 60,
-            Kind::Hourly => 3_600,
-            Kind::Daily => 86_400,
-            Kind::Weekly => 604_800,
-            Kind::Never => 0,
+            RotationKind::Minutely => 60,
+            RotationKind::Hourly => 3_600,
+            RotationKind::Daily => 86_400,
+            RotationKind::Weekly => 604_800,
+            RotationKind::Never => 0,
         }
     }
 }
@@ -47,29 +47,37 @@ impl Kind {
 impl Rotation {
     /// A new file begins each minute.
     pub const MINUTELY: Rotation = Rotation {
-        kind: Kind::Minutely,
+        kind: RotationKind::Minutely,
     };
 
     /// A new file begins each hour.
-    pub const HOURLY: Rotation = Rotation { kind: Kind::Hourly };
+    pub const HOURLY: Rotation = Rotation {
+        kind: RotationKind::Hourly,
+    };
 
     /// A new file begins each day at 00:00:00.
-    pub const DAILY: Rotation = Rotation { kind: Kind::Daily };
+    pub const DAILY: Rotation = Rotation {
+        kind: RotationKind::Daily,
+    };
 
     /// A new file begins each Sunday at 00:00:00.
-    pub const WEEKLY: Rotation = Rotation { kind: Kind::Weekly };
+    pub const WEEKLY: Rotation = Rotation {
+        kind: RotationKind::Weekly,
+    };
 
     /// There is one file for all time.
-    pub const NEVER: Rotation = Rotation { kind: Kind::Never };
+    pub const NEVER: Rotation = Rotation {
+        kind: RotationKind::Never,
+    };
 
     /// Whether this is `NEVER`, which has no boundaries.
     pub fn is_never(&self) -> bool
         ensures { IsTrue result ↔ IsNever self.now }
     {
-        self.kind == Kind::Never
+        self.kind == RotationKind::Never
     }
 
-    pub(crate) fn kind(&self) -> Kind
+    pub(crate) fn kind(&self) -> RotationKind
         ensures { result ≡ self.now.kind }
     {
         self.kind
@@ -82,6 +90,7 @@ impl Rotation {
         requires moment { IsMoment moment }
         ensures value { period_of self.now moment ≡ Some result }
         ensures boundary { IsGreatestBoundary self.now moment result }
+        ensures first { negsuc 62135683199 ≤ℤ result }
     {
         let step = self.kind.step();
         let since = (moment + BEFORE) as u64;
@@ -96,10 +105,20 @@ impl Rotation {
         ensures none { IsNone result ↔ IsNever self.now }
         ensures boundary { IfSome result (IsNextBoundary self.now moment) }
     {
-        match self.kind {
-            Kind::Never => None,
-            _ => Some(self.round_date(moment) + self.kind.step() as i64),
+        if self.is_never() {
+            return None;
         }
+        Some(self.next_start(moment))
+    }
+
+    // Where the next period starts.
+    fn next_start(&self, moment: i64) -> i64
+        requires rotates { ¬ (IsNever self.now) }
+        requires moment { IsMoment moment }
+        ensures value { next_of self.now moment ≡ Some result }
+        ensures boundary { IsNextBoundary self.now moment result }
+    {
+        self.round_date(moment) + self.kind.step() as i64
     }
 }
 

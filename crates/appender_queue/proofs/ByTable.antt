@@ -2,7 +2,7 @@
 use Rattle.std.proofs.Common.{◌≡◌, ℕ, ◌+◌, List, [], ◌∷◌, Bool, true, false, ◌&&◌, ◌==◌, length, drop, refl}
 use Rattle.std.specs.Prelude.{if◌then◌else◌, nat_le, nat_lt}
 use Rattle.appender_queue.specs.Core.{Core, Taking, Writing, Flushing, Ending, Over, Wrote, Interrupted, Failed, Line, Last, Nothing, is_writing}
-use Rattle.appender_queue.specs.Runs.{Event, Took, Write, Flushed, after, runs, leading}
+use Rattle.appender_queue.specs.Runs.{Event, Took, Write, Flushed, after, runs, next_answers}
 
 -- what has to be shown of a run that has just begun, and of a run that each row of the table begins
 pub record Rows (P : Core → List Event → Type 0) : Type 0 where
@@ -22,23 +22,23 @@ pub record Rows (P : Core → List Event → Type 0) : Type 0 where
   pub first_flush : (n : ℕ) (es : List Event) → (n == 2) ≡ true → runs (Ending 1) es ≡ true → P (Ending 1) es → P (Ending n) (Flushed ∷ es)
   pub last_flush : (n : ℕ) (es : List Event) → (n == 2) ≡ false → runs Over es ≡ true → P Over es → P (Ending n) (Flushed ∷ es)
 
-wrote : (P : Core → List Event → Type 0) → Rows P → (b c : Bool) (rest : List ℕ) (repeats n : ℕ) (es : List Event) → (n == 0) ≡ b → nat_le (length rest) n ≡ c
+write_row : (P : Core → List Event → Type 0) → Rows P → (b c : Bool) (rest : List ℕ) (repeats n : ℕ) (es : List Event) → (n == 0) ≡ b → nat_le (length rest) n ≡ c
     → runs (if b then Taking true else if c then Taking false else Writing (drop n rest) repeats) es ≡ true
     → ((core : Core) → runs core es ≡ true → P core es) → P (Writing rest repeats) (Write (Wrote n) ∷ es)
-wrote P rows true c rest repeats n es zero long h all = rows.no_byte rest repeats n es zero h (all (Taking true) h)
-wrote P rows false true rest repeats n es zero long h all = rows.whole rest repeats n es zero long h (all (Taking false) h)
-wrote P rows false false rest repeats n es zero long h all = rows.more rest repeats n es zero long h (all (Writing (drop n rest) repeats) h)
+write_row P rows true c rest repeats n es zero long h all = rows.no_byte rest repeats n es zero h (all (Taking true) h)
+write_row P rows false true rest repeats n es zero long h all = rows.whole rest repeats n es zero long h (all (Taking false) h)
+write_row P rows false false rest repeats n es zero long h all = rows.more rest repeats n es zero long h (all (Writing (drop n rest) repeats) h)
 
-interrupted : (P : Core → List Event → Type 0) → Rows P → (b : Bool) (rest : List ℕ) (repeats : ℕ) (es : List Event) → nat_lt repeats 100 ≡ b
+interruption_row : (P : Core → List Event → Type 0) → Rows P → (b : Bool) (rest : List ℕ) (repeats : ℕ) (es : List Event) → nat_lt repeats 100 ≡ b
     → runs (if b then Writing rest (repeats + 1) else Taking true) es ≡ true
     → ((core : Core) → runs core es ≡ true → P core es) → P (Writing rest repeats) (Write Interrupted ∷ es)
-interrupted P rows true rest repeats es few h all = rows.again rest repeats es few h (all (Writing rest (repeats + 1)) h)
-interrupted P rows false rest repeats es few h all = rows.too_often rest repeats es few h (all (Taking true) h)
+interruption_row P rows true rest repeats es few h all = rows.again rest repeats es few h (all (Writing rest (repeats + 1)) h)
+interruption_row P rows false rest repeats es few h all = rows.too_often rest repeats es few h (all (Taking true) h)
 
-ending : (P : Core → List Event → Type 0) → Rows P → (b : Bool) (n : ℕ) (es : List Event) → (n == 2) ≡ b → runs (if b then Ending 1 else Over) es ≡ true
+flush_row : (P : Core → List Event → Type 0) → Rows P → (b : Bool) (n : ℕ) (es : List Event) → (n == 2) ≡ b → runs (if b then Ending 1 else Over) es ≡ true
     → ((core : Core) → runs core es ≡ true → P core es) → P (Ending n) (Flushed ∷ es)
-ending P rows true n es two h all = rows.first_flush n es two h (all (Ending 1) h)
-ending P rows false n es two h all = rows.last_flush n es two h (all Over h)
+flush_row P rows true n es two h all = rows.first_flush n es two h (all (Ending 1) h)
+flush_row P rows false n es two h all = rows.last_flush n es two h (all Over h)
 
 -- what holds of each row holds of every run
 pub by_table : (P : Core → List Event → Type 0) → Rows P → (core : Core) (es : List Event) → runs core es ≡ true → P core es
@@ -50,15 +50,15 @@ by_table P rows (Taking true) (Took Nothing ∷ es) h = rows.nothing_waiting es 
 by_table P rows (Taking false) (Took Nothing ∷ es) h = rows.nothing es h (by_table P rows Flushing es h)
 by_table P rows (Taking waits) (Write answer ∷ es) h = cc
 by_table P rows (Taking waits) (Flushed ∷ es) h = cc
-by_table P rows (Writing rest repeats) (Write (Wrote n) ∷ es) h = wrote P rows (n == 0) (nat_le (length rest) n) rest repeats n es refl refl h (λ core r. by_table P rows core es r)
-by_table P rows (Writing rest repeats) (Write Interrupted ∷ es) h = interrupted P rows (nat_lt repeats 100) rest repeats es refl h (λ core r. by_table P rows core es r)
+by_table P rows (Writing rest repeats) (Write (Wrote n) ∷ es) h = write_row P rows (n == 0) (nat_le (length rest) n) rest repeats n es refl refl h (λ core r. by_table P rows core es r)
+by_table P rows (Writing rest repeats) (Write Interrupted ∷ es) h = interruption_row P rows (nat_lt repeats 100) rest repeats es refl h (λ core r. by_table P rows core es r)
 by_table P rows (Writing rest repeats) (Write Failed ∷ es) h = rows.failed rest repeats es h (by_table P rows (Taking true) es h)
 by_table P rows (Writing rest repeats) (Took found ∷ es) h = cc
 by_table P rows (Writing rest repeats) (Flushed ∷ es) h = cc
 by_table P rows Flushing (Flushed ∷ es) h = rows.flush es h (by_table P rows (Taking true) es h)
 by_table P rows Flushing (Took found ∷ es) h = cc
 by_table P rows Flushing (Write answer ∷ es) h = cc
-by_table P rows (Ending n) (Flushed ∷ es) h = ending P rows (n == 2) n es refl h (λ core r. by_table P rows core es r)
+by_table P rows (Ending n) (Flushed ∷ es) h = flush_row P rows (n == 2) n es refl h (λ core r. by_table P rows core es r)
 by_table P rows (Ending n) (Took found ∷ es) h = cc
 by_table P rows (Ending n) (Write answer ∷ es) h = cc
 by_table P rows Over (Took found ∷ es) h = cc
@@ -66,7 +66,7 @@ by_table P rows Over (Write answer ∷ es) h = cc
 by_table P rows Over (Flushed ∷ es) h = cc
 
 -- no write comes where a take or a flush is wanted
-pub no_write : (core : Core) (es : List Event) → is_writing core ≡ false → runs core es ≡ true → leading es ≡ []
+pub no_write : (core : Core) (es : List Event) → is_writing core ≡ false → runs core es ≡ true → next_answers es ≡ []
 no_write core [] w h = refl
 no_write core (Took found ∷ es) w h = refl
 no_write core (Flushed ∷ es) w h = refl

@@ -58,20 +58,20 @@ flush_law = by_table Flushes (record {
 })
 
 -- two flushes, and then nothing
-ended : (fs : List Event) → runs (Ending 2) fs ≡ true → IsEnd fs (ends (Ending 2) fs)
-ended [] h = refl
-ended (Took found ∷ fs) h = cc
-ended (Write answer ∷ fs) h = cc
-ended (Flushed ∷ []) h = refl
-ended (Flushed ∷ Took found ∷ fs) h = cc
-ended (Flushed ∷ Write answer ∷ fs) h = cc
-ended (Flushed ∷ Flushed ∷ []) h = refl
-ended (Flushed ∷ Flushed ∷ Took found ∷ fs) h = cc
-ended (Flushed ∷ Flushed ∷ Write answer ∷ fs) h = cc
-ended (Flushed ∷ Flushed ∷ Flushed ∷ fs) h = cc
+two_flushes : (fs : List Event) → runs (Ending 2) fs ≡ true → IsEnd fs (ends (Ending 2) fs)
+two_flushes [] h = refl
+two_flushes (Took found ∷ fs) h = cc
+two_flushes (Write answer ∷ fs) h = cc
+two_flushes (Flushed ∷ []) h = refl
+two_flushes (Flushed ∷ Took found ∷ fs) h = cc
+two_flushes (Flushed ∷ Write answer ∷ fs) h = cc
+two_flushes (Flushed ∷ Flushed ∷ []) h = refl
+two_flushes (Flushed ∷ Flushed ∷ Took found ∷ fs) h = cc
+two_flushes (Flushed ∷ Flushed ∷ Write answer ∷ fs) h = cc
+two_flushes (Flushed ∷ Flushed ∷ Flushed ∷ fs) h = cc
 
 end_taken : (core : Core) (fs : List Event) → runs core (Took Last ∷ fs) ≡ true → IsEnd fs (ends core (Took Last ∷ fs))
-end_taken (Taking waits) fs h = ended fs h
+end_taken (Taking waits) fs h = two_flushes fs h
 end_taken (Writing rest repeats) fs h = cc
 end_taken Flushing fs h = cc
 end_taken (Ending n) fs h = cc

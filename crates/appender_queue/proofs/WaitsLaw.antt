@@ -1,15 +1,15 @@
--- A take doesn't wait exactly where the take before it gave a line that was not given up.
+-- Which takes wait: all but those behind a line that was not given up.
 use Rattle.std.proofs.Common.{◌≡◌, List, [], true, false, refl, arith}
 use Rattle.std.specs.Prelude.{nat_le}
 use Rattle.std.proofs.lemmas.Bool.Decides.{nat_tests}
 use Rattle.appender_queue.specs.Core.{Core, Taking, Writing, Flushing, Ending, Over}
-use Rattle.appender_queue.specs.Runs.{Event, runs, leading, gives_up, passes_of, WaitsFollow}
+use Rattle.appender_queue.specs.Runs.{Event, runs, next_answers, gives_up, passes_of, WaitsFollow}
 use Rattle.appender_queue.proofs.ByTable.{by_table, no_write}
 
 -- the takes of the rest of a run
 abbrev Waits : Core → List Event → Type 0
 Waits (Taking waits) es = WaitsFollow waits (passes_of (Taking waits) es)
-Waits (Writing rest repeats) es = WaitsFollow (gives_up repeats (leading es)) (passes_of (Writing rest repeats) es)
+Waits (Writing rest repeats) es = WaitsFollow (gives_up repeats (next_answers es)) (passes_of (Writing rest repeats) es)
 Waits Flushing es = WaitsFollow true (passes_of Flushing es)
 Waits (Ending n) es = passes_of (Ending n) es ≡ []
 Waits Over es = passes_of Over es ≡ []

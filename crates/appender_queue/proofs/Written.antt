@@ -7,7 +7,7 @@ use Rattle.std.specs.declared.io.Error.{Error}
 use Rattle.std.proofs.Math.Seq.{take-add}
 use Rattle.appender_queue.specs.Core.{Interrupted, Failed}
 use Rattle.appender_queue.specs.CoreReplies.{answer_of, is_interruption}
-use Rattle.appender_queue.specs.LineSteps.{IsNext}
+use Rattle.appender_queue.specs.Inside.LineSteps.{IsNext}
 use Rattle.appender_queue.specs.declared.worker.Step.TheVariants.{More}
 
 pub Appends-Appends : (a b d : Option (List ℕ)) (xs ys : List ℕ) → Appends a b xs → Appends b d ys → Appends a d (xs ++ ys)

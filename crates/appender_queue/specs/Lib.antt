@@ -1,9 +1,8 @@
-pub mod Slots
 pub mod Queue
 pub mod QueueReplies
-pub mod Rules
+pub mod QueueCalls
+pub mod QueueChanges
 pub mod Core
 pub mod CoreReplies
-pub mod CoreState
-pub mod LineSteps
 pub mod Runs
+pub mod Inside

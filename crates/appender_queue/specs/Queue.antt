@@ -49,8 +49,8 @@ abbrev pub is_open : Queue → Bool
 is_open q = not q.closed && nat_lt q.accepted (2 ^ 64 - 1)
 
 -- one more, by a count of 64 bits that stays at its greatest value
-abbrev pub one_more : ℕ → ℕ
-one_more n = min (n + 1) (2 ^ 64 - 1)
+abbrev pub saturating_next : ℕ → ℕ
+saturating_next n = min (n + 1) (2 ^ 64 - 1)
 
 -- one less; 0 stays, and so does a count that has reached its greatest value
 abbrev pub one_less : ℕ → ℕ
@@ -72,16 +72,16 @@ fresh limit lossy = record {
 }
 
 -- the queue after a line was accepted
-abbrev pub accepting : Queue → List ℕ → Queue
-accepting q line = record q { lines = q.lines ++ line ∷ []; accepted = q.accepted + 1 }
+abbrev pub after_acceptance : Queue → List ℕ → Queue
+after_acceptance q line = record q { lines = q.lines ++ line ∷ []; accepted = q.accepted + 1 }
 
 -- the queue after a line was refused: in lossy mode it counts as dropped
-abbrev pub refusing : Queue → Queue
-refusing q = if q.lossy then record q { dropped = one_more q.dropped } else q
+abbrev pub after_refusal : Queue → Queue
+after_refusal q = if q.lossy then record q { dropped = saturating_next q.dropped } else q
 
 -- the queue after a line was offered
 abbrev pub after_offer : Queue → List ℕ → Queue
-after_offer q line = if is_open q && has_room q then accepting q line else refusing q
+after_offer q line = if is_open q && has_room q then after_acceptance q line else after_refusal q
 
 -- whether a shutdown is taken in: not closed, none was sent before, and there is room
 abbrev pub may_shut : Queue → Bool
@@ -101,16 +101,16 @@ abbrev pub has_line : Queue → Bool
 has_line q = nat_lt q.handed q.accepted && is_before q.shutdown q.handed
 
 -- the queue once it is closed: what lay there is left
-abbrev pub closing : Queue → Queue
-closing q = record q { lines = []; closed = true; worker_waits = false }
+abbrev pub after_closing : Queue → Queue
+after_closing q = record q { lines = []; closed = true; worker_waits = false }
 
 -- the queue after a take
 abbrev pub after_take : Queue → Bool → Queue
 after_take q waits =
     if q.closed then record q { worker_waits = false }
     else if has_line q then record q { lines = drop 1 q.lines; handed = q.handed + 1; worker_waits = false }
-    else if is_sent q.shutdown then closing q
-    else if q.senders == 0 then closing q
+    else if is_sent q.shutdown then after_closing q
+    else if q.senders == 0 then after_closing q
     else record q { worker_waits = waits }
 
 -- how many accepted lines wait for the worker

@@ -1,5 +1,5 @@
 -- What a queue answers.
-use Rattle.std.specs.Prelude.{◌≡◌, ℕ, ◌+◌, [], true, false, not, ◌&&◌, ◌||◌, ◌==◌, if◌then◌else◌, Some, None, Result, Ok, Err, Vec, slice_index_or}
+use Rattle.std.specs.Prelude.{◌≡◌, ℕ, ◌+◌, [], true, false, not, ◌&&◌, ◌||◌, ◌==◌, if◌then◌else◌, Result, Ok, Err, Vec, slice_index_or}
 use Rattle.std.specs.declared.alloc.Global.{Global}
 use Rattle.appender_queue.specs.Queue.{Queue, has_room, is_open, is_sent, has_line, queued_of, left_of}
 use Rattle.appender_queue.specs.declared.queue.Counts.{Counts}
@@ -30,26 +30,6 @@ IsTaken q Gone =
     (q.closed || (not (has_line q) && (not (is_sent q.shutdown) && (q.senders == 0)))) ≡ true
 IsTaken q Empty =
     (q.closed ≡ false) × (has_line q ≡ false) × (is_sent q.shutdown ≡ false) × ((q.senders == 0) ≡ false)
-
--- what a take leaves of counts and shutdown, by its answer: a line raises the handed ones to its ticket,
--- and the queue is closed exactly after Shutdown and Gone
-abbrev pub TakeLeaves : Queue → Queue → Taken → Type 0
-TakeLeaves q new (Line ticket line) =
-    (new.handed ≡ ticket) × (ticket ≡ q.handed + 1) × (new.accepted ≡ q.accepted) × (new.shutdown ≡ q.shutdown)
-    × (q.closed ≡ false) × (new.closed ≡ false)
-TakeLeaves q new Shutdown =
-    (new.handed ≡ q.handed) × (new.accepted ≡ q.accepted) × (new.shutdown ≡ q.shutdown) × (q.closed ≡ false) × (new.closed ≡ true)
-TakeLeaves q new Gone =
-    (new.handed ≡ q.handed) × (new.accepted ≡ q.accepted) × (new.shutdown ≡ q.shutdown) × (new.closed ≡ true)
-TakeLeaves q new Empty =
-    (new.handed ≡ q.handed) × (new.accepted ≡ q.accepted) × (new.shutdown ≡ q.shutdown) × (q.closed ≡ false) × (new.closed ≡ false)
-
--- what a shutdown leaves, by its answer: only Sent changes the queue
-abbrev pub ShutLeaves : Queue → Queue → Shut → Type 0
-ShutLeaves q new ShutSent = (q.shutdown ≡ None) × (new ≡ record q { shutdown = Some q.accepted })
-ShutLeaves q new Already = new ≡ q
-ShutLeaves q new ShutFull = new ≡ q
-ShutLeaves q new ShutClosed = new ≡ q
 
 -- the counts of a queue
 abbrev pub counts_of : Queue → Counts

@@ -49,16 +49,16 @@ abbrev pub turn : List ℕ → List Answer → Turn
 turn line answers = record { line = line; answers = answers }
 
 -- the answers up to the next take or flush
-abbrev pub leading : List Event → List Answer
-leading [] = []
-leading (Write answer ∷ es) = answer ∷ leading es
-leading (Took found ∷ es) = []
-leading (Flushed ∷ es) = []
+abbrev pub next_answers : List Event → List Answer
+next_answers [] = []
+next_answers (Write answer ∷ es) = answer ∷ next_answers es
+next_answers (Took found ∷ es) = []
+next_answers (Flushed ∷ es) = []
 
 -- the handed lines in order, each with the answers to its writes
 abbrev pub turns_of : List Event → List Turn
 turns_of [] = []
-turns_of (Took (Line line) ∷ es) = turn line (leading es) ∷ turns_of es
+turns_of (Took (Line line) ∷ es) = turn line (next_answers es) ∷ turns_of es
 turns_of (Took Last ∷ es) = turns_of es
 turns_of (Took Nothing ∷ es) = turns_of es
 turns_of (Write answer ∷ es) = turns_of es
@@ -125,7 +125,7 @@ flushes_in (Write answer ∷ es) = flushes_in es
 flushes_in (Flushed ∷ es) = 1 + flushes_in es
 
 abbrev pub pass : Bool → Found → List Event → Pass
-pass waits found es = record { waits = waits; found = found; answers = leading es; flushes = flushes_in es }
+pass waits found es = record { waits = waits; found = found; answers = next_answers es; flushes = flushes_in es }
 
 -- the takes in order
 abbrev pub passes_of : Core → List Event → List Pass

@@ -4,6 +4,4 @@
 
 pub mod laws;
 pub mod queue;
-#[cfg(test)]
-mod tests;
 pub mod worker;

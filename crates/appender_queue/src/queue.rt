@@ -1,5 +1,5 @@
 //! The bounded queue of lines. The shutdown takes a place in it like a line.
-ghost use Rattle.std.specs.Prelude.{◌≡◌, ◌+◌, ◌^◌, ◌<◌, [], ◌∷◌, ◌++◌, IfOk};
+ghost use Rattle.std.specs.Prelude.{◌≡◌, [], IfOk};
 
 mod slots;
 mod store;
@@ -60,7 +60,7 @@ pub struct Counts {
 }
 
 // The queue's rules, over any store.
-#[derive(Drop)]
+#[derive(Debug, Drop)]
 struct Rules<S: Store> {
     store: S,
     accepted: u64,
@@ -86,11 +86,11 @@ impl<S: Store> Model for Rules<S> {
       max,
     };
     ghost use Rattle.appender_queue.specs.Queue.{Queue};
-    ghost use Rattle.appender_queue.specs.Rules.{IsKept, shown};
+    ghost use Rattle.appender_queue.specs.Inside.Rules.{IsKept, queue_of};
 
     ghost Value = { Queue };
 
-    ghost view = { λ q. shown (S.lines q.store) q.accepted q.handed q.shutdown q.closed q.senders
+    ghost view = { λ q. queue_of (S.lines q.store) q.accepted q.handed q.shutdown q.closed q.senders
         q.worker_waits q.dropped q.limit q.lossy };
 
     ghost invariant = { λ q. IsKept (length (S.lines q.store)) (S.room q.store) q.accepted q.handed q.shutdown
@@ -99,23 +99,14 @@ impl<S: Store> Model for Rules<S> {
 
 impl<S: Store> Rules<S> {
     ghost use Rattle.std.specs.Prelude.{max, false};
-    ghost use Rattle.appender_queue.specs.Queue.{
-      fresh,
-      IsLawful,
-      has_room,
-      after_offer,
-      after_shut,
-      after_take,
-      one_less,
-      one_more,
-    };
-    ghost use Rattle.appender_queue.specs.QueueReplies.{
-      offer_reply,
-      shut_reply,
-      IsTaken,
-      TakeLeaves,
-      ShutLeaves,
-      counts_of,
+    ghost use Rattle.appender_queue.specs.Queue.{fresh, has_room};
+    ghost use Rattle.appender_queue.specs.QueueCalls.{
+      Offers,
+      Shuts,
+      Takes,
+      AddsSender,
+      DropsSender,
+      TellsCounts,
     };
 
     fn over(store: S, limit: usize, lossy: bool) -> Rules<S>
@@ -150,9 +141,7 @@ impl<S: Store> Rules<S> {
     }
 
     fn offer(&mut self, line: Vec<u8>) -> Result<u64, Refused>
-        ensures reply { result ≡ offer_reply self.old line }
-        ensures after { self.new ≡ after_offer self.old line.items }
-        ensures lawful { IsLawful self.new }
+        ensures { Offers self.old line result self.new }
     {
         let refused = if self.closed || self.accepted == u64::MAX {
             Refused::Closed(line)
@@ -170,10 +159,7 @@ impl<S: Store> Rules<S> {
     }
 
     fn shut(&mut self) -> Shut
-        ensures reply { result ≡ shut_reply self.old }
-        ensures after { self.new ≡ after_shut self.old }
-        ensures lawful { IsLawful self.new }
-        ensures leaves { ShutLeaves self.old self.new result }
+        ensures { Shuts self.old result self.new }
     {
         if self.closed {
             return Shut::Closed;
@@ -189,10 +175,7 @@ impl<S: Store> Rules<S> {
     }
 
     fn take(&mut self, waits: bool) -> Taken
-        ensures reply { IsTaken self.old result }
-        ensures after { self.new ≡ after_take self.old waits }
-        ensures lawful { IsLawful self.new }
-        ensures leaves { TakeLeaves self.old self.new result }
+        ensures { Takes self.old waits result self.new }
     {
         self.worker_waits = false;
         if self.closed {
@@ -222,18 +205,14 @@ impl<S: Store> Rules<S> {
     }
 
     fn add_sender(&mut self) -> u64
-        ensures after { self.new ≡ record self.old { senders = one_more self.old.senders } }
-        ensures reply { result ≡ self.new.senders }
-        ensures lawful { IsLawful self.new }
+        ensures { AddsSender self.old result self.new }
     {
         self.senders = self.senders.saturating_add(1);
         self.senders
     }
 
     fn drop_sender(&mut self) -> u64
-        ensures after { self.new ≡ record self.old { senders = one_less self.old.senders } }
-        ensures reply { result ≡ self.new.senders }
-        ensures lawful { IsLawful self.new }
+        ensures { DropsSender self.old result self.new }
     {
         // Once saturated, the count is not known any more.
         if self.senders != u64::MAX {
@@ -243,8 +222,7 @@ impl<S: Store> Rules<S> {
     }
 
     fn counts(&self) -> Counts
-        ensures counts { result ≡ counts_of self.now }
-        ensures lawful { IsLawful self.now }
+        ensures { TellsCounts self.now result }
     {
         let rest = self.accepted - self.handed;
         Counts {
@@ -261,7 +239,7 @@ impl<S: Store> Rules<S> {
 ///
 /// In lossy mode a refused line counts as dropped; else its sender is to try again, as in the
 /// documentation of the crate tracing-appender.
-#[derive(Drop)]
+#[derive(Debug, Drop)]
 pub struct LineQueue {
     rules: Rules<Slots>,
 }
@@ -275,24 +253,14 @@ impl Model for LineQueue {
 }
 
 impl LineQueue {
-    ghost use Rattle.std.specs.Prelude.{OnOk, OnErr};
-    ghost use Rattle.appender_queue.specs.Queue.{
-      fresh,
-      IsLawful,
-      accepting,
-      after_offer,
-      after_shut,
-      after_take,
-      one_less,
-      one_more,
-    };
-    ghost use Rattle.appender_queue.specs.QueueReplies.{
-      offer_reply,
-      shut_reply,
-      IsTaken,
-      TakeLeaves,
-      ShutLeaves,
-      counts_of,
+    ghost use Rattle.appender_queue.specs.Queue.{fresh, IsLawful};
+    ghost use Rattle.appender_queue.specs.QueueCalls.{
+      Offers,
+      Shuts,
+      Takes,
+      AddsSender,
+      DropsSender,
+      TellsCounts,
     };
 
     /// An empty queue with one sender, and with all the room that it will ever need: `limit`
@@ -309,22 +277,14 @@ impl LineQueue {
 
     /// Puts a line at the end, and answers its ticket: 1 for the first accepted line, then 2, ..
     pub fn offer(&mut self, line: Vec<u8>) -> Result<u64, Refused>
-        ensures reply { result ≡ offer_reply self.old line }
-        ensures after { self.new ≡ after_offer self.old line.items }
-        ensures lawful { IsLawful self.new }
-        ensures ticket { IfOk result (λ ticket. ticket ≡ self.old.accepted + 1) }
-        ensures ok { OnOk result (self.new ≡ accepting self.old line.items) }
-        ensures err { OnErr result (self.new ≡ record self.old { dropped = self.new.dropped }) }
+        ensures { Offers self.old line result self.new }
     {
         self.rules.offer(line)
     }
 
     /// Sends the shutdown: lines that are accepted later are never handed.
     pub fn shut(&mut self) -> Shut
-        ensures reply { result ≡ shut_reply self.old }
-        ensures after { self.new ≡ after_shut self.old }
-        ensures lawful { IsLawful self.new }
-        ensures leaves { ShutLeaves self.old self.new result }
+        ensures { Shuts self.old result self.new }
     {
         self.rules.shut()
     }
@@ -332,36 +292,28 @@ impl LineQueue {
     /// Takes what lies first, for the worker. `waits` says whether the worker will wait where
     /// nothing is there, so that at limit 0 a line can be handed over.
     pub fn take(&mut self, waits: bool) -> Taken
-        ensures reply { IsTaken self.old result }
-        ensures after { self.new ≡ after_take self.old waits }
-        ensures lawful { IsLawful self.new }
-        ensures leaves { TakeLeaves self.old self.new result }
+        ensures { Takes self.old waits result self.new }
     {
         self.rules.take(waits)
     }
 
     /// One more sender. Answers how many there are; `u64::MAX`, once reached, stays.
     pub fn add_sender(&mut self) -> u64
-        ensures after { self.new ≡ record self.old { senders = one_more self.old.senders } }
-        ensures reply { result ≡ self.new.senders }
-        ensures lawful { IsLawful self.new }
+        ensures { AddsSender self.old result self.new }
     {
         self.rules.add_sender()
     }
 
     /// One sender less. Answers how many there are; 0 stays 0, and `u64::MAX` stays.
     pub fn drop_sender(&mut self) -> u64
-        ensures after { self.new ≡ record self.old { senders = one_less self.old.senders } }
-        ensures reply { result ≡ self.new.senders }
-        ensures lawful { IsLawful self.new }
+        ensures { DropsSender self.old result self.new }
     {
         self.rules.drop_sender()
     }
 
     /// How many lines were accepted, handed, are queued, are left and were dropped.
     pub fn counts(&self) -> Counts
-        ensures counts { result ≡ counts_of self.now }
-        ensures lawful { IsLawful self.now }
+        ensures { TellsCounts self.now result }
     {
         self.rules.counts()
     }

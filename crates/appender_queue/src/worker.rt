@@ -3,7 +3,7 @@
 ghost use Rattle.std.specs.Prelude.{◌≡◌, ◌<◌, [], length, true, OnOk, IfErr, IsOk, take};
 ghost use Rattle.std.specs.Io.KnownBytes.{Appends};
 ghost use Rattle.appender_queue.specs.CoreReplies.{answer_of};
-ghost use Rattle.appender_queue.specs.LineSteps.{IsNext};
+ghost use Rattle.appender_queue.specs.Inside.LineSteps.{IsNext};
 
 use crate::queue::Taken;
 use std::io;
@@ -29,7 +29,7 @@ pub enum Want<'a> {
     Ended,
 }
 
-#[derive(Drop)]
+#[derive(Debug, Drop)]
 enum State {
     Take {
         waits: bool,
@@ -48,14 +48,14 @@ enum State {
 
 /// What a worker does between a queue and a writer. Whoever drives it does what `want` says, and
 /// tells the answer by `took`, `wrote` or `flushed`. Contracts see it as a `Core`.
-#[derive(Drop)]
+#[derive(Debug, Drop)]
 pub struct WorkerCore {
     state: State,
 }
 
 impl Model for WorkerCore {
     ghost use Rattle.appender_queue.specs.Core.{Core};
-    ghost use Rattle.appender_queue.specs.CoreState.{core_of, IsSound};
+    ghost use Rattle.appender_queue.specs.Inside.CoreState.{core_of, IsSound};
 
     ghost Value = { Core };
 

@@ -4,12 +4,12 @@ use Rattle.std.specs.List.Sorted.{IsPermutation, IsSorted, IsSortedBy}
 use Rattle.std.specs.Ordering.{is_lt}
 use Rattle.std.proofs.lemmas.List.{length-map, get_or-map, take-map}
 use Rattle.std.proofs.lemmas.List.Sorted.{IsPermutation-map}
-use Rattle.appender_store.specs.Folder.{Line}
+use Rattle.appender_store.specs.Folder.{Row}
 use Rattle.appender_names.specs.Name.{Naming}
-use Rattle.appender_retain.specs.Rank.{Rank, rank_cmp, ranks, how_many_go}
-use Rattle.appender_retain.specs.Candidate.{rank_in}
+use Rattle.appender_retain.specs.Rank.{Rank, rank_cmp, ranks}
+use Rattle.appender_retain.specs.Inside.Candidate.{rank_in, how_many_go}
 use Rattle.appender_retain.specs.declared.retain.Candidate.{Candidate}
-use Rattle.appender_retain.proofs.Ranks.{InOrder, in_order, gone}
+use Rattle.appender_retain.proofs.Ranks.{InOrder, in_order, places_to_go}
 
 -- a list sorted by a key has its keys sorted
 sorted_keys : {X K : Type 0} (f : X → K) (R : K → K → Ordering) (xs : List X) → IsSortedBy (λ x y. is_lt (R (f x) (f y))) xs → IsSorted R (map f xs)
@@ -20,9 +20,9 @@ sorted_keys f R (x ∷ xs) sorted k d low high =
     rw (get_or-map f (x ∷ xs) (k + 1) x d short, get_or-map f (x ∷ xs) k x d shorter) (sorted k x low short)
 
 -- sorted candidates have ranks in order
-pub candidates_in_order : (n : Naming) (lines : List Line) (cs ds : List Candidate) → map rank_in cs ≡ ranks n lines → IsPermutation cs ds → IsSortedBy (λ x y. is_lt (rank_cmp (rank_in x) (rank_in y))) ds → InOrder n lines (map rank_in ds)
-candidates_in_order n lines cs ds all moved sorted =
-    in_order n lines (map rank_in ds)
+pub candidates_in_order : (n : Naming) (rows : List Row) (cs ds : List Candidate) → map rank_in cs ≡ ranks n rows → IsPermutation cs ds → IsSortedBy (λ x y. is_lt (rank_cmp (rank_in x) (rank_in y))) ds → InOrder n rows (map rank_in ds)
+candidates_in_order n rows cs ds all moved sorted =
+    in_order n rows (map rank_in ds)
     (subst (λ (rs : List Rank). IsPermutation rs (map rank_in ds)) all (IsPermutation-map rank_in cs ds moved))
     (sorted_keys rank_in rank_cmp ds sorted)
 
@@ -32,6 +32,6 @@ places_map [] = refl
 places_map (c ∷ cs) = ap (λ ns. c.place ∷ ns) (places_map cs)
 
 -- the first of them have the places that go
-pub places_gone : (max count : ℕ) (ds : List Candidate) → count ≡ how_many_go max (length ds) → map (λ (c : Candidate). c.place) (take count ds) ≡ gone max (map rank_in ds)
+pub places_gone : (max count : ℕ) (ds : List Candidate) → count ≡ how_many_go max (length ds) → map (λ (c : Candidate). c.place) (take count ds) ≡ places_to_go max (map rank_in ds)
 places_gone max count ds e =
     places_map (take count ds) ∙ ap (map (λ (r : Rank). r.2)) (sym (take-map rank_in count ds) ∙ ap (λ (m : ℕ). take m (map rank_in ds)) (e ∙ ap (how_many_go max) (sym (length-map ds rank_in))))

@@ -1,11 +1,11 @@
 -- The entries of a map.
-use Rattle.std.proofs.Common.{◌≡◌, ◌∙◌, ℕ, ◌+◌, ◌≤◌, ◌&&◌, T, zero, suc, Bool, true, false, cond, List, [], ◌∷◌, length, Option, None, Some, refl, sym, ap, arith, Ordering}
-use Rattle.std.specs.List.{All, AllPairs, Contains, filter_map, cons_option}
+use Rattle.std.proofs.Common.{◌≡◌, ◌∙◌, ◌&&◌, T, zero, suc, Bool, true, false, cond, List, [], ◌∷◌, None, Some, refl, sym, ap, arith, Ordering}
+use Rattle.std.specs.List.{All, AllPairs, Contains}
 use Rattle.std.specs.Cmp.{IsTotalOrder, eq_by_cmp_equiv}
 use Rattle.std.specs.Ordering.{is_lt, eq_by_cmp, ordering_reverse}
 use Rattle.std.specs.declared.cmp.Ordering.TheVariants.{Less, Equal, Greater}
-use Rattle.std.specs.FinMap.{FinMap, entries, get, insert, find, put, is_sorted, get-entries, entries_sorted, entries-insert}
-use Rattle.std.specs.FinMap.Entries.{below_all, by_order}
+use Rattle.std.specs.FinMap.{FinMap, entries, get, find, is_sorted, get-entries, entries_sorted}
+use Rattle.std.specs.FinMap.Entries.{below_all}
 use Rattle.std.proofs.lemmas.List.Elements.{All-nil, All-cons, All-contains}
 use Rattle.std.proofs.lemmas.List.Kept.{AllPairs-cons}
 use Rattle.std.proofs.lemmas.Map.Views.{tells_apart}
@@ -71,32 +71,3 @@ module _ {K X : Type 0} {R : K → K → Ordering} (exact : CmpEqualImpliesEq R)
   -- and the other way
   pub there_entry : (m : FinMap R X) (q : K) (v : X) → get m q ≡ Some v → Contains (entries m) (q, v)
   there_entry m q v h = found_there q (entries m) v (sym (get-entries m q) ∙ h)
-
--- ---- one entry more
-
--- how many values an option has
-abbrev size : {Y : Type 0} → Option Y → ℕ
-size None = 0
-size (Some v) = 1
-
-size_fits : {Y : Type 0} (o : Option Y) → size o ≤ 1
-size_fits None = omega arith
-size_fits (Some v) = omega arith
-
-length_cons_option : {Y : Type 0} (o : Option Y) (ys : List Y) → length (cons_option o ys) ≡ size o + length ys
-length_cons_option None ys = omega arith
-length_cons_option (Some v) ys = omega arith
-
-module _ {K X Y : Type 0} (R : K → K → Ordering) (h : K × X → Option Y) where
-  put_one_more : (k : K) (v : X) (es : List (K × X)) → length (filter_map h (put R k v es)) ≤ length (filter_map h es) + 1
-  put_one_more k v [] = omega (arith, length_cons_option (h (k, v)) [], size_fits (h (k, v)))
-  put_one_more k v (e ∷ es) = by (R k e.0) (put_one_more k v es)
-    where
-      by : (r : Ordering) → length (filter_map h (put R k v es)) ≤ length (filter_map h es) + 1 → length (filter_map h (by_order r ((k, v) ∷ e ∷ es) ((e.0, v) ∷ es) (e ∷ put R k v es))) ≤ length (filter_map h (e ∷ es)) + 1
-      by Less later = omega (arith, length_cons_option (h (k, v)) (filter_map h (e ∷ es)), size_fits (h (k, v)))
-      by Equal later = omega (arith, length_cons_option (h (e.0, v)) (filter_map h es), size_fits (h (e.0, v)), length_cons_option (h e) (filter_map h es))
-      by Greater later = omega (arith, length_cons_option (h e) (filter_map h (put R k v es)), length_cons_option (h e) (filter_map h es))
-
-  -- what `h` makes of the entries is at most one more after an insertion
-  pub insert_one_more : IsTotalOrder R → (m : FinMap R X) (k : K) (v : X) → length (filter_map h (entries (insert m k v))) ≤ length (filter_map h (entries m)) + 1
-  insert_one_more o m k v = rw (entries-insert o m k v) (put_one_more k v (entries m))

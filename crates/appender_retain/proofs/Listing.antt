@@ -18,75 +18,87 @@ use Rattle.std.proofs.lemmas.Map.Text.{is_eq-slice_cmp}
 use Rattle.std.proofs.lemmas.Map.Views.{tells_apart}
 use Rattle.std.proofs.lemmas.Option.{slice_get_within, get_or_from_slice_get}
 use Rattle.appender_names.specs.Name.{Naming}
-use Rattle.appender_store.specs.Content.{Names, Entry, File, Link, Folder}
-use Rattle.appender_store.specs.Folder.{Line, line_of}
+use Rattle.appender_store.specs.Content.{NameMap, Entry, File, Link, Folder}
+use Rattle.appender_store.specs.Folder.{Row, entry_row}
 use Rattle.appender_store.specs.declared.store.Kind.TheVariants.{File as PlainFile, Folder as PlainFolder, Link as PlainLink, Other}
 use Rattle.appender_retain.specs.Rank.{Rank, rank_cmp, rank_of, key_of, count_above, survives}
 use Rattle.appender_retain.specs.Survival.{name_ranks, name_survives}
+use Rattle.appender_retain.specs.Pruning.{name_at}
 use Rattle.appender_retain.proofs.Elements.{Contains_found, found_Contains, Contains_map, map_Contains, count_filter_map, count_map, count_agree}
 use Rattle.appender_retain.proofs.Entries.{entries_rise, entry_there, there_entry}
 
--- ---- names and lines
+-- ---- names and rows
 
--- the lines of a listing of these names
-pub record IsListing (names : Names) (lines : List Line) : Type 0 where
-  pub moved : IsPermutation lines (map line_of (fin.entries names))
+-- the rows of a listing of these names
+pub record IsListing (names : NameMap) (rows : List Row) : Type 0 where
+  pub moved : IsPermutation rows (map entry_row (fin.entries names))
 
--- a line has its entry's name
-pub line_name : (e : List ℕ × Entry) → (line_of e).0 ≡ Some e.0
-line_name (name, File b t) = refl
-line_name (name, Link target) = refl
-line_name (name, Folder) = refl
+-- a row has its entry's name
+pub row_name : (e : List ℕ × Entry) → (entry_row e).0 ≡ Some e.0
+row_name (name, File b t) = refl
+row_name (name, Link target) = refl
+row_name (name, Folder) = refl
 
--- whether two lines have one name
-abbrev same_name : Line → Line → Bool
+-- whether two rows have one name
+abbrev same_name : Row → Row → Bool
 same_name l m = bytes_eq (unwrap_or l.0 []) (unwrap_or m.0 [])
 
--- entries have lines of their own
-lines_apart : (names : Names) → IsDistinct same_name (map line_of (fin.entries names))
-lines_apart names =
+-- entries have rows of their own
+rows_apart : (names : NameMap) → IsDistinct same_name (map entry_row (fin.entries names))
+rows_apart names =
     let all = fin.entries names in
     let no_entry : List ℕ × Entry = ([], Folder) in
-    IsDistinct-from_apart same_name (map line_of all) (λ i j d before short.
-    let name : (k : ℕ) → k < length all → unwrap_or (get_or (map line_of all) k d).0 [] ≡ (get_or all k no_entry).0 =
-    λ k h. ap (λ (l : Line). unwrap_or l.0 []) (get_or-map line_of all k no_entry d h) ∙ ap (λ o. unwrap_or o []) (line_name (get_or all k no_entry)) in
-    let less : slice_cmp nat_cmp (get_or all i no_entry).0 (get_or all j no_entry).0 ≡ Less = entries_rise names i j no_entry before (omega (arith, length-map all line_of)) in
-    rw (name i (omega (arith, length-map all line_of)), name j (omega (arith, length-map all line_of)))
+    IsDistinct-from_apart same_name (map entry_row all) (λ i j d before short.
+    let name : (k : ℕ) → k < length all → unwrap_or (get_or (map entry_row all) k d).0 [] ≡ (get_or all k no_entry).0 =
+    λ k h. ap (λ (l : Row). unwrap_or l.0 []) (get_or-map entry_row all k no_entry d h) ∙ ap (λ o. unwrap_or o []) (row_name (get_or all k no_entry)) in
+    let less : slice_cmp nat_cmp (get_or all i no_entry).0 (get_or all j no_entry).0 ≡ Less = entries_rise names i j no_entry before (omega (arith, length-map all entry_row)) in
+    rw (name i (omega (arith, length-map all entry_row)), name j (omega (arith, length-map all entry_row)))
     (sym (is_eq-slice_cmp (get_or all i no_entry).0 (get_or all j no_entry).0) ∙ ap is_eq less))
 
--- no two lines have one name
-not_before : (names : Names) (lines : List Line) (j k : ℕ) (l m : Line) (name : List ℕ) → IsListing names lines → slice_get lines j ≡ Some l → slice_get lines k ≡ Some m → l.0 ≡ Some name → m.0 ≡ Some name → ¬ (j < k)
-not_before names lines j k l m name all at_j at_k name_j name_k before =
-    let apart : IsDistinct same_name lines =
-    IsDistinct-IsPermutation same_name (λ l m. nat_list_eq_equiv.symm (unwrap_or l.0 []) (unwrap_or m.0 [])) (map line_of (fin.entries names)) lines (IsPermutation-sym lines (map line_of (fin.entries names)) all.moved) (lines_apart names) in
-    let differ : same_name l m ≡ false = rw (get_or_from_slice_get lines j l l at_j, get_or_from_slice_get lines k m l at_k) at (apart_from_distinct same_name lines j k l apart before (slice_get_within lines k m at_k)) in
-    let same : same_name l m ≡ true = rw (name_j, name_k) (nat_list_eq_equiv.refl name) in
-    let both : true ≡ false = sym same ∙ differ in
-    cc
+-- the row of a name at a place
+pub named_row : (rows : List Row) (place : ℕ) (name : List ℕ) → name_at rows place ≡ Some name → (l : Row) × (slice_get rows place ≡ Some l) × (l.0 ≡ Some name)
+named_row rows place name h = by (slice_get rows place) refl h
+  where
+    by : (o : Option Row) → slice_get rows place ≡ o → option_and_then (λ (l : Row). l.0) o ≡ Some name → (l : Row) × (slice_get rows place ≡ Some l) × (l.0 ≡ Some name)
+    by None at never = absurd (let nothing : None ≡ Some name = never in cc)
+    by (Some l) at is = (l, at, is)
 
--- so a name has one place
-pub one_place : (names : Names) (lines : List Line) (j k : ℕ) (l m : Line) (name : List ℕ) → IsListing names lines → slice_get lines j ≡ Some l → slice_get lines k ≡ Some m → l.0 ≡ Some name → m.0 ≡ Some name → j ≡ k
-one_place names lines j k l m name all at_j at_k name_j name_k =
-    let first : ¬ (j < k) = not_before names lines j k l m name all at_j at_k name_j name_k in
-    let second : ¬ (k < j) = not_before names lines k j m l name all at_k at_j name_k name_j in
-    omega (arith, first, second)
+module _ (names : NameMap) (rows : List Row) (all : IsListing names rows) where
+  -- no two rows have one name
+  not_before : (name : List ℕ) (j k : ℕ) → name_at rows j ≡ Some name → name_at rows k ≡ Some name → ¬ (j < k)
+  not_before name j k at_j at_k before =
+      let l = named_row rows j name at_j in
+      let m = named_row rows k name at_k in
+      let apart : IsDistinct same_name rows =
+      IsDistinct-IsPermutation same_name (λ l m. nat_list_eq_equiv.symm (unwrap_or l.0 []) (unwrap_or m.0 [])) (map entry_row (fin.entries names)) rows (IsPermutation-sym rows (map entry_row (fin.entries names)) all.moved) (rows_apart names) in
+      let differ : same_name l.0 m.0 ≡ false = rw (get_or_from_slice_get rows j l.0 l.0 l.1, get_or_from_slice_get rows k m.0 l.0 m.1) at (apart_from_distinct same_name rows j k l.0 apart before (slice_get_within rows k m.0 m.1)) in
+      let same : same_name l.0 m.0 ≡ true = rw (l.2, m.2) (nat_list_eq_equiv.refl name) in
+      let both : true ≡ false = sym same ∙ differ in
+      cc
 
--- a line is that of an entry
-pub line_at : (names : Names) (lines : List Line) (k : ℕ) (l : Line) → IsListing names lines → slice_get lines k ≡ Some l → (e : List ℕ × Entry) × (line_of e ≡ l) × (fin.get names e.0 ≡ Some e.1)
-line_at names lines k l all at =
-    let w = map_Contains line_of (fin.entries names) l (Contains-permutation lines (map line_of (fin.entries names)) l all.moved (Contains_found lines k l at)) in
-    (w.0, w.2, entry_there nat_list_cmp_total names w.0 w.1)
+  -- so a name has one place
+  pub one_place : (name : List ℕ) (j k : ℕ) → name_at rows j ≡ Some name → name_at rows k ≡ Some name → j ≡ k
+  one_place name j k at_j at_k =
+      let first : ¬ (j < k) = not_before name j k at_j at_k in
+      let second : ¬ (k < j) = not_before name k j at_k at_j in
+      omega (arith, first, second)
 
--- and each entry has one
-pub at_line : (names : Names) (lines : List Line) (name : List ℕ) (v : Entry) → IsListing names lines → fin.get names name ≡ Some v → (k : ℕ) × (slice_get lines k ≡ Some (line_of (name, v)))
-at_line names lines name v all h =
-    found_Contains lines (line_of (name, v)) (Contains-permutation (map line_of (fin.entries names)) lines (line_of (name, v)) (IsPermutation-sym lines (map line_of (fin.entries names)) all.moved)
-    (Contains_map line_of (fin.entries names) (name, v) (there_entry exact_bytes names name v h)))
+  -- a row is that of an entry
+  pub row_at : (k : ℕ) (l : Row) → slice_get rows k ≡ Some l → (e : List ℕ × Entry) × (entry_row e ≡ l) × (fin.get names e.0 ≡ Some e.1)
+  row_at k l at =
+      let w = map_Contains entry_row (fin.entries names) l (Contains-permutation rows (map entry_row (fin.entries names)) l all.moved (Contains_found rows k l at)) in
+      (w.0, w.2, entry_there nat_list_cmp_total names w.0 w.1)
+
+  -- and each entry has one
+  pub at_row : (name : List ℕ) (v : Entry) → fin.get names name ≡ Some v → (k : ℕ) × (slice_get rows k ≡ Some (entry_row (name, v)))
+  at_row name v h =
+      found_Contains rows (entry_row (name, v)) (Contains-permutation (map entry_row (fin.entries names)) rows (entry_row (name, v)) (IsPermutation-sym rows (map entry_row (fin.entries names)) all.moved)
+      (Contains_map entry_row (fin.entries names) (name, v) (there_entry exact_bytes names name v h)))
 
 -- ---- ranks
 
--- a place decides only between lines of one name
-agree : (n : Naming) (key : ℤ) (name : List ℕ) (k j : ℕ) (l : Line) → (l.0 ≡ Some name → j ≡ k) → option_map_or (λ (b : Rank). is_lt (rank_cmp (key, name, k) b)) (rank_of n (j, l)) false ≡ option_map_or (λ (b : Rank). is_lt (rank_cmp (key, name, 0) b)) (rank_of n (0, l)) false
+-- a place decides only between rows of one name
+agree : (n : Naming) (key : ℤ) (name : List ℕ) (k j : ℕ) (l : Row) → (l.0 ≡ Some name → j ≡ k) → option_map_or (λ (b : Rank). is_lt (rank_cmp (key, name, k) b)) (rank_of n (j, l)) false ≡ option_map_or (λ (b : Rank). is_lt (rank_cmp (key, name, 0) b)) (rank_of n (0, l)) false
 agree n key name k j (Some other, PlainFile, created) same = by (key_of n other created)
   where
     tie : (keys names : Ordering) → slice_cmp nat_cmp name other ≡ names → is_lt (ordering_then keys (ordering_then names (nat_cmp k j))) ≡ is_lt (ordering_then keys (ordering_then names (nat_cmp 0 0)))
@@ -107,40 +119,47 @@ agree n key name k j (Some other, PlainLink, created) same = refl
 agree n key name k j (Some other, Other, created) same = refl
 agree n key name k j (None, kind, created) same = refl
 
--- as many candidates stand above in the listing as among the names
-same_above : (n : Naming) (names : Names) (lines : List Line) (key : ℤ) (name : List ℕ) (k : ℕ) (l : Line) → IsListing names lines → slice_get lines k ≡ Some l → l.0 ≡ Some name → count_above n lines (key, name, k) ≡ count_by (λ (b : Rank). is_lt (rank_cmp (key, name, 0) b)) (name_ranks n names)
-same_above n names lines key name k l all at is_name =
-    let by_place : Rank → Bool = λ b. is_lt (rank_cmp (key, name, k) b) in
-    let by_name : Rank → Bool = λ b. is_lt (rank_cmp (key, name, 0) b) in
-    let passes : Line → Bool = λ m. option_map_or by_name (rank_of n (0, m)) false in
-    count_filter_map by_place (rank_of n) (enumerate_from 0 lines)
-    ∙ count_agree (λ (e : ℕ × Line). option_map_or by_place (rank_of n e) false) passes 0 lines
-    (λ j m there. let number : j ≡ 0 + j = omega arith in subst (λ (i : ℕ). option_map_or by_place (rank_of n (i, m)) false ≡ passes m) number (agree n key name k j m (λ is. one_place names lines j k m l name all there at is is_name)))
-    ∙ sym (sum_by-IsPermutation (λ (m : Line). cond (passes m) 1 0) lines (map line_of (fin.entries names)) all.moved)
-    ∙ count_map passes line_of (fin.entries names)
-    ∙ sym (count_filter_map by_name (λ (e : List ℕ × Entry). rank_of n (0, line_of e)) (fin.entries names))
+module _ (n : Naming) (names : NameMap) (rows : List Row) (all : IsListing names rows) (k : ℕ) (name : List ℕ) where
+  -- as many candidates stand above in the listing as among the names
+  same_above : name_at rows k ≡ Some name → (key : ℤ) → count_above n rows (key, name, k) ≡ count_by (λ (b : Rank). is_lt (rank_cmp (key, name, 0) b)) (name_ranks n names)
+  same_above at key =
+      count_filter_map by_place (rank_of n) (enumerate_from 0 rows)
+      ∙ count_agree (λ (e : ℕ × Row). option_map_or by_place (rank_of n e) false) passes 0 rows
+      (λ j m there. let number : j ≡ 0 + j = omega arith in subst (λ (i : ℕ). option_map_or by_place (rank_of n (i, m)) false ≡ passes m) number (agree n key name k j m (λ is. one_place names rows all name j k (ap (option_and_then (λ (l : Row). l.0)) there ∙ is) at)))
+      ∙ sym (sum_by-IsPermutation (λ (m : Row). cond (passes m) 1 0) rows (map entry_row (fin.entries names)) all.moved)
+      ∙ count_map passes entry_row (fin.entries names)
+      ∙ sym (count_filter_map by_name (λ (e : List ℕ × Entry). rank_of n (0, entry_row e)) (fin.entries names))
+    where
+      by_place : Rank → Bool
+      by_place b = is_lt (rank_cmp (key, name, k) b)
 
--- a name survives exactly if its line does
-pub same_survival : (n : Naming) (max : ℕ) (names : Names) (lines : List Line) (k : ℕ) (name : List ℕ) (v : Entry) → IsListing names lines → slice_get lines k ≡ Some (line_of (name, v)) → fin.get names name ≡ Some v → survives n max lines k ≡ name_survives n max names name
-same_survival n max names lines k name v all at here =
-    ap (λ (o : Option Line). (max == 0) || option_map_or above (option_and_then (λ (m : Line). rank_of n (k, m)) o) true) at
-    ∙ by v (λ key. same_above n names lines key name k (line_of (name, v)) all at (line_name (name, v)))
-    ∙ ap (λ (o : Option Entry). (max == 0) || option_map_or named (option_and_then (λ (e : Entry). rank_of n (0, line_of (name, e))) o) true) (sym here)
-  where
-    above : Rank → Bool
-    above a = leb (count_above n lines a + 2) max
+      by_name : Rank → Bool
+      by_name b = is_lt (rank_cmp (key, name, 0) b)
 
-    named : Rank → Bool
-    named a = leb (count_by (λ (b : Rank). is_lt (rank_cmp a b)) (name_ranks n names) + 2) max
+      passes : Row → Bool
+      passes m = option_map_or by_name (rank_of n (0, m)) false
 
-    Same : Type 0
-    Same = (key : ℤ) → count_above n lines (key, name, k) ≡ count_by (λ (b : Rank). is_lt (rank_cmp (key, name, 0) b)) (name_ranks n names)
+  -- a name survives exactly if its row does
+  pub same_survival : (max : ℕ) (v : Entry) → slice_get rows k ≡ Some (entry_row (name, v)) → fin.get names name ≡ Some v → survives n max rows k ≡ name_survives n max names name
+  same_survival max v at here =
+      ap (λ (o : Option Row). (max == 0) || option_map_or stays (option_and_then (λ (m : Row). rank_of n (k, m)) o) true) at
+      ∙ by v (same_above (ap (option_and_then (λ (l : Row). l.0)) at ∙ row_name (name, v)))
+      ∙ ap (λ (o : Option Entry). (max == 0) || option_map_or name_stays (option_and_then (λ (e : Entry). rank_of n (0, entry_row (name, e))) o) true) (sym here)
+    where
+      stays : Rank → Bool
+      stays a = leb (count_above n rows a + 2) max
 
-    by_key : (o : Option ℤ) → Same → ((max == 0) || option_map_or above (option_map (λ (key : ℤ). (key, name, k)) o) true) ≡ ((max == 0) || option_map_or named (option_map (λ (key : ℤ). (key, name, 0)) o) true)
-    by_key None count = refl
-    by_key (Some key) count = ap (λ (c : ℕ). (max == 0) || leb (c + 2) max) (count key)
+      name_stays : Rank → Bool
+      name_stays a = leb (count_by (λ (b : Rank). is_lt (rank_cmp a b)) (name_ranks n names) + 2) max
 
-    by : (e : Entry) → Same → ((max == 0) || option_map_or above (rank_of n (k, line_of (name, e))) true) ≡ ((max == 0) || option_map_or named (rank_of n (0, line_of (name, e))) true)
-    by (File b t) count = by_key (key_of n name t) count
-    by (Link target) count = refl
-    by Folder count = refl
+      Same : Type 0
+      Same = (key : ℤ) → count_above n rows (key, name, k) ≡ count_by (λ (b : Rank). is_lt (rank_cmp (key, name, 0) b)) (name_ranks n names)
+
+      by_key : (o : Option ℤ) → Same → ((max == 0) || option_map_or stays (option_map (λ (key : ℤ). (key, name, k)) o) true) ≡ ((max == 0) || option_map_or name_stays (option_map (λ (key : ℤ). (key, name, 0)) o) true)
+      by_key None count = refl
+      by_key (Some key) count = ap (λ (c : ℕ). (max == 0) || leb (c + 2) max) (count key)
+
+      by : (e : Entry) → Same → ((max == 0) || option_map_or stays (rank_of n (k, entry_row (name, e))) true) ≡ ((max == 0) || option_map_or name_stays (rank_of n (0, entry_row (name, e))) true)
+      by (File b t) count = by_key (key_of n name t) count
+      by (Link target) count = refl
+      by Folder count = refl

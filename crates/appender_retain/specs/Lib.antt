@@ -1,4 +1,4 @@
 pub mod Rank
-pub mod Candidate
 pub mod Survival
 pub mod Pruning
+pub mod Inside

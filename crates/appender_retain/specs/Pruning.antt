@@ -1,13 +1,12 @@
 -- What retention does to a folder. `kind` has what folders of one kind tell.
-use Rattle.std.specs.Prelude.{◌≡◌, ◌≢◌, ◌⊎◌, ℕ, ◌<◌, List, [], ◌∷◌, map, filter_map, Option, Result, Vec, MatchResult, IfOk, OnOk, OnErr, IsTrue, AllPairs, Contains, slice_get, option_and_then}
+use Rattle.std.specs.Prelude.{◌≡◌, ◌≢◌, ◌⊎◌, ℕ, ◌<◌, true, false, List, [], ◌∷◌, map, filter_map, Option, Result, Vec, MatchResult, IfOk, OnOk, OnErr, IsTrue, slice_get, option_and_then}
 use Rattle.std.specs.IoError.{error_kind}
 use Rattle.std.specs.declared.alloc.Global.{Global}
 use Rattle.std.specs.declared.io.Error.{Error}
 use Rattle.std.specs.declared.io.ErrorKind.TheVariants.{OutOfMemory}
-use Rattle.std.specs.FinMap as fin
 use Rattle.appender_names.specs.Name.{Naming}
-use Rattle.appender_store.specs.Content.{Names, Removes, IsFile, ForbidsList}
-use Rattle.appender_store.specs.Folder.{Counts, HasCause, Lists, Line, NotedList, NotedRemove, shown}
+use Rattle.appender_store.specs.Content.{Removes, ForbidsList}
+use Rattle.appender_store.specs.Folder.{Counts, HasCause, Lists, Row, NotedList, NotedRemove, listed_row, wrapping_next}
 use Rattle.appender_store.specs.Notes.{Notes}
 use Rattle.appender_store.specs.declared.store.Folder.{Ghosts}
 use Rattle.appender_store.specs.declared.store.Listed.{Listed}
@@ -15,13 +14,8 @@ use Rattle.appender_retain.specs.Rank.{IsPlan}
 use Rattle.appender_retain.specs.Survival.{TakesOnlyOld, LeavesSurvivors, candidates_in}
 
 -- the name listed at a place, if it can be read
-abbrev pub name_at : List Line → ℕ → Option (List ℕ)
-name_at lines place = option_and_then (λ line. line.0) (slice_get lines place)
-
--- each of these names leads to a file, and no two of them are one
-pub record AreFiles (names : Names) (some : List (List ℕ)) : Type 0 where
-  pub files : (name : List ℕ) → Contains some name → IsFile (fin.get names name)
-  pub apart : AllPairs (λ first later. first ≢ later) some
+abbrev pub name_at : List Row → ℕ → Option (List ℕ)
+name_at rows place = option_and_then (λ row. row.0) (slice_get rows place)
 
 -- The folder removed the file of this name, or took a note of the fault: it failed by itself, or had no memory for it.
 pub record RemovesFile {S F : Type 0} (kind : Ghosts S F) (name : List ℕ) (old new : S) : Type 0 where
@@ -39,10 +33,10 @@ abbrev pub RemovesEach : {S F : Type 0} → Ghosts S F → List (List ℕ) → S
 RemovesEach kind [] old new = new ≡ old
 RemovesEach kind (name ∷ names) old new = (between : _) × RemovesFile kind name old between × RemovesEach kind names between new
 
--- it removes what doesn't survive of these lines; without memory for the plan it takes a note instead
-abbrev pub RemovesPlanned : {S F : Type 0} → Ghosts S F → Naming → ℕ → List Line → S → S → Type 0
-RemovesPlanned kind n max lines old new =
-    ((gone : List ℕ) × IsPlan n max lines gone × RemovesEach kind (filter_map (name_at lines) gone) old new)
+-- it removes what doesn't survive of these rows; without memory for the plan it takes a note instead
+abbrev pub RemovesPlanned : {S F : Type 0} → Ghosts S F → Naming → ℕ → List Row → S → S → Type 0
+RemovesPlanned kind n max rows old new =
+    ((gone : List ℕ) × IsPlan n max rows gone × RemovesEach kind (filter_map (name_at rows) gone) old new)
     ⊎ ((fault : Error) × (error_kind fault ≡ OutOfMemory) × Notes kind old (NotedList fault) new)
 
 -- The folder was listed, and what doesn't survive removed; of a listing that was refused it took a note, and nothing went.
@@ -52,9 +46,10 @@ pub record PrunesListed {S F : Type 0} (kind : Ghosts S F) (n : Naming) (max : �
   pub call : kind.list_gives old answer listed
   pub cause : HasCause kind.tells (ForbidsList (kind.content old)) (kind.failures old) (kind.failures listed) answer
   pub lists : IfOk answer (λ all. IsTrue kind.tells → Lists (kind.content old) all.items)
+  pub there : OnOk answer (IsTrue kind.tells → (kind.content old).there ≡ true)
   pub content : kind.content listed ≡ kind.content old
   pub noted : kind.noted listed ≡ kind.noted old
-  pub goes_on : MatchResult answer (λ all. RemovesPlanned kind n max (map shown all.items) listed new)
+  pub goes_on : MatchResult answer (λ all. RemovesPlanned kind n max (map listed_row all.items) listed new)
       (λ fault. Notes kind listed (NotedList fault) new)
 
 -- neither List nor Remove was noted
@@ -69,10 +64,12 @@ pub record NotesNothingElse (old new : Counts) : Type 0 where
 
 -- What retention with a maximum does to a folder, which is nothing where the maximum is 0: its calls, that it takes away
 -- only names that don't survive, and, where it noted no fault, all of them, so that fewer candidates than the maximum stand.
+-- Of an absent folder List is noted.
 pub record Prunes {S F : Type 0} (kind : Ghosts S F) (n : Naming) (max : ℕ) (old new : S) : Type 0 where
   pub none : max ≡ 0 → new ≡ old
   pub calls : max ≢ 0 → PrunesListed kind n max old new
   pub only_old : IsTrue kind.tells → TakesOnlyOld n max (kind.content old) (kind.content new)
   pub survivors : IsQuiet (kind.noted old) (kind.noted new) → IsTrue kind.tells → LeavesSurvivors n max (kind.content old) (kind.content new)
   pub fewer : IsQuiet (kind.noted old) (kind.noted new) → IsTrue kind.tells → 0 < max → candidates_in n (kind.content new) < max
+  pub absent : 0 < max → IsTrue kind.tells → (kind.content old).there ≡ false → (kind.noted new).lists ≡ wrapping_next (kind.noted old).lists
   pub nothing_else : NotesNothingElse (kind.noted old) (kind.noted new)

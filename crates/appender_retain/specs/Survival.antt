@@ -4,25 +4,25 @@ use Rattle.std.specs.Option.{option_map_or}
 use Rattle.std.specs.Ordering.{is_lt}
 use Rattle.std.specs.FinMap as fin
 use Rattle.appender_names.specs.Name.{Naming}
-use Rattle.appender_store.specs.Content.{Content, Names, Opens, RemovesLink, MakesLink}
-use Rattle.appender_store.specs.Folder.{line_of}
+use Rattle.appender_store.specs.Content.{Content, NameMap, Opens, RemovesLink, MakesLink}
+use Rattle.appender_store.specs.Folder.{entry_row}
 use Rattle.appender_retain.specs.Rank.{Rank, rank_cmp, rank_of}
 
 -- the rank of a name, if it is a candidate's; the names of one folder differ, so no place decides
-abbrev pub name_rank : Naming → Names → List ℕ → Option Rank
-name_rank n names name = option_and_then (λ e. rank_of n (0, line_of (name, e))) (fin.get names name)
+abbrev pub name_rank : Naming → NameMap → List ℕ → Option Rank
+name_rank n names name = option_and_then (λ e. rank_of n (0, entry_row (name, e))) (fin.get names name)
 
 -- all candidates
-abbrev pub name_ranks : Naming → Names → List Rank
-name_ranks n names = filter_map (λ e. rank_of n (0, line_of e)) (fin.entries names)
+abbrev pub name_ranks : Naming → NameMap → List Rank
+name_ranks n names = filter_map (λ e. rank_of n (0, entry_row e)) (fin.entries names)
 
 -- how many there are
 abbrev pub candidates_in : Naming → Content → ℕ
 candidates_in n c = length (name_ranks n c.names)
 
--- With a maximum of at least 1 a candidate survives exactly if at most max - 2 candidates stand above it. What is no
--- candidate survives, and with a maximum of 0 all do.
-abbrev pub name_survives : Naming → ℕ → Names → List ℕ → Bool
+-- Where there is a maximum, a candidate survives exactly if no more than max - 2 others stand above it. What is no candidate
+-- survives, and without a maximum, which is 0, all do.
+abbrev pub name_survives : Naming → ℕ → NameMap → List ℕ → Bool
 name_survives n max names name =
     (max == 0) || option_map_or (λ a. nat_le (count_by (λ b. is_lt (rank_cmp a b)) (name_ranks n names) + 2) max) (name_rank n names name) true
 

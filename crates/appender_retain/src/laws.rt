@@ -3,12 +3,18 @@
 ghost use Rattle.appender_names.specs.Name.{Naming};
 ghost use Rattle.appender_retain.specs.Survival.{OpeningsAddOne, LinksAddNone};
 
+use appender_store::laws::names_change_one_at_a_time;
+
 /// With one file more, at most one candidate more stands.
 pub fn openings_add_one()
     ensures { (n : Naming) → OpeningsAddOne n }
-{}
+{
+    names_change_one_at_a_time();
+}
 
 /// A link is no candidate.
 pub fn links_add_none()
     ensures { (n : Naming) → LinksAddNone n }
-{}
+{
+    names_change_one_at_a_time();
+}

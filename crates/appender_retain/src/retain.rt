@@ -2,9 +2,9 @@
 //! a maximum remains.
 ghost use Rattle.std.specs.Prelude.{◌≡◌, IfOk, map};
 ghost use Rattle.std.specs.Option.{option_map};
-ghost use Rattle.appender_store.specs.Folder.{shown};
-ghost use Rattle.appender_retain.specs.Candidate.{rank_in};
-ghost use Rattle.appender_retain.specs.Rank.{IsPlan, has_parts as matches_parts, key_of, rank_of, ranks, how_many_go};
+ghost use Rattle.appender_store.specs.Folder.{listed_row};
+ghost use Rattle.appender_retain.specs.Inside.Candidate.{rank_in, how_many_go};
+ghost use Rattle.appender_retain.specs.Rank.{IsPlan, has_parts as matches_parts, key_of, rank_of, ranks};
 
 mod prune;
 
@@ -33,7 +33,7 @@ pub fn plan(
     max: usize,
     listed: &[Listed],
 ) -> Result<Vec<usize>, AllocError>
-    ensures { IfOk result (λ gone. IsPlan names.now max (map shown listed.now) gone.items) }
+    ensures { IfOk result (λ gone. IsPlan names.now max (map listed_row listed.now) gone.items) }
 {
     let mut all = candidates(alloc, names, listed)?;
     all.sort_unstable();
@@ -48,7 +48,7 @@ fn candidates<'a>(
     listed: &'a [Listed],
 ) -> Result<Vec<Candidate<'a>>, AllocError>
     ensures { IfOk result (λ all.
-        map rank_in all.items ≡ ranks names.now (map shown listed.now)) }
+        map rank_in all.items ≡ ranks names.now (map listed_row listed.now)) }
 {
     let mut all = Vec::new(alloc);
     for (place, entry) in listed.iter().enumerate() {
@@ -61,7 +61,7 @@ fn candidates<'a>(
 
 // The entry as a candidate, if it is one.
 fn as_candidate<'a>(names: &Names, place: usize, entry: &'a Listed) -> Option<Candidate<'a>>
-    ensures { option_map rank_in result ≡ rank_of names.now (place, shown entry.now) }
+    ensures { option_map rank_in result ≡ rank_of names.now (place, listed_row entry.now) }
 {
     let name = entry.name.as_ref()?.as_str();
     if entry.kind != Kind::File {

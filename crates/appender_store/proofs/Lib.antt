@@ -2,3 +2,4 @@ pub mod Contents
 pub mod MemoryCallLemmas
 pub mod MemoryEntryLemmas
 pub mod MemorySoundness
+pub mod NameLaws

@@ -11,20 +11,21 @@ pub data Entry : Type 0 where
   Folder : Entry
 
 -- names are bytes, in byte order
-abbrev pub Names : Type 0
-Names = map.FinMap (slice_cmp nat_cmp) Entry
+abbrev pub NameMap : Type 0
+NameMap = map.FinMap (slice_cmp nat_cmp) Entry
 
 -- A folder: whether it is there, the bodies of files by number, which only grow, and its names.
 pub record Content : Type 0 where
   pub there : Bool
   pub bodies : List (List ℕ)
-  pub names : Names
+  pub names : NameMap
 
 -- what a body holds; one that isn't there holds nothing
 abbrev pub body_at : Content → ℕ → List ℕ
 body_at c b = slice_index_or c.bodies b []
 
--- while the folder isn't there it has no name, and each file's body is there
+-- While the folder isn't there it has no name; each file's body is there, and no body has two names. That a body whose name
+-- was taken away gets none again isn't said here but by `Opens`, under which a free name gets a new body.
 pub record IsSound (c : Content) : Type 0 where
   pub absent : c.there ≡ false → (name : List ℕ) → is_some (map.get c.names name) ≡ false
   pub bodies_there : (name : List ℕ) (b : ℕ) (t : Option ℤ) → map.get c.names name ≡ Some (File b t) → b < length c.bodies
@@ -35,7 +36,8 @@ pub record Removes (name : List ℕ) (old new : Content) : Type 0 where
   pub was_there : (b : ℕ) × (t : Option ℤ) × (map.get old.names name ≡ Some (File b t))
   pub after : new ≡ record old { names = map.remove old.names name }
 
--- the file of this name is open, with the body of this number: its own, or a new empty one
+-- The file of this name is open, with the body of this number: its own, or for a free name a new empty one, so that a body
+-- whose name was taken away gets none again.
 abbrev pub Opens : List ℕ → Content → Content → ℕ → Type 0
 Opens name old new b =
     (old.there ≡ true) × (((t : Option ℤ) × (map.get old.names name ≡ Some (File b t)) × (new ≡ old))
@@ -53,12 +55,12 @@ pub record MakesLink (name target : List ℕ) (old new : Content) : Type 0 where
   pub after : new ≡ record old { names = map.insert old.names name (Link target) }
 
 -- these bytes stand at the end of the body
-abbrev pub appended : Content → ℕ → List ℕ → Content
-appended c b bytes = record c { bodies = slice_set c.bodies b (body_at c b ++ bytes) }
+abbrev pub after_append : Content → ℕ → List ℕ → Content
+after_append c b bytes = record c { bodies = slice_set c.bodies b (body_at c b ++ bytes) }
 
 -- the folder is there
-abbrev pub made : Content → Content
-made c = record c { there = true }
+abbrev pub after_make_folder : Content → Content
+after_make_folder c = record c { there = true }
 
 -- the name leads to a link or to a folder
 abbrev pub IsLinkOrFolder : Option Entry → Type 0

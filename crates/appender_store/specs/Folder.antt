@@ -31,15 +31,15 @@ pub record AreCounts (n : Counts) : Type 0 where
   pub opens : n.opens < 2 ^ 64
 
 -- a count of 64 bits that has gone up by one
-abbrev pub one_more : ℕ → ℕ
-one_more n = (n + 1) % 2 ^ 64
+abbrev pub wrapping_next : ℕ → ℕ
+wrapping_next n = (n + 1) % 2 ^ 64
 
 -- the counts after one notice more of this kind
-abbrev pub counted : NoticeKind → Counts → Counts
-counted OfList n = record n { lists = one_more n.lists }
-counted OfRemove n = record n { removes = one_more n.removes }
-counted OfFlush n = record n { flushes = one_more n.flushes }
-counted OfOpen n = record n { opens = one_more n.opens }
+abbrev pub after_note : NoticeKind → Counts → Counts
+after_note OfList n = record n { lists = wrapping_next n.lists }
+after_note OfRemove n = record n { removes = wrapping_next n.removes }
+after_note OfFlush n = record n { flushes = wrapping_next n.flushes }
+after_note OfOpen n = record n { opens = wrapping_next n.opens }
 
 -- what a notice tells: its kind, the fault, and for Remove the name
 pub data Noted : Type 0 where
@@ -49,11 +49,11 @@ pub data Noted : Type 0 where
   NotedOpen : (error : InitError) → Noted
 
 -- what this notice tells
-abbrev pub noted_by : Notice → Noted
-noted_by (ListFault e) = NotedList e.now
-noted_by (RemoveFault name e) = NotedRemove name.now e.now
-noted_by (FlushFault e) = NotedFlush e.now
-noted_by (OpenFault e) = NotedOpen e.now
+abbrev pub message_of : Notice → Noted
+message_of (ListFault e) = NotedList e.now
+message_of (RemoveFault name e) = NotedRemove name.now e.now
+message_of (FlushFault e) = NotedFlush e.now
+message_of (OpenFault e) = NotedOpen e.now
 
 -- the kind that is counted
 abbrev pub kind_of : Noted → NoticeKind
@@ -63,26 +63,26 @@ kind_of (NotedFlush e) = OfFlush
 kind_of (NotedOpen e) = OfOpen
 
 -- name, kind and creation moment
-abbrev pub Line : Type 0
-Line = Option (List ℕ) × Kind × Option ℤ
+abbrev pub Row : Type 0
+Row = Option (List ℕ) × Kind × Option ℤ
 
 -- what an entry of a listing tells
-abbrev pub shown : Listed → Line
-shown l = (option_map string_bytes l.name, l.kind, l.created)
+abbrev pub listed_row : Listed → Row
+listed_row l = (option_map string_bytes l.name, l.kind, l.created)
 
 -- what a listing tells of a name
-abbrev pub line_of : List ℕ × Entry → Line
-line_of (name, File b t) = (Some name, PlainFile, t)
-line_of (name, Link target) = (Some name, PlainLink, None)
-line_of (name, Folder) = (Some name, PlainFolder, None)
+abbrev pub entry_row : List ℕ × Entry → Row
+entry_row (name, File b t) = (Some name, PlainFile, t)
+entry_row (name, Link target) = (Some name, PlainLink, None)
+entry_row (name, Folder) = (Some name, PlainFolder, None)
 
 -- each name of the folder once, in any order
 abbrev pub Lists : Content → List Listed → Type 0
-Lists c all = IsPermutation (map shown all) (map line_of (fin.entries c.names))
+Lists c all = IsPermutation (map listed_row all) (map entry_row (fin.entries c.names))
 
 -- one failure more
 abbrev pub HasRisen : ℕ → ℕ → Type 0
-HasRisen old new = new ≡ one_more old
+HasRisen old new = new ≡ wrapping_next old
 
 -- An `Ok` counts no failure. An `Err` counts one, or memory was refused, or the content forbids the call.
 abbrev pub HasCause : {T : Type 0} → Bool → Type 0 → ℕ → ℕ → Result T Error → Type 0

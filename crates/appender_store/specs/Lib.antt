@@ -1,8 +1,8 @@
 pub mod Content
+pub mod NameLaws
 pub mod Folder
 pub mod Notes
-pub mod MemoryCalls
-pub mod MemoryEntries
-pub mod MemoryPut
 pub mod MemoryState
+pub mod MemoryPut
 pub mod MemoryView
+pub mod Inside

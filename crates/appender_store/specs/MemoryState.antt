@@ -1,33 +1,51 @@
 -- A folder in memory as its callers see it.
-use Rattle.std.specs.Prelude.{◌≡◌, ℕ, Bool, true, false, List, [], ◌∷◌, ◌++◌, length, slice_get, min, ℤ, Option, None, Some, Result, IfOk, OnErr, IsErrAnd, if◌then◌else◌}
+use Rattle.std.specs.Prelude.{◌≡◌, ℕ, ◌+◌, ◌-◌, ◌^◌, Bool, true, false, List, [], ◌∷◌, ◌++◌, length, slice_get, min, ℤ, Option, None, Some, IsSome, unwrap_or, Result, MatchResult, IfOk, IsOk, OnErr, IsErrAnd, if◌then◌else◌}
 use Rattle.std.specs.Option.{option_map_or}
+use Rattle.std.specs.Ordering.{nat_cmp}
 use Rattle.std.specs.FinSet as set
 use Rattle.std.specs.FinMap as fin
 use Rattle.std.specs.IoError.{error_kind}
 use Rattle.std.specs.declared.io.Error.{Error}
-use Rattle.std.specs.declared.io.ErrorKind.TheVariants.{Other}
+use Rattle.std.specs.declared.io.ErrorKind.{ErrorKind}
+use Rattle.std.specs.declared.io.ErrorKind.TheVariants.{NotFound, AlreadyExists, OutOfMemory, Other}
 use Rattle.appender_store.specs.Content.{Content, Entry, File, Link, Folder}
-use Rattle.appender_store.specs.Folder.{Counts, one_more}
+use Rattle.appender_store.specs.Folder.{Counts, wrapping_next}
 use Rattle.appender_store.specs.declared.store.Kind.{Kind}
 use Rattle.appender_store.specs.declared.store.Kind.TheVariants.{File as PlainFile, Folder as PlainFolder, Link as PlainLink}
 use Rattle.appender_store.specs.declared.store.NoticeKind.{NoticeKind}
 use Rattle.appender_store.specs.declared.store.NoticeKind.TheVariants.{List as OfList, Remove as OfRemove, Flush as OfFlush, Open as OfOpen}
-use Rattle.appender_store.specs.MemoryCalls.{next, Failing, Shortened}
 
--- Its content, the creation moment of files made from here on, how many calls were made, the numbers of those that are to
+-- calls are numbered from 1; the greatest number of 64 bits stays
+abbrev pub saturating_next : ℕ → ℕ
+saturating_next calls = min (calls + 1) (2 ^ 64 - 1)
+
+-- the numbers of the calls that are to fail
+abbrev pub FailingCalls : Type 0
+FailingCalls = set.FinSet nat_cmp
+
+-- how many bytes an append takes at most, by its call's number
+abbrev pub AppendLimits : Type 0
+AppendLimits = fin.FinMap nat_cmp ℕ
+
+-- of two limits the lesser
+abbrev pub lesser_limit : Option ℕ → ℕ → ℕ
+lesser_limit None n = n
+lesser_limit (Some m) n = min m n
+
+-- Its content, the creation moment that the next files get, how many calls were made, the numbers of those that are to
 -- fail and of the appends that are to be short, with their limits, and the counts of failures and notices.
 pub record State : Type 0 where
   pub content : Content
   pub created : Option ℤ
   pub calls : ℕ
-  pub failing : Failing
-  pub shortened : Shortened
+  pub failing : FailingCalls
+  pub shortened : AppendLimits
   pub failures : ℕ
   pub noted : Counts
 
 -- as it is made: empty, with no call made and none to fail
-abbrev pub empty : Bool → State
-empty there = record {
+abbrev pub empty_state : Bool → State
+empty_state there = record {
   content = record { there = there; bodies = []; names = fin.empty };
   created = None;
   calls = 0;
@@ -39,35 +57,75 @@ empty there = record {
 
 -- whether the next call is named to fail
 abbrev pub is_named : State → Bool
-is_named s = set.contains s.failing (next s.calls)
+is_named s = set.contains s.failing (saturating_next s.calls)
 
--- A call has a number. It counts a failure exactly if its number was named to fail, and its Err then has the kind Other.
-pub record IsCalled {T : Type 0} (old : State) (result : Result T Error) (new : State) : Type 0 where
-  pub calls : new.calls ≡ next old.calls
-  pub failures : new.failures ≡ (if is_named old then one_more old.failures else old.failures)
-  pub kind : is_named old ≡ true → IsErrAnd result (λ e. error_kind e ≡ Other)
+-- ---- the kind of error by which the content refuses a call, if it does
+
+-- a listing, of an absent folder
+abbrev pub list_refusal : Content → Option ErrorKind
+list_refusal c = if c.there then None else Some NotFound
+
+-- the removal of what a name leads to, which has to be a file; in an absent folder a name leads to nothing
+abbrev pub remove_refusal : Option Entry → Option ErrorKind
+remove_refusal None = Some NotFound
+remove_refusal (Some (File b t)) = None
+remove_refusal (Some (Link t)) = Some NotFound
+remove_refusal (Some Folder) = Some NotFound
+
+-- the same of a link
+abbrev pub remove_link_refusal : Option Entry → Option ErrorKind
+remove_link_refusal None = Some NotFound
+remove_link_refusal (Some (File b t)) = Some NotFound
+remove_link_refusal (Some (Link t)) = None
+remove_link_refusal (Some Folder) = Some NotFound
+
+-- an opening, by whether the folder is there and what the name leads to
+abbrev pub open_refusal : Bool → Option Entry → Option ErrorKind
+open_refusal false entry = Some NotFound
+open_refusal true None = None
+open_refusal true (Some (File b t)) = None
+open_refusal true (Some (Link t)) = Some AlreadyExists
+open_refusal true (Some Folder) = Some AlreadyExists
+
+-- a new link, by the same
+abbrev pub make_link_refusal : Bool → Option Entry → Option ErrorKind
+make_link_refusal false entry = Some NotFound
+make_link_refusal true None = None
+make_link_refusal true (Some entry) = Some AlreadyExists
+
+-- ---- what each call does
+
+-- A call has a number. It counts a failure exactly if its number was named to fail, and its Err then has the kind Other. A
+-- call that isn't named is refused where the content refuses it, by this kind, and beside that only for want of memory.
+pub record IsCalled {T : Type 0} (old : State) (refusal : Option ErrorKind) (result : Result T Error) (new : State) : Type 0 where
+  pub calls : new.calls ≡ saturating_next old.calls
+  pub failures : new.failures ≡ (if is_named old then wrapping_next old.failures else old.failures)
+  pub named : is_named old ≡ true → IsErrAnd result (λ e. error_kind e ≡ Other)
+  pub unnamed : is_named old ≡ false → MatchResult result (λ _. refusal ≡ None) (λ e. error_kind e ≡ unwrap_or refusal OutOfMemory)
   pub created : new.created ≡ old.created
   pub failing : new.failing ≡ old.failing
   pub shortened : new.shortened ≡ old.shortened
 
--- The same of a call that needs no memory: where it isn't named, it fails only if the content forbids it.
-pub record NeedsNoMemory {T : Type 0} (old : State) (forbidden : Type 0) (result : Result T Error) (new : State) : Type 0 where
-  pub called : IsCalled old result new
-  pub fails : is_named old ≡ false → OnErr result forbidden
+-- The same of a call that needs no memory: where it isn't named, it fails only if the content refuses it.
+pub record NeedsNoMemory {T : Type 0} (old : State) (refusal : Option ErrorKind) (result : Result T Error) (new : State) : Type 0 where
+  pub called : IsCalled old refusal result new
+  pub fails : is_named old ≡ false → OnErr result (IsSome refusal)
 
--- an opening gives a new file the creation moment that was set
-pub record OpensNew {T : Type 0} (name : List ℕ) (old : State) (result : Result T Error) (new : State) : Type 0 where
-  pub called : IsCalled old result new
+-- An opening needs memory only for a free name, and gives a new file the creation moment that was set.
+pub record OpensByName {T : Type 0} (name : List ℕ) (old : State) (result : Result T Error) (new : State) : Type 0 where
+  pub called : IsCalled old (open_refusal old.content.there (fin.get old.content.names name)) result new
+  pub in_use : is_named old ≡ false → IsSome (fin.get old.content.names name) → OnErr result (IsSome (open_refusal old.content.there (fin.get old.content.names name)))
   pub created : IfOk result (λ _. fin.get old.content.names name ≡ None → fin.get new.content.names name ≡ Some (File (length old.content.bodies) old.created))
 
 -- how many of so many bytes the next call takes
-abbrev pub taken : State → ℕ → ℕ
-taken s count = option_map_or (λ limit. min limit count) (fin.get s.shortened (next s.calls)) count
+abbrev pub count_taken : State → ℕ → ℕ
+count_taken s count = option_map_or (λ limit. min limit count) (fin.get s.shortened (saturating_next s.calls)) count
 
--- an append takes all its bytes but where its number was named to be short
-pub record TakesAll (bytes : List ℕ) (old : State) (result : Result ℕ Error) (new : State) : Type 0 where
-  pub called : IsCalled old result new
-  pub takes : IfOk result (λ n. n ≡ taken old (length bytes))
+-- An append takes all its bytes but where its number was named to be short, and needs no memory where it takes none.
+pub record TakesBytes (bytes : List ℕ) (old : State) (result : Result ℕ Error) (new : State) : Type 0 where
+  pub called : IsCalled old None result new
+  pub none : is_named old ≡ false → count_taken old (length bytes) ≡ 0 → IsOk result
+  pub takes : IfOk result (λ n. n ≡ count_taken old (length bytes))
 
 -- what it is once a file with these bytes was put
 abbrev pub with_file : State → List ℕ → List ℕ → State
@@ -84,8 +142,8 @@ abbrev pub with_entry : State → List ℕ → Entry → State
 with_entry s name entry = record s { content = record s.content { there = true; names = fin.insert s.content.names name entry } }
 
 -- what it is once a name was taken away
-abbrev pub without : State → List ℕ → State
-without s name = record s { content = record s.content { names = fin.remove s.content.names name } }
+abbrev pub without_entry : State → List ℕ → State
+without_entry s name = record s { content = record s.content { names = fin.remove s.content.names name } }
 
 -- the bytes of the body that a plain file's name leads to
 abbrev pub bytes_in : Content → Option Entry → Option (List ℕ)

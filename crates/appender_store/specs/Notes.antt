@@ -1,6 +1,6 @@
 -- A note that a folder takes. `kind` has what folders of one kind tell.
 use Rattle.std.specs.Prelude.{◌≡◌}
-use Rattle.appender_store.specs.Folder.{Noted, counted, kind_of}
+use Rattle.appender_store.specs.Folder.{Noted, after_note, kind_of}
 use Rattle.appender_store.specs.declared.store.Folder.{Ghosts}
 
 -- the folder took a note, and nothing else changed
@@ -8,4 +8,4 @@ pub record Notes {S F : Type 0} (kind : Ghosts S F) (old : S) (told : Noted) (ne
   pub call : kind.note_gives old told new
   pub content : kind.content new ≡ kind.content old
   pub failures : kind.failures new ≡ kind.failures old
-  pub noted : kind.noted new ≡ counted (kind_of told) (kind.noted old)
+  pub noted : kind.noted new ≡ after_note (kind_of told) (kind.noted old)

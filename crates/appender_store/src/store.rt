@@ -1,9 +1,9 @@
 //! A folder as an appender sees it, and one in memory.
-ghost use Rattle.std.specs.Prelude.{◌≡◌, ◌⊎◌, ◌<◌, ◌≤◌, ◌^◌, ℕ, Bool, length, take, IsTrue, IfOk, OnOk, OnErr, List, Result, Vec};
+ghost use Rattle.std.specs.Prelude.{◌≡◌, ◌⊎◌, ◌<◌, ◌≤◌, ◌^◌, ℕ, Bool, true, length, take, IsTrue, IfOk, OnOk, OnErr, List, Result, Vec};
 ghost use Rattle.std.specs.declared.alloc.Global.{Global};
 ghost use Rattle.std.specs.declared.io.Error.{Error};
-ghost use Rattle.appender_store.specs.Content.{Content, IsSound, Opens, Removes, RemovesLink, MakesLink, appended, made, ForbidsOpen, ForbidsRemove, ForbidsRemoveLink, ForbidsMakeLink, ForbidsList};
-ghost use Rattle.appender_store.specs.Folder.{AreCounts, Counts, Noted, counted, noted_by, kind_of, Lists, HasCause, HasRisen};
+ghost use Rattle.appender_store.specs.Content.{Content, IsSound, Opens, Removes, RemovesLink, MakesLink, after_append, after_make_folder, ForbidsOpen, ForbidsRemove, ForbidsRemoveLink, ForbidsMakeLink, ForbidsList};
+ghost use Rattle.appender_store.specs.Folder.{AreCounts, Counts, Noted, after_note, message_of, kind_of, Lists, HasCause, HasRisen};
 
 mod calls;
 mod entries;
@@ -86,7 +86,7 @@ pub trait Folder: Drop {
     /// How often a call has failed by itself, modulo 2^64.
     ghost failures: { Self → ℕ };
 
-    /// How often each kind of notice was noted, modulo 2^64.
+    /// The count of each kind of notice, modulo 2^64.
     ghost noted: { Self → Counts };
 
     // What one call does beside the clauses below: whatever the kind of folder says. Generic code
@@ -113,6 +113,7 @@ pub trait Folder: Drop {
     fn list(&mut self) -> io::Result<Vec<Listed>>
         ensures call { list_gives self.old result self.new }
         ensures ok { IfOk result (λ all. IsTrue tells → Lists (content self.old) all.items) }
+        ensures there { OnOk result (IsTrue tells → (content self.old).there ≡ true) }
         ensures content { content self.new ≡ content self.old }
         ensures cause { HasCause tells (ForbidsList (content self.old))
             (failures self.old) (failures self.new) result }
@@ -145,7 +146,7 @@ pub trait Folder: Drop {
     /// Makes the folder itself. One that is there stays as it is, which is no fault.
     fn make_folder(&mut self) -> io::Result<()>
         ensures call { make_folder_gives self.old result self.new }
-        ensures ok { OnOk result (IsTrue tells → content self.new ≡ made (content self.old)) }
+        ensures ok { OnOk result (IsTrue tells → content self.new ≡ after_make_folder (content self.old)) }
         ensures err { OnErr result (content self.new ≡ content self.old) }
         ensures cause { HasCause tells ⊥ (failures self.old) (failures self.new) result }
         ensures notices { noted self.new ≡ noted self.old };
@@ -181,7 +182,7 @@ pub trait Folder: Drop {
         ensures call { append_gives self.old file.old bytes.now result self.new file.new }
         ensures bound { IfOk result (λ n. n ≤ length bytes.now) }
         ensures ok { IfOk result (λ n. IsTrue tells →
-            content self.new ≡ appended (content self.old) (body file.old) (take n bytes.now)) }
+            content self.new ≡ after_append (content self.old) (body file.old) (take n bytes.now)) }
         ensures err { OnErr result (content self.new ≡ content self.old) }
         ensures file { body file.new ≡ body file.old }
         ensures cause { HasCause tells ⊥ (failures self.old) (failures self.new) result }
@@ -197,11 +198,11 @@ pub trait Folder: Drop {
 
     /// Tells a fault that the appender goes on after.
     fn note(&mut self, notice: Notice<'_>)
-        ensures call { note_gives self.old (noted_by notice.entry) self.new }
+        ensures call { note_gives self.old (message_of notice.entry) self.new }
         ensures content { content self.new ≡ content self.old }
         ensures failures { failures self.new ≡ failures self.old }
         ensures notices { noted self.new ≡
-            counted (kind_of (noted_by notice.entry)) (noted self.old) };
+            after_note (kind_of (message_of notice.entry)) (noted self.old) };
 
     /// How often a call has failed by itself, modulo 2^64. A call that the content forbids, or that
     /// finds no memory, counts only where it failed by itself too.
@@ -217,6 +218,3 @@ pub trait Folder: Drop {
     /// Each file's name leads to a body that is there, and no body has two names.
     ghost sound: { (folder : Self) → IsTrue tells → IsSound (content folder) };
 }
-
-#[cfg(test)]
-mod tests;

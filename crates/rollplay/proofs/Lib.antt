@@ -1,1 +1,4 @@
+pub mod LineLemmas
+pub mod PlayLemmas
+pub mod ScriptLemmas
 pub mod TextLemmas

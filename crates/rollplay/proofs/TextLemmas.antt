@@ -1,61 +1,149 @@
 -- Texts as they stand in one line.
-use Rattle.std.proofs.Common.{◌≡◌, ◌≢◌, ℕ, ◌<◌, List, [], ◌∷◌, ◌++◌, All, length, get_or, refl, ap, sym, ◌∙◌, arith, append_assoc}
-use Rattle.std.proofs.lemmas.Grind.{flat_map-append, common_steps}
-use Rattle.std.proofs.lemmas.List.Elements.{All-nil, All-cons, All-head, All-tail, All-same, All-from_get_or}
+use Rattle.std.proofs.Common.{◌≡◌, ◌≢◌, ℕ, ◌<◌, ◌⊎◌, List, [], ◌∷◌, ◌++◌, All, length, get_or, refl, ap, sym, subst, ◌∙◌, arith, append_assoc, inl, inr}
+use Rattle.std.proofs.lemmas.Bool.{cases_eq}
+use Rattle.std.proofs.lemmas.Grind.{common_steps}
 use Rattle.std.proofs.lemmas.List.{append-nil}
-use Rattle.rollplay.specs.Text.{escape_of, escaped}
+use Rattle.std.proofs.lemmas.List.Elements.{All-head, All-tail, All-from_get_or}
+use Rattle.rollplay.specs.Text.{escape_of, StandsFirst, IsEscaped, StandsForNone}
 
 -- a byte that needs no escape
 escape_of-plain : (b : ℕ) → b ≢ 10 → b ≢ 92 → escape_of b ≡ b ∷ []
 escape_of-plain b n s = grind (arith, common_steps)
 
--- a text that needs no escapes
-escaped-plain : (bs : List ℕ) → All (λ b. b ≢ 10) bs → All (λ b. b ≢ 92) bs → escaped bs ≡ bs
-escaped-plain [] _ _ = refl
-escaped-plain (b ∷ bs) n s =
-    ap (λ x. x ++ escaped bs) (escape_of-plain b (All-head (λ b. b ≢ 10) b bs n) (All-head (λ b. b ≢ 92) b bs s))
-    ∙ ap (λ x. b ∷ x) (escaped-plain bs (All-tail (λ b. b ≢ 10) b bs n) (All-tail (λ b. b ≢ 92) b bs s))
+-- the byte that an escape stands for
+pub escape_of-cases : (b : ℕ) (after behind : List ℕ) → 92 ∷ after ≡ escape_of b ++ behind → (after ≡ 110 ∷ behind) ⊎ (after ≡ 92 ∷ behind)
+escape_of-cases b after behind e = elim (cases_eq b 10) [
+  | inl ten ↦
+      let first : 92 ∷ after ≡ 92 ∷ (110 ∷ behind) = subst (λ (x : ℕ). 92 ∷ after ≡ escape_of x ++ behind) ten e in
+      inl (cc)
+  | inr not_ten ↦ elim (cases_eq b 92) [
+    | inl slash ↦
+        let first : 92 ∷ after ≡ 92 ∷ (92 ∷ behind) = subst (λ (x : ℕ). 92 ∷ after ≡ escape_of x ++ behind) slash e in
+        inr (cc)
+    | inr plain ↦
+        let first : 92 ∷ after ≡ b ∷ behind = e ∙ ap (λ x. x ++ behind) (escape_of-plain b not_ten plain) in
+        let same : b ≡ 92 = cc in
+        absurd (plain same)
+  ]
+]
 
--- what holds of a list holds of its front
-All-front : (P : ℕ → Type 0) (xs ys : List ℕ) → All P (xs ++ ys) → All P xs
-All-front P [] ys all = All-nil P
-All-front P (x ∷ xs) ys all = All-cons P x xs (All-head P x (xs ++ ys) all) (All-front P xs ys (All-tail P x (xs ++ ys) all))
+-- a byte that isn't a backslash stands for itself
+stands_first-plain : (b : ℕ) (rest : List ℕ) → b ≢ 92 → StandsFirst b (b ∷ rest) rest
+stands_first-plain b rest s = elim (cases_eq b 10) [
+  | inl ten ↦ inr (ten, ap (λ x. x ∷ rest) ten)
+  | inr not_ten ↦ inl (sym (ap (λ x. x ++ rest) (escape_of-plain b not_ten s)))
+]
 
--- and of its end
-All-back : (P : ℕ → Type 0) (xs ys : List ℕ) → All P (xs ++ ys) → All P ys
-All-back P [] ys all = all
-All-back P (x ∷ xs) ys all = All-back P xs ys (All-tail P x (xs ++ ys) all)
+-- and nothing else does
+stands_first-rest : (a b : ℕ) (text rest : List ℕ) → b ≢ 92 → StandsFirst a (b ∷ text) rest → rest ≡ text
+stands_first-rest a b text rest s stands = elim stands [
+  | inl e ↦ elim (cases_eq a 10) [
+    | inl ten ↦
+        let first : b ∷ text ≡ 92 ∷ (110 ∷ rest) = subst (λ (x : ℕ). b ∷ text ≡ escape_of x ++ rest) ten e in
+        let same : b ≡ 92 = cc in
+        absurd (s same)
+    | inr not_ten ↦ elim (cases_eq a 92) [
+      | inl slash ↦
+          let first : b ∷ text ≡ 92 ∷ (92 ∷ rest) = subst (λ (x : ℕ). b ∷ text ≡ escape_of x ++ rest) slash e in
+          let same : b ≡ 92 = cc in
+          absurd (s same)
+      | inr plain ↦
+          let first : b ∷ text ≡ a ∷ rest = e ∙ ap (λ x. x ++ rest) (escape_of-plain a not_ten plain) in
+          cc
+    ]
+  ]
+  | inr newline ↦ let first : b ∷ text ≡ 10 ∷ rest = newline.1 in cc
+]
 
--- a text in one line that is added to what was escaped
-escaped_then : (done more : List ℕ) → All (λ b. b ≢ 10) more → ((i : ℕ) → i < length more → get_or more i 0 ≢ 92)
-    → escaped (done ++ more) ≡ escaped done ++ more
-escaped_then done more n s =
-    flat_map-append escape_of done more
-    ∙ ap (λ x. escaped done ++ x) (escaped-plain more n (All-from_get_or (λ b. b ≢ 92) more 0 s))
+apart : (xs ys : List ℕ) → 110 ∷ xs ≡ 92 ∷ ys → ⊥
+apart xs ys e = omega (arith, ap (λ (bs : List ℕ). get_or bs 0 0) e)
 
--- one more escape is resolved
-pub escaped_more : (text done rest before after behind : List ℕ) (c : ℕ)
-    → (All (λ b. b ≢ 10) text → escaped done ++ rest ≡ text)
-    → rest ≡ before ++ (92 ∷ after) → ((i : ℕ) → i < length before → get_or before i 0 ≢ 92)
-    → 92 ∷ after ≡ escape_of c ++ behind
-    → All (λ b. b ≢ 10) text → escaped ((done ++ before) ++ (c ∷ [])) ++ behind ≡ text
-escaped_more text done rest before after behind c so_far split plain escape one_line =
-    let whole : escaped done ++ (before ++ (92 ∷ after)) ≡ text = ap (λ x. escaped done ++ x) (sym split) ∙ so_far one_line in
-    let line : All (λ b. b ≢ 10) (escaped done ++ (before ++ (92 ∷ after))) = All-same (λ b. b ≢ 10) _ _ whole one_line in
-    let short : All (λ b. b ≢ 10) before = All-front (λ b. b ≢ 10) before (92 ∷ after) (All-back (λ b. b ≢ 10) (escaped done) _ line) in
-    let grown : escaped ((done ++ before) ++ (c ∷ [])) ≡ (escaped done ++ before) ++ escape_of c =
-    flat_map-append escape_of (done ++ before) (c ∷ [])
-    ∙ (ap (λ x. x ++ (escape_of c ++ [])) (escaped_then done before short plain)
-    ∙ ap (λ x. (escaped done ++ before) ++ x) (append-nil (escape_of c))) in
-    ap (λ x. x ++ behind) grown
-    ∙ (append_assoc (escaped done ++ before) (escape_of c) behind
-    ∙ (ap (λ x. (escaped done ++ before) ++ x) (sym escape)
-    ∙ (append_assoc (escaped done) before (92 ∷ after) ∙ whole)))
+some_byte : (b : ℕ) (bs : List ℕ) → b ∷ bs ≡ [] → ⊥
+some_byte b bs e = cc
 
--- the last part is added
-pub escaped_last : (text done rest : List ℕ)
-    → (All (λ b. b ≢ 10) text → escaped done ++ rest ≡ text) → ((i : ℕ) → i < length rest → get_or rest i 0 ≢ 92)
-    → All (λ b. b ≢ 10) text → escaped (done ++ rest) ≡ text
-escaped_last text done rest so_far plain one_line =
-    let line : All (λ b. b ≢ 10) (escaped done ++ rest) = All-same (λ b. b ≢ 10) _ _ (so_far one_line) one_line in
-    escaped_then done rest (All-back (λ b. b ≢ 10) (escaped done) rest line) plain ∙ so_far one_line
+-- what no backslash is in stands for itself
+front-stands : (before more rest : List ℕ) → All (λ b. b ≢ 92) before → IsEscaped more rest → IsEscaped (before ++ more) (before ++ rest)
+front-stands [] more rest plain escaped = escaped
+front-stands (b ∷ bs) more rest plain escaped =
+    (bs ++ rest, stands_first-plain b (bs ++ rest) (All-head (λ x. x ≢ 92) b bs plain), front-stands bs more rest (All-tail (λ x. x ≢ 92) b bs plain) escaped)
+
+-- and what stands behind it stands for something
+front-leaves : (before rest all : List ℕ) → All (λ b. b ≢ 92) before → IsEscaped all (before ++ rest) → (more : List ℕ) × IsEscaped more rest
+front-leaves [] rest all plain escaped = (all, escaped)
+front-leaves (b ∷ bs) rest [] plain escaped = absurd (some_byte b (bs ++ rest) escaped)
+front-leaves (b ∷ bs) rest (a ∷ as') plain (left, stands, escaped) =
+    front-leaves bs rest as' (All-tail (λ x. x ≢ 92) b bs plain)
+    (subst (λ (x : List ℕ). IsEscaped as' x) (stands_first-rest a b (bs ++ rest) left (All-head (λ x. x ≢ 92) b bs plain) stands) escaped)
+
+-- behind an escape
+escape-leaves : (after behind all : List ℕ) (c : ℕ) → 92 ∷ after ≡ escape_of c ++ behind → IsEscaped all (92 ∷ after)
+    → (more : List ℕ) × IsEscaped more behind
+escape-leaves after behind [] c escape escaped = absurd (some_byte 92 after escaped)
+escape-leaves after behind (a ∷ more) c escape (left, stands, escaped) = elim stands [
+  | inl e ↦
+      let same : left ≡ behind = elim (escape_of-cases a after left e) [
+        | inl n ↦ elim (escape_of-cases c after behind escape) [
+          | inl m ↦ cc
+          | inr m ↦ absurd (apart left behind (sym n ∙ m))
+        ]
+        | inr n ↦ elim (escape_of-cases c after behind escape) [
+          | inl m ↦ absurd (apart behind left (sym m ∙ n))
+          | inr m ↦ cc
+        ]
+      ] in
+      (more, subst (λ (x : List ℕ). IsEscaped more x) same escaped)
+  | inr newline ↦ absurd (omega (arith, ap (λ (bs : List ℕ). get_or bs 0 0) newline.1))
+]
+
+-- nothing stands for a backslash that begins no escape
+no_escape : (after all : List ℕ) → ((b : ℕ) (rest : List ℕ) → 92 ∷ after ≢ escape_of b ++ rest) → ¬ (IsEscaped all (92 ∷ after))
+no_escape after [] none escaped = some_byte 92 after escaped
+no_escape after (a ∷ more) none (left, stands, escaped) = elim stands [
+  | inl e ↦ none a left e
+  | inr newline ↦ omega (arith, ap (λ (bs : List ℕ). get_or bs 0 0) newline.1)
+]
+
+-- The text was resolved up to this rest: whatever stands behind what was resolved, and whether anything does.
+pub record IsResolved (text done rest : List ℕ) : Type 0 where
+  pub grows : (more : List ℕ) → IsEscaped more rest → IsEscaped (done ++ more) text
+  pub leaves : (all : List ℕ) → IsEscaped all text → (more : List ℕ) × IsEscaped more rest
+
+-- before the first escape
+pub resolved_none : (text : List ℕ) → IsResolved text [] text
+resolved_none text = record { grows = λ more escaped. escaped; leaves = λ all escaped. (all, escaped) }
+
+module _ (text done rest before : List ℕ) (resolved : IsResolved text done rest) where
+  module _ (after : List ℕ) (split : rest ≡ before ++ (92 ∷ after)) (plain : (i : ℕ) → i < length before → get_or before i 0 ≢ 92) where
+    -- one more escape is resolved
+    pub resolved_more : (behind : List ℕ) (c : ℕ) → 92 ∷ after ≡ escape_of c ++ behind → IsResolved text ((done ++ before) ++ (c ∷ [])) behind
+    resolved_more behind c escape =
+        let front : All (λ b. b ≢ 92) before = All-from_get_or (λ b. b ≢ 92) before 0 plain in
+        record {
+          grows = λ more escaped.
+              let joined : done ++ (before ++ (c ∷ more)) ≡ ((done ++ before) ++ (c ∷ [])) ++ more =
+              sym (append_assoc (done ++ before) (c ∷ []) more ∙ append_assoc done before (c ∷ more)) in
+              let stands : IsEscaped (before ++ (c ∷ more)) (before ++ (92 ∷ after)) =
+              front-stands before (c ∷ more) (92 ∷ after) front (behind, inl escape, escaped) in
+              subst (λ (x : List ℕ). IsEscaped x text) joined
+              (resolved.grows (before ++ (c ∷ more)) (subst (λ (x : List ℕ). IsEscaped (before ++ (c ∷ more)) x) (sym split) stands));
+          leaves = λ all escaped.
+              let left = resolved.leaves all escaped in
+              let next = front-leaves before (92 ∷ after) left.0 front (subst (λ (x : List ℕ). IsEscaped left.0 x) split left.1) in
+              escape-leaves after behind next.0 c escape next.1;
+        }
+
+    -- no escape begins with the next backslash
+    pub resolved_no_more : ((b : ℕ) (left : List ℕ) → 92 ∷ after ≢ escape_of b ++ left) → StandsForNone text
+    resolved_no_more none all escaped =
+        let front : All (λ b. b ≢ 92) before = All-from_get_or (λ b. b ≢ 92) before 0 plain in
+        let left = resolved.leaves all escaped in
+        let next = front-leaves before (92 ∷ after) left.0 front (subst (λ (x : List ℕ). IsEscaped left.0 x) split left.1) in
+        no_escape after next.0 none next.1
+
+-- no backslash is left
+pub resolved_last : (text done rest : List ℕ) → IsResolved text done rest → ((i : ℕ) → i < length rest → get_or rest i 0 ≢ 92) → IsEscaped (done ++ rest) text
+resolved_last text done rest resolved plain =
+    let front : All (λ b. b ≢ 92) rest = All-from_get_or (λ b. b ≢ 92) rest 0 plain in
+    let stands : IsEscaped (rest ++ []) (rest ++ []) = front-stands rest [] [] front refl in
+    let whole : IsEscaped rest rest = subst (λ (x : List ℕ). IsEscaped x x) (append-nil rest) stands in
+    resolved.grows rest whole

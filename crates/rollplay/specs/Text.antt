@@ -1,5 +1,6 @@
 -- Texts and numbers as they stand in one line.
-use Rattle.std.specs.Prelude.{◌≡◌, ◌≢◌, ◌↔◌, ◌<ℤ◌, ℕ, ℤ, pos, List, [], ◌∷◌, ◌==◌, if◌then◌else◌, All, slice_index}
+use Rattle.std.specs.Prelude.{◌≡◌, ◌≢◌, ◌↔◌, ◌⊎◌, ◌<◌, ◌≤◌, ◌^◌, ◌<ℤ◌, ℕ, ℤ, pos, FitsSigned, List, [], ◌∷◌, ◌++◌, ◌==◌, Option, None, Some, if◌then◌else◌, slice_index, codes}
+use Rattle.std.specs.Int.{w64, w128}
 use Rattle.std.specs.List.{flat_map}
 use Rattle.std.specs.Str.Parse.{IsNumeral, digits_value, signed_digits_value, without_leading_sign}
 
@@ -8,12 +9,21 @@ abbrev pub escape_of : ℕ → List ℕ
 escape_of b = if b == 10 then 92 ∷ 110 ∷ [] else (if b == 92 then 92 ∷ 92 ∷ [] else b ∷ [])
 
 -- the bytes of a text in one line
-abbrev pub escaped : List ℕ → List ℕ
-escaped = flat_map escape_of
+abbrev pub escapes_of : List ℕ → List ℕ
+escapes_of = flat_map escape_of
 
--- a text without a newline is how the other one stands in one line
+-- the byte stands first in the text, and the rest behind it; a newline may stand there as it is
+abbrev pub StandsFirst : ℕ → List ℕ → List ℕ → Type 0
+StandsFirst b text rest = (text ≡ escape_of b ++ rest) ⊎ ((b ≡ 10) × (text ≡ 10 ∷ rest))
+
+-- the text has the bytes of the plain one, each of them as it may stand
 abbrev pub IsEscaped : List ℕ → List ℕ → Type 0
-IsEscaped text plain = All (λ b. b ≢ 10) text → escaped plain ≡ text
+IsEscaped [] text = text ≡ []
+IsEscaped (b ∷ plain) text = (rest : List ℕ) × StandsFirst b text rest × IsEscaped plain rest
+
+-- there is no plain text that stands escaped like this
+abbrev pub StandsForNone : List ℕ → Type 0
+StandsForNone text = (plain : List ℕ) → ¬ (IsEscaped plain text)
 
 -- A decimal number: one digit or more, with a minus before the negative numbers alone, and never a plus.
 pub record IsSigned (word : List ℕ) (n : ℤ) : Type 0 where
@@ -26,3 +36,23 @@ pub record IsSigned (word : List ℕ) (n : ℤ) : Type 0 where
 pub record IsUnsigned (word : List ℕ) (n : ℕ) : Type 0 where
   pub digits : IsNumeral 10 word
   pub value : n ≡ digits_value 10 word
+
+-- a moment, in seconds
+pub record IsSeconds (word : List ℕ) (m : ℤ) : Type 0 where
+  pub fits : FitsSigned w64 m
+  pub number : IsSigned word m
+
+-- a creation moment, in nanoseconds, or none
+abbrev pub IsCreated : List ℕ → Option ℤ → Type 0
+IsCreated word None = word ≡ codes "none"
+IsCreated word (Some m) = FitsSigned w128 m × IsSigned word m
+
+-- how many
+pub record IsCount (word : List ℕ) (n : ℕ) : Type 0 where
+  pub fits : n < 2 ^ 64
+  pub number : IsUnsigned word n
+
+-- the number of a call, from 1 on
+pub record IsCall (word : List ℕ) (n : ℕ) : Type 0 where
+  pub from_one : 1 ≤ n
+  pub count : IsCount word n

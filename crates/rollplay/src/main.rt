@@ -1,7 +1,8 @@
-//! Plays a script from standard input: runs a rolling log writer over a folder in memory, and prints what each call
-//! answered and what the folder holds at the end.
+//! Plays a script from standard input: runs a rolling log writer over a folder in memory, by itself or behind a queue,
+//! and prints what each step answered and what the folder holds at the end.
 #![tactic(auto)]
 
+mod line;
 mod page;
 mod play;
 mod script;

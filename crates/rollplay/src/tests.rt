@@ -1,4 +1,6 @@
 // Whole scripts, played through memory.
+mod queued;
+
 use crate::play::play;
 use std::alloc::Global;
 use std::io;
@@ -170,7 +172,7 @@ fn plays(rt: HostRuntime) {
 }
 
 // Scripts whose log is not opened, and what is printed.
-static REFUSED: [(&str, &str); 18] = [
+static REFUSED: [(&str, &str); 20] = [
     (
         "rotation hourly\nprefix a/b\nstart 1580551260\n",
         "init error 5\n",
@@ -194,6 +196,12 @@ static REFUSED: [(&str, &str); 18] = [
         "prefix app\nlink-at app x\nstart 0\n",
         "init error 2\nlink app x\n",
     ),
+    // Where there is a queue, its counts aren't printed.
+    (
+        "queue 1 lossy\nprefix app\nfile a b\nstart 253370764800\noffer 1 x\nwork 0\n",
+        "init error 4\nfile a 1 b\n",
+    ),
+    ("queue 0 waiting\nprefix a/b\nstart 0\n", "init error 5\n"),
     // The link has the name of the first file, or one that another file can have, or none of one entry.
     (
         "rotation hourly\nprefix app\nlink app.2020-02-01-11\nstart 1580551260\n",
@@ -236,7 +244,7 @@ fn tells_why_nothing_is_opened(rt: HostRuntime) {
 }
 
 // Scripts and their first faulty lines.
-static FAULTY: [(&str, usize); 119] = [
+static FAULTY: [(&str, usize); 161] = [
     // No `start`.
     ("", 1),
     ("prefix app\n", 2),
@@ -252,6 +260,10 @@ static FAULTY: [(&str, usize); 119] = [
     ("prefix app\nrotation yearly\nnonsense\n", 2),
     ("file a x\nfile a y\nrotation yearly\n", 2),
     ("start 0\nwrite \\x\nprefix app\n", 2),
+    (
+        "start 0\nflush\nflush\nflush\nflush\nflush\nflush\nflush\nflush\nflush\nflush\nsync\nsync\n",
+        12,
+    ),
     // Words and the spaces between them.
     ("rotation yearly", 1),
     ("rotation Hourly\nstart 0\n", 1),
@@ -363,13 +375,56 @@ static FAULTY: [(&str, usize); 119] = [
     ("folder /\nstart 0\n", 1),
     ("folder a\nfile a x\nstart 0\n", 2),
     ("file a x\nfile b x\nfolder a\nstart 0\n", 3),
-    // Lines that are not known yet.
-    ("queue 1 lossy\nstart 0\n", 1),
+    // Steps of the other kind.
     ("start 0\noffer 1 a\n", 2),
     ("start 0\nshut\n", 2),
     ("start 0\nadd\n", 2),
     ("start 0\ndrop\n", 2),
     ("start 0\nwork 0\n", 2),
+    ("queue 1 lossy\nstart 0\nsee 0\n", 3),
+    ("queue 1 lossy\nstart 0\nput 0 a\n", 3),
+    ("queue 1 waiting\nstart 0\nwrite a\n", 3),
+    ("queue 1 waiting\nstart 0\nflush\n", 3),
+    ("start 0\nflush\nshut\nflush\n", 3),
+    ("queue 1 lossy\nstart 0\nshut\nflush\nshut\n", 4),
+    // Where `queue` and its steps may stand.
+    ("start 0\nqueue 1 lossy\n", 2),
+    ("queue 1 lossy\nstart 0\nqueue 1 lossy\n", 3),
+    ("queue 1 lossy\nabsent\nstart 0\n", 2),
+    ("queue 1 lossy\nshut\nstart 0\n", 2),
+    ("queue 1 lossy\nwork 0\nstart 0\n", 2),
+    ("queue 1 lossy\noffer 1 a\nstart 0\n", 2),
+    ("queue 1 lossy\n", 2),
+    // What stands behind their first words.
+    ("queue\nstart 0\n", 1),
+    ("queue 1\nstart 0\n", 1),
+    ("queue 1 \nstart 0\n", 1),
+    ("queue lossy\nstart 0\n", 1),
+    ("queue 1 both\nstart 0\n", 1),
+    ("queue 1 Lossy\nstart 0\n", 1),
+    ("queue 1 lossy \nstart 0\n", 1),
+    ("queue 1 lossy waiting\nstart 0\n", 1),
+    ("queue  1 lossy\nstart 0\n", 1),
+    ("queue 1  lossy\nstart 0\n", 1),
+    ("queue -1 lossy\nstart 0\n", 1),
+    ("queue +1 lossy\nstart 0\n", 1),
+    ("queue 18446744073709551616 lossy\nstart 0\n", 1),
+    ("queues 1 lossy\nstart 0\n", 1),
+    ("queue 1 lossy\nstart 0\noffer\n", 3),
+    ("queue 1 lossy\nstart 0\noffer x a\n", 3),
+    ("queue 1 lossy\nstart 0\noffer  1 a\n", 3),
+    ("queue 1 lossy\nstart 0\noffer -1 a\n", 3),
+    ("queue 1 lossy\nstart 0\noffer +1 a\n", 3),
+    ("queue 1 lossy\nstart 0\noffer 18446744073709551616 a\n", 3),
+    ("queue 1 lossy\nstart 0\noffer 1 \\x\n", 3),
+    ("queue 1 lossy\nstart 0\nwork\n", 3),
+    ("queue 1 lossy\nstart 0\nwork x\n", 3),
+    ("queue 1 lossy\nstart 0\nwork 0 \n", 3),
+    ("queue 1 lossy\nstart 0\nwork -0\n", 3),
+    ("queue 1 lossy\nstart 0\nwork 9223372036854775808\n", 3),
+    ("queue 1 lossy\nstart 0\nadd 1\n", 3),
+    ("queue 1 lossy\nstart 0\ndrop 1\n", 3),
+    ("queue 1 lossy\nstart 0\nshut \n", 3),
 ];
 
 #[test]

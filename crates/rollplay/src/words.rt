@@ -1,10 +1,13 @@
 //! A line of a script, word by word.
-ghost use Rattle.std.specs.Prelude.{◌≡◌, ◌⊎◌, ◌↔◌, ◌<◌, ◌≤◌, ◌^◌, ℤ, FitsSigned, ◌∷◌, ◌++◌, ◌==◌, ℕ, List, [], None, Some, IfOk, OnErr, IfSome, IsOk, MatchOption, codes, string_bytes, unwrap_or};
-ghost use Rattle.std.specs.Int.{w64, w128};
+ghost use Rattle.std.specs.Prelude.{◌≡◌, ◌≢◌, ◌↔◌, ◌<◌, ◌^◌, ℤ, Option, FitsSigned, ◌∷◌, ◌++◌, ◌==◌, ℕ, List};
+ghost use Rattle.std.specs.Prelude.{[], None, Some, Err, IfOk, IfErr, IfSome, IfNone, IsOk, MatchOption};
+ghost use Rattle.std.specs.Prelude.{string_bytes, unwrap_or};
+ghost use Rattle.std.specs.Int.{w128};
 ghost use Rattle.std.specs.Option.{option_map};
 ghost use Rattle.std.specs.List.{before_first};
-ghost use Rattle.rollplay.specs.Line.{behind, TakesWord, HasNoWord, TakesNo};
-ghost use Rattle.rollplay.specs.Text.{escape_of, IsEscaped, IsSigned, IsUnsigned};
+ghost use Rattle.rollplay.specs.Words.{tail_of, TakesWord, HasNoWord, Takes, TakesNo};
+ghost use Rattle.rollplay.specs.Text.{escape_of, IsEscaped, StandsForNone, IsSigned, IsUnsigned, IsSeconds};
+ghost use Rattle.rollplay.specs.Text.{IsCreated, IsCount, IsCall};
 
 use std::alloc::{AllocError, Global};
 use std::marker::Model;
@@ -30,6 +33,10 @@ impl From<AllocError> for LineError {
 }
 
 impl From<PutError> for LineError {
+    ghost use Rattle.rollplay.specs.Words.{error_of_put};
+
+    ghost from_gives = { λ put e. e ≡ error_of_put put };
+
     fn from(error: PutError) -> LineError {
         match error {
             PutError::Name | PutError::Used => LineError::Fault,
@@ -64,7 +71,7 @@ impl<'a> Words<'a> {
     /// The next word, which is not empty. Words stand apart by one space each.
     pub fn word(&mut self) -> Result<&'a str, LineError>
         ensures ok { IfOk result (λ word. TakesWord self.old word.now self.new) }
-        ensures err { OnErr result (HasNoWord self.old) }
+        ensures err { IfErr result (λ e. (e ≡ LineError.Fault) × HasNoWord self.old) }
     {
         let line = self.rest.ok_or(LineError::Fault)?;
         let (word, rest) = split_word(line);
@@ -77,10 +84,9 @@ impl<'a> Words<'a> {
 
     /// The next word as a moment, in seconds of UTC since the epoch.
     pub fn seconds(&mut self) -> Result<i64, LineError>
-        ensures ok { IfOk result (λ seconds.
-            (word : List ℕ) × TakesWord self.old word self.new × IsSigned word seconds) }
-        ensures err { OnErr result (TakesNo (λ word. (n : ℤ) × FitsSigned w64 n × IsSigned word n)
-            self.old self.new) }
+        ensures ok { IfOk result (λ seconds. Takes (λ word. IsSeconds word seconds) self.old self.new) }
+        ensures err { IfErr result (λ e. (e ≡ LineError.Fault)
+            × TakesNo (λ word. (m : ℤ) × IsSeconds word m) self.old self.new) }
     {
         let number = read_signed(self.word()?).ok_or(LineError::Fault)?;
         i64::try_from(number).map_err(|_| LineError::Fault)
@@ -88,10 +94,9 @@ impl<'a> Words<'a> {
 
     /// The next word as a creation moment, in nanoseconds since the epoch, or `none`.
     pub fn created(&mut self) -> Result<Option<i128>, LineError>
-        ensures ok { IfOk result (λ created. (word : List ℕ) × TakesWord self.old word self.new
-            × MatchOption created (word ≡ codes "none") (IsSigned word)) }
-        ensures err { OnErr result (TakesNo (λ word. (word ≡ codes "none")
-            ⊎ ((n : ℤ) × FitsSigned w128 n × IsSigned word n)) self.old self.new) }
+        ensures ok { IfOk result (λ created. Takes (λ word. IsCreated word created) self.old self.new) }
+        ensures err { IfErr result (λ e. (e ≡ LineError.Fault)
+            × TakesNo (λ word. (created : Option ℤ) × IsCreated word created) self.old self.new) }
     {
         match self.word()? {
             "none" => Ok(None),
@@ -101,21 +106,28 @@ impl<'a> Words<'a> {
 
     /// The next word as a count: decimal digits without a sign.
     pub fn count(&mut self) -> Result<usize, LineError>
-        ensures ok { IfOk result (λ count. (word : List ℕ) × TakesWord self.old word self.new
-            × IsUnsigned word count) }
-        ensures err { OnErr result (TakesNo (λ word. (n : ℕ) × (n < 2 ^ 64) × IsUnsigned word n)
-            self.old self.new) }
+        ensures ok { IfOk result (λ count. Takes (λ word. IsCount word count) self.old self.new) }
+        ensures err { IfErr result (λ e. (e ≡ LineError.Fault)
+            × TakesNo (λ word. (n : ℕ) × IsCount word n) self.old self.new) }
     {
         let number = read_unsigned(self.word()?).ok_or(LineError::Fault)?;
         usize::try_from(number).map_err(|_| LineError::Fault)
     }
 
+    /// The next word as the label of a sender: decimal digits without a sign.
+    pub fn label(&mut self) -> Result<u64, LineError>
+        ensures ok { IfOk result (λ label. Takes (λ word. IsCount word label) self.old self.new) }
+        ensures err { IfErr result (λ e. (e ≡ LineError.Fault)
+            × TakesNo (λ word. (n : ℕ) × IsCount word n) self.old self.new) }
+    {
+        read_unsigned(self.word()?).ok_or(LineError::Fault)
+    }
+
     /// The next word as the number of a call, from 1 on.
     pub fn call(&mut self) -> Result<u64, LineError>
-        ensures ok { IfOk result (λ number. (1 ≤ number) × ((word : List ℕ)
-            × TakesWord self.old word self.new × IsUnsigned word number)) }
-        ensures err { OnErr result (TakesNo (λ word. (n : ℕ) × (1 ≤ n) × (n < 2 ^ 64)
-            × IsUnsigned word n) self.old self.new) }
+        ensures ok { IfOk result (λ number. Takes (λ word. IsCall word number) self.old self.new) }
+        ensures err { IfErr result (λ e. (e ≡ LineError.Fault)
+            × TakesNo (λ word. (n : ℕ) × IsCall word n) self.old self.new) }
     {
         let number = read_unsigned(self.word()?).ok_or(LineError::Fault)?;
         if number == 0 {
@@ -127,7 +139,8 @@ impl<'a> Words<'a> {
     /// All that is left, spaces too, with its escapes resolved; empty where nothing is left.
     pub fn text(&mut self, alloc: Global) -> Result<String, LineError>
         ensures all { self.new ≡ None }
-        ensures text { IfOk result (λ plain. IsEscaped (unwrap_or self.old []) (string_bytes plain)) }
+        ensures ok { IfOk result (λ plain. IsEscaped (string_bytes plain) (unwrap_or self.old [])) }
+        ensures fault { result ≡ Err LineError.Fault → StandsForNone (unwrap_or self.old []) }
     {
         let text = self.rest.take().unwrap_or("");
         unescape(alloc, text)
@@ -135,7 +148,8 @@ impl<'a> Words<'a> {
 
     /// Whether the line ends here, without a space.
     pub fn end(&self) -> Result<(), LineError>
-        ensures { IsOk result ↔ (self.now ≡ None) }
+        ensures end { IsOk result ↔ (self.now ≡ None) }
+        ensures err { IfErr result (λ e. e ≡ LineError.Fault) }
     {
         match self.rest {
             None => Ok(()),
@@ -147,7 +161,7 @@ impl<'a> Words<'a> {
 // What stands before the first space, and what behind it.
 fn split_word(line: &str) -> (&str, Option<&str>)
     ensures word { result.0.now ≡ before_first (λ b. b == 32) line.now }
-    ensures join { line.now ≡ result.0.now ++ behind (option_map (λ rest. rest.now) result.1) }
+    ensures join { line.now ≡ result.0.now ++ tail_of (option_map (λ rest. rest.now) result.1) }
 {
     match line.split_once(' ') {
         Some((word, rest)) => (word, Some(rest)),
@@ -183,7 +197,8 @@ fn read_unsigned(word: &str) -> Option<u64>
 
 // The text with a newline for each `\n` and a backslash for each `\\`; any other backslash is a fault.
 fn unescape(alloc: Global, text: &str) -> Result<String, LineError>
-    ensures { IfOk result (λ plain. IsEscaped text.now (string_bytes plain)) }
+    ensures ok { IfOk result (λ plain. IsEscaped (string_bytes plain) text.now) }
+    ensures fault { result ≡ Err LineError.Fault → StandsForNone text.now }
 {
     let mut plain = String::with_capacity(alloc, text.len())?;
     let mut rest = text;
@@ -201,6 +216,8 @@ fn unescape(alloc: Global, text: &str) -> Result<String, LineError>
 fn split_escape(text: &str) -> Option<(char, &str)>
     ensures byte { IfSome result (λ r. r.0 < 128) }
     ensures split { IfSome result (λ r. 92 ∷ text.now ≡ escape_of r.0 ++ r.1.now) }
+    ensures none { IfNone result
+        ((b : ℕ) → (rest : List ℕ) → 92 ∷ text.now ≢ escape_of b ++ rest) }
 {
     if let Some(behind) = text.strip_prefix('n') {
         return Some(('\n', behind));

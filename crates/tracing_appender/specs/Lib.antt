@@ -1,5 +1,0 @@
-pub mod Config
-pub mod Opening
-pub mod Roller
-pub mod Run
-pub mod Replay

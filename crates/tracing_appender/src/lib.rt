@@ -3,8 +3,8 @@
 #![tactic(auto)]
 
 pub use appender_core::{
-    laws, names, queue, retain, retain_laws, rotation, store, worker, worker_laws,
+    error, name_laws, names, queue, queue_laws, retain, retain_laws, rotation, store, store_laws,
+    worker,
 };
-
-pub mod replay;
-pub mod rolling;
+pub use appender_replay::replay;
+pub use appender_rolling::{laws as rolling_laws, rolling};

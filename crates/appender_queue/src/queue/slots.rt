@@ -1,13 +1,13 @@
 // A row of slots, of which the first ones are full.
-ghost use Rattle.appender_queue.specs.Slots.{present, is_packed};
+ghost use Rattle.appender_queue.specs.Inside.Slots.{lines_in, is_packed};
 ghost use Rattle.std.specs.Prelude.{◌≡◌, true, ◌<◌, ◌≤◌, [], ◌∷◌, ◌++◌, length, IfOk};
 
 use crate::queue::store::Store;
 use std::alloc::{AllocError, Global};
 use std::marker::Model;
 
-/// Lines in a row of slots, all made at once. A take moves the lines behind it down by one slot.
-#[derive(Drop)]
+/// Lines in a row of slots, all made at once. When the first one is taken, the others move up to it.
+#[derive(Debug, Drop)]
 pub(crate) struct Slots {
     slots: Vec<Option<Vec<u8>>>,
     full: usize,
@@ -15,21 +15,21 @@ pub(crate) struct Slots {
 
 impl Model for Slots {
     ghost use Rattle.std.specs.Prelude.{◌≡◌, ℕ, List, length, ◌≤◌, true};
-    ghost use Rattle.appender_queue.specs.Slots.{present, is_packed};
+    ghost use Rattle.appender_queue.specs.Inside.Slots.{lines_in, is_packed};
 
     /// The lines, and the number of slots.
     ghost Value = { List (List ℕ) × ℕ };
 
-    ghost view = { λ s. (present s.slots.items, length s.slots.items) };
+    ghost view = { λ s. (lines_in s.slots.items, length s.slots.items) };
 
     ghost invariant = { λ s. (is_packed s.slots.items ≡ true)
-        × (s.full ≡ length (present s.slots.items))
+        × (s.full ≡ length (lines_in s.slots.items))
         × (s.full ≤ length s.slots.items) };
 }
 
 impl Slots {
     /// This many slots, all empty.
-    #[tactic(auto, using(crate::proofs::Packed::packed_more, crate::proofs::Packed::present_more))]
+    #[tactic(auto, using(crate::proofs::Packed::packed_more, crate::proofs::Packed::lines_in_more))]
     pub(crate) fn with_capacity(alloc: Global, capacity: usize) -> Result<Slots, AllocError>
         ensures { IfOk result (λ s. (s.0 ≡ []) × (s.1 ≡ capacity)) }
     {
@@ -66,12 +66,12 @@ impl Store for Slots {
 }
 
 // Fills the first empty slot.
-#[tactic(auto, using(crate::proofs::Packed::present_fill, crate::proofs::Packed::packed_fill))]
+#[tactic(auto, using(crate::proofs::Packed::lines_in_fill, crate::proofs::Packed::packed_fill))]
 fn fill(slots: &mut [Option<Vec<u8>>], at: usize, line: Vec<u8>)
     requires packed { is_packed slots.old ≡ true }
-    requires at { at ≡ length (present slots.old) }
+    requires at { at ≡ length (lines_in slots.old) }
     requires room { at < length slots.old }
-    ensures lines { present slots.new ≡ present slots.old ++ line.items ∷ [] }
+    ensures lines { lines_in slots.new ≡ lines_in slots.old ++ line.items ∷ [] }
     ensures packed { is_packed slots.new ≡ true }
     ensures long { length slots.new ≡ length slots.old }
 {
@@ -81,10 +81,10 @@ fn fill(slots: &mut [Option<Vec<u8>>], at: usize, line: Vec<u8>)
 // Takes the first slot's line, and moves the full slots behind it down by one.
 fn empty_first(slots: &mut [Option<Vec<u8>>], full: usize) -> Vec<u8>
     requires packed { is_packed slots.old ≡ true }
-    requires full { full ≡ length (present slots.old) }
+    requires full { full ≡ length (lines_in slots.old) }
     requires some { 0 < full }
     requires within { full ≤ length slots.old }
-    ensures lines { present slots.old ≡ result.items ∷ present slots.new }
+    ensures lines { lines_in slots.old ≡ result.items ∷ lines_in slots.new }
     ensures packed { is_packed slots.new ≡ true }
     ensures long { length slots.new ≡ length slots.old }
 {

@@ -3,11 +3,13 @@ ghost use Rattle.std.specs.Prelude.{◌≡◌, IsTrue, map, filter_map};
 ghost use Rattle.std.specs.Option.{option_map};
 ghost use Rattle.appender_store.specs.Content.{IsFile};
 ghost use Rattle.std.specs.FinMap as fin;
-ghost use Rattle.appender_store.specs.Folder.{shown};
-ghost use Rattle.appender_retain.specs.Pruning.{Prunes, RemovesFile, RemovesEach, AreFiles, name_at};
+ghost use Rattle.appender_store.specs.Folder.{listed_row};
+ghost use Rattle.appender_retain.specs.Pruning.{Prunes, RemovesFile, RemovesEach, name_at};
+ghost use Rattle.appender_retain.specs.Inside.Files.{AreFiles};
 
 use super::plan;
 use appender_names::names::Names;
+use appender_store::laws::names_change_one_at_a_time;
 use appender_store::store::{Folder, Listed, Notice};
 use std::alloc::Global;
 use std::io;
@@ -18,6 +20,7 @@ use std::io;
 pub fn prune_old_logs<S: Folder>(alloc: Global, folder: &mut S, names: &Names, max: usize)
     ensures { Prunes S.Folder names.now max folder.old folder.new }
 {
+    names_change_one_at_a_time();
     if max == 0 {
         return;
     }
@@ -37,10 +40,11 @@ pub fn prune_old_logs<S: Folder>(alloc: Global, folder: &mut S, names: &Names, m
 // Removes the files at these places, one after another.
 fn remove_planned<S: Folder>(folder: &mut S, listed: &[Listed], gone: &[usize])
     requires { IsTrue S.tells → AreFiles (S.content folder.old).names
-        (filter_map (name_at (map shown listed.now)) gone.now) }
-    ensures { RemovesEach S.Folder (filter_map (name_at (map shown listed.now)) gone.now)
+        (filter_map (name_at (map listed_row listed.now)) gone.now) }
+    ensures { RemovesEach S.Folder (filter_map (name_at (map listed_row listed.now)) gone.now)
         folder.old folder.new }
 {
+    names_change_one_at_a_time();
     for place in gone {
         if let Some(name) = listed_name(listed, *place) {
             remove_file(folder, name);
@@ -50,7 +54,7 @@ fn remove_planned<S: Folder>(folder: &mut S, listed: &[Listed], gone: &[usize])
 
 // The name listed at a place, if it can be read.
 fn listed_name(listed: &[Listed], place: usize) -> Option<&str>
-    ensures { option_map (λ name. name.now) result ≡ name_at (map shown listed.now) place }
+    ensures { option_map (λ name. name.now) result ≡ name_at (map listed_row listed.now) place }
 {
     Some(listed.get(place)?.name.as_ref()?.as_str())
 }

@@ -2,7 +2,7 @@
 ghost use Rattle.std.specs.Prelude.{◌≡◌, true, false, OnOk, OnErr, IfErr, if◌then◌else◌};
 ghost use Rattle.std.specs.IoError.{error_kind};
 ghost use Rattle.std.specs.declared.io.ErrorKind.TheVariants.{Other};
-ghost use Rattle.appender_store.specs.Folder.{one_more, counted};
+ghost use Rattle.appender_store.specs.Folder.{wrapping_next, after_note};
 ghost use Rattle.std.specs.FinSet as set;
 ghost use Rattle.std.specs.FinMap as fin;
 
@@ -22,12 +22,13 @@ pub(crate) struct Calls {
 }
 
 impl Calls {
-    ghost use Rattle.appender_store.specs.MemoryCalls.{failing_of, shortened_of, failures_of, is_next_named, next, lesser};
+    ghost use Rattle.appender_store.specs.Inside.Calls.{failing_calls_of, append_limits_of, failures_of, is_next_named};
+    ghost use Rattle.appender_store.specs.MemoryState.{saturating_next, lesser_limit};
 
     pub(crate) fn new(alloc: Global) -> Calls
         ensures made { result.made ≡ 0 }
-        ensures failing { failing_of result.failing ≡ set.empty }
-        ensures shortened { shortened_of result.shortened ≡ fin.empty }
+        ensures failing { failing_calls_of result.failing ≡ set.empty }
+        ensures shortened { append_limits_of result.shortened ≡ fin.empty }
         ensures failures { failures_of result ≡ 0 }
     {
         Calls {
@@ -40,11 +41,11 @@ impl Calls {
 
     // Counts a call, and a failure if it was named to fail.
     pub(crate) fn count(&mut self) -> io::Result<()>
-        ensures made { self.new.made ≡ next self.old.made }
+        ensures made { self.new.made ≡ saturating_next self.old.made }
         ensures failing { self.new.failing ≡ self.old.failing }
         ensures shortened { self.new.shortened ≡ self.old.shortened }
         ensures failures { failures_of self.new ≡
-            (if is_next_named self.old then one_more (failures_of self.old) else failures_of self.old) }
+            (if is_next_named self.old then wrapping_next (failures_of self.old) else failures_of self.old) }
         ensures ok { OnOk result (is_next_named self.old ≡ false) }
         ensures err { IfErr result (λ e. (is_next_named self.old ≡ true) × (error_kind e ≡ Other)) }
     {
@@ -58,20 +59,20 @@ impl Calls {
 
     // Whether the call that was counted last is named to fail.
     fn is_failing(&self) -> bool
-        ensures { result ≡ set.contains (failing_of self.now.failing) self.now.made }
+        ensures { result ≡ set.contains (failing_calls_of self.now.failing) self.now.made }
     {
         self.failing.contains(&self.made)
     }
 
     // How many bytes the call that was counted last takes at most.
     pub(crate) fn limit(&self) -> Option<usize>
-        ensures { result ≡ fin.get (shortened_of self.now.shortened) self.now.made }
+        ensures { result ≡ fin.get (append_limits_of self.now.shortened) self.now.made }
     {
         self.limit_at(self.made)
     }
 
     fn limit_at(&self, call: u64) -> Option<usize>
-        ensures { result ≡ fin.get (shortened_of self.now.shortened) call }
+        ensures { result ≡ fin.get (append_limits_of self.now.shortened) call }
     {
         self.shortened.get(&call).copied()
     }
@@ -89,8 +90,8 @@ impl Calls {
         ensures shortened { self.new.shortened ≡ self.old.shortened }
         ensures failures { failures_of self.new ≡ failures_of self.old }
         ensures ok { OnOk result
-            (failing_of self.new.failing ≡ set.insert (failing_of self.old.failing) call) }
-        ensures err { OnErr result (failing_of self.new.failing ≡ failing_of self.old.failing) }
+            (failing_calls_of self.new.failing ≡ set.insert (failing_calls_of self.old.failing) call) }
+        ensures err { OnErr result (failing_calls_of self.new.failing ≡ failing_calls_of self.old.failing) }
     {
         self.failing.insert(call)?;
         Ok(())
@@ -101,10 +102,10 @@ impl Calls {
         ensures made { self.new.made ≡ self.old.made }
         ensures failing { self.new.failing ≡ self.old.failing }
         ensures failures { failures_of self.new ≡ failures_of self.old }
-        ensures ok { OnOk result (shortened_of self.new.shortened ≡
-            fin.insert (shortened_of self.old.shortened) call
-            (lesser (fin.get (shortened_of self.old.shortened) call) limit)) }
-        ensures err { OnErr result (shortened_of self.new.shortened ≡ shortened_of self.old.shortened) }
+        ensures ok { OnOk result (append_limits_of self.new.shortened ≡
+            fin.insert (append_limits_of self.old.shortened) call
+            (lesser_limit (fin.get (append_limits_of self.old.shortened) call) limit)) }
+        ensures err { OnErr result (append_limits_of self.new.shortened ≡ append_limits_of self.old.shortened) }
     {
         let least = match self.limit_at(call) {
             Some(before) => before.min(limit),
@@ -115,7 +116,7 @@ impl Calls {
     }
 }
 
-// How often each kind of notice was noted, modulo 2^64.
+// The count of each kind of notice, modulo 2^64.
 #[derive(Clone, Copy)]
 pub(crate) struct NoticeCounts {
     lists: u64,
@@ -125,7 +126,7 @@ pub(crate) struct NoticeCounts {
 }
 
 impl NoticeCounts {
-    ghost use Rattle.appender_store.specs.MemoryCalls.{counts_of};
+    ghost use Rattle.appender_store.specs.Inside.Calls.{counts_of};
     ghost use Rattle.appender_store.specs.MemoryState.{count_of};
 
     pub(crate) fn new() -> NoticeCounts
@@ -140,7 +141,7 @@ impl NoticeCounts {
     }
 
     pub(crate) fn add(&mut self, kind: NoticeKind)
-        ensures { counts_of self.new ≡ counted kind (counts_of self.old) }
+        ensures { counts_of self.new ≡ after_note kind (counts_of self.old) }
     {
         match kind {
             NoticeKind::List => self.lists = self.lists.wrapping_add(1),

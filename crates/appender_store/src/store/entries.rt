@@ -2,8 +2,8 @@
 ghost use Rattle.std.specs.Prelude.{◌≡◌, ◌≤◌, ◌<◌, [], ◌∷◌, ◌++◌, length, map, OnOk, OnErr, IfOk, take, slice_set, slice_index_or, string_bytes};
 ghost use Rattle.std.specs.FinMap as fin;
 ghost use Rattle.appender_store.specs.Content.{File};
-ghost use Rattle.appender_store.specs.Folder.{shown, line_of};
-ghost use Rattle.appender_store.specs.MemoryEntries.{names_of, bodies_of, entry_of, Sees};
+ghost use Rattle.appender_store.specs.Folder.{listed_row, entry_row};
+ghost use Rattle.appender_store.specs.Inside.Entries.{names_of, bodies_of, entry_of, Sees};
 
 use super::{Kind, Listed};
 use std::alloc::{AllocError, Global};
@@ -90,9 +90,9 @@ pub(crate) fn look_up<'a>(names: &'a BTreeMap<String, Item>, name: &str) -> Look
     }
 }
 
-// An entry as a listing shows it.
-fn shown_entry(alloc: Global, name: &str, item: &Item) -> Result<Listed, AllocError>
-    ensures { IfOk result (λ entry. shown entry ≡ line_of (name.now, entry_of item.now)) }
+// An entry as a listing tells it.
+fn listed_entry(alloc: Global, name: &str, item: &Item) -> Result<Listed, AllocError>
+    ensures { IfOk result (λ entry. listed_row entry ≡ entry_row (name.now, entry_of item.now)) }
 {
     let name = Some(String::from_str(alloc, name)?);
     Ok(match item {
@@ -115,15 +115,15 @@ fn shown_entry(alloc: Global, name: &str, item: &Item) -> Result<Listed, AllocEr
 }
 
 // All entries, in the order of their names.
-pub(crate) fn all_shown(
+pub(crate) fn all_listed(
     alloc: Global,
     names: &BTreeMap<String, Item>,
 ) -> Result<Vec<Listed>, AllocError>
-    ensures { IfOk result (λ all. map shown all.items ≡ map line_of (fin.entries (names_of names.now))) }
+    ensures { IfOk result (λ all. map listed_row all.items ≡ map entry_row (fin.entries (names_of names.now))) }
 {
     let mut all = Vec::with_capacity(alloc, names.len())?;
     for (name, item) in names {
-        all.push(shown_entry(alloc, name.as_str(), item)?)?;
+        all.push(listed_entry(alloc, name.as_str(), item)?)?;
     }
     Ok(all)
 }
@@ -153,6 +153,7 @@ pub(crate) fn add_bytes(
         slice_set (bodies_of bodies.old) at
         (slice_index_or (bodies_of bodies.old) at [] ++ bytes.now)) }
     ensures err { OnErr result (bodies_of bodies.new ≡ bodies_of bodies.old) }
+    ensures some { OnErr result (0 < length bytes.now) }
 {
     bodies[at].extend_from_slice(bytes)?;
     Ok(())

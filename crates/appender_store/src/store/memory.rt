@@ -1,11 +1,11 @@
 // A folder in memory, whose calls can be made to fail.
 ghost use Rattle.std.specs.Prelude.{◌≡◌, true};
 ghost use Rattle.appender_store.specs.Content.{IsSound};
-ghost use Rattle.appender_store.specs.MemoryEntries.{content_of};
+ghost use Rattle.appender_store.specs.Inside.Entries.{content_of};
 
 use super::calls::{Calls, NoticeCounts};
 use super::entries::{
-    Item, Look, add_bytes, add_file, all_names, all_shown, look_up, put_item, take_name,
+    Item, Look, add_bytes, add_file, all_listed, all_names, look_up, put_item, take_name,
 };
 use super::{Folder, Kind, Listed, Notice, NoticeKind, PutError};
 use std::alloc::{AllocError, Global};
@@ -19,8 +19,8 @@ pub struct MemoryFile {
 }
 
 /// A folder in memory that tells its content, and whose calls can be made to fail or to fall short.
-/// The calls of `Folder` from `list` to `flush` are numbered from 1 since it was made, refused ones
-/// too.
+/// Its calls get numbers, the first one 1: all of `Folder` but `note` and `failures`, refused ones
+/// too. What isn't there is refused by the kind NotFound, and a name in use by AlreadyExists.
 #[derive(Drop)]
 pub struct MemoryFolder {
     alloc: Global,
@@ -39,28 +39,27 @@ impl MemoryFolder {
     ghost use Rattle.std.specs.FinSet as set;
     ghost use Rattle.std.specs.FinMap as fin;
     ghost use Rattle.appender_store.specs.Content.{Link, Folder, IsLinkOrFolder};
-    ghost use Rattle.appender_store.specs.MemoryCalls.{lesser};
-    ghost use Rattle.appender_store.specs.MemoryEntries.{entry_of};
+    ghost use Rattle.appender_store.specs.Inside.Entries.{entry_of};
     ghost use Rattle.appender_store.specs.MemoryPut.{AnswersPut};
-    ghost use Rattle.appender_store.specs.MemoryState.{empty, with_file, with_entry, without, bytes_in, target_in, kind_in, count_of};
+    ghost use Rattle.appender_store.specs.MemoryState.{empty_state, lesser_limit, with_file, with_entry, without_entry, bytes_in, target_in, kind_in, count_of};
     ghost use Rattle.appender_store.specs.MemoryView.{state_of};
 
     /// A folder that is there and empty.
     pub fn new(alloc: Global) -> MemoryFolder
-        ensures { state_of result ≡ empty true }
+        ensures { state_of result ≡ empty_state true }
     {
         MemoryFolder::make(alloc, true)
     }
 
     /// A folder that isn't there yet.
     pub fn absent(alloc: Global) -> MemoryFolder
-        ensures { state_of result ≡ empty false }
+        ensures { state_of result ≡ empty_state false }
     {
         MemoryFolder::make(alloc, false)
     }
 
     fn make(alloc: Global, there: bool) -> MemoryFolder
-        ensures { state_of result ≡ empty there }
+        ensures { state_of result ≡ empty_state there }
     {
         MemoryFolder {
             alloc,
@@ -112,8 +111,8 @@ impl MemoryFolder {
         Ok(())
     }
 
-    /// Sets the creation moment of files made from here on, in nanoseconds since 1970-01-01
-    /// 00:00:00 UTC. At first it is `None`.
+    /// Sets the creation moment that the next files get, in nanoseconds since 1970-01-01 00:00:00 UTC.
+    /// At first it is `None`.
     pub fn set_created(&mut self, created: Option<i128>)
         ensures { state_of self.new ≡ record (state_of self.old) { created = created } }
     {
@@ -138,7 +137,7 @@ impl MemoryFolder {
         ensures ok { OnOk result (state_of self.new ≡
             record (state_of self.old) {
               shortened = fin.insert (state_of self.old).shortened number
-                  (lesser (fin.get (state_of self.old).shortened number) limit);
+                  (lesser_limit (fin.get (state_of self.old).shortened number) limit);
             }) }
         ensures err { OnErr result (state_of self.new ≡ state_of self.old) }
     {
@@ -250,17 +249,17 @@ impl MemoryFolder {
 
     // Takes a name away.
     fn take(&mut self, name: &str)
-        ensures { state_of self.new ≡ without (state_of self.old) name.now }
+        ensures { state_of self.new ≡ without_entry (state_of self.old) name.now }
     {
         take_name(&mut self.names, name);
     }
 }
 
 impl Folder for MemoryFolder {
-    ghost use Rattle.std.specs.Prelude.{◌≡◌, true};
-    ghost use Rattle.appender_store.specs.Content.{ForbidsRemove, ForbidsRemoveLink};
-    ghost use Rattle.appender_store.specs.Folder.{counted, kind_of};
-    ghost use Rattle.appender_store.specs.MemoryState.{IsCalled, NeedsNoMemory, OpensNew, TakesAll};
+    ghost use Rattle.std.specs.Prelude.{◌≡◌, true, None};
+    ghost use Rattle.std.specs.FinMap as fin;
+    ghost use Rattle.appender_store.specs.Folder.{after_note, kind_of};
+    ghost use Rattle.appender_store.specs.MemoryState.{IsCalled, NeedsNoMemory, OpensByName, TakesBytes, list_refusal, remove_refusal, remove_link_refusal, make_link_refusal};
     ghost use Rattle.appender_store.specs.MemoryView.{state_of};
 
     type File = MemoryFile;
@@ -275,26 +274,30 @@ impl Folder for MemoryFolder {
 
     ghost noted = { λ f. (state_of f).noted };
 
-    ghost list_gives = { λ old r new. IsCalled (state_of old) r (state_of new) };
+    ghost list_gives = { λ old r new.
+        IsCalled (state_of old) (list_refusal (state_of old).content) r (state_of new) };
 
-    ghost remove_gives = { λ old name r new.
-        NeedsNoMemory (state_of old) (ForbidsRemove name (state_of old).content) r (state_of new) };
+    ghost remove_gives = { λ old name r new. NeedsNoMemory (state_of old)
+        (remove_refusal (fin.get (state_of old).content.names name)) r (state_of new) };
 
-    ghost open_gives = { λ old name r new. OpensNew name (state_of old) r (state_of new) };
+    ghost open_gives = { λ old name r new. OpensByName name (state_of old) r (state_of new) };
 
-    ghost make_folder_gives = { λ old r new. NeedsNoMemory (state_of old) ⊥ r (state_of new) };
+    ghost make_folder_gives = { λ old r new. NeedsNoMemory (state_of old) None r (state_of new) };
 
-    ghost remove_link_gives = { λ old name r new.
-        NeedsNoMemory (state_of old) (ForbidsRemoveLink name (state_of old).content) r (state_of new) };
+    ghost remove_link_gives = { λ old name r new. NeedsNoMemory (state_of old)
+        (remove_link_refusal (fin.get (state_of old).content.names name)) r (state_of new) };
 
-    ghost make_link_gives = { λ old name target r new. IsCalled (state_of old) r (state_of new) };
+    ghost make_link_gives = { λ old name target r new. IsCalled (state_of old)
+        (make_link_refusal (state_of old).content.there (fin.get (state_of old).content.names name)) r (state_of new) };
 
-    ghost append_gives = { λ old file bytes r new after. TakesAll bytes (state_of old) r (state_of new) };
+    ghost append_gives = { λ old file bytes r new after.
+        TakesBytes bytes (state_of old) r (state_of new) };
 
-    ghost flush_gives = { λ old file r new after. NeedsNoMemory (state_of old) ⊥ r (state_of new) };
+    ghost flush_gives = { λ old file r new after.
+        NeedsNoMemory (state_of old) None r (state_of new) };
 
     ghost note_gives = { λ old said new.
-        state_of new ≡ record (state_of old) { noted = counted (kind_of said) (state_of old).noted } };
+        state_of new ≡ record (state_of old) { noted = after_note (kind_of said) (state_of old).noted } };
 
     ghost use Rattle.std.proofs.Common.{arith};
 
@@ -314,7 +317,7 @@ impl Folder for MemoryFolder {
         if !self.there {
             return Err(io::Error::from(io::ErrorKind::NotFound));
         }
-        Ok(all_shown(self.alloc, &self.names)?)
+        Ok(all_listed(self.alloc, &self.names)?)
     }
 
     fn remove(&mut self, name: &str) -> io::Result<()> {

@@ -33,14 +33,14 @@ impl From<AllocError> for PutError {
 
 impl PutError {
     ghost use Rattle.std.specs.Prelude.{None, Some, OnOk, IfErr};
-    ghost use Rattle.appender_store.specs.MemoryEntries.{names_of};
-    ghost use Rattle.appender_store.specs.MemoryPut.{refusal};
+    ghost use Rattle.appender_store.specs.Inside.Entries.{names_of};
+    ghost use Rattle.appender_store.specs.MemoryPut.{put_refusal};
 
     // Whether something may be put under this name.
     #[tactic(auto, using(crate::proofs::MemoryEntryLemmas::in_use))]
     pub(crate) fn check(names: &BTreeMap<String, Item>, name: &str) -> Result<(), PutError>
-        ensures ok { OnOk result (refusal (names_of names.now) name.now ≡ None) }
-        ensures err { IfErr result (λ e. refusal (names_of names.now) name.now ≡ Some e) }
+        ensures ok { OnOk result (put_refusal (names_of names.now) name.now ≡ None) }
+        ensures err { IfErr result (λ e. put_refusal (names_of names.now) name.now ≡ Some e) }
     {
         if !is_entry_name(name) {
             return Err(PutError::Name);

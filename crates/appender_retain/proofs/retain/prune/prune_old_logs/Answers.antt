@@ -1,5 +1,6 @@
 use Rattle.std.proofs.Common.{◌<◌, ◌^◌, length, map, filter_map, arith, inl, ap}
-use Rattle.appender_store.specs.Folder.{shown}
+use Rattle.appender_store.specs.Folder.{listed_row}
+use Rattle.appender_store.specs.NameLaws.{NameLaws}
 use Rattle.appender_retain.specs.Pruning.{RemovesEach, name_at}
 use Rattle.appender_retain.specs.Rank.{IsPlan}
 use Rattle.appender_retain.proofs.Planned.{planned_files, prunes}
@@ -8,24 +9,26 @@ use Rattle.appender_retain.proofs.retain.prune.prune_old_logs.Goals as goal
 pub remove_planned-requires : goal.remove_planned-requires
 remove_planned-requires g c = λ tells.
     rw (c.deref-in-Ok-plan.ensures.value, c.deref-in-Ok-plan-2.ensures.value, c.in-Ok.ensures.content)
-    (planned_files c.args.names.now c.args.max _ (map shown c.in-Ok.listed.items) c.in-Ok-plan.gone.items (record { moved = c.in-Ok.ensures.ok tells }) (rw c.deref.ensures.value at c.in-Ok-plan.ensures))
+    (planned_files c.args.names.now c.args.max (g.S.Folder.content c.args.folder.now) (map listed_row c.in-Ok.listed.items) c.in-Ok-plan.gone.items (record { moved = c.in-Ok.ensures.ok tells }) (rw c.deref.ensures.value at c.in-Ok-plan.ensures))
 
 pub returns-in-Ok-plan : goal.returns-in-Ok-plan
 returns-in-Ok-plan g c =
-    let lines = map shown c.in-Ok.listed.items in
+    let maps : NameLaws = record { removals = c.names_change_one_at_a_time.ensures.removals; additions = c.names_change_one_at_a_time.ensures.additions } in
+    let rows = map listed_row c.in-Ok.listed.items in
     let gone = c.in-Ok-plan.gone.items in
-    let plan : IsPlan c.args.names.now c.args.max lines gone = rw c.deref.ensures.value at c.in-Ok-plan.ensures in
-    let each : RemovesEach g.S.Folder (filter_map (name_at lines) gone) c.list.new.self c.remove_planned.new.folder =
+    let plan : IsPlan c.args.names.now c.args.max rows gone = rw c.deref.ensures.value at c.in-Ok-plan.ensures in
+    let each : RemovesEach g.S.Folder (filter_map (name_at rows) gone) c.list.new.self c.remove_planned.new.folder =
     rw (c.deref-in-Ok-plan.ensures.value, c.deref-in-Ok-plan-2.ensures.value) at c.remove_planned.ensures in
     let short : length gone < 2 ^ 64 = omega (arith, c.deref-in-Ok-plan-2.type_inv.0, ap length c.deref-in-Ok-plan-2.ensures.value) in
-    prunes g.S.Folder g.met.S.Folder.noted_fit c.args.names.now c.args.max c.args.folder.now c.list.new.self c.remove_planned.new.folder lines gone
-    (λ zero. absurd (omega arith)) short (λ tells. record { moved = c.in-Ok.ensures.ok tells }) plan c.in-Ok.ensures.content c.in-Ok.ensures.notices each
+    prunes maps g.S.Folder g.met.S.Folder.noted_fit c.args.names.now c.args.max c.args.folder.now c.list.new.self c.remove_planned.new.folder rows gone
+    (λ zero. absurd (omega arith)) short (λ tells. record { moved = c.in-Ok.ensures.ok tells }) c.in-Ok.ensures.there plan c.in-Ok.ensures.content c.in-Ok.ensures.notices each
     (record {
       answer = c.list.result;
       listed = c.list.new.self;
       call = c.list.ensures.call;
       cause = c.list.ensures.cause;
       lists = c.list.ensures.ok;
+      there = c.list.ensures.there;
       content = c.list.ensures.content;
       noted = c.list.ensures.notices;
       goes_on = rw c.in-Ok.is (inl (gone, plan, each));

@@ -1,5 +1,6 @@
-use Rattle.std.proofs.Common.{map, sym}
-use Rattle.appender_store.specs.Folder.{shown}
+use Rattle.std.proofs.Common.{map}
+use Rattle.appender_store.specs.Folder.{listed_row}
+use Rattle.appender_store.specs.NameLaws.{NameLaws}
 use Rattle.appender_retain.specs.Pruning.{name_at}
 use Rattle.appender_retain.proofs.Removals.{one_removed, none_removed}
 use Rattle.appender_retain.proofs.retain.prune.remove_planned.Goals as goal
@@ -7,7 +8,8 @@ use Rattle.appender_retain.proofs.retain.prune.remove_planned.Goals.{in-Some, in
 
 pub loop-place-preserved : goal.loop-place-preserved
 loop-place-preserved g c =
+    let maps : NameLaws = record { removals = c.names_change_one_at_a_time.ensures.removals; additions = c.names_change_one_at_a_time.ensures.additions } in
     elim c.match-listed_name.branch [
-      | in-Some w ↦ rw w.folder-is (one_removed g.S.Folder (name_at (map shown c.args.listed.now)) c.args.gone.now c.loop-place.place-index _ c.args.folder.now c.loop-place.folder _ c.loop-place-test.true (sym w.in-Some.ensures) c.loop-place.invariant w.remove_file.ensures)
-      | in_default w ↦ rw w.folder-is (none_removed g.S.Folder (name_at (map shown c.args.listed.now)) c.args.gone.now c.loop-place.place-index c.args.folder.now c.loop-place.folder c.loop-place-test.true (sym w.in_default.ensures) c.loop-place.invariant)
+      | in-Some w ↦ rw w.folder-is (one_removed maps g.S.Folder (name_at (map listed_row c.args.listed.now)) c.args.gone.now c.loop-place.place-index c.args.folder.now c.loop-place.folder c.loop-place-test.true c.loop-place.invariant _ _ w.in-Some.ensures w.remove_file.ensures)
+      | in_default w ↦ rw w.folder-is (none_removed maps g.S.Folder (name_at (map listed_row c.args.listed.now)) c.args.gone.now c.loop-place.place-index c.args.folder.now c.loop-place.folder c.loop-place-test.true c.loop-place.invariant w.in_default.ensures)
     ]

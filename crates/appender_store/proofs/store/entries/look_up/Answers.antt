@@ -1,7 +1,7 @@
 use Rattle.std.proofs.Common.{◌∙◌, ap, sym, Some}
 use Rattle.std.specs.Option.{option_map}
 use Rattle.appender_store.specs.Content.{Link}
-use Rattle.appender_store.specs.MemoryEntries.{entry_of}
+use Rattle.appender_store.specs.Inside.Entries.{entry_of}
 use Rattle.appender_store.proofs.MemoryEntryLemmas.{get_name}
 use Rattle.appender_store.proofs.store.entries.look_up.Goals as goal
 

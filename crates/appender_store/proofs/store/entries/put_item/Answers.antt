@@ -1,6 +1,6 @@
 use Rattle.std.proofs.Common.{◌≡◌, ◌∙◌, ℕ, List, rules, string_bytes, ap}
 use Rattle.std.specs.FinMap as fin
-use Rattle.appender_store.specs.MemoryEntries.{names_of, entry_of}
+use Rattle.appender_store.specs.Inside.Entries.{names_of, entry_of}
 use Rattle.appender_store.proofs.MemoryEntryLemmas.{one_added}
 use Rattle.appender_store.proofs.store.entries.put_item.Goals as goal
 

@@ -1,11 +1,17 @@
--- Lines are counted from 1, and there are at most two more than bytes.
-use Rattle.std.proofs.Common.{◌+◌, ◌≤◌}
+-- The lines so far were taken, and there are no more of them than bytes.
+use Rattle.std.proofs.Common.{◌≡◌, ◌+◌, ◌≤◌, ℕ, suc, length}
+use denote.Text.{Utf8}
+use denote.Shadow.{shadow}
+use Rattle.rollplay.specs.Draft.{progress_of}
+use Rattle.rollplay.specs.Script.{Reaches}
 use Rattle.rollplay.proofs.script.Script.read.Given as goal
 
-abbrev pub invariant-loop-line : goal.invariant-loop-line
-invariant-loop-line l = record {
-  can_next : goal.iterator-loop-line.can_next l.line-iterator;
-  is_finite : goal.iterator-loop-line.is_finite l.line-iterator;
-  from_one : 1 ≤ l.number;
-  counted : l.number + goal.iterator-loop-line.remaining l.line-iterator ≤ 1048579;
+abbrev pub invariant-loop-rest : goal.invariant-loop-rest
+invariant-loop-rest l = record {
+  utf8 : shadow (Utf8 l.rest);
+  counted : l.number + length l.rest ≤ length l.text + 1;
+  reached : (taken : ℕ) × (l.number ≡ suc taken) × Reaches l.text taken l.rest (progress_of l.draft);
 }
+
+abbrev pub decreases-loop-rest : goal.decreases-loop-rest
+decreases-loop-rest l = length l.rest

@@ -1,0 +1,91 @@
+// The writing of one line.
+use crate::script::{Act, Script};
+use appender_queue::worker::run_line;
+use std::io::ErrorKind;
+use std::test::*;
+
+// A line, a writer, the text that it has at the end, and the fault.
+struct LineRun {
+    line: &'static str,
+    interruptions: u32,
+    acts: &'static [Act],
+    text: &'static str,
+    writes: u32,
+    fault: Option<(usize, ErrorKind)>,
+}
+
+const LINE_RUNS: [LineRun; 6] = [
+    LineRun {
+        line: "x",
+        interruptions: 100,
+        acts: &[],
+        text: "x",
+        writes: 101,
+        fault: None,
+    },
+    LineRun {
+        line: "x",
+        interruptions: 101,
+        acts: &[],
+        text: "",
+        writes: 101,
+        fault: Some((0, ErrorKind::Interrupted)),
+    },
+    LineRun {
+        line: "hello",
+        interruptions: 0,
+        acts: &[Act::Accept(2), Act::Fail(ErrorKind::Other)],
+        text: "he",
+        writes: 2,
+        fault: Some((2, ErrorKind::Other)),
+    },
+    LineRun {
+        line: "hello",
+        interruptions: 0,
+        acts: &[Act::Accept(3), Act::Accept(0)],
+        text: "hel",
+        writes: 2,
+        fault: Some((3, ErrorKind::WriteZero)),
+    },
+    LineRun {
+        line: "hello",
+        interruptions: 1,
+        acts: &[Act::Accept(1), Act::Fail(ErrorKind::Interrupted)],
+        text: "hello",
+        writes: 4,
+        fault: None,
+    },
+    LineRun {
+        line: "",
+        interruptions: 0,
+        acts: &[],
+        text: "",
+        writes: 0,
+        fault: None,
+    },
+];
+
+#[test]
+fn lines_are_written_as_told(rt: HostRuntime) -> Result<(), Fail> {
+    let alloc = rt.alloc();
+    for (row, run) in LINE_RUNS.iter().enumerate() {
+        let mut writer = Script::new(alloc, run.interruptions, run.acts);
+        let fault = match run_line(&mut writer, run.line.as_bytes()) {
+            Ok(()) => None,
+            Err(fault) => Some((fault.taken, fault.error.kind())),
+        };
+        assert_eq!(rt; fault, run.fault, "row {row}");
+        assert_eq!(rt; writer.text.as_slice(), run.text.as_bytes(), "row {row}");
+        assert_eq!(rt; writer.writes, run.writes, "row {row}");
+        assert_eq!(rt; writer.flushes, 0, "row {row}");
+    }
+    Ok(())
+}
+
+#[test]
+fn a_line_is_added_to_known_bytes(rt: HostRuntime) -> Result<(), Fail> {
+    let mut text: Vec<u8> = b"one\n".to_vec(rt.alloc())?;
+    assert!(rt; run_line(&mut text, b"two\n").is_ok());
+    assert_eq!(rt; text.as_slice(), b"one\ntwo\n".as_slice());
+    Ok(())
+}

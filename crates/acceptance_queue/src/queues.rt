@@ -1,0 +1,213 @@
+// Runs of a queue's calls.
+use appender_queue::queue::{Counts, LineQueue, Refused, Shut, Taken};
+use std::alloc::Global;
+use std::test::*;
+
+// One call of a queue.
+#[derive(Clone, Copy, Debug)]
+enum Call {
+    Offer(&'static str),
+    Shut,
+    Take { waits: bool },
+    AddSender,
+    DropSender,
+}
+
+const TAKE: Call = Call::Take { waits: false };
+
+const WAIT: Call = Call::Take { waits: true };
+
+// A queue, its calls with their answers, and its counts at the end: accepted, handed, queued, left
+// and dropped.
+struct QueueRun {
+    lossy: bool,
+    limit: usize,
+    calls: &'static [(Call, &'static str)],
+    counts: (u64, u64, u64, u64, usize),
+}
+
+const QUEUE_RUNS: [QueueRun; 9] = [
+    QueueRun {
+        lossy: true,
+        limit: 3,
+        calls: &[
+            (Call::Offer("a"), "accepted 1"),
+            (Call::Shut, "Sent"),
+            (Call::Offer("b"), "accepted 2"),
+            (TAKE, "line 1 a"),
+            (TAKE, "shutdown"),
+        ],
+        counts: (2, 1, 0, 1, 0),
+    },
+    QueueRun {
+        lossy: true,
+        limit: 3,
+        calls: &[
+            (Call::Offer("a"), "accepted 1"),
+            (Call::Shut, "Sent"),
+            (Call::Offer("b"), "accepted 2"),
+            (TAKE, "line 1 a"),
+            (TAKE, "shutdown"),
+            (Call::Offer("c"), "closed c"),
+            (TAKE, "gone"),
+        ],
+        counts: (2, 1, 0, 1, 1),
+    },
+    QueueRun {
+        lossy: true,
+        limit: 1,
+        calls: &[
+            (Call::Offer("a"), "accepted 1"),
+            (Call::Offer("b"), "full b"),
+            (TAKE, "line 1 a"),
+        ],
+        counts: (1, 1, 0, 0, 1),
+    },
+    QueueRun {
+        lossy: true,
+        limit: 0,
+        calls: &[
+            (Call::Offer("a"), "full a"),
+            (WAIT, "empty"),
+            (Call::Offer("b"), "accepted 1"),
+            (Call::Offer("c"), "full c"),
+            (WAIT, "line 1 b"),
+            (Call::Offer("d"), "full d"),
+        ],
+        counts: (1, 1, 0, 0, 3),
+    },
+    QueueRun {
+        lossy: true,
+        limit: 1,
+        calls: &[
+            (Call::Offer("a"), "accepted 1"),
+            (Call::Shut, "Full"),
+            (TAKE, "line 1 a"),
+            (Call::Shut, "Sent"),
+            (Call::Shut, "Already"),
+            (Call::Offer("b"), "full b"),
+            (TAKE, "shutdown"),
+            (Call::Shut, "Closed"),
+        ],
+        counts: (1, 1, 0, 0, 1),
+    },
+    QueueRun {
+        lossy: false,
+        limit: 4,
+        calls: &[
+            (Call::Offer("a"), "accepted 1"),
+            (Call::DropSender, "senders 0"),
+            (TAKE, "line 1 a"),
+            (TAKE, "gone"),
+            (Call::Offer("b"), "closed b"),
+        ],
+        counts: (1, 1, 0, 0, 0),
+    },
+    QueueRun {
+        lossy: false,
+        limit: 1,
+        calls: &[
+            (Call::Offer("a"), "accepted 1"),
+            (Call::Offer("b"), "full b"),
+            (TAKE, "line 1 a"),
+            (Call::Offer("b"), "accepted 2"),
+        ],
+        counts: (2, 1, 1, 0, 0),
+    },
+    QueueRun {
+        lossy: false,
+        limit: 4,
+        calls: &[
+            (Call::AddSender, "senders 2"),
+            (Call::DropSender, "senders 1"),
+            (TAKE, "empty"),
+            (Call::DropSender, "senders 0"),
+            (Call::DropSender, "senders 0"),
+            (TAKE, "gone"),
+        ],
+        counts: (0, 0, 0, 0, 0),
+    },
+    QueueRun {
+        lossy: false,
+        limit: 3,
+        calls: &[
+            (Call::Offer("a"), "accepted 1"),
+            (Call::Offer(""), "accepted 2"),
+            (Call::Offer("c"), "accepted 3"),
+            (TAKE, "line 1 a"),
+            (Call::Offer("d"), "accepted 4"),
+            (TAKE, "line 2 "),
+            (TAKE, "line 3 c"),
+            (TAKE, "line 4 d"),
+            (TAKE, "empty"),
+        ],
+        counts: (4, 4, 0, 0, 0),
+    },
+];
+
+fn line_text(alloc: Global, word: &str, line: &[u8]) -> Result<String, Fail> {
+    Ok(format!(in alloc; "{word} {}", str::from_utf8(line)?)?)
+}
+
+// Makes the call, and tells its answer.
+fn answer(alloc: Global, queue: &mut LineQueue, call: Call) -> Result<String, Fail> {
+    match call {
+        Call::Offer(line) => match queue.offer(line.as_bytes().to_vec(alloc)?) {
+            Ok(ticket) => Ok(format!(in alloc; "accepted {ticket}")?),
+            Err(Refused::Full(line)) => line_text(alloc, "full", &line),
+            Err(Refused::Closed(line)) => line_text(alloc, "closed", &line),
+        },
+        Call::Shut => Ok(format!(in alloc; "{:?}", queue.shut())?),
+        Call::Take { waits } => match queue.take(waits) {
+            Taken::Line(ticket, line) => {
+                Ok(format!(in alloc; "line {ticket} {}", str::from_utf8(&line)?)?)
+            }
+            Taken::Shutdown => Ok(String::from_str(alloc, "shutdown")?),
+            Taken::Gone => Ok(String::from_str(alloc, "gone")?),
+            Taken::Empty => Ok(String::from_str(alloc, "empty")?),
+        },
+        Call::AddSender => Ok(format!(in alloc; "senders {}", queue.add_sender())?),
+        Call::DropSender => Ok(format!(in alloc; "senders {}", queue.drop_sender())?),
+    }
+}
+
+#[test]
+fn queues_answer_as_told(rt: HostRuntime) -> Result<(), Fail> {
+    let alloc = rt.alloc();
+    for (row, run) in QUEUE_RUNS.iter().enumerate() {
+        let mut queue = LineQueue::new(alloc, run.limit, run.lossy)?;
+        for (call, want) in run.calls.iter() {
+            let got = answer(alloc, &mut queue, *call)?;
+            assert_eq!(rt; got.as_str(), *want, "row {row}, {call:?}");
+        }
+        let (accepted, handed, queued, left, dropped) = run.counts;
+        let want = Counts {
+            accepted,
+            handed,
+            queued,
+            left,
+            dropped,
+        };
+        assert_eq!(rt; queue.counts(), want, "row {row}");
+    }
+    Ok(())
+}
+
+#[test]
+fn queues_show_themselves(rt: HostRuntime) -> Result<(), Fail> {
+    let queue = LineQueue::new(rt.alloc(), 1, true)?;
+    assert!(rt; !format!(in rt.alloc(); "{queue:?}")?.is_empty());
+    Ok(())
+}
+
+#[test]
+fn room_that_cannot_be_had_is_refused(rt: HostRuntime) -> Result<(), Fail> {
+    let alloc = rt.alloc();
+    assert!(rt; LineQueue::new(alloc, usize::MAX, true).is_err());
+    let mut queue = LineQueue::new(alloc, 1, true)?;
+    assert_eq!(rt;
+        answer(alloc, &mut queue, Call::Offer("a"))?.as_str(),
+        "accepted 1"
+    );
+    Ok(())
+}

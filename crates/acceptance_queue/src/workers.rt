@@ -1,0 +1,142 @@
+// Runs of a worker between a queue and a writer.
+use crate::script::{Act, Script};
+use appender_queue::queue::{LineQueue, Shut, Taken};
+use appender_queue::worker::{Want, WorkerCore};
+use std::alloc::Global;
+use std::io;
+use std::io::{ErrorKind, Write};
+use std::test::*;
+
+// Lines that a worker finds, whether a shutdown stands behind them, its writer, what it does, and
+// the text that its writer has at the end.
+struct WorkerRun {
+    lines: &'static [&'static str],
+    shuts: bool,
+    interruptions: u32,
+    acts: &'static [Act],
+    flushes_fail: bool,
+    wants: &'static str,
+    text: &'static str,
+}
+
+const WORKER_RUNS: [WorkerRun; 6] = [
+    WorkerRun {
+        lines: &["hello", "x"],
+        shuts: false,
+        interruptions: 0,
+        acts: &[Act::Accept(2), Act::Fail(ErrorKind::Other)],
+        flushes_fail: false,
+        wants: "wait, write hello, write llo, wait, write x, take, flush, wait, ",
+        text: "hex",
+    },
+    WorkerRun {
+        lines: &[],
+        shuts: true,
+        interruptions: 0,
+        acts: &[],
+        flushes_fail: true,
+        wants: "wait, flush, flush, ended, ",
+        text: "",
+    },
+    WorkerRun {
+        lines: &[""],
+        shuts: false,
+        interruptions: 0,
+        acts: &[],
+        flushes_fail: false,
+        wants: "wait, take, flush, wait, ",
+        text: "",
+    },
+    WorkerRun {
+        lines: &["a", "b"],
+        shuts: true,
+        interruptions: 0,
+        acts: &[],
+        flushes_fail: false,
+        wants: "wait, write a, take, write b, take, flush, flush, ended, ",
+        text: "ab",
+    },
+    WorkerRun {
+        lines: &["ab", "c"],
+        shuts: false,
+        interruptions: 0,
+        acts: &[Act::Accept(0)],
+        flushes_fail: true,
+        wants: "wait, write ab, wait, write c, take, flush, wait, ",
+        text: "c",
+    },
+    WorkerRun {
+        lines: &[],
+        shuts: false,
+        interruptions: 0,
+        acts: &[],
+        flushes_fail: false,
+        wants: "wait, ",
+        text: "",
+    },
+];
+
+// Does what the worker wants, until a take that waits finds nothing or the worker has ended, and
+// tells what that was.
+fn work(alloc: Global, queue: &mut LineQueue, writer: &mut Script) -> Result<String, Fail> {
+    let mut wants = String::new(alloc);
+    let mut core = WorkerCore::new();
+    for _ in 0..1000 {
+        match core.want() {
+            Want::Take { waits } => {
+                wants.push_str(if waits { "wait, " } else { "take, " })?;
+                let taken = queue.take(waits);
+                let waits_on = waits && matches!(taken, Taken::Empty);
+                core.took(taken);
+                if waits_on {
+                    break;
+                }
+            }
+            Want::Write(rest) => {
+                wants.push_str("write ")?;
+                wants.push_str(str::from_utf8(rest)?)?;
+                wants.push_str(", ")?;
+                let answer = writer.write(rest);
+                core.wrote(answer);
+            }
+            Want::Flush => {
+                wants.push_str("flush, ")?;
+                core.flushed(writer.flush());
+            }
+            Want::Ended => {
+                wants.push_str("ended, ")?;
+                break;
+            }
+        }
+    }
+    Ok(wants)
+}
+
+#[test]
+fn workers_do_as_told(rt: HostRuntime) -> Result<(), Fail> {
+    let alloc = rt.alloc();
+    for (row, run) in WORKER_RUNS.iter().enumerate() {
+        let mut queue = LineQueue::new(alloc, 8, false)?;
+        for (n, line) in run.lines.iter().enumerate() {
+            let ticket = queue.offer(line.as_bytes().to_vec(alloc)?);
+            assert_eq!(rt; ticket, Ok(n as u64 + 1), "row {row}");
+        }
+        if run.shuts {
+            assert_eq!(rt; queue.shut(), Shut::Sent, "row {row}");
+        }
+        let mut writer = Script::new(alloc, run.interruptions, run.acts);
+        writer.flushes_fail = run.flushes_fail;
+        let wants = work(alloc, &mut queue, &mut writer)?;
+        assert_eq!(rt; wants.as_str(), run.wants, "row {row}");
+        assert_eq!(rt; writer.text.as_slice(), run.text.as_bytes(), "row {row}");
+        assert_eq!(rt; queue.counts().handed, run.lines.len() as u64, "row {row}");
+    }
+    Ok(())
+}
+
+#[test]
+fn workers_show_themselves(rt: HostRuntime) -> Result<(), Fail> {
+    let core = WorkerCore::new();
+    assert!(rt; !format!(in rt.alloc(); "{core:?}")?.is_empty());
+    Ok(())
+}

@@ -1,0 +1,8 @@
+-- Equality of rotations.
+use Rattle.std.specs.Prelude.{Bool}
+use Rattle.appender_names.specs.contracts.rotation.RotationPartialEq.TheImpl as derived
+use Rattle.appender_names.specs.declared.rotation.Rotation.{Rotation}
+
+-- what `==` answers
+abbrev pub rotation_eq : Rotation → Rotation → Bool
+rotation_eq = (derived.ghosts).eq

@@ -1,0 +1,44 @@
+-- What each call of a queue answers and leaves. The queue that it leaves is lawful.
+use Rattle.std.specs.Prelude.{◌≡◌, ℕ, Bool, Result, Vec}
+use Rattle.std.specs.declared.alloc.Global.{Global}
+use Rattle.appender_queue.specs.Queue.{Queue, IsLawful, after_offer, after_shut, after_take, saturating_next, one_less}
+use Rattle.appender_queue.specs.QueueReplies.{offer_reply, shut_reply, IsTaken, counts_of}
+use Rattle.appender_queue.specs.declared.queue.Counts.{Counts}
+use Rattle.appender_queue.specs.declared.queue.Refused.{Refused}
+use Rattle.appender_queue.specs.declared.queue.Shut.{Shut}
+use Rattle.appender_queue.specs.declared.queue.Taken.{Taken}
+
+-- an offer of a line
+pub record Offers (old : Queue) (line : Vec ℕ Global) (result : Result ℕ Refused) (new : Queue) : Type 0 where
+  pub reply : result ≡ offer_reply old line
+  pub after : new ≡ after_offer old line.items
+  pub lawful : IsLawful new
+
+-- a shutdown
+pub record Shuts (old : Queue) (result : Shut) (new : Queue) : Type 0 where
+  pub reply : result ≡ shut_reply old
+  pub after : new ≡ after_shut old
+  pub lawful : IsLawful new
+
+-- a take, by a worker that waits or not
+pub record Takes (old : Queue) (waits : Bool) (result : Taken) (new : Queue) : Type 0 where
+  pub reply : IsTaken old result
+  pub after : new ≡ after_take old waits
+  pub lawful : IsLawful new
+
+-- one more sender
+pub record AddsSender (old : Queue) (result : ℕ) (new : Queue) : Type 0 where
+  pub reply : result ≡ new.senders
+  pub after : new ≡ record old { senders = saturating_next old.senders }
+  pub lawful : IsLawful new
+
+-- one sender less
+pub record DropsSender (old : Queue) (result : ℕ) (new : Queue) : Type 0 where
+  pub reply : result ≡ new.senders
+  pub after : new ≡ record old { senders = one_less old.senders }
+  pub lawful : IsLawful new
+
+-- the counts, of a queue that stays as it is
+pub record TellsCounts (q : Queue) (result : Counts) : Type 0 where
+  pub reply : result ≡ counts_of q
+  pub lawful : IsLawful q

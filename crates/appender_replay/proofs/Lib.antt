@@ -1,0 +1,13 @@
+pub mod Bodies
+pub mod NamesLeft
+pub mod Periods
+pub mod Turns
+pub mod Clocks
+pub mod Owners
+pub mod Files
+pub mod Runs
+pub mod Records
+pub mod Orders
+pub mod Lines
+pub mod Texts
+pub mod Wholes

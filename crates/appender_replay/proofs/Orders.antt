@@ -1,0 +1,95 @@
+-- Lines are handed in the order in which they were accepted.
+use Rattle.std.proofs.Common.{◌≡◌, ℕ, ◌+◌, ◌-◌, ◌<◌, ◌≤◌, Bool, true, false, ◌&&◌, List, [], ◌∷◌, ◌++◌, length, map, drop, take, get_or, refl, ap, sym, ◌∙◌, arith, length-append}
+use Rattle.std.specs.Prelude.{if◌then◌else◌, ◌==◌, nat_lt, filter}
+use Rattle.std.proofs.lemmas.List.{map-append, drop-map, take-append-le, take-append-drop, take_more, length-drop}
+use Rattle.std.proofs.lemmas.List.Elements.{filter-append}
+use Rattle.appender_queue.specs.Core.{Core, Taking, Writing, Flushing, Ending, Over, is_taking}
+use Rattle.appender_queue.specs.Queue.{Queue, has_line, is_before, is_sent, left_of}
+use Rattle.appender_replay.specs.Record.{Answered, Offered, accepted_lines, handed_lines, is_closed, shutdown_place, with_ticket, worker_after, queue_after}
+use Rattle.appender_replay.specs.Answers.{WorkAnswers, Answers}
+use Rattle.appender_replay.specs.Whole.{HandsInOrder, HandsLabelInOrder, labelled}
+use Rattle.appender_replay.specs.declared.replay.whole.Step.TheVariants.{Offer, Work}
+use Rattle.appender_replay.specs.declared.replay.whole.Reply.{Reply}
+use Rattle.appender_replay.specs.declared.replay.whole.Reply.TheVariants.{Accepted, Took, TookShutdown, TookGone, TookEmpty}
+
+-- the handed lines are the first of the accepted ones
+pub record InOrder (told : List Answered) : Type 0 where
+  pub most : length (handed_lines told) ≤ length (accepted_lines told)
+  pub first : handed_lines told ≡ take (length (handed_lines told)) (accepted_lines told)
+
+-- What the reply that a line was taken says of the queue before it.
+pub record TakesNext (q : Queue) (core : Core) (k : ℕ) : Type 0 where
+  pub ticket : k ≡ q.handed + 1
+  pub line : has_line q ≡ true
+  pub unclosed : q.closed ≡ false
+  pub turn : is_taking core ≡ true
+
+same_ticket : (j k : ℕ) → ◌≡◌ {A = Reply} (Took j) (Took k) → j ≡ k
+same_ticket j k e = cc
+
+pub takes_next : (q : Queue) (core : Core) (k : ℕ) → WorkAnswers q core (Took k) → TakesNext q core k
+takes_next q (Taking waits) k a = by q.closed (has_line q) (is_sent q.shutdown) (q.senders == 0) refl refl a
+  where
+    by : (c l s g : Bool) → q.closed ≡ c → has_line q ≡ l → Took k ≡ (if c then TookGone else if l then Took (q.handed + 1) else if s then TookShutdown else if g then TookGone else TookEmpty) → TakesNext q (Taking waits) k
+    by true l s g c h e = absurd (let no : ◌≡◌ {A = Reply} (Took k) TookGone = e in cc)
+    by false true s g c h e = record { ticket = same_ticket k (q.handed + 1) e; line = h; unclosed = c; turn = refl }
+    by false false true g c h e = absurd (let no : ◌≡◌ {A = Reply} (Took k) TookShutdown = e in cc)
+    by false false false true c h e = absurd (let no : ◌≡◌ {A = Reply} (Took k) TookGone = e in cc)
+    by false false false false c h e = absurd (let no : ◌≡◌ {A = Reply} (Took k) TookEmpty = e in cc)
+takes_next q (Writing rest repeats) k a = absurd a
+takes_next q Flushing k a = absurd a
+takes_next q (Ending n) k a = absurd a
+takes_next q Over k a = absurd (let no = a in cc)
+
+is_less : (a b : ℕ) (c : Bool) → (nat_lt a b && c) ≡ true → a < b
+is_less a b c e = grind arith
+
+pub in_order : (limit : ℕ) (lossy : Bool) (told : List Answered) → Answers limit lossy told → InOrder told
+in_order limit lossy [] a = record { most = omega arith; first = refl }
+in_order limit lossy ((Offer label line, Accepted k) ∷ told) a =
+    let so = in_order limit lossy told a.0 in
+    let o : Offered = (label, line.items) in
+    let h : ℕ = length (handed_lines told) in
+    let count : length (accepted_lines told ++ o ∷ []) ≡ length (accepted_lines told) + 1 = length-append (accepted_lines told) (o ∷ []) in
+    record {
+      most = rw count (let few = so.most in omega arith);
+      first = so.first ∙ sym (take-append-le h (accepted_lines told) (o ∷ []) so.most);
+    }
+in_order limit lossy ((Work m, Took k) ∷ told) a =
+    let so = in_order limit lossy told a.0 in
+    let h : ℕ = length (handed_lines told) in
+    let next = takes_next (queue_after limit lossy told) (worker_after told) k a.1 in
+    let less : h < length (accepted_lines told) = is_less h (length (accepted_lines told)) (is_before (shutdown_place told) h) next.line in
+    let o : Offered = with_ticket k (accepted_lines told) in
+    let count : length (handed_lines told ++ o ∷ []) ≡ h + 1 = length-append (handed_lines told) (o ∷ []) in
+    let place : h ≡ k - 1 = let t : k ≡ h + 1 = next.ticket in omega arith in
+    let longer : take (h + 1) (accepted_lines told) ≡ take h (accepted_lines told) ++ get_or (accepted_lines told) h (0, []) ∷ [] = take_more (accepted_lines told) h (0, []) less in
+    record {
+      most = rw count (omega arith);
+      first = rw count (ap (λ xs. xs ++ o ∷ []) so.first ∙ ap (λ (n : ℕ). take h (accepted_lines told) ++ get_or (accepted_lines told) n (0, []) ∷ []) (sym place) ∙ sym longer);
+    }
+in_order limit lossy ((s, r) ∷ told) a = let so = in_order limit lossy told a.0 in record { most = so.most; first = so.first }
+
+pub hands : (limit : ℕ) (lossy : Bool) (told : List Answered) (q : Queue) → InOrder told → q ≡ queue_after limit lossy told → HandsInOrder told q
+hands limit lossy told q so is =
+    let h : ℕ = length (handed_lines told) in
+    record {
+      rest = drop h (accepted_lines told);
+      first = sym (take-append-drop h (accepted_lines told)) ∙ ap (λ xs. xs ++ drop h (accepted_lines told)) (sym so.first);
+      queued = λ unclosed.
+          let c : is_closed told ≡ false = sym (ap (λ (q : Queue). q.closed) is) ∙ unclosed in
+          let lines : (queue_after limit lossy told).lines ≡ map (λ (o : Offered). o.1) (drop h (accepted_lines told)) = rw c (drop-map (λ (o : Offered). o.1) h (accepted_lines told)) in
+          ap (λ (q : Queue). q.lines) is ∙ lines;
+      left = λ closed.
+          let c : is_closed told ≡ true = sym (ap (λ (q : Queue). q.closed) is) ∙ closed in
+          let left : left_of (queue_after limit lossy told) ≡ length (drop h (accepted_lines told)) = rw c (sym (length-drop h (accepted_lines told))) in
+          ap left_of is ∙ left;
+    }
+
+pub labels : (limit : ℕ) (lossy : Bool) (told : List Answered) (q : Queue) (label : ℕ) → HandsInOrder told q → HandsLabelInOrder told label
+labels limit lossy told q label so = record {
+  rest = labelled label so.rest;
+  first = ap (labelled label) so.first
+      ∙ ap (map (λ (o : Offered). o.1)) (filter-append (λ (o : Offered). o.0 == label) (handed_lines told) so.rest)
+      ∙ map-append (λ (o : Offered). o.1) (filter (λ (o : Offered). o.0 == label) (handed_lines told)) (filter (λ (o : Offered). o.0 == label) so.rest);
+}

@@ -1,0 +1,315 @@
+-- Different attempts open different bodies, so that each of them has its own.
+use Rattle.std.proofs.Common.{◌≡◌, ◌≢◌, ◌⊎◌, ◌&&◌, is_some, ℕ, suc, ◌<◌, ◌≤◌, ◌==◌, ℤ, Bool, true, false, nat_le, if◌then◌else◌, List, [], ◌∷◌, ◌++◌, length, Option, None, Some, arith, inl, inr, refl, ap, sym, ◌∙◌, subst, append_assoc}
+use Rattle.std.proofs.lemmas.Int.{ints}
+use Rattle.std.proofs.lemmas.List.{append-nil, length-set}
+use Rattle.std.specs.FinMap as fin
+use Rattle.appender_names.specs.declared.rotation.Rotation.{Rotation}
+use Rattle.appender_names.specs.Rotation.{IsMoment, period_of}
+use Rattle.appender_store.specs.Content.{Content, Entry, File, IsSound, body_at, after_append, Opens}
+use Rattle.appender_rolling.specs.Config.{Config}
+use Rattle.appender_rolling.specs.Kept.{Keeps, KeepsOtherFiles, FileStays}
+use Rattle.appender_rolling.specs.Opening.{file_name_of}
+use Rattle.appender_rolling.specs.declared.rolling.Switch.TheVariants.{Failed as SwitchFailed}
+use Rattle.appender_replay.specs.Run.{Event, Attempt, is_same, period_at, carrier, passes, bytes_where, bytes_of_attempt, bytes_in_period, NoneFailed, OpensNoneOf, AreApart, HoldsItsOwn, HasItsName, NamesItsBody, CarriesItsPeriod, HoldsItsPeriod, EachOf}
+use Rattle.appender_replay.proofs.Bodies.{after_append_at}
+use Rattle.appender_replay.proofs.Periods.{IsLater, same_is_same, later_differs, later_still}
+
+same_body : (a b : ℕ) → ◌≡◌ {A = Option ℕ} (Some a) (Some b) → a ≡ b
+same_body a b e = cc
+
+same_file : (a b : ℕ) (t u : Option ℤ) → ◌≡◌ {A = Option Entry} (Some (File a t)) (Some (File b u)) → a ≡ b
+same_file a b t u e = cc
+
+not_equal : (x y : ℕ) → x ≢ y → (x == y) ≡ false
+not_equal x y ne = grind arith
+
+equal : (x y : ℕ) → x ≡ y → (x == y) ≡ true
+equal x y e = grind arith
+
+-- ---- periods
+
+-- one period isn't after another
+abbrev pub IsNotAfter : Option ℤ → Option ℤ → Type 0
+IsNotAfter p q = (p ≡ q) ⊎ IsLater p q
+
+pub then_later : (p q s : Option ℤ) → IsNotAfter p q → IsLater q s → IsLater p s
+then_later p q s (inl e) later = rw e later
+then_later p q s (inr k) later = later_still p q s k later
+
+same_by_is_same : (p q : Option ℤ) → is_same p q ≡ true → q ≡ p
+same_by_is_same None None e = refl
+same_by_is_same None (Some q) e = absurd (let both : false ≡ true = e in cc)
+same_by_is_same (Some p) None e = absurd (let both : false ≡ true = e in cc)
+same_by_is_same (Some p) (Some q) e = let same : q ≡ p = grind (arith, ints) in rw same refl
+
+-- ---- lists of attempts
+
+pub each_map : (P Q : Attempt → Type 0) (attempts : List Attempt) → ((a : Attempt) → P a → Q a) → EachOf P attempts → EachOf Q attempts
+each_map P Q [] f all = tt
+each_map P Q (a ∷ rest) f all = (f a all.0, each_map P Q rest f all.1)
+
+same_attempt : (a f : Attempt) → ◌≡◌ {A = Option Attempt} (Some a) (Some f) → a ≡ f
+same_attempt a f e = cc
+
+-- what holds of each attempt holds of the carrier
+each_carrier : (P : Attempt → Type 0) (attempts : List Attempt) (i : ℕ) (f : Attempt) → EachOf P attempts → carrier attempts i ≡ Some f → P f
+each_carrier P [] i f all is = absurd (let both : ◌≡◌ {A = Option Attempt} None (Some f) = is in cc)
+each_carrier P (a ∷ rest) i f all is = picked (nat_le a.step i && is_some a.body) (each_carrier P rest i f all.1) is
+  where
+    picked : (t : Bool) → (carrier rest i ≡ Some f → P f) → (if t then Some a else carrier rest i) ≡ Some f → P f
+    picked true earlier same = subst P (same_attempt a f same) all.0
+    picked false earlier same = earlier same
+
+-- an attempt at a later step carries no earlier piece
+pub pieces_before : (test : Attempt → Bool) (a : Attempt) (rest : List Attempt) (h : List Event) → length h < a.step → bytes_where test (a ∷ rest) h ≡ bytes_where test rest h
+pieces_before test a rest [] lt = refl
+pieces_before test a rest (e ∷ h) lt =
+    let no : nat_le a.step (suc (length h)) ≡ false = grind arith in
+    rw (pieces_before test a rest h (omega arith), no) refl
+
+nothing_opened : (a : Attempt) (b : ℕ) → a.body ≡ None → a.body ≡ Some b → ⊥
+nothing_opened a b none is = let both : ◌≡◌ {A = Option ℕ} None (Some b) = sym none ∙ is in cc
+
+opens_nothing : (a : Attempt) (rest : List Attempt) → a.body ≡ None → OpensNoneOf a rest
+opens_nothing a [] none = tt
+opens_nothing a (e ∷ rest) none = ((λ b is other. nothing_opened a b none is), opens_nothing a rest none)
+
+-- names of later periods are others
+abbrev pub OtherNames : Rotation → (ℤ → List ℕ) → Type 0
+OtherNames r name = (m n : ℤ) → IsMoment m → IsMoment n → IsLater (period_of r m) (period_of r n) → name n ≢ name m
+
+module _ (c : Config) (start : ℤ) where
+  -- Of an attempt, after the switches of some events were told and the pieces of some were written: when it was made, and that
+  -- what it opened is there, has no other name than the attempt's, is what stands under that name if a file does, is the open
+  -- body exactly if the attempt is the carrier, and holds its own; and, unless a switch failed, that it is the carrier exactly
+  -- in its period.
+  pub record IsOwner (told h : List Event) (attempts : List Attempt) (now : Content) (file : Attempt) (b : ℕ) (a : Attempt) : Type 0 where
+    pub in_range : IsMoment a.moment
+    pub not_after : IsNotAfter (period_of c.rotation a.moment) (period_at c.rotation start told)
+    pub at_step : a.step ≤ length told
+    pub there : (x : ℕ) → a.body ≡ Some x → x < length now.bodies
+    pub own : HasItsName c now a
+    pub stands : NamesItsBody c now a
+    pub mine : (x : ℕ) → a.body ≡ Some x → (file.step == a.step) ≡ (b == x)
+    pub holds : HoldsItsOwn attempts h now a
+    pub in_time : NoneFailed told → (x : ℕ) → a.body ≡ Some x → (file.step == a.step) ≡ is_same (period_at c.rotation start told) (period_of c.rotation a.moment)
+    pub in_its_period : NoneFailed told → CarriesItsPeriod c.rotation start attempts h a
+
+  -- What is known of all attempts.
+  pub record AreOwners (told h : List Event) (attempts : List Attempt) (now : Content) (file : Attempt) (b : ℕ) : Type 0 where
+    pub apart : AreApart attempts
+    pub owners : EachOf (IsOwner told h attempts now file b) attempts
+
+  -- ---- what follows for each
+
+  module _ (told h : List Event) (attempts : List Attempt) (now : Content) (file : Attempt) (b : ℕ) (so : AreOwners told h attempts now file b) where
+    abbrev Owner : Attempt → Type 0
+    Owner = IsOwner told h attempts now file b
+
+    pub each_holds : EachOf (HoldsItsOwn attempts h now) attempts
+    each_holds = each_map Owner (HoldsItsOwn attempts h now) attempts (λ a o. o.holds) so.owners
+
+    pub each_name : EachOf (HasItsName c now) attempts
+    each_name = each_map Owner (HasItsName c now) attempts (λ a o. o.own) so.owners
+
+    pub each_stands : EachOf (NamesItsBody c now) attempts
+    each_stands = each_map Owner (NamesItsBody c now) attempts (λ a o. o.stands) so.owners
+
+    pub each_in_its_period : NoneFailed told → EachOf (CarriesItsPeriod c.rotation start attempts h) attempts
+    each_in_its_period fine = each_map Owner (CarriesItsPeriod c.rotation start attempts h) attempts (λ a o. o.in_its_period fine) so.owners
+
+    -- what stands under its name is what the attempt opened, and holds what the attempt carries
+    pub each_holds_its_period : NoneFailed told → EachOf (HoldsItsPeriod c start h now) attempts
+    each_holds_its_period fine = each_map Owner (HoldsItsPeriod c start h now) attempts
+        (λ a o x is y t at.
+        let it : y ≡ x = o.stands x is y t at in
+        rw it (o.holds x is ∙ ap (λ w. body_at a.before x ++ w) (o.in_its_period fine x is))) so.owners
+
+    -- unless a switch failed, the open file is that of the latest moment's period
+    pub open_in_its_period : (i : ℕ) → carrier attempts i ≡ Some file → file.body ≡ Some b → NoneFailed told → period_of c.rotation file.moment ≡ period_at c.rotation start told
+    open_in_its_period i here is fine =
+        let o = each_carrier Owner attempts i file so.owners here in
+        same_by_is_same (period_at c.rotation start told) (period_of c.rotation file.moment) (sym (o.in_time fine b is) ∙ equal file.step file.step refl)
+
+  -- ---- no attempt more
+
+  module _ (attempts : List Attempt) (file : Attempt) (b : ℕ) where
+    -- a step that makes no attempt
+    pub owners_stay : (e : Event) (h : List Event) (now : Content) → period_at c.rotation start (e ∷ h) ≡ period_at c.rotation start h → AreOwners h h attempts now file b → AreOwners (e ∷ h) h attempts now file b
+    owners_stay e h now same so = record {
+      apart = so.apart;
+      owners = each_map (IsOwner h h attempts now file b) (IsOwner (e ∷ h) h attempts now file b) attempts
+          (λ a o. record {
+            in_range = o.in_range;
+            not_after = subst (λ (s : Option ℤ). IsNotAfter (period_of c.rotation a.moment) s) (sym same) o.not_after;
+            at_step = let le = o.at_step in omega arith;
+            there = o.there;
+            own = o.own;
+            stands = o.stands;
+            mine = o.mine;
+            holds = o.holds;
+            in_time = λ fine x is. o.in_time fine.1 x is ∙ ap (λ (s : Option ℤ). is_same s (period_of c.rotation a.moment)) (sym same);
+            in_its_period = λ fine. o.in_its_period fine.1;
+          }) so.owners;
+    }
+
+    -- a change that keeps every body and its name
+    pub owners_kept : (told h : List Event) (old new : Content) → Keeps old new → ((a : Attempt) → IsOwner told h attempts old file b a → FileStays (file_name_of c a.moment) old new) → AreOwners told h attempts old file b → AreOwners told h attempts new file b
+    owners_kept told h old new keeps stay so = record {
+      apart = so.apart;
+      owners = each_map (IsOwner told h attempts old file b) (IsOwner told h attempts new file b) attempts
+          (λ a o. record {
+            in_range = o.in_range;
+            not_after = o.not_after;
+            at_step = o.at_step;
+            there = λ x is. keeps.more x (o.there x is);
+            own = λ x is m t k. o.own x is m t (keeps.names x (o.there x is) m t k);
+            stands = λ x is y t k. o.stands x is y t (stay a o y t k);
+            mine = o.mine;
+            holds = λ x is. keeps.bytes x ∙ o.holds x is;
+            in_time = o.in_time;
+            in_its_period = o.in_its_period;
+          }) so.owners;
+    }
+
+    -- a piece
+    pub owners_with_piece : (e : Event) (h : List Event) (now : Content) → carrier attempts (suc (length h)) ≡ Some file → b < length now.bodies → AreOwners (e ∷ h) h attempts now file b → AreOwners (e ∷ h) (e ∷ h) attempts (after_append now b e.piece) file b
+    owners_with_piece e h now here there so = record {
+      apart = so.apart;
+      owners = each_map (IsOwner (e ∷ h) h attempts now file b) (IsOwner (e ∷ h) (e ∷ h) attempts (after_append now b e.piece) file b) attempts
+          (λ a o.
+          let carried : passes (λ f. f.step == a.step) (carrier attempts (suc (length h))) ≡ (file.step == a.step) = rw here refl in
+          record {
+            in_range = o.in_range;
+            not_after = o.not_after;
+            at_step = o.at_step;
+            there = λ x is. rw (length-set now.bodies b (body_at now b ++ e.piece)) (o.there x is);
+            own = o.own;
+            stands = o.stands;
+            mine = o.mine;
+            holds = λ x is.
+                after_append_at now b x e.piece there ∙ ap (λ w. w ++ (if b == x then e.piece else [])) (o.holds x is)
+                ∙ append_assoc (body_at a.before x) (bytes_of_attempt a.step attempts h) (if b == x then e.piece else [])
+                ∙ ap (λ t. body_at a.before x ++ (bytes_of_attempt a.step attempts h ++ (if t then e.piece else []))) (sym (carried ∙ o.mine x is));
+            in_time = o.in_time;
+            in_its_period = λ fine x is.
+                ap (λ w. w ++ (if passes (λ f. f.step == a.step) (carrier attempts (suc (length h))) then e.piece else [])) (o.in_its_period fine x is)
+                ∙ ap (λ t. bytes_in_period c.rotation start (period_of c.rotation a.moment) h ++ (if t then e.piece else [])) (carried ∙ o.in_time fine x is);
+          }) so.owners;
+    }
+
+  -- ---- one attempt more
+
+  -- one that fails
+  pub owners_with_failure : (rest : List Attempt) (e : Event) (h : List Event) (now : Content) (file : Attempt) (b : ℕ) (a : Attempt) → a.step ≡ suc (length h) → a.body ≡ None → IsMoment a.moment → period_of c.rotation a.moment ≡ period_at c.rotation start (e ∷ h) → IsLater (period_at c.rotation start h) (period_at c.rotation start (e ∷ h)) → e.switch ≡ SwitchFailed → AreOwners h h rest now file b → AreOwners (e ∷ h) h (a ∷ rest) now file b
+  owners_with_failure rest e h now file b a at none g here later failed so =
+      let lt : length h < a.step = rw at (omega arith) in
+      record {
+        apart = (opens_nothing a rest none, so.apart);
+        owners = (
+          record {
+            in_range = g;
+            not_after = inl here;
+            at_step = rw at (omega arith);
+            there = λ x is. absurd (nothing_opened a x none is);
+            own = λ x is. absurd (nothing_opened a x none is);
+            stands = λ x is. absurd (nothing_opened a x none is);
+            mine = λ x is. absurd (nothing_opened a x none is);
+            holds = λ x is. absurd (nothing_opened a x none is);
+            in_time = λ fine. absurd (fine.0 failed);
+            in_its_period = λ fine. absurd (fine.0 failed);
+          },
+          each_map (IsOwner h h rest now file b) (IsOwner (e ∷ h) h (a ∷ rest) now file b) rest
+              (λ f o. record {
+                in_range = o.in_range;
+                not_after = inr (then_later (period_of c.rotation f.moment) (period_at c.rotation start h) (period_at c.rotation start (e ∷ h)) o.not_after later);
+                at_step = let le = o.at_step in omega arith;
+                there = o.there;
+                own = o.own;
+                stands = o.stands;
+                mine = o.mine;
+                holds = λ x is. rw (pieces_before (λ g. g.step == f.step) a rest h lt) (o.holds x is);
+                in_time = λ fine. absurd (fine.0 failed);
+                in_its_period = λ fine. absurd (fine.0 failed);
+              }) so.owners,
+        );
+      }
+
+  -- one that opens the body x under its name, where what it changes keeps all other files
+  module _ (a : Attempt) (x : ℕ) (old new : Content) (sound : IsSound new) (is : a.body ≡ Some x) (was : (y : ℕ) → body_at old y ≡ body_at a.before y) (in_range : IsMoment a.moment) (opens : Opens (file_name_of c a.moment) old new x) (to : (t : Option ℤ) × (fin.get new.names (file_name_of c a.moment) ≡ Some (File x t))) (keeps : KeepsOtherFiles (file_name_of c a.moment) old new) (there : x < length new.bodies) where
+    it : (y : ℕ) → a.body ≡ Some y → x ≡ y
+    it y ay = same_body x y (sym is ∙ ay)
+
+    has_its_name : HasItsName c new a
+    has_its_name y ay m t k = sound.one_name m (file_name_of c a.moment) x t to.0 (subst (λ (z : ℕ). fin.get new.names m ≡ Some (File z t)) (sym (it y ay)) k) to.1
+
+    names_its_body : NamesItsBody c new a
+    names_its_body y ay z t k = same_file z x t to.0 (sym k ∙ to.1) ∙ it y ay
+
+    -- it owns what it opened
+    owner : (told h : List Event) (attempts : List Attempt) → period_of c.rotation a.moment ≡ period_at c.rotation start told → a.step ≤ length told → bytes_of_attempt a.step attempts h ≡ [] → bytes_in_period c.rotation start (period_at c.rotation start told) h ≡ [] → IsOwner told h attempts new a x a
+    owner told h attempts here at none none_in = record {
+      in_range = in_range;
+      not_after = inl here;
+      at_step = at;
+      there = λ y ay. subst (λ (z : ℕ). z < length new.bodies) (it y ay) there;
+      own = has_its_name;
+      stands = names_its_body;
+      mine = λ y ay. equal a.step a.step refl ∙ sym (equal x y (it y ay));
+      holds = λ y ay. rw none (keeps.keeps.bytes y ∙ was y ∙ sym (append-nil (body_at a.before y)));
+      in_time = λ fine y ay. equal a.step a.step refl ∙ sym (rw here (same_is_same (period_at c.rotation start told)));
+      in_its_period = λ fine y ay. none ∙ sym (rw here none_in);
+    }
+
+    -- the opening
+    pub owners_begin : start ≡ a.moment → a.step ≡ 0 → AreOwners [] [] (a ∷ []) new a x
+    owners_begin same at = record {
+      apart = (tt, tt);
+      owners = (owner [] [] (a ∷ []) (ap (period_of c.rotation) (sym same)) (rw at (omega arith)) refl refl, tt);
+    }
+
+    module _ (rest : List Attempt) (e : Event) (h : List Event) (file : Attempt) (b : ℕ) (others : OtherNames c.rotation (file_name_of c)) (at : a.step ≡ suc (length h)) (here : period_of c.rotation a.moment ≡ period_at c.rotation start (e ∷ h)) (later : IsLater (period_at c.rotation start h) (period_at c.rotation start (e ∷ h))) where
+      abbrev Earlier : Attempt → Type 0
+      Earlier = IsOwner h h rest old file b
+
+      earlier_name : (f : Attempt) → Earlier f → file_name_of c a.moment ≢ file_name_of c f.moment
+      earlier_name f o = others f.moment a.moment o.in_range in_range (rw here (then_later (period_of c.rotation f.moment) (period_at c.rotation start h) (period_at c.rotation start (e ∷ h)) o.not_after later))
+
+      -- what is opened for another name is another body
+      other_body : (f : Attempt) (y : ℕ) → Earlier f → f.body ≡ Some y → x ≢ y
+      other_body f y o fy same =
+          elim opens.1 [
+            | inl k ↦ earlier_name f o (o.own y fy (file_name_of c a.moment) k.0 (subst (λ (z : ℕ). fin.get old.names (file_name_of c a.moment) ≡ Some (File z k.0)) same k.1))
+            | inr k ↦ let below : y < length old.bodies = o.there y fy in absurd (omega (arith, k.2))
+          ]
+
+      opens_no_other : (part : List Attempt) → EachOf Earlier part → OpensNoneOf a part
+      opens_no_other [] all = tt
+      opens_no_other (f ∷ part) all = ((λ y ay fy. other_body f y all.0 fy (it y ay)), opens_no_other part all.1)
+
+      -- a switch
+      pub owners_with_success : bytes_of_attempt a.step (a ∷ rest) h ≡ [] → bytes_in_period c.rotation start (period_at c.rotation start (e ∷ h)) h ≡ [] → AreOwners h h rest old file b → AreOwners (e ∷ h) h (a ∷ rest) new a x
+      owners_with_success none none_in so =
+          let lt : length h < a.step = rw at (omega arith) in
+          record {
+            apart = (opens_no_other rest so.owners, so.apart);
+            owners = (
+              owner (e ∷ h) h (a ∷ rest) here (rw at (omega arith)) none none_in,
+              each_map Earlier (IsOwner (e ∷ h) h (a ∷ rest) new a x) rest
+                  (λ f o.
+                  let after = then_later (period_of c.rotation f.moment) (period_at c.rotation start h) (period_at c.rotation start (e ∷ h)) o.not_after later in
+                  let apart : (a.step == f.step) ≡ false = not_equal a.step f.step (let le = o.at_step in omega arith) in
+                  record {
+                    in_range = o.in_range;
+                    not_after = inr after;
+                    at_step = let le = o.at_step in omega arith;
+                    there = λ y fy. keeps.keeps.more y (o.there y fy);
+                    own = λ y fy m t k. o.own y fy m t (keeps.keeps.names y (o.there y fy) m t k);
+                    stands = λ y fy z t k. o.stands y fy z t (keeps.stay (file_name_of c f.moment) (λ same. earlier_name f o (sym same)) z t k);
+                    mine = λ y fy. apart ∙ sym (not_equal x y (other_body f y o fy));
+                    holds = λ y fy. rw (pieces_before (λ g. g.step == f.step) a rest h lt) (keeps.keeps.bytes y ∙ o.holds y fy);
+                    in_time = λ fine y fy. apart ∙ sym (later_differs (period_of c.rotation f.moment) (period_at c.rotation start (e ∷ h)) after).0;
+                    in_its_period = λ fine y fy. rw (pieces_before (λ g. g.step == f.step) a rest h lt) (o.in_its_period fine.1 y fy);
+                  }) so.owners,
+            );
+          }

@@ -1,0 +1,68 @@
+-- Each step of a replay as a look at the clock, or none, and a piece.
+use Rattle.std.proofs.Common.{◌≡◌, ℕ, ℤ, List, take, Option, None, Some, Result, Ok, Err, IsTrue, refl, ap, sym, ◌∙◌}
+use Rattle.std.specs.declared.io.Error.{Error}
+use Rattle.std.specs.declared.io.ErrorKind.{ErrorKind}
+use Rattle.appender_store.specs.Content.{after_append}
+use Rattle.appender_store.specs.declared.store.Folder.{Ghosts}
+use Rattle.appender_replay.proofs.Bodies.{after_append_nothing}
+use Rattle.appender_rolling.specs.Roller.{Rolling, Sees, Writes, StaysOpen, count_of}
+use Rattle.appender_replay.specs.Run.{Event}
+use Rattle.appender_replay.specs.Replay.{Told, StepDoes, kind_told, event_of}
+use Rattle.appender_rolling.specs.declared.rolling.Switch.{Switch}
+use Rattle.appender_rolling.specs.declared.rolling.Switch.TheVariants.{None as Stayed}
+use Rattle.appender_replay.specs.declared.replay.RollStep.TheVariants.{See, Put, Write, Flush}
+use Rattle.appender_replay.specs.declared.replay.RollReply.TheVariants.{Saw, Put as DidPut, Wrote, Flushed}
+
+-- the look at the clock, if the step makes one
+abbrev pub Looks : {S F : Type 0} → Ghosts S F → Option ℤ → Switch → Rolling S F → Rolling S F → Type 0
+Looks kind None switch old new = (switch ≡ Stayed) × (new ≡ old)
+Looks kind (Some m) switch old new = Sees kind m switch old new
+
+-- and what it adds to the open file
+pub record Turns {S F : Type 0} (kind : Ghosts S F) (e : Event) (old new : Rolling S F) : Type 0 where
+  pub between : Rolling S F
+  pub looks : Looks kind e.read e.switch old between
+  pub content : IsTrue kind.tells → kind.content new.folder ≡ after_append (kind.content between.folder) (kind.body between.file) e.piece
+  pub stays : StaysOpen kind between new
+
+pub stays_same : {S F : Type 0} (kind : Ghosts S F) (r : Rolling S F) → StaysOpen kind r r
+stays_same kind r = record { config_is = refl; opened = refl; boundary = refl; file = refl; noted = refl }
+
+pub count_told : (answer : Result ℕ Error) (told : Result ℕ ErrorKind) → told ≡ kind_told answer → count_of told ≡ count_of answer
+count_told (Ok n) told e = ap count_of e
+count_told (Err fault) told e = ap count_of e
+
+-- a write adds its piece
+pub written_piece : {S F : Type 0} (kind : Ghosts S F) (bytes : List ℕ) (answer : Result ℕ Error) (told : Result ℕ ErrorKind) (old new : Rolling S F) → told ≡ kind_told answer → Writes kind bytes answer old new → IsTrue kind.tells → kind.content new.folder ≡ after_append (kind.content old.folder) (kind.body old.file) (take (count_of told) bytes)
+written_piece kind bytes answer told old new e w tells =
+    w.content tells ∙ ap (λ (n : ℕ). after_append (kind.content old.folder) (kind.body old.file) (take n bytes)) (sym (count_told answer told e))
+
+pub step_turns : {S F : Type 0} (kind : Ghosts S F) (t : Told) (old new : Rolling S F) → StepDoes kind t old new → Turns kind (event_of t) old new
+step_turns kind (See m, Saw switch) old new does = record {
+  between = new;
+  looks = does;
+  content = λ tells. sym (after_append_nothing (kind.content new.folder) (kind.body new.file));
+  stays = stays_same kind new;
+}
+step_turns kind (Put m bytes, DidPut switch told) old new does = record {
+  between = does.2.between;
+  looks = does.2.sees;
+  content = written_piece kind bytes.items does.0 told does.2.between new does.1 does.2.writes;
+  stays = does.2.writes.stays;
+}
+step_turns kind (Write bytes, Wrote told) old new does = record {
+  between = old;
+  looks = (refl, refl);
+  content = written_piece kind bytes.items does.0 told old new does.1 does.2;
+  stays = does.2.stays;
+}
+step_turns kind (Flush, Flushed told) old new does = record {
+  between = old;
+  looks = (refl, refl);
+  content = λ tells. does.2.content ∙ sym (after_append_nothing (kind.content old.folder) (kind.body old.file));
+  stays = does.2.stays;
+}
+step_turns kind (See m, _) old new does = absurd does
+step_turns kind (Put m bytes, _) old new does = absurd does
+step_turns kind (Write bytes, _) old new does = absurd does
+step_turns kind (Flush, _) old new does = absurd does

@@ -1,0 +1,145 @@
+-- A run of queue, worker and roller keeps to its laws.
+use Rattle.std.proofs.Common.{◌≡◌, ℕ, ℤ, ◌+◌, ◌≤◌, Bool, true, false, if◌then◌else◌, List, [], ◌∷◌, length, None, inl, inr, refl, ap, sym, ◌∙◌, subst}
+use Rattle.std.specs.Prelude.{◌==◌}
+use Rattle.appender_queue.specs.Core.{Core, Taking, Writing, Flushing, Ending, Over}
+use Rattle.appender_queue.specs.Queue.{Queue, has_line, is_sent, fresh}
+use Rattle.appender_store.specs.declared.store.Folder.{Ghosts}
+use Rattle.appender_rolling.specs.Config.{Config}
+use Rattle.appender_rolling.specs.Roller.{Rolling, OpensRoller, StaysOpen}
+use Rattle.appender_rolling.specs.declared.rolling.Switch.TheVariants.{None as Stayed}
+use Rattle.appender_replay.specs.Run.{Event}
+use Rattle.appender_replay.specs.Replay.{RunsFrom}
+use Rattle.appender_replay.specs.Record.{Answered, worker_after, queue_after}
+use Rattle.appender_replay.specs.Answers.{StepAnswers, WorkAnswers, Answers, RollerDoes, WorkerDoes, rest_of, file_event, events}
+use Rattle.appender_replay.specs.Inside.Steps.{Parts, StepDoes, WorkDoes}
+use Rattle.appender_replay.specs.declared.replay.whole.Step.TheVariants.{Offer, Shut, AddSender, DropSender, Work}
+use Rattle.appender_replay.specs.declared.replay.whole.Reply.{Reply}
+use Rattle.appender_replay.specs.declared.replay.whole.Reply.TheVariants.{Took, TookShutdown, TookGone, TookEmpty, Wrote, Flushed}
+use Rattle.appender_replay.proofs.Bodies.{after_append_nothing}
+use Rattle.appender_replay.proofs.Turns.{Turns, stays_same, count_told, written_piece}
+use Rattle.appender_replay.proofs.Runs.{Grounds, RunSoFar, run_law}
+use Rattle.appender_replay.proofs.Records.{Stands, stands_on}
+use Rattle.appender_replay.proofs.Orders.{in_order}
+
+-- What is known after these steps.
+pub record GoesFrom {S F : Type 0} (kind : Ghosts S F) (config : Config) (limit : ℕ) (lossy : Bool) (start : ℤ) (folder : S) (told : List Answered) (q : Queue) (core : Core) (roller : Rolling S F) : Type 0 where
+  pub stands : Stands limit lossy told q core
+  pub answers : Answers limit lossy told
+  pub runs : RunsFrom kind (WorkerDoes kind) config start folder told roller
+
+-- ---- as a run of files
+
+-- a step that neither looks at the clock nor writes
+quiet : Event
+quiet = record { read = None; switch = Stayed; piece = [] }
+
+quiet_turn : {S F : Type 0} (kind : Ghosts S F) (old new : Rolling S F) → new ≡ old → Turns kind quiet old new
+unfolding quiet
+quiet_turn kind old new same = record {
+  between = old;
+  looks = (refl, refl);
+  content = λ tells. ap (λ (r : Rolling _ _). kind.content r.folder) same ∙ sym (after_append_nothing (kind.content old.folder) (kind.body old.file));
+  stays = subst (λ (r : Rolling _ _). StaysOpen kind old r) (sym same) (stays_same kind old);
+}
+
+-- each step is a look at the clock, or none, and a piece
+roller_turns : {S F : Type 0} (kind : Ghosts S F) (core : Core) (t : Answered) (old new : Rolling S F) → RollerDoes kind core t old new → Turns kind (file_event core t) old new
+unfolding quiet
+roller_turns kind core (Work m, Wrote switch told) old new does = record {
+  between = does.2.between;
+  looks = does.2.sees;
+  content = written_piece kind (rest_of core) does.0 told does.2.between new does.1 does.2.writes;
+  stays = does.2.writes.stays;
+}
+roller_turns kind core (Work m, Flushed told) old new does = record {
+  between = old;
+  looks = (refl, refl);
+  content = λ tells. does.2.content ∙ sym (after_append_nothing (kind.content old.folder) (kind.body old.file));
+  stays = does.2.stays;
+}
+roller_turns kind core (s, r) old new does = quiet_turn kind old new does
+
+-- a run keeps to the laws of the clock and of the files
+pub whole_law : {S F : Type 0} (kind : Ghosts S F) (config : Config) (start : ℤ) (folder : S) (told : List Answered) (last : Rolling S F) → Grounds kind config → RunsFrom kind (WorkerDoes kind) config start folder told last → RunSoFar kind config start folder (events told) last
+whole_law kind config start folder told last =
+    run_law kind (WorkerDoes kind) (λ earlier. file_event (worker_after earlier)) config start folder told last (λ earlier. roller_turns kind (worker_after earlier))
+
+-- ---- what a step does to the roller
+
+take_rolls : {S F : Type 0} (kind : Ghosts S F) (closed line sent gone : Bool) (core : Core) (m : ℤ) (k : ℕ) (old new : Rolling S F) → new ≡ old
+    → RollerDoes kind core (Work m, if closed then TookGone else if line then Took k else if sent then TookShutdown else if gone then TookGone else TookEmpty) old new
+take_rolls kind true line sent gone core m k old new same = same
+take_rolls kind false true sent gone core m k old new same = same
+take_rolls kind false false true gone core m k old new same = same
+take_rolls kind false false false true core m k old new same = same
+take_rolls kind false false false false core m k old new same = same
+
+work_rolls : {S F : Type 0} (kind : Ghosts S F) (core : Core) (m : ℤ) (reply : Reply) (old new : Parts S F) → WorkDoes kind core m reply old new → RollerDoes kind core (Work m, reply) old.roller new.roller
+work_rolls kind (Taking waits) m reply old new does =
+    let q : Queue = old.queue in
+    subst (λ (r : Reply). RollerDoes kind (Taking waits) (Work m, r) old.roller new.roller) (sym does.0)
+    (take_rolls kind q.closed (has_line q) (is_sent q.shutdown) (q.senders == 0) (Taking waits) m (q.handed + 1) old.roller new.roller does.3)
+work_rolls kind (Writing rest repeats) m (Wrote switch told) old new does = (does.0.0, does.0.1, does.0.2)
+work_rolls kind (Writing rest repeats) m _ old new does = absurd does.0
+work_rolls kind Over m reply old new does =
+    subst (λ (r : Reply). RollerDoes kind Over (Work m, r) old.roller new.roller) (sym does.0) does.3
+work_rolls kind Flushing m (Flushed told) old new does = does.0
+work_rolls kind Flushing m _ old new does = absurd does.0
+work_rolls kind (Ending n) m (Flushed told) old new does = does.0
+work_rolls kind (Ending n) m _ old new does = absurd does.0
+
+step_rolls : {S F : Type 0} (kind : Ghosts S F) (t : Answered) (old new : Parts S F) → StepDoes kind t old new → RollerDoes kind old.worker t old.roller new.roller
+step_rolls kind (Offer label line, reply) old new does = does.2
+step_rolls kind (Shut, reply) old new does = does.3
+step_rolls kind (AddSender, reply) old new does = does.3
+step_rolls kind (DropSender, reply) old new does = does.3
+step_rolls kind (Work m, reply) old new does = work_rolls kind old.worker m reply old new does
+
+-- ---- what it answers
+
+work_answers : {S F : Type 0} (kind : Ghosts S F) (core : Core) (m : ℤ) (reply : Reply) (old new : Parts S F) → WorkDoes kind core m reply old new → WorkAnswers old.queue core reply
+work_answers kind (Taking waits) m reply old new does = does.0
+work_answers kind (Writing rest repeats) m (Wrote switch told) old new does =
+    subst (λ (n : ℕ). n ≤ length rest) (sym (count_told does.0.0 told does.0.1)) does.0.2.writes.bound
+work_answers kind (Writing rest repeats) m _ old new does = absurd does.0
+work_answers kind Over m reply old new does = does.0
+work_answers kind Flushing m (Flushed told) old new does = tt
+work_answers kind Flushing m _ old new does = absurd does.0
+work_answers kind (Ending n) m (Flushed told) old new does = tt
+work_answers kind (Ending n) m _ old new does = absurd does.0
+
+step_answers : {S F : Type 0} (kind : Ghosts S F) (t : Answered) (old new : Parts S F) → StepDoes kind t old new → StepAnswers old.queue old.worker t
+step_answers kind (Offer label line, reply) old new does = elim does.0 [ inl none ↦ inl (none.0, none.1) | inr is ↦ inr is.0 ]
+step_answers kind (Shut, reply) old new does = does.0
+step_answers kind (AddSender, reply) old new does = does.0
+step_answers kind (DropSender, reply) old new does = does.0
+step_answers kind (Work m, reply) old new does = work_answers kind old.worker m reply old new does
+
+-- ---- one step after another
+
+pub goes_begins : {S F : Type 0} (kind : Ghosts S F) (config : Config) (limit : ℕ) (lossy : Bool) (start : ℤ) (folder : S) (q : Queue) (core : Core) (roller : Rolling S F)
+    → q ≡ fresh limit lossy → core ≡ Taking true → OpensRoller kind config start folder roller → GoesFrom kind config limit lossy start folder [] q core roller
+goes_begins kind config limit lossy start folder q core roller empty begins opens = record {
+  stands = record { queue = empty ∙ fresh_is lossy; worker = begins };
+  answers = tt;
+  runs = record { first = roller; opens = opens; runs = refl };
+}
+  where
+    fresh_is : (b : Bool) → fresh limit b ≡ queue_after limit b []
+    fresh_is true = refl
+    fresh_is false = refl
+
+pub goes_on : {S F : Type 0} (kind : Ghosts S F) (config : Config) (limit : ℕ) (lossy : Bool) (start : ℤ) (folder : S) (told : List Answered) (t : Answered) (old new : Parts S F)
+    → GoesFrom kind config limit lossy start folder told old.queue old.worker old.roller → StepDoes kind t old new
+    → GoesFrom kind config limit lossy start folder (t ∷ told) new.queue new.worker new.roller
+goes_on kind config limit lossy start folder told t old new so does =
+    let order = in_order limit lossy told so.answers in
+    let does_roll : RollerDoes kind (worker_after told) t old.roller new.roller =
+    subst (λ (c : Core). RollerDoes kind c t old.roller new.roller) so.stands.worker (step_rolls kind t old new does) in
+    let by_queue : StepAnswers (queue_after limit lossy told) old.worker t =
+    subst (λ (q : Queue). StepAnswers q old.worker t) so.stands.queue (step_answers kind t old new does) in
+    record {
+      stands = stands_on limit lossy told kind t old new order.most so.stands does;
+      answers = (so.answers, subst (λ (c : Core). StepAnswers (queue_after limit lossy told) c t) so.stands.worker by_queue);
+      runs = record { first = so.runs.first; opens = so.runs.opens; runs = (old.roller, so.runs.runs, does_roll) };
+    }

@@ -1,0 +1,57 @@
+use Rattle.std.proofs.Common.{◌≡◌, ◌∙◌, ◌+◌, ◌++◌, [], ◌∷◌, length, length-append, take, rules, sym, ap, arith, w64, FitsSigned}
+use Rattle.std.proofs.Math.Nat.{le_trans}
+use Rattle.std.proofs.Math.Seq.{length-take-le}
+use Rattle.std.proofs.lemmas.Int.{to_z-of_z}
+use Rattle.std.proofs.lemmas.List.{take_more, take_all}
+use Rattle.appender_replay.specs.Replay.{told_of}
+use Rattle.appender_replay.proofs.Files.{law_so_far, periods_so_far}
+use Rattle.appender_replay.proofs.Runs.{Grounds, roll_law, other_names, told_more}
+use Rattle.appender_replay.proofs.replay.replay_rolling.Goals as goal
+
+pub loop-step-preserved : goal.loop-step-preserved
+loop-step-preserved g c =
+    let inv = c.loop-step.invariant in
+    let i = c.loop-step.step-index in
+    let steps = c.args.steps.now in
+    let step = c.step-item.result in
+    let reply = c.run_step-reply.result in
+    let replies = c.loop-step.replies.items in
+    let more : take (i + 1) steps ≡ take i steps ++ step ∷ [] =
+    take_more steps i step c.loop-step-test.true ∙ ap (λ s. take i steps ++ s ∷ []) (sym c.step-item.is) in
+    let even : length (take i steps) ≡ length replies = length-take-le i steps (omega arith) ∙ sym inv.one_each in
+    let told : told_of (take (i + 1) steps) c.push_reply.new.replies.items ≡ (step, reply) ∷ told_of (take i steps) replies =
+    rw (more, c.push_reply.ensures.items) (told_more [] (take i steps) replies step reply even) in
+    record {
+      one_each = ap length c.push_reply.ensures.items ∙ length-append replies (reply ∷ []) ∙ ap (λ n. n + 1) inv.one_each;
+      room = le_trans inv.room c.push_reply.ensures.capacity;
+      runs = rw told (record { first = inv.runs.first; opens = inv.runs.opens; runs = (c.loop-step.roller, inv.runs.runs, c.run_step-reply.ensures) });
+    }
+
+pub returns : goal.returns
+returns g c =
+    let fits : FitsSigned w64 c.args.start = c.ranges.start in
+    let whole : take c.loop-step.step-index c.args.steps.now ≡ c.args.steps.now = take_all _ _ c.loop-step-test.false in
+    let one_each : length c.loop-step.replies.items ≡ length c.args.steps.now = search rules in
+    let runs = simp (to_z-of_z, whole) at c.loop-step.invariant.runs in
+    let periods = c.periods_lie_between_boundaries.ensures in
+    let grounds : Grounds g.S.Folder c.args.builder.now = record {
+      laws = record { begins = periods.begin _; ends = periods.end _ };
+      others = other_names c.args.builder.now (c.names_are_periods.ensures _);
+      maps = record { removals = c.names_change_one_at_a_time.ensures.removals; additions = c.names_change_one_at_a_time.ensures.additions };
+      parts = c.openings_keep_files.ensures;
+      sound = g.met.S.Folder.sound;
+    } in
+    let so = roll_law g.S.Folder _ _ _ _ _ grounds runs in
+    record {
+      one_each = one_each;
+      runs = runs;
+      config = so.config_is;
+      switches = so.clock.switches;
+      boundary = so.clock.boundary_is;
+      files = λ tells. law_so_far _ _ _ _ _ _ _ _ _ (so.files tells);
+      standing_files = λ tells. periods_so_far _ _ _ _ _ _ _ _ _ (so.files tells);
+      err = tt;
+      memory = tt;
+      opened = so.opened_is;
+      notices = so.noted;
+    }

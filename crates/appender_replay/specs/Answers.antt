@@ -1,0 +1,102 @@
+-- What each step of a run of queue, worker and roller has to answer, given the steps before it, what it does to the roller, and
+-- how the run reads as a history of the files.
+use Rattle.std.specs.Prelude.{◌≡◌, ◌≢◌, ◌⊎◌, ℕ, ℤ, ◌+◌, ◌≤◌, ◌==◌, List, [], ◌∷◌, ◌++◌, Bool, if◌then◌else◌, length, take, Result, Some, None}
+use Rattle.std.specs.declared.io.Error.{Error}
+use Rattle.std.specs.declared.io.ErrorKind.{ErrorKind}
+use Rattle.appender_queue.specs.Core.{Core, Taking, Writing, Flushing, Ending, Over}
+use Rattle.appender_queue.specs.Queue.{Queue, is_open, has_room, is_sent, has_line, saturating_next, one_less}
+use Rattle.appender_queue.specs.QueueReplies.{shut_reply}
+use Rattle.appender_store.specs.declared.store.Folder.{Ghosts}
+use Rattle.appender_replay.specs.Record.{Answered, queue_after, worker_after}
+use Rattle.appender_replay.specs.Replay.{kind_told, events_by}
+use Rattle.appender_rolling.specs.Roller.{Rolling, Puts, Flushes, count_of}
+use Rattle.appender_replay.specs.Run.{Event}
+use Rattle.appender_rolling.specs.declared.rolling.Switch.{Switch}
+use Rattle.appender_rolling.specs.declared.rolling.Switch.TheVariants.{None as Stayed}
+use Rattle.appender_replay.specs.declared.replay.whole.Step.TheVariants.{Offer, Shut, AddSender, DropSender, Work}
+use Rattle.appender_replay.specs.declared.replay.whole.Reply.{Reply}
+use Rattle.appender_replay.specs.declared.replay.whole.Reply.TheVariants.{Accepted, Full, Closed, NoMemory, Shut as DidShut, Senders, Took, TookShutdown, TookGone, TookEmpty, Wrote, Flushed, Ended}
+
+-- ---- replies
+
+abbrev pub IsWrote : Reply → (Switch → Result ℕ ErrorKind → Type 0) → Type 0
+IsWrote (Wrote switch answer) P = P switch answer
+IsWrote reply P = ⊥
+
+abbrev pub IsFlushed : Reply → (Result (Unit {0}) ErrorKind → Type 0) → Type 0
+IsFlushed (Flushed answer) P = P answer
+IsFlushed reply P = ⊥
+
+-- The reply to an offer for whose copy there was memory: the next ticket exactly where the queue is open and has room.
+abbrev pub offer_answer : Queue → Reply
+offer_answer q = if is_open q then (if has_room q then Accepted (q.accepted + 1) else Full) else Closed
+
+-- The reply to a take: the first accepted line that was not handed, where one lies before the shutdown; else the shutdown;
+-- else, with no sender left, that all are gone; else that nothing is there.
+abbrev pub take_answer : Queue → Reply
+take_answer q =
+    if q.closed then TookGone
+    else if has_line q then Took (q.handed + 1)
+    else if is_sent q.shutdown then TookShutdown
+    else if q.senders == 0 then TookGone
+    else TookEmpty
+
+-- What the worker's step answers: it does the one thing that it wants next.
+abbrev pub WorkAnswers : Queue → Core → Reply → Type 0
+WorkAnswers q (Taking waits) reply = reply ≡ take_answer q
+WorkAnswers q (Writing rest repeats) reply = IsWrote reply (λ switch answer. count_of answer ≤ length rest)
+WorkAnswers q Flushing reply = IsFlushed reply (λ answer. Unit {0})
+WorkAnswers q (Ending flushes) reply = IsFlushed reply (λ answer. Unit {0})
+WorkAnswers q Over reply = reply ≡ Ended
+
+-- What a step answers, with this queue and this worker before it. Memory is wanted only for the copy of a line that isn't
+-- empty.
+abbrev pub StepAnswers : Queue → Core → Answered → Type 0
+StepAnswers q core (Offer label line, reply) = ((reply ≡ NoMemory) × (line.items ≢ [])) ⊎ (reply ≡ offer_answer q)
+StepAnswers q core (Shut, reply) = reply ≡ DidShut (shut_reply q)
+StepAnswers q core (AddSender, reply) = reply ≡ Senders (saturating_next q.senders)
+StepAnswers q core (DropSender, reply) = reply ≡ Senders (one_less q.senders)
+StepAnswers q core (Work m, reply) = WorkAnswers q core reply
+
+-- Each step answers as the steps before it demand.
+abbrev pub Answers : ℕ → Bool → List Answered → Type 0
+Answers limit lossy [] = Unit {0}
+Answers limit lossy (t ∷ earlier) =
+    Answers limit lossy earlier × StepAnswers (queue_after limit lossy earlier) (worker_after earlier) t
+
+-- ---- the roller
+
+-- the bytes that the worker offers to the files where it writes: the rest of the line in hand
+abbrev pub rest_of : Core → List ℕ
+rest_of (Writing rest repeats) = rest
+rest_of core = []
+
+-- What a step does to the roller: a write of the worker looks at the clock and puts the rest of the line in hand, a flush of
+-- it flushes, and no other step touches the roller. Replies show the kinds of faults alone.
+abbrev pub RollerDoes : {S F : Type 0} → Ghosts S F → Core → Answered → Rolling S F → Rolling S F → Type 0
+RollerDoes kind core (Work m, Wrote switch told) old new =
+    (answer : Result ℕ Error) × (told ≡ kind_told answer) × Puts kind m (rest_of core) switch answer old new
+RollerDoes kind core (Work m, Flushed told) old new =
+    (answer : Result (Unit {0}) Error) × (told ≡ kind_told answer) × Flushes kind answer old new
+RollerDoes kind core told old new = new ≡ old
+
+-- what a step after these does to the roller
+abbrev pub WorkerDoes : {S F : Type 0} → Ghosts S F → List Answered → Answered → Rolling S F → Rolling S F → Type 0
+WorkerDoes kind earlier = RollerDoes kind (worker_after earlier)
+
+-- ---- read as a run of files
+
+-- A step of the worker that wrote reads the clock, and its piece is what was taken of the rest. No other step reads the
+-- clock, switches or writes.
+abbrev pub file_event : Core → Answered → Event
+file_event core (Work m, Wrote switch answer) = record { read = Some m; switch = switch; piece = take (count_of answer) (rest_of core) }
+file_event core told = record { read = None; switch = Stayed; piece = [] }
+
+-- the run's history, the newest step first
+abbrev pub events : List Answered → List Event
+events = events_by (λ earlier. file_event (worker_after earlier))
+
+-- all pieces of a history strung together, the oldest first
+abbrev pub text_of_events : List Event → List ℕ
+text_of_events [] = []
+text_of_events (e ∷ earlier) = text_of_events earlier ++ e.piece

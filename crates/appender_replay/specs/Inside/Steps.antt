@@ -1,0 +1,87 @@
+-- What one step does to queue, worker and roller, by the contracts of the three.
+use Rattle.std.specs.Prelude.{◌≡◌, ◌≢◌, ◌⊎◌, ℕ, ℤ, ◌==◌, List, [], if◌then◌else◌, Result, Ok, Err, slice_index_or}
+use Rattle.std.specs.declared.io.Error.{Error}
+use Rattle.appender_queue.specs.Core.{Core, Taking, Writing, Over, Found, Line, Last, Nothing, after_took, after_wrote, after_flushed}
+use Rattle.appender_queue.specs.Queue.{Queue, is_sent, has_line, saturating_next, one_less, after_offer, after_shut, after_take}
+use Rattle.appender_queue.specs.QueueReplies.{shut_reply}
+use Rattle.appender_queue.specs.declared.queue.Refused.{Refused}
+use Rattle.appender_queue.specs.declared.queue.Refused.TheVariants.{Full as RefusedFull, Closed as RefusedClosed}
+use Rattle.appender_queue.specs.declared.queue.Taken.{Taken}
+use Rattle.appender_queue.specs.declared.queue.Taken.TheVariants.{Line as TakenLine, Shutdown as TakenShutdown, Gone as TakenGone, Empty as TakenEmpty}
+use Rattle.appender_store.specs.declared.store.Folder.{Ghosts}
+use Rattle.appender_replay.specs.Record.{Answered, answer_told}
+use Rattle.appender_replay.specs.Answers.{IsWrote, IsFlushed, offer_answer, take_answer}
+use Rattle.appender_replay.specs.Replay.{kind_told}
+use Rattle.appender_rolling.specs.Roller.{Rolling, Puts, Flushes}
+use Rattle.appender_replay.specs.declared.replay.whole.Step.TheVariants.{Offer, Shut, AddSender, DropSender, Work}
+use Rattle.appender_replay.specs.declared.replay.whole.Reply.{Reply}
+use Rattle.appender_replay.specs.declared.replay.whole.Reply.TheVariants.{Accepted, Full, Closed, NoMemory, Shut as DidShut, Senders, Took, TookShutdown, TookGone, TookEmpty, Ended}
+
+-- what a queue answered, told as a reply
+abbrev pub told_offer : Result ℕ Refused → Reply
+told_offer (Ok ticket) = Accepted ticket
+told_offer (Err (RefusedFull line)) = Full
+told_offer (Err (RefusedClosed line)) = Closed
+
+abbrev pub told_take : Taken → Reply
+told_take (TakenLine ticket line) = Took ticket
+told_take TakenShutdown = TookShutdown
+told_take TakenGone = TookGone
+told_take TakenEmpty = TookEmpty
+
+-- what the worker sees of the answer to a take
+abbrev pub take_finds : Queue → Found
+take_finds q =
+    if q.closed then Last
+    else if has_line q then Line (slice_index_or q.lines 0 [])
+    else if is_sent q.shutdown then Last
+    else if q.senders == 0 then Last
+    else Nothing
+
+-- queue, worker and roller of a run
+pub record Parts (S F : Type 0) : Type 0 where
+  pub queue : Queue
+  pub worker : Core
+  pub roller : Rolling S F
+
+abbrev pub parts : {S F : Type 0} → Queue → Core → Rolling S F → Parts S F
+parts queue worker roller = record { queue = queue; worker = worker; roller = roller }
+
+-- an offer of a copy, for which memory may be refused unless it is empty
+abbrev pub OffersCopy : Queue → List ℕ → Reply → Queue → Type 0
+OffersCopy old line reply new =
+    ((reply ≡ NoMemory) × (line ≢ []) × (new ≡ old)) ⊎ ((reply ≡ offer_answer old) × (new ≡ after_offer old line))
+
+-- the worker's step
+abbrev pub WorkDoes : {S F : Type 0} → Ghosts S F → Core → ℤ → Reply → Parts S F → Parts S F → Type 0
+WorkDoes kind (Taking waits) m reply old new =
+    (reply ≡ take_answer old.queue)
+    × (new.queue ≡ after_take old.queue waits)
+    × (new.worker ≡ after_took (Taking waits) (take_finds old.queue))
+    × (new.roller ≡ old.roller)
+WorkDoes kind (Writing rest repeats) m reply old new =
+    IsWrote reply (λ switch told.
+    (answer : Result ℕ Error) × (told ≡ kind_told answer)
+    × Puts kind m rest switch answer old.roller new.roller
+    × (new.worker ≡ after_wrote (Writing rest repeats) (answer_told told)))
+    × (new.queue ≡ old.queue)
+WorkDoes kind Over m reply old new =
+    (reply ≡ Ended) × (new.queue ≡ old.queue) × (new.worker ≡ Over) × (new.roller ≡ old.roller)
+WorkDoes kind flushing m reply old new =
+    IsFlushed reply (λ told. (answer : Result (Unit {0}) Error) × (told ≡ kind_told answer) × Flushes kind answer old.roller new.roller)
+    × (new.queue ≡ old.queue)
+    × (new.worker ≡ after_flushed flushing)
+
+abbrev pub StepDoes : {S F : Type 0} → Ghosts S F → Answered → Parts S F → Parts S F → Type 0
+StepDoes kind (Offer label line, reply) old new =
+    OffersCopy old.queue line.items reply new.queue × (new.worker ≡ old.worker) × (new.roller ≡ old.roller)
+StepDoes kind (Shut, reply) old new =
+    (reply ≡ DidShut (shut_reply old.queue)) × (new.queue ≡ after_shut old.queue)
+    × (new.worker ≡ old.worker) × (new.roller ≡ old.roller)
+StepDoes kind (AddSender, reply) old new =
+    (reply ≡ Senders (saturating_next old.queue.senders)) × (new.queue ≡ record old.queue { senders = saturating_next old.queue.senders })
+    × (new.worker ≡ old.worker) × (new.roller ≡ old.roller)
+StepDoes kind (DropSender, reply) old new =
+    (reply ≡ Senders (one_less old.queue.senders)) × (new.queue ≡ record old.queue { senders = one_less old.queue.senders })
+    × (new.worker ≡ old.worker) × (new.roller ≡ old.roller)
+StepDoes kind (Work m, reply) old new = WorkDoes kind old.worker m reply old new

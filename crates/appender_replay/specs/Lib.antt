@@ -1,0 +1,6 @@
+pub mod Run
+pub mod Replay
+pub mod Record
+pub mod Answers
+pub mod Whole
+pub mod Inside

@@ -1,0 +1,208 @@
+-- What the told steps of a run of queue, worker and roller come to: the accepted lines, those that were handed to the worker,
+-- the shutdown, the senders, and what the worker does next. A told step is a step with its reply, and told steps stand the
+-- newest first.
+use Rattle.std.specs.Prelude.{ℕ, ◌+◌, ◌-◌, ◌^◌, List, [], ◌∷◌, ◌++◌, Bool, true, false, ◌&&◌, ◌||◌, ◌==◌, nat_le, if◌then◌else◌, length, map, get_or, take, drop, min, Option, Some, None, Result, Ok, Err}
+use Rattle.std.specs.declared.io.ErrorKind.{ErrorKind}
+use Rattle.appender_queue.specs.Core.{Core, Taking, Answer, Wrote as DidWrite, Interrupted, Failed, Line, Last, Nothing, most_repeats}
+use Rattle.appender_queue.specs.CoreReplies.{is_interruption}
+use Rattle.appender_queue.specs.Queue.{Queue, saturating_next, one_less}
+use Rattle.appender_queue.specs.Runs.{Event, Took as DidTake, Write, Flushed as DidFlush, after, is_waiting}
+use Rattle.appender_queue.specs.declared.queue.Shut.TheVariants.{Sent}
+use Rattle.appender_replay.specs.declared.replay.whole.Step.{Step}
+use Rattle.appender_replay.specs.declared.replay.whole.Step.TheVariants.{Offer, Shut, AddSender, DropSender, Work}
+use Rattle.appender_replay.specs.declared.replay.whole.Reply.{Reply}
+use Rattle.appender_replay.specs.declared.replay.whole.Reply.TheVariants.{Accepted, Full, Closed, Shut as DidShut, Took, TookShutdown, TookGone, TookEmpty, Wrote, Flushed}
+
+-- a step with its reply
+abbrev pub Answered : Type 0
+Answered = Step × Reply
+
+-- one more at the end, if there is one
+abbrev pub at_end : {A : Type 0} → List A → Option A → List A
+at_end xs None = xs
+at_end xs (Some x) = xs ++ x ∷ []
+
+-- ---- lines
+
+-- a line, and the label of the sender that offered it
+abbrev pub Offered : Type 0
+Offered = ℕ × List ℕ
+
+abbrev pub accepted_by : Answered → Option Offered
+accepted_by (Offer label line, Accepted ticket) = Some (label, line.items)
+accepted_by told = None
+
+-- all lines that were accepted, in order: this list only grows
+abbrev pub accepted_lines : List Answered → List Offered
+accepted_lines [] = []
+accepted_lines (t ∷ earlier) = at_end (accepted_lines earlier) (accepted_by t)
+
+-- the line of a ticket: tickets count the accepted lines from 1
+abbrev pub with_ticket : ℕ → List Offered → Offered
+with_ticket ticket lines = get_or lines (ticket - 1) (0, [])
+
+abbrev pub handed_by : List Offered → Answered → Option Offered
+handed_by lines (Work m, Took ticket) = Some (with_ticket ticket lines)
+handed_by lines told = None
+
+-- the lines that the worker took, in the order in which it took them
+abbrev pub handed_lines : List Answered → List Offered
+handed_lines [] = []
+handed_lines (t ∷ earlier) = at_end (handed_lines earlier) (handed_by (accepted_lines earlier) t)
+
+-- ---- the shutdown, and the end
+
+abbrev pub sends_shutdown : Answered → Bool
+sends_shutdown (Shut, DidShut Sent) = true
+sends_shutdown told = false
+
+-- how many lines had been accepted when the shutdown was sent, if it was
+abbrev pub shutdown_place : List Answered → Option ℕ
+shutdown_place [] = None
+shutdown_place (t ∷ earlier) = if sends_shutdown t then Some (length (accepted_lines earlier)) else shutdown_place earlier
+
+abbrev pub closes : Answered → Bool
+closes (Work m, TookShutdown) = true
+closes (Work m, TookGone) = true
+closes told = false
+
+-- whether the worker has taken the shutdown, or has found that all senders are gone
+abbrev pub is_closed : List Answered → Bool
+is_closed [] = false
+is_closed (t ∷ earlier) = closes t || is_closed earlier
+
+-- ---- senders
+
+abbrev pub senders_by : Step → ℕ → ℕ
+senders_by AddSender n = saturating_next n
+senders_by DropSender n = one_less n
+senders_by step n = n
+
+-- how many senders there are: at first one
+abbrev pub senders_after : List Answered → ℕ
+senders_after [] = 1
+senders_after ((step, reply) ∷ earlier) = senders_by step (senders_after earlier)
+
+abbrev pub is_refusal : Answered → Bool
+is_refusal (Offer label line, Full) = true
+is_refusal (Offer label line, Closed) = true
+is_refusal told = false
+
+-- how many offers found no place or a closed queue
+abbrev pub refusals : List Answered → ℕ
+refusals [] = 0
+refusals (t ∷ earlier) = if is_refusal t then refusals earlier + 1 else refusals earlier
+
+-- ---- the worker
+
+abbrev pub answer_told : Result ℕ ErrorKind → Answer
+answer_told (Ok n) = DidWrite n
+answer_told (Err kind) = if is_interruption kind then Interrupted else Failed
+
+-- what a step tells the worker, if it is one of the worker's: what a take found, what a write answered, or that a flush did
+abbrev pub worker_event : List Offered → Answered → Option Event
+worker_event lines (Work m, Took ticket) = Some (DidTake (Line ((with_ticket ticket lines).1)))
+worker_event lines (Work m, TookShutdown) = Some (DidTake Last)
+worker_event lines (Work m, TookGone) = Some (DidTake Last)
+worker_event lines (Work m, TookEmpty) = Some (DidTake Nothing)
+worker_event lines (Work m, Wrote switch answer) = Some (Write (answer_told answer))
+worker_event lines (Work m, Flushed answer) = Some DidFlush
+worker_event lines told = None
+
+abbrev pub after_event : Core → Option Event → Core
+after_event core None = core
+after_event core (Some e) = after core e
+
+-- what the worker does next: it begins with a take that waits
+abbrev pub worker_after : List Answered → Core
+worker_after [] = Taking true
+worker_after (t ∷ earlier) = after_event (worker_after earlier) (worker_event (accepted_lines earlier) t)
+
+-- all that the worker was told, in order
+abbrev pub worker_events : List Answered → List Event
+worker_events [] = []
+worker_events (t ∷ earlier) = at_end (worker_events earlier) (worker_event (accepted_lines earlier) t)
+
+abbrev pub takes : Answered → Bool
+takes (Work m, Took ticket) = true
+takes (Work m, TookShutdown) = true
+takes (Work m, TookGone) = true
+takes (Work m, TookEmpty) = true
+takes told = false
+
+abbrev pub finds_nothing : Answered → Bool
+finds_nothing (Work m, TookEmpty) = true
+finds_nothing told = false
+
+-- whether the last take was a waiting one that found nothing
+abbrev pub waits_in_vain : List Answered → Bool
+waits_in_vain [] = false
+waits_in_vain (t ∷ earlier) =
+    if takes t then (finds_nothing t && is_waiting (worker_after earlier)) else waits_in_vain earlier
+
+-- ---- what is written of the lines
+
+-- A line that the worker took, and what became of it: the bytes that its writes took, how often they were interrupted, and
+-- whether it was given up.
+pub record WrittenLine : Type 0 where
+  pub line : List ℕ
+  pub written : List ℕ
+  pub interruptions : ℕ
+  pub is_given_up : Bool
+
+abbrev pub taken_line : List ℕ → WrittenLine
+taken_line line = record { line = line; written = []; interruptions = 0; is_given_up = false }
+
+-- after one more write, of the rest of the line: it is given up at a write of no byte, at an interruption after the greatest
+-- number of them, or at any other fault
+abbrev pub after_write : WrittenLine → Result ℕ ErrorKind → WrittenLine
+after_write w (Ok n) = record w { written = w.written ++ take n (drop (length w.written) w.line); is_given_up = n == 0 }
+after_write w (Err kind) =
+    if is_interruption kind
+    then record w { interruptions = w.interruptions + 1; is_given_up = nat_le most_repeats w.interruptions }
+    else record w { is_given_up = true }
+
+abbrev pub with_write : Result ℕ ErrorKind → List WrittenLine → List WrittenLine
+with_write answer [] = []
+with_write answer (w ∷ earlier) = after_write w answer ∷ earlier
+
+abbrev pub written_by : List Offered → Answered → List WrittenLine → List WrittenLine
+written_by lines (Work m, Took ticket) earlier = taken_line (with_ticket ticket lines).1 ∷ earlier
+written_by lines (Work m, Wrote switch answer) earlier = with_write answer earlier
+written_by lines told earlier = earlier
+
+-- all lines that the worker took, the newest first
+abbrev pub written_lines : List Answered → List WrittenLine
+written_lines [] = []
+written_lines (t ∷ earlier) = written_by (accepted_lines earlier) t (written_lines earlier)
+
+-- their bytes that were written, strung together, the oldest first
+abbrev pub text_of_lines : List WrittenLine → List ℕ
+text_of_lines [] = []
+text_of_lines (w ∷ earlier) = text_of_lines earlier ++ w.written
+
+-- the lines themselves, the oldest first
+abbrev pub whole_lines : List WrittenLine → List (List ℕ)
+whole_lines [] = []
+whole_lines (w ∷ earlier) = whole_lines earlier ++ w.line ∷ []
+
+-- ---- the queue
+
+-- the accepted lines that were not handed yet
+abbrev pub lines_left : List Answered → List (List ℕ)
+lines_left told = drop (length (handed_lines told)) (map (λ (o : Offered). o.1) (accepted_lines told))
+
+-- the queue of a run after these steps
+abbrev pub queue_after : ℕ → Bool → List Answered → Queue
+queue_after limit lossy told = record {
+  lines = if is_closed told then [] else lines_left told;
+  accepted = length (accepted_lines told);
+  handed = length (handed_lines told);
+  shutdown = shutdown_place told;
+  closed = is_closed told;
+  senders = senders_after told;
+  worker_waits = waits_in_vain told;
+  dropped = if lossy then min (refusals told) (2 ^ 64 - 1) else 0;
+  limit = limit;
+  lossy = lossy;
+}

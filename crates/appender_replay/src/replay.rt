@@ -1,0 +1,141 @@
+//! Runs of an appender that are given as lists of steps, for tests and scripts.
+ghost use Rattle.std.specs.Prelude.{◌≡◌, ◌<◌, ◌≤◌, [], ◌∷◌, ◌++◌, length, IsTrue, IfOk, IfErr, vec_len, vec_capacity};
+ghost use Rattle.appender_names.specs.Rotation.{next_of};
+ghost use Rattle.appender_replay.specs.Run.{SwitchesAtArrivals, FileLaw, FilesHoldTheirPeriods, NotedAtAttempts, latest_moment, last_opened, times};
+ghost use Rattle.appender_replay.specs.Replay.{kind_told, told_of, history, StepDoes, RollDoes, RunsFrom, IsNotRun, HasSteps};
+
+mod whole;
+
+use appender_names::laws::{names_are_periods, periods_lie_between_boundaries};
+use appender_rolling::laws::openings_keep_files;
+use appender_rolling::rolling::{Builder, InitError, Roller, Switch};
+use appender_store::laws::names_change_one_at_a_time;
+use appender_store::store::Folder;
+use std::alloc::Global;
+use std::io;
+pub use whole::{Reply, Run, Step, replay};
+
+/// A step of a roller's run. Moments are seconds of UTC since the epoch.
+#[derive(Debug, Drop, PartialEq, Eq)]
+pub enum RollStep {
+    /// A look at the clock.
+    See(i64),
+    /// A look at the clock, and then a write.
+    Put(i64, Vec<u8>),
+    /// A write that doesn't look at the clock.
+    Write(Vec<u8>),
+    /// A flush of the open file.
+    Flush,
+}
+
+/// What a step answered, a fault by its kind alone.
+#[derive(Clone, Copy, Debug, PartialEq, Eq)]
+pub enum RollReply {
+    /// To `See`.
+    Saw(Switch),
+    /// To `Put`: how many bytes were taken.
+    Put(Switch, Result<usize, io::ErrorKind>),
+    /// To `Write`: how many bytes were taken.
+    Wrote(Result<usize, io::ErrorKind>),
+    /// To `Flush`.
+    Flushed(Result<(), io::ErrorKind>),
+}
+
+/// A roller's run that was opened: one reply a step, and the roller as the last step left it.
+#[derive(Drop)]
+pub struct RollRun<S: Folder> {
+    pub replies: Vec<RollReply>,
+    pub roller: Roller<S>,
+}
+
+/// Why no step was run; the folder is handed back.
+#[derive(Drop)]
+pub enum ReplayError<S: Drop> {
+    /// Memory for the replies or for the queue was refused, and the folder not touched.
+    Memory(S),
+    /// The roller wasn't opened.
+    Init(InitError, S),
+}
+
+// An answer with its fault's kind alone.
+fn tell<T: Copy>(answer: &io::Result<T>) -> Result<T, io::ErrorKind>
+    ensures { result ≡ kind_told answer.now }
+{
+    match answer {
+        Ok(value) => Ok(*value),
+        Err(fault) => Err(fault.kind()),
+    }
+}
+
+// Does one step.
+fn run_step<S: Folder>(roller: &mut Roller<S>, step: &RollStep) -> RollReply
+    ensures { StepDoes S.Folder (step.now, result) roller.old roller.new }
+{
+    match step {
+        RollStep::See(moment) => RollReply::Saw(roller.see(*moment)),
+        RollStep::Put(moment, bytes) => {
+            let (switch, answer) = roller.put(*moment, bytes);
+            RollReply::Put(switch, tell(&answer))
+        }
+        RollStep::Write(bytes) => RollReply::Wrote(tell(&roller.write(bytes))),
+        RollStep::Flush => RollReply::Flushed(tell(&roller.flush())),
+    }
+}
+
+// Adds a reply, for which room has been taken.
+fn push_reply<R: Drop>(replies: &mut Vec<R>, reply: R)
+    requires { vec_len replies.old < vec_capacity replies.old }
+    ensures items { replies.new.items ≡ replies.old.items ++ reply ∷ [] }
+    ensures capacity { vec_capacity replies.old ≤ vec_capacity replies.new }
+{
+    let _ = replies.push(reply);
+}
+
+/// Opens a roller over the folder at `start`, in seconds of UTC since the epoch, and runs the steps
+/// in order. Room for all replies is taken before the opening.
+pub fn replay_rolling<S: Folder>(
+    alloc: Global,
+    builder: &Builder,
+    folder: S,
+    start: i64,
+    steps: &[RollStep],
+) -> Result<RollRun<S>, ReplayError<S>>
+    ensures one_each { IfOk result (λ run. length run.replies.items ≡ length steps.now) }
+    ensures runs { IfOk result (λ run. RunsFrom S.Folder (RollDoes S.Folder) builder.now start folder
+        (told_of steps.now run.replies.items) run.roller) }
+    ensures config { IfOk result (λ run. run.roller.config ≡ builder.now) }
+    ensures switches { IfOk result (λ run. SwitchesAtArrivals builder.now.rotation start
+        (history steps.now run.replies.items)) }
+    ensures boundary { IfOk result (λ run. run.roller.boundary ≡ next_of builder.now.rotation
+        (latest_moment start (history steps.now run.replies.items))) }
+    ensures files { IfOk result (λ run. IsTrue S.tells → FileLaw builder.now
+        start (history steps.now run.replies.items) (S.content folder) (S.content run.roller.folder)
+        (S.noted folder) (S.noted run.roller.folder) run.roller.opened (S.body run.roller.file)) }
+    ensures opened { IfOk result (λ run. run.roller.opened ≡ last_opened start
+        (times builder.now.rotation start (history steps.now run.replies.items))) }
+    ensures standing_files { IfOk result (λ run. IsTrue S.tells → FilesHoldTheirPeriods builder.now
+        start (history steps.now run.replies.items)
+        (S.content folder) (S.content run.roller.folder)) }
+    ensures notices { IfOk result (λ run. NotedAtAttempts builder.now.rotation start
+        (history steps.now run.replies.items) (S.noted folder) (S.noted run.roller.folder)) }
+    ensures err { IfErr result (λ error. IsNotRun S.Folder builder.now start folder error) }
+    ensures memory { IfErr result (HasSteps (length steps.now)) }
+{
+    names_change_one_at_a_time();
+    openings_keep_files();
+    periods_lie_between_boundaries();
+    names_are_periods();
+    let mut replies = match Vec::with_capacity(alloc, steps.len()) {
+        Ok(replies) => replies,
+        Err(_) => return Err(ReplayError::Memory(folder)),
+    };
+    let mut roller = match Roller::open(alloc, builder, folder, start) {
+        Ok(roller) => roller,
+        Err((error, folder)) => return Err(ReplayError::Init(error, folder)),
+    };
+    for step in steps {
+        let reply = run_step(&mut roller, step);
+        push_reply(&mut replies, reply);
+    }
+    Ok(RollRun { replies, roller })
+}

@@ -1,0 +1,244 @@
+// Runs of a queue, a worker and a roller together, as senders and a worker drive them.
+ghost use Rattle.std.specs.Prelude.{◌≡◌, ℕ, [], length, IfOk, IfErr, IsOk, IsTrue};
+ghost use Rattle.appender_names.specs.Rotation.{next_of};
+ghost use Rattle.appender_replay.specs.Run.{SwitchesAtArrivals, FileLaw, FilesHoldTheirPeriods, NotedAtAttempts, latest_moment, last_opened, times};
+ghost use Rattle.appender_replay.specs.Replay.{told_of, RunsFrom, IsNotRun};
+ghost use Rattle.appender_replay.specs.Record.{queue_after, worker_after};
+ghost use Rattle.appender_replay.specs.Answers.{Answers, WorkerDoes, events};
+ghost use Rattle.appender_replay.specs.Inside.Steps.{told_offer, told_take, OffersCopy, WorkDoes, StepDoes, parts};
+ghost use Rattle.appender_replay.specs.Whole.{HandsInOrder, HandsLabelInOrder, TextLaw};
+
+use crate::replay::{ReplayError, push_reply, tell};
+use appender_names::laws::{names_are_periods, periods_lie_between_boundaries};
+use appender_queue::laws::{runs_end_for_good, takes_are_flushed, takes_wait_unless_lines_come};
+use appender_queue::queue::{LineQueue, Refused, Shut, Taken};
+use appender_queue::worker::{Want, WorkerCore};
+use appender_rolling::laws::openings_keep_files;
+use appender_rolling::rolling::{Builder, Roller, Switch};
+use appender_store::laws::names_change_one_at_a_time;
+use appender_store::store::Folder;
+use std::alloc::{AllocError, Global};
+use std::io;
+
+/// A step of a run. Moments are seconds of UTC since the epoch.
+#[derive(Debug, Drop, PartialEq, Eq)]
+pub enum Step {
+    /// A sender, by its label, offers a copy of this line.
+    Offer(u64, Vec<u8>),
+    /// The shutdown is sent.
+    Shut,
+    /// One more sender.
+    AddSender,
+    /// One sender less.
+    DropSender,
+    /// The worker does the one thing that it wants next. A write, and it alone, looks at the clock.
+    Work(i64),
+}
+
+/// What a step answered, a fault by its kind alone.
+#[derive(Clone, Copy, Debug, PartialEq, Eq)]
+pub enum Reply {
+    /// To `Offer`: the line's ticket.
+    Accepted(u64),
+    /// To `Offer`: no place was free.
+    Full,
+    /// To `Offer`: the queue is closed, or has given out all its tickets.
+    Closed,
+    /// To `Offer`: memory for the copy of a line that isn't empty was refused, and nothing changed.
+    NoMemory,
+    /// To `Shut`.
+    Shut(Shut),
+    /// To `AddSender` and `DropSender`: how many there are now.
+    Senders(u64),
+    /// To `Work`: the worker took the line with this ticket.
+    Took(u64),
+    /// To `Work`: it took the shutdown.
+    TookShutdown,
+    /// To `Work`: the queue is closed, or closed by this take, since no sender is left.
+    TookGone,
+    /// To `Work`: nothing was there to take.
+    TookEmpty,
+    /// To `Work`: it wrote, and how many bytes were taken.
+    Wrote(Switch, Result<usize, io::ErrorKind>),
+    /// To `Work`: it flushed.
+    Flushed(Result<(), io::ErrorKind>),
+    /// To `Work`: it has ended.
+    Ended,
+}
+
+/// A run that was opened: one reply a step, and what the last step left.
+#[derive(Drop)]
+pub struct Run<S: Folder> {
+    pub replies: Vec<Reply>,
+    pub queue: LineQueue,
+    pub worker: WorkerCore,
+    pub roller: Roller<S>,
+}
+
+// What an offer was answered, without the line.
+fn tell_offer(answer: Result<u64, Refused>) -> Reply
+    ensures { result ≡ told_offer answer }
+{
+    match answer {
+        Ok(ticket) => Reply::Accepted(ticket),
+        Err(Refused::Full(_)) => Reply::Full,
+        Err(Refused::Closed(_)) => Reply::Closed,
+    }
+}
+
+// A copy of the line. An empty one takes no memory.
+fn copy_of(alloc: Global, line: &[u8]) -> Result<Vec<u8>, AllocError>
+    ensures copy { IfOk result (λ copy. copy.items ≡ line.now) }
+    ensures empty { line.now ≡ [] → IsOk result }
+{
+    if line.is_empty() {
+        return Ok(Vec::new(alloc));
+    }
+    Vec::from_slice(alloc, line)
+}
+
+// Offers a copy of the line.
+fn offer(alloc: Global, queue: &mut LineQueue, line: &[u8]) -> Reply
+    ensures { OffersCopy queue.old line.now result queue.new }
+{
+    match copy_of(alloc, line) {
+        Err(_) => Reply::NoMemory,
+        Ok(copy) => tell_offer(queue.offer(copy)),
+    }
+}
+
+// What a take was answered, without the line.
+fn tell_taken(taken: &Taken) -> Reply
+    ensures { result ≡ told_take taken.now }
+{
+    match taken {
+        Taken::Line(ticket, _) => Reply::Took(*ticket),
+        Taken::Shutdown => Reply::TookShutdown,
+        Taken::Gone => Reply::TookGone,
+        Taken::Empty => Reply::TookEmpty,
+    }
+}
+
+// Does what the worker wants next.
+fn work<S: Folder>(
+    queue: &mut LineQueue,
+    worker: &mut WorkerCore,
+    roller: &mut Roller<S>,
+    moment: i64,
+) -> Reply
+    ensures { WorkDoes S.Folder worker.old moment result
+        (parts queue.old worker.old roller.old) (parts queue.new worker.new roller.new) }
+{
+    match worker.want() {
+        Want::Take { waits } => {
+            let taken = queue.take(waits);
+            let reply = tell_taken(&taken);
+            worker.took(taken);
+            reply
+        }
+        Want::Write(rest) => {
+            let (switch, answer) = roller.put(moment, rest);
+            let reply = Reply::Wrote(switch, tell(&answer));
+            worker.wrote(answer);
+            reply
+        }
+        Want::Flush => {
+            let answer = roller.flush();
+            let reply = Reply::Flushed(tell(&answer));
+            worker.flushed(answer);
+            reply
+        }
+        Want::Ended => Reply::Ended,
+    }
+}
+
+// Does one step.
+fn run_step<S: Folder>(
+    alloc: Global,
+    queue: &mut LineQueue,
+    worker: &mut WorkerCore,
+    roller: &mut Roller<S>,
+    step: &Step,
+) -> Reply
+    ensures { StepDoes S.Folder (step.now, result)
+        (parts queue.old worker.old roller.old) (parts queue.new worker.new roller.new) }
+{
+    match step {
+        Step::Offer(_, line) => offer(alloc, queue, line),
+        Step::Shut => Reply::Shut(queue.shut()),
+        Step::AddSender => Reply::Senders(queue.add_sender()),
+        Step::DropSender => Reply::Senders(queue.drop_sender()),
+        Step::Work(moment) => work(queue, worker, roller, *moment),
+    }
+}
+
+/// Opens a roller over the folder at `start`, in seconds of UTC since the epoch, behind a queue of
+/// `limit` lines, and runs the steps in order. Room for all replies and for the queue is taken before
+/// the opening.
+pub fn replay<S: Folder>(
+    alloc: Global,
+    builder: &Builder,
+    limit: usize,
+    lossy: bool,
+    folder: S,
+    start: i64,
+    steps: &[Step],
+) -> Result<Run<S>, ReplayError<S>>
+    ensures one_each { IfOk result (λ run. length run.replies.items ≡ length steps.now) }
+    ensures answers { IfOk result (λ run. Answers limit lossy (told_of steps.now run.replies.items)) }
+    ensures queue { IfOk result (λ run. run.queue ≡ queue_after limit lossy
+        (told_of steps.now run.replies.items)) }
+    ensures worker { IfOk result (λ run. run.worker ≡ worker_after (told_of steps.now run.replies.items)) }
+    ensures handed { IfOk result (λ run. HandsInOrder (told_of steps.now run.replies.items) run.queue) }
+    ensures labels { IfOk result (λ run. (label : ℕ) → HandsLabelInOrder (told_of steps.now run.replies.items) label) }
+    ensures text { IfOk result (λ run. TextLaw (told_of steps.now run.replies.items)) }
+    ensures runs { IfOk result (λ run. RunsFrom S.Folder (WorkerDoes S.Folder) builder.now start folder
+        (told_of steps.now run.replies.items) run.roller) }
+    ensures config { IfOk result (λ run. run.roller.config ≡ builder.now) }
+    ensures switches { IfOk result (λ run. SwitchesAtArrivals builder.now.rotation start
+        (events (told_of steps.now run.replies.items))) }
+    ensures boundary { IfOk result (λ run. run.roller.boundary ≡ next_of builder.now.rotation
+        (latest_moment start (events (told_of steps.now run.replies.items)))) }
+    ensures opened { IfOk result (λ run. run.roller.opened ≡ last_opened start
+        (times builder.now.rotation start (events (told_of steps.now run.replies.items)))) }
+    ensures files { IfOk result (λ run. IsTrue S.tells → FileLaw builder.now
+        start (events (told_of steps.now run.replies.items)) (S.content folder) (S.content run.roller.folder)
+        (S.noted folder) (S.noted run.roller.folder) run.roller.opened (S.body run.roller.file)) }
+    ensures notices { IfOk result (λ run. NotedAtAttempts builder.now.rotation start
+        (events (told_of steps.now run.replies.items)) (S.noted folder) (S.noted run.roller.folder)) }
+    ensures standing_files { IfOk result (λ run. IsTrue S.tells → FilesHoldTheirPeriods builder.now
+        start (events (told_of steps.now run.replies.items))
+        (S.content folder) (S.content run.roller.folder)) }
+    ensures err { IfErr result (λ error. IsNotRun S.Folder builder.now start folder error) }
+{
+    names_change_one_at_a_time();
+    openings_keep_files();
+    periods_lie_between_boundaries();
+    names_are_periods();
+    takes_wait_unless_lines_come();
+    takes_are_flushed();
+    runs_end_for_good();
+    let mut replies = match Vec::with_capacity(alloc, steps.len()) {
+        Ok(replies) => replies,
+        Err(_) => return Err(ReplayError::Memory(folder)),
+    };
+    let mut queue = match LineQueue::new(alloc, limit, lossy) {
+        Ok(queue) => queue,
+        Err(_) => return Err(ReplayError::Memory(folder)),
+    };
+    let mut roller = match Roller::open(alloc, builder, folder, start) {
+        Ok(roller) => roller,
+        Err((error, folder)) => return Err(ReplayError::Init(error, folder)),
+    };
+    let mut worker = WorkerCore::new();
+    for step in steps {
+        let reply = run_step(alloc, &mut queue, &mut worker, &mut roller, step);
+        push_reply(&mut replies, reply);
+    }
+    Ok(Run {
+        replies,
+        queue,
+        worker,
+        roller,
+    })
+}

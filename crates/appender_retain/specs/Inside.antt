@@ -1,0 +1,3 @@
+-- What only bodies and their proofs cite.
+pub mod Candidate
+pub mod Files

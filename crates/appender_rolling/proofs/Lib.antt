@@ -1,0 +1,6 @@
+pub mod Boundaries
+pub mod Kept
+pub mod Refusals
+pub mod Openings
+pub mod Clashes
+pub mod Closings

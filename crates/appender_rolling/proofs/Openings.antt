@@ -1,0 +1,119 @@
+-- The parts of an opening make the whole.
+use Rattle.std.proofs.Common.{◌≡◌, ◌≢◌, ◌∙◌, ◌⊎◌, ℕ, ◌≤◌, Bool, true, false, List, [], ◌∷◌, Option, None, Some, Result, Ok, Err, IsTrue, arith, ap, inl, inr, refl, sym, subst}
+use Rattle.std.specs.Prelude.{IsSome, OnErr, OnOk, IfErr}
+use Rattle.std.specs.declared.io.Error.{Error}
+use Rattle.std.specs.FinMap as fin
+use Rattle.appender_names.specs.Name.{Naming}
+use Rattle.appender_store.specs.declared.store.Folder.{Ghosts}
+use Rattle.appender_store.specs.Content.{Content, Entry, File, Link, Folder, RemovesLink, after_make_folder, IsLink, ForbidsMakeLink, ForbidsRemoveLink}
+use Rattle.appender_store.specs.Folder.{Counts, HasCause, HasRisen}
+use Rattle.appender_retain.specs.Survival.{OpeningsAddOne, LinksAddNone, candidates_in}
+use Rattle.appender_retain.specs.Pruning.{Prunes, IsQuiet}
+use Rattle.appender_rolling.specs.Config.{Config, naming_of}
+use Rattle.appender_rolling.specs.Opening.{GetsFile, MayRemoveLink, TriesRemoveLink, IsFileOrFolder, Relinks, RelinksNot, LinksTo, Linked, OpensFile}
+use Rattle.appender_store.specs.NameLaws.{NameLaws}
+use Rattle.appender_rolling.proofs.Kept.{removed_name, keeps_linked}
+
+-- what follows from a forbidden call follows from its cause
+weaker_cause : (tells : Bool) (P Q : Type 0) (old new : ℕ) (fault : Error) → (IsTrue tells → P → Q) → HasCause {T = Unit {0}} tells P old new (Err fault) → HasCause {T = Unit {0}} tells Q old new (Err fault)
+weaker_cause tells P Q old new fault f (inl risen) = inl risen
+weaker_cause tells P Q old new fault f (inr (same, inl memory)) = inr (same, inl memory)
+weaker_cause tells P Q old new fault f (inr (same, inr (t, p))) = inr (same, inr (t, f t p))
+
+other_entry : (o : Option Entry) → ¬ IsLink o → IsSome o → IsFileOrFolder o
+other_entry None none some = absurd (let both : false ≡ true = some in cc)
+other_entry (Some (File b t)) none some = tt
+other_entry (Some (Link target)) none some = absurd (none tt)
+other_entry (Some Folder) none some = tt
+
+-- a link is no candidate
+linked_candidates : (n : Naming) (link name : List ℕ) (old new : Content) → LinksAddNone n → Linked link name old new → candidates_in n new ≤ candidates_in n old
+linked_candidates n [] name old new law same = omega (arith, ap (candidates_in n) same)
+linked_candidates n (b ∷ bs) name old new law (freed, inl same, makes) = omega (arith, ap (candidates_in n) same, law.made (b ∷ bs) name freed new makes)
+linked_candidates n (b ∷ bs) name old new law (freed, inr removes, makes) = omega (arith, law.removed (b ∷ bs) old freed removes, law.made (b ∷ bs) name freed new makes)
+
+module _ {S F : Type 0} (kind : Ghosts S F) where
+  -- ---- the link
+
+  may_remove : (link : List ℕ) (old freed : S) → IsTrue kind.tells → TriesRemoveLink kind link old freed → MayRemoveLink link (kind.content old) (kind.content freed)
+  may_remove link old freed tells removes = by removes.answer removes.ok removes.err
+    where
+      by : (answer : Result (Unit {0}) Error) → OnOk answer (IsTrue kind.tells → RemovesLink link (kind.content old) (kind.content freed)) → OnErr answer (kind.content freed ≡ kind.content old) → MayRemoveLink link (kind.content old) (kind.content freed)
+      by (Ok u) ok err = inr (ok tells)
+      by (Err e) ok err = inl err
+
+  module _ (maps : NameLaws) (link name : List ℕ) (old freed new : S) (there : IsTrue kind.tells → (kind.content old).there ≡ true) (removes : TriesRemoveLink kind link old freed) where
+    abbrev Forbidden : Type 0
+    Forbidden = IsFileOrFolder (fin.get (kind.content old).names link)
+
+    -- the cause of a link that isn't made
+    link_cause : (fault : Error) → HasCause {T = Unit {0}} kind.tells (ForbidsMakeLink link (kind.content freed)) (kind.failures freed) (kind.failures new) (Err fault)
+        → HasRisen (kind.failures old) (kind.failures freed) ⊎ HasCause {T = Unit {0}} kind.tells Forbidden (kind.failures freed) (kind.failures new) (Err fault)
+    link_cause fault cause = by removes.answer removes.ok removes.err removes.memory
+      where
+        weaker : (IsTrue kind.tells → ForbidsMakeLink link (kind.content freed) → Forbidden) → HasCause {T = Unit {0}} kind.tells Forbidden (kind.failures freed) (kind.failures new) (Err fault)
+        weaker f = weaker_cause kind.tells (ForbidsMakeLink link (kind.content freed)) Forbidden (kind.failures freed) (kind.failures new) fault f cause
+
+        by : (answer : Result (Unit {0}) Error) → OnOk answer (IsTrue kind.tells → RemovesLink link (kind.content old) (kind.content freed)) → OnErr answer (kind.content freed ≡ kind.content old) → OnErr answer (HasRisen (kind.failures old) (kind.failures freed) ⊎ (IsTrue kind.tells × ForbidsRemoveLink link (kind.content old)))
+            → HasRisen (kind.failures old) (kind.failures freed) ⊎ HasCause {T = Unit {0}} kind.tells Forbidden (kind.failures freed) (kind.failures new) (Err fault)
+        by (Ok u) ok err memory = inr (weaker free)
+          where
+            free : IsTrue kind.tells → ForbidsMakeLink link (kind.content freed) → Forbidden
+            free tells (inl absent) = absurd (let both : true ≡ false = sym (there tells) ∙ ap (λ (c : Content). c.there) (sym (ok tells).after) ∙ absent in cc)
+            free tells (inr some) = absurd (let gone : fin.get (kind.content freed).names link ≡ None = ap (λ (c : Content). fin.get c.names link) (ok tells).after ∙ removed_name maps (kind.content old).names link in let both : false ≡ true = rw gone at some in cc)
+        by (Err e) ok err (inl risen) = inl risen
+        by (Err e) ok err (inr (tells, inl absent)) = absurd (let both : true ≡ false = sym (there tells) ∙ absent in cc)
+        by (Err e) ok err (inr (tells, inr none)) = inr (weaker in_use)
+          where
+            in_use : IsTrue kind.tells → ForbidsMakeLink link (kind.content freed) → Forbidden
+            in_use t (inl absent) = absurd (let both : true ≡ false = sym (there t) ∙ ap (λ (c : Content). c.there) (sym err) ∙ absent in cc)
+            in_use t (inr some) = other_entry (fin.get (kind.content old).names link) none (subst (λ (c : Content). IsSome (fin.get c.names link)) err some)
+
+    pub links_not : (answer : Result (Unit {0}) Error) → kind.make_link_gives freed link name answer new → OnErr answer (kind.content new ≡ kind.content freed) → HasCause kind.tells (ForbidsMakeLink link (kind.content freed)) (kind.failures freed) (kind.failures new) answer → kind.noted new ≡ kind.noted freed
+        → IfErr answer (λ fault. RelinksNot kind link name old fault new)
+    links_not (Ok u) call err cause noted = tt
+    links_not (Err fault) call err cause noted = record {
+      freed = freed;
+      removes = removes;
+      call = call;
+      cause = link_cause fault cause;
+      content = λ tells. subst (λ (c : Content). MayRemoveLink link (kind.content old) c) (sym err) (may_remove link old freed tells removes);
+      noted = noted ∙ removes.noted;
+    }
+
+  -- ---- the whole
+
+  pub links_unset : (link name : List ℕ) (s : S) → link ≡ [] → LinksTo kind link name s s
+  links_unset [] name s e = refl
+  links_unset (b ∷ bs) name s e = absurd (let both : ◌≡◌ {A = List ℕ} (b ∷ bs) [] = e in cc)
+
+  pub links_set : (link name : List ℕ) (old new : S) → link ≢ [] → Relinks kind link name old new → LinksTo kind link name old new
+  links_set [] name old new is_set relinks = absurd (is_set refl)
+  links_set (b ∷ bs) name old new is_set relinks = relinks
+
+  linked : (link name : List ℕ) (old new : S) → IsTrue kind.tells → LinksTo kind link name old new → Linked link name (kind.content old) (kind.content new)
+  linked [] name old new tells same = ap kind.content same
+  linked (b ∷ bs) name old new tells relinks = let w = relinks.content tells in (kind.content relinks.freed, w.0, w.1)
+
+  links_noted : (link name : List ℕ) (old new : S) → LinksTo kind link name old new → kind.noted new ≡ kind.noted old
+  links_noted [] name old new same = ap kind.noted same
+  links_noted (b ∷ bs) name old new relinks = relinks.noted
+
+  pub opens_file : (maps : NameLaws) (config : Config) (name : List ℕ) (old pruned unlinked new : S) (file : F) → OpeningsAddOne (naming_of config) → LinksAddNone (naming_of config) → Prunes kind (naming_of config) config.max_files old pruned → GetsFile kind name pruned file unlinked → LinksTo kind config.link name unlinked new → OpensFile kind config name old file new
+  opens_file maps config name old pruned unlinked new file one none prunes gets links =
+      let noted : kind.noted new ≡ kind.noted pruned = links_noted config.link name unlinked new links ∙ gets.noted in
+      record {
+        pruned = pruned;
+        unlinked = unlinked;
+        prunes = prunes;
+        gets = gets;
+        links = links;
+        linked = λ tells. linked config.link name unlinked new tells links;
+        body_is_there = λ tells. (keeps_linked maps config.link name (kind.content unlinked) (kind.content new) (linked config.link name unlinked new tells links)).keeps.more (kind.body file) (gets.body_is_there tells);
+        noted = noted;
+        at_most = λ quiet tells some.
+            let before = prunes.fewer (subst (λ (n : Counts). IsQuiet (kind.noted old) n) noted quiet) tells some in
+            let more = one name (after_make_folder (kind.content pruned)) (kind.content unlinked) (kind.body file) (gets.opens tells) in
+            let still = linked_candidates (naming_of config) config.link name (kind.content unlinked) (kind.content new) none (linked config.link name unlinked new tells links) in
+            omega arith;
+      }

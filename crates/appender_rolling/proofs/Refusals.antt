@@ -1,0 +1,43 @@
+-- What a refused opening leaves.
+use Rattle.std.proofs.Common.{ℕ, ℤ, List, [], ◌∷◌, ap, inl, inr, refl, IsTrue}
+use Rattle.std.specs.declared.io.Error.{Error}
+use Rattle.appender_names.specs.declared.error.InitError.{InitError}
+use Rattle.appender_names.specs.declared.error.InitError.TheVariants.{Directory, File, Symlink, Moment, Name, Memory}
+use Rattle.appender_names.specs.Name.{Naming}
+use Rattle.appender_names.specs.Rotation.{IsMoment}
+use Rattle.appender_store.specs.Content.{Content}
+use Rattle.appender_store.specs.declared.store.Folder.{Ghosts}
+use Rattle.appender_retain.specs.Survival.{TakesOnlyOld}
+use Rattle.appender_rolling.specs.Config.{Config, naming_of}
+use Rattle.appender_rolling.specs.Opening.{file_name_of, NamesEntries, LinkClashes, MayRemoveLink, LinksNot, RefusesFile, LeavesLittle}
+use Rattle.appender_rolling.specs.Roller.{OpensNoRoller}
+
+takes_nothing : (n : Naming) (max : ℕ) (c : Content) → TakesOnlyOld n max c c
+takes_nothing n max c = record { there = refl; bodies = refl; names = λ name. inl refl }
+
+module _ {S F : Type 0} (kind : Ghosts S F) (config : Config) where
+  may_remove : (link name : List ℕ) (old : S) (fault : Error) (new : S) → IsTrue kind.tells → LinksNot kind link name old fault new → MayRemoveLink link (kind.content old) (kind.content new)
+  may_remove [] name old fault new tells never = absurd never
+  may_remove (b ∷ bs) name old fault new tells links_not = links_not.content tells
+
+  -- it changes little
+  pub refuses_little : (name : List ℕ) (old : S) (e : InitError) (new : S) → IsTrue kind.tells → RefusesFile kind config name old e new → LeavesLittle config name (kind.content old) (kind.content new)
+  refuses_little name old (Directory fault) new tells (pruned, prunes, none) = record { pruned = kind.content pruned; only_old = prunes.only_old tells; rest = inl none.content }
+  refuses_little name old (File fault) new tells (pruned, prunes, none) = record { pruned = kind.content pruned; only_old = prunes.only_old tells; rest = inr (inl (none.content tells)) }
+  refuses_little name old (Symlink fault) new tells (pruned, unlinked, file, prunes, gets, links_not) = record {
+    pruned = kind.content pruned;
+    only_old = prunes.only_old tells;
+    rest = inr (inr (kind.content unlinked, kind.body file, gets.opens tells, may_remove config.link name unlinked fault new tells links_not));
+  }
+  refuses_little name old Memory new tells same = record { pruned = kind.content old; only_old = takes_nothing (naming_of config) config.max_files (kind.content old); rest = inl (ap kind.content same) }
+  refuses_little name old Moment new tells (pruned, prunes, never) = absurd never
+  refuses_little name old Name new tells (pruned, prunes, never) = absurd never
+
+  -- and is that of a roller, whose checks were passed
+  pub refuses_roller : (m : ℤ) (old : S) (e : InitError) (new : S) → NamesEntries config → IsMoment m → ¬ LinkClashes config m → RefusesFile kind config (file_name_of config m) old e new → OpensNoRoller kind config m old e new
+  refuses_roller m old (Directory fault) new allowed range apart refuses = (allowed, range, apart, refuses)
+  refuses_roller m old (File fault) new allowed range apart refuses = (allowed, range, apart, refuses)
+  refuses_roller m old (Symlink fault) new allowed range apart refuses = (allowed, range, apart, refuses)
+  refuses_roller m old Memory new allowed range apart refuses = (allowed, range, refuses)
+  refuses_roller m old Moment new allowed range apart (pruned, prunes, never) = absurd never
+  refuses_roller m old Name new allowed range apart (pruned, prunes, never) = absurd never

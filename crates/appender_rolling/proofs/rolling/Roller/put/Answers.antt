@@ -1,0 +1,12 @@
+use Rattle.std.proofs.Common.{w64, FitsSigned}
+use Rattle.std.proofs.lemmas.Int.{to_z-of_z}
+use Rattle.appender_rolling.proofs.rolling.Roller.put.Goals as goal
+
+pub returns : goal.returns
+returns g c =
+    let fits : FitsSigned w64 c.args.moment = c.ranges.moment in
+    record {
+      between = c.see-switch.new.self;
+      sees = simp to_z-of_z at c.see-switch.ensures;
+      writes = c.write-written.ensures;
+    }

@@ -1,0 +1,4 @@
+pub mod Config
+pub mod Opening
+pub mod Roller
+pub mod Kept

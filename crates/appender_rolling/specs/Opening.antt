@@ -1,0 +1,199 @@
+-- The opening of a log file: old ones go, the file is opened in a folder that is made where it isn't there, and the link
+-- follows it. `kind` has what folders of one kind tell.
+use Rattle.std.specs.Prelude.{◌≡◌, ◌≢◌, ◌⊎◌, ℕ, ◌<◌, ◌≤◌, ℤ, List, [], ◌∷◌, length, Option, None, Some, Result, Ok, Err, OnOk, OnErr, IsTrue}
+use Rattle.std.specs.declared.io.Error.{Error}
+use Rattle.std.specs.FinMap as fin
+use Rattle.appender_names.specs.declared.error.InitError.{InitError}
+use Rattle.appender_names.specs.declared.error.InitError.TheVariants.{Directory, File, Symlink, Memory}
+use Rattle.appender_names.specs.Rotation.{IsNever}
+use Rattle.appender_names.specs.Name.{IsAllowed, IsEntry, Reads, name_of}
+use Rattle.appender_store.specs.declared.store.Folder.{Ghosts}
+use Rattle.appender_store.specs.Content.{Content, Entry, File as PlainFile, Link, Folder, Opens, RemovesLink, MakesLink, after_make_folder, IsLinkOrFolder, ForbidsOpen, ForbidsRemoveLink}
+use Rattle.appender_store.specs.Folder.{HasCause, HasRisen}
+use Rattle.appender_retain.specs.Survival.{TakesOnlyOld, candidates_in}
+use Rattle.appender_retain.specs.Pruning.{Prunes, IsQuiet}
+use Rattle.appender_rolling.specs.Config.{Config, naming_of}
+
+-- the name of the file of a moment
+abbrev pub file_name_of : Config → ℤ → List ℕ
+file_name_of c m = name_of (naming_of c) m
+
+-- a link that is set has the name of an entry of a folder
+abbrev pub LinksEntry : Config → Type 0
+LinksEntry c = c.link ≢ [] → IsEntry c.link
+
+-- prefix, suffix and link, where it is set, make names of entries of a folder
+pub record NamesEntries (c : Config) : Type 0 where
+  pub files : IsAllowed c.rotation c.prefix c.suffix
+  pub link : LinksEntry c
+
+abbrev pub ReadsAsDate : Config → List ℕ → Type 0
+ReadsAsDate c name = (s : ℤ) × Reads (naming_of c) name s
+
+-- a link is set whose name is that of the first file, or, unless the rotation is NEVER, one that reads as a date
+pub record LinkClashes (c : Config) (m : ℤ) : Type 0 where
+  pub is_set : c.link ≢ []
+  pub clashes : (c.link ≡ file_name_of c m) ⊎ ((¬ IsNever c.rotation) × ReadsAsDate c c.link)
+
+-- ---- the file
+
+-- one call opened the file of this name
+pub record OpensAtOnce {S F : Type 0} (kind : Ghosts S F) (name : List ℕ) (old : S) (file : F) (new : S) : Type 0 where
+  pub call : kind.open_gives old name (Ok file) new
+  pub opens : IsTrue kind.tells → Opens name (kind.content old) (kind.content new) (kind.body file)
+  pub body_is_there : IsTrue kind.tells → kind.body file < length (kind.content new).bodies
+  pub failures : kind.failures new ≡ kind.failures old
+  pub noted : kind.noted new ≡ kind.noted old
+
+-- one call refused it, and nothing changed
+pub record RefusesAtOnce {S F : Type 0} (kind : Ghosts S F) (name : List ℕ) (old : S) (fault : Error) (new : S) : Type 0 where
+  pub call : kind.open_gives old name (Err fault) new
+  pub content : kind.content new ≡ kind.content old
+  pub cause : HasCause {T = F} kind.tells (ForbidsOpen name (kind.content old)) (kind.failures old) (kind.failures new) (Err fault)
+  pub noted : kind.noted new ≡ kind.noted old
+
+-- a call made the folder, if it wasn't there
+pub record MakesFolder {S F : Type 0} (kind : Ghosts S F) (old new : S) : Type 0 where
+  pub call : kind.make_folder_gives old (Ok tt) new
+  pub content : IsTrue kind.tells → kind.content new ≡ after_make_folder (kind.content old)
+  pub failures : kind.failures new ≡ kind.failures old
+  pub noted : kind.noted new ≡ kind.noted old
+
+-- a first call was refused, the folder made, and a second call opened the file
+pub record OpensInMade {S F : Type 0} (kind : Ghosts S F) (name : List ℕ) (old : S) (file : F) (new : S) : Type 0 where
+  pub fault : Error
+  pub refused : S
+  pub ready : S
+  pub first : RefusesAtOnce kind name old fault refused
+  pub makes : MakesFolder kind refused ready
+  pub second : OpensAtOnce kind name ready file new
+
+-- The file of this name was opened: in the folder as it was, or in the folder made, which is the same where it was there.
+pub record GetsFile {S F : Type 0} (kind : Ghosts S F) (name : List ℕ) (old : S) (file : F) (new : S) : Type 0 where
+  pub calls : OpensAtOnce kind name old file new ⊎ OpensInMade kind name old file new
+  pub opens : IsTrue kind.tells → Opens name (after_make_folder (kind.content old)) (kind.content new) (kind.body file)
+  pub body_is_there : IsTrue kind.tells → kind.body file < length (kind.content new).bodies
+  pub noted : kind.noted new ≡ kind.noted old
+
+-- The folder could not be made, and nothing changed: the call failed by itself, or memory was refused.
+pub record GetsNoFolder {S F : Type 0} (kind : Ghosts S F) (name : List ℕ) (old : S) (fault : Error) (new : S) : Type 0 where
+  pub first_fault : Error
+  pub refused : S
+  pub first : RefusesAtOnce kind name old first_fault refused
+  pub call : kind.make_folder_gives refused (Err fault) new
+  pub cause : HasCause {T = Unit {0}} kind.tells ⊥ (kind.failures refused) (kind.failures new) (Err fault)
+  pub content : kind.content new ≡ kind.content old
+  pub noted : kind.noted new ≡ kind.noted old
+
+-- The file could not be opened though the folder was made: the second call failed by itself, memory was refused, or what has
+-- the name is a link or a folder.
+pub record GetsNoFile {S F : Type 0} (kind : Ghosts S F) (name : List ℕ) (old : S) (fault : Error) (new : S) : Type 0 where
+  pub first_fault : Error
+  pub refused : S
+  pub ready : S
+  pub first : RefusesAtOnce kind name old first_fault refused
+  pub makes : MakesFolder kind refused ready
+  pub second : RefusesAtOnce kind name ready fault new
+  pub cause : HasCause {T = F} kind.tells (IsLinkOrFolder (fin.get (kind.content old).names name)) (kind.failures ready) (kind.failures new) (Err fault)
+  pub content : IsTrue kind.tells → kind.content new ≡ after_make_folder (kind.content old)
+  pub noted : kind.noted new ≡ kind.noted old
+
+-- the file of this name was not opened, for this reason
+abbrev pub GetsNo : {S F : Type 0} → Ghosts S F → List ℕ → S → InitError → S → Type 0
+GetsNo kind name old (Directory fault) new = GetsNoFolder kind name old fault new
+GetsNo kind name old (File fault) new = GetsNoFile kind name old fault new
+GetsNo kind name old _ new = ⊥
+
+-- ---- the link
+
+-- a link of this name is gone, or all is as it was
+abbrev pub MayRemoveLink : List ℕ → Content → Content → Type 0
+MayRemoveLink link old new = (new ≡ old) ⊎ RemovesLink link old new
+
+-- a call removed the link, and its refusal was ignored
+pub record TriesRemoveLink {S F : Type 0} (kind : Ghosts S F) (link : List ℕ) (old new : S) : Type 0 where
+  pub answer : Result (Unit {0}) Error
+  pub call : kind.remove_link_gives old link answer new
+  pub ok : OnOk answer (IsTrue kind.tells → RemovesLink link (kind.content old) (kind.content new))
+  pub err : OnErr answer (kind.content new ≡ kind.content old)
+  pub cause : HasCause kind.tells (ForbidsRemoveLink link (kind.content old)) (kind.failures old) (kind.failures new) answer
+  pub memory : OnErr answer (HasRisen (kind.failures old) (kind.failures new) ⊎ (IsTrue kind.tells × ForbidsRemoveLink link (kind.content old)))
+  pub noted : kind.noted new ≡ kind.noted old
+
+-- the name leads to a plain file or to a folder
+abbrev pub IsFileOrFolder : Option Entry → Type 0
+IsFileOrFolder None = ⊥
+IsFileOrFolder (Some (PlainFile b t)) = Unit {0}
+IsFileOrFolder (Some (Link target)) = ⊥
+IsFileOrFolder (Some Folder) = Unit {0}
+
+-- The link leads to this name now, in place of what link stood there.
+pub record Relinks {S F : Type 0} (kind : Ghosts S F) (link name : List ℕ) (old new : S) : Type 0 where
+  pub freed : S
+  pub removes : TriesRemoveLink kind link old freed
+  pub call : kind.make_link_gives freed link name (Ok tt) new
+  pub failures : kind.failures new ≡ kind.failures freed
+  pub content : IsTrue kind.tells → MayRemoveLink link (kind.content old) (kind.content freed) × MakesLink link name (kind.content freed) (kind.content new)
+  pub noted : kind.noted new ≡ kind.noted old
+
+-- The link could not be made, and at most the old one is gone: a call failed by itself, memory was refused, or what has the
+-- name is a plain file or a folder.
+pub record RelinksNot {S F : Type 0} (kind : Ghosts S F) (link name : List ℕ) (old : S) (fault : Error) (new : S) : Type 0 where
+  pub freed : S
+  pub removes : TriesRemoveLink kind link old freed
+  pub call : kind.make_link_gives freed link name (Err fault) new
+  pub cause : HasRisen (kind.failures old) (kind.failures freed)
+      ⊎ HasCause {T = Unit {0}} kind.tells (IsFileOrFolder (fin.get (kind.content old).names link)) (kind.failures freed) (kind.failures new) (Err fault)
+  pub content : IsTrue kind.tells → MayRemoveLink link (kind.content old) (kind.content new)
+  pub noted : kind.noted new ≡ kind.noted old
+
+-- where a link is set, it leads to this name now
+abbrev pub LinksTo : {S F : Type 0} → Ghosts S F → List ℕ → List ℕ → S → S → Type 0
+LinksTo kind [] name old new = new ≡ old
+LinksTo kind (b ∷ bs) name old new = Relinks kind (b ∷ bs) name old new
+
+-- a link is set, and could not be made to lead to this name
+abbrev pub LinksNot : {S F : Type 0} → Ghosts S F → List ℕ → List ℕ → S → Error → S → Type 0
+LinksNot kind [] name old fault new = ⊥
+LinksNot kind (b ∷ bs) name old fault new = RelinksNot kind (b ∷ bs) name old fault new
+
+-- ---- all of it
+
+-- where neither List nor Remove was noted, no more log files stand than the maximum, if one is set
+abbrev pub AtMost : {S F : Type 0} → Ghosts S F → Config → S → S → Type 0
+AtMost kind config old new =
+    IsQuiet (kind.noted old) (kind.noted new) → IsTrue kind.tells → 0 < config.max_files → candidates_in (naming_of config) (kind.content new) ≤ config.max_files
+
+-- what the link did to the content, where one is set
+abbrev pub Linked : List ℕ → List ℕ → Content → Content → Type 0
+Linked [] name old new = new ≡ old
+Linked (b ∷ bs) name old new = (freed : Content) × MayRemoveLink (b ∷ bs) old freed × MakesLink (b ∷ bs) name freed new
+
+-- Old log files were removed, the file of this name was opened, and the link, where one is set, leads to it.
+pub record OpensFile {S F : Type 0} (kind : Ghosts S F) (config : Config) (name : List ℕ) (old : S) (file : F) (new : S) : Type 0 where
+  pub pruned : S
+  pub unlinked : S
+  pub prunes : Prunes kind (naming_of config) config.max_files old pruned
+  pub gets : GetsFile kind name pruned file unlinked
+  pub links : LinksTo kind config.link name unlinked new
+  pub linked : IsTrue kind.tells → Linked config.link name (kind.content unlinked) (kind.content new)
+  pub body_is_there : IsTrue kind.tells → kind.body file < length (kind.content new).bodies
+  pub noted : kind.noted new ≡ kind.noted pruned
+  pub at_most : AtMost kind config old new
+
+-- It was not, for this reason. Without memory for the name no call was made; else old log files were removed, and without
+-- a link the file stands.
+abbrev pub RefusesFile : {S F : Type 0} → Ghosts S F → Config → List ℕ → S → InitError → S → Type 0
+RefusesFile kind config name old Memory new = new ≡ old
+RefusesFile {S} {F} kind config name old (Symlink fault) new =
+    (pruned : S) × (unlinked : S) × (file : F) × Prunes kind (naming_of config) config.max_files old pruned
+    × GetsFile kind name pruned file unlinked × LinksNot kind config.link name unlinked fault new
+RefusesFile kind config name old error new =
+    (pruned : _) × Prunes kind (naming_of config) config.max_files old pruned × GetsNo kind name pruned error new
+
+-- All that a refusal can leave: old log files are gone, the folder is made, the name leads to a file, the link is gone.
+pub record LeavesLittle (config : Config) (name : List ℕ) (old new : Content) : Type 0 where
+  pub pruned : Content
+  pub only_old : TakesOnlyOld (naming_of config) config.max_files old pruned
+  pub rest : (new ≡ pruned) ⊎ (new ≡ after_make_folder pruned)
+      ⊎ ((unlinked : Content) × (b : ℕ) × Opens name (after_make_folder pruned) unlinked b × MayRemoveLink config.link unlinked new)
