@@ -211,3 +211,26 @@ fn room_that_cannot_be_had_is_refused(rt: HostRuntime) -> Result<(), Fail> {
     );
     Ok(())
 }
+
+#[test]
+fn every_place_of_a_long_queue_serves(rt: HostRuntime) -> Result<(), Fail> {
+    let alloc = rt.alloc();
+    let mut queue = LineQueue::new(alloc, 128_000, true)?;
+    // From the second half on the queue is full, and each offer has the place that a take left.
+    for ticket in 1..=256_000u64 {
+        if ticket > 128_000 {
+            let first = ticket - 128_000;
+            let line = first.to_le_bytes().to_vec(alloc)?;
+            assert_eq!(rt; queue.take(false), Taken::Line(first, line));
+        }
+        let line = ticket.to_le_bytes().to_vec(alloc)?;
+        assert_eq!(rt; queue.offer(line), Ok(ticket));
+    }
+    let line = b"none".to_vec(alloc)?;
+    assert_eq!(rt;
+        queue.offer(line),
+        Err(Refused::Full(b"none".to_vec(alloc)?))
+    );
+    assert_eq!(rt; queue.counts().queued, 128_000);
+    Ok(())
+}

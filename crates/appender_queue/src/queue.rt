@@ -1,10 +1,14 @@
 //! The bounded queue of lines. The shutdown takes a place in it like a line.
 ghost use Rattle.std.specs.Prelude.{◌≡◌, [], IfOk};
 
+mod ring;
+#[cfg(test)]
 mod slots;
 mod store;
+#[cfg(test)]
+mod tests;
 
-use crate::queue::slots::Slots;
+use crate::queue::ring::Ring;
 use crate::queue::store::Store;
 use std::alloc::{AllocError, Global};
 use std::marker::Model;
@@ -140,6 +144,7 @@ impl<S: Store> Rules<S> {
         }
     }
 
+    #[inline]
     fn offer(&mut self, line: Vec<u8>) -> Result<u64, Refused>
         ensures { Offers self.old line result self.new }
     {
@@ -174,6 +179,7 @@ impl<S: Store> Rules<S> {
         Shut::Sent
     }
 
+    #[inline]
     fn take(&mut self, waits: bool) -> Taken
         ensures { Takes self.old waits result self.new }
     {
@@ -241,7 +247,7 @@ impl<S: Store> Rules<S> {
 /// documentation of the crate tracing-appender.
 #[derive(Debug, Drop)]
 pub struct LineQueue {
-    rules: Rules<Slots>,
+    rules: Rules<Ring>,
 }
 
 impl Model for LineQueue {
@@ -269,13 +275,14 @@ impl LineQueue {
         ensures fresh { IfOk result (λ q. q ≡ fresh limit lossy) }
         ensures lawful { IfOk result (λ q. IsLawful q) }
     {
-        let slots = Slots::with_capacity(alloc, limit.max(1))?;
+        let ring = Ring::with_capacity(alloc, limit.max(1))?;
         Ok(LineQueue {
-            rules: Rules::over(slots, limit, lossy),
+            rules: Rules::over(ring, limit, lossy),
         })
     }
 
     /// Puts a line at the end, and answers its ticket: 1 for the first accepted line, then 2, ..
+    #[inline]
     pub fn offer(&mut self, line: Vec<u8>) -> Result<u64, Refused>
         ensures { Offers self.old line result self.new }
     {
@@ -291,6 +298,7 @@ impl LineQueue {
 
     /// Takes what lies first, for the worker. `waits` says whether the worker will wait where
     /// nothing is there, so that at limit 0 a line can be handed over.
+    #[inline]
     pub fn take(&mut self, waits: bool) -> Taken
         ensures { Takes self.old waits result self.new }
     {

@@ -2,3 +2,4 @@ pub mod Config
 pub mod Opening
 pub mod Roller
 pub mod Kept
+pub mod Appender

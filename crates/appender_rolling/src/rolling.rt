@@ -2,9 +2,12 @@
 ghost use Rattle.std.specs.Prelude.{◌≡◌};
 ghost use Rattle.appender_rolling.specs.Roller.{ClosesLast};
 
+mod appender;
 mod builder;
+mod clock;
 mod setup;
 
+pub use appender::{FileAppender, RollingFileAppender, daily, hourly, minutely, never, weekly};
 pub use appender_names::error::InitError;
 use appender_names::names::Names;
 pub use appender_names::rotation::Rotation;
@@ -12,6 +15,7 @@ use appender_names::rotation::in_range;
 use appender_store::laws::names_change_one_at_a_time;
 use appender_store::store::{Folder, Notice};
 pub use builder::Builder;
+pub use clock::{Clock, SystemClock};
 use setup::{Opened, Setup, is_refused_name};
 use std::alloc::Global;
 use std::io;

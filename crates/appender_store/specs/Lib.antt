@@ -1,6 +1,7 @@
 pub mod Content
 pub mod NameLaws
 pub mod Folder
+pub mod NoticeCounts
 pub mod Notes
 pub mod MemoryState
 pub mod MemoryPut

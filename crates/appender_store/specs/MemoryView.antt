@@ -1,5 +1,6 @@
 -- What a folder in memory shows.
-use Rattle.appender_store.specs.Inside.Calls.{failing_calls_of, append_limits_of, failures_of, counts_of}
+use Rattle.appender_store.specs.Inside.Calls.{failing_calls_of, append_limits_of, failures_of}
+use Rattle.appender_store.specs.NoticeCounts.{counts_of}
 use Rattle.appender_store.specs.Inside.Entries.{content_of}
 use Rattle.appender_store.specs.MemoryState.{State}
 use Rattle.appender_store.specs.declared.store.memory.MemoryFolder.{MemoryFolder}

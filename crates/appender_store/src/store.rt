@@ -8,10 +8,12 @@ ghost use Rattle.appender_store.specs.Folder.{AreCounts, Counts, Noted, after_no
 mod calls;
 mod entries;
 mod memory;
+mod notices;
 mod put;
 
 use appender_names::error::InitError;
 pub use memory::{MemoryFile, MemoryFolder};
+pub use notices::NoticeCounts;
 pub use put::PutError;
 use std::io;
 

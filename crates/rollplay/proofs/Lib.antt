@@ -1,4 +1,1 @@
-pub mod LineLemmas
 pub mod PlayLemmas
-pub mod ScriptLemmas
-pub mod TextLemmas

@@ -14,7 +14,7 @@ use Rattle.rollplay.specs.declared.play.Failure.{Failure}
 use Rattle.rollplay.specs.declared.play.Opening.{Opening}
 use Rattle.rollplay.specs.declared.play.Opening.TheVariants.{Refused}
 use Rattle.rollplay.specs.Play.{IsGiven, IsRefusalPage, Tells}
-use Rattle.rollplay.specs.Script.{Plan, rolling, queued}
+use Rattle.rollplay_script.specs.Script.{Plan, rolling, queued}
 
 -- a front that is shorter than it may be is all
 take_short : (n : ℕ) (xs : List ℕ) → length xs ≤ n → take n xs ≡ xs

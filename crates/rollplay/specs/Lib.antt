@@ -1,7 +1,2 @@
-pub mod Draft
-pub mod Line
 pub mod Page
 pub mod Play
-pub mod Script
-pub mod Text
-pub mod Words

@@ -25,10 +25,10 @@ use Rattle.rollplay.specs.declared.play.Opening.{Opening}
 use Rattle.rollplay.specs.declared.play.Opening.TheVariants.{Opened, Refused}
 use Rattle.rollplay.specs.declared.play.Failure.{Failure}
 use Rattle.rollplay.specs.declared.play.Failure.TheVariants.{Line, Script, Read, Write, Memory}
-use Rattle.rollplay.specs.declared.script.ScriptError.{ScriptError}
-use Rattle.rollplay.specs.declared.script.ScriptError.TheVariants.{Fault, Memory as OutOfMemory}
+use Rattle.rollplay_script.specs.declared.script.ScriptError.{ScriptError}
+use Rattle.rollplay_script.specs.declared.script.ScriptError.TheVariants.{Fault, Memory as OutOfMemory}
 use Rattle.rollplay.specs.Page.{line_of, run_page, queued_page, refusal_page}
-use Rattle.rollplay.specs.Script.{Plan, rolling, queued, IsScript, HasFirstFault}
+use Rattle.rollplay_script.specs.Script.{Plan, rolling, queued, IsScript, HasFirstFault}
 
 -- the log was opened and all steps were run, and the page tells it
 pub record TellsRun {F : Type 0} (kind : Ghosts MemoryFolder F) (config : Config) (folder : MemoryFolder) (start : ℤ) (steps : List RollStep) (page : List ℕ) : Type 0 where

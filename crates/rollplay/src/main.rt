@@ -2,13 +2,10 @@
 //! and prints what each step answered and what the folder holds at the end.
 #![tactic(auto)]
 
-mod line;
 mod page;
 mod play;
-mod script;
 #[cfg(test)]
 mod tests;
-mod words;
 
 use std::process::ExitCode;
 

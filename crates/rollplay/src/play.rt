@@ -5,12 +5,12 @@ ghost use Rattle.std.specs.Io.KnownBytes.{Keeps, Appends};
 ghost use Rattle.appender_store.specs.MemoryView.{state_of};
 ghost use Rattle.rollplay.specs.Play.{Tells, IsGiven, Prints, IsUnwritten, IsOfReading, Fails, words_of};
 ghost use Rattle.rollplay.specs.Play.{status_of, IsRefusalPage};
-ghost use Rattle.rollplay.specs.Draft.{plan_of};
-ghost use Rattle.rollplay.specs.Script.{rolling, queued};
+ghost use Rattle.rollplay_script.specs.Draft.{plan_of};
+ghost use Rattle.rollplay_script.specs.Script.{rolling, queued};
 
-use crate::line::Queueing;
 use crate::page;
-use crate::script::{LONGEST, Plan, Script, ScriptError};
+use rollplay_script::line::Queueing;
+use rollplay_script::script::{LONGEST, Plan, Script, ScriptError};
 use std::alloc::Global;
 use std::io;
 use std::io::{Read, Write};

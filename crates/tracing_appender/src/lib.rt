@@ -6,5 +6,6 @@ pub use appender_core::{
     error, name_laws, names, queue, queue_laws, retain, retain_laws, rotation, store, store_laws,
     worker,
 };
+pub use appender_folder::folder;
 pub use appender_replay::replay;
 pub use appender_rolling::{laws as rolling_laws, rolling};

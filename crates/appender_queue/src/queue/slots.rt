@@ -1,4 +1,4 @@
-// A row of slots, of which the first ones are full.
+// A row of slots, of which the first ones are full. Tests compare the ring with it.
 ghost use Rattle.appender_queue.specs.Inside.Slots.{lines_in, is_packed};
 ghost use Rattle.std.specs.Prelude.{◌≡◌, true, ◌<◌, ◌≤◌, [], ◌∷◌, ◌++◌, length, IfOk};
 

@@ -1,12 +1,11 @@
-// The calls of a folder in memory, and its notices, as they are counted.
+// The calls of a folder in memory, as they are counted.
 ghost use Rattle.std.specs.Prelude.{◌≡◌, true, false, OnOk, OnErr, IfErr, if◌then◌else◌};
 ghost use Rattle.std.specs.IoError.{error_kind};
 ghost use Rattle.std.specs.declared.io.ErrorKind.TheVariants.{Other};
-ghost use Rattle.appender_store.specs.Folder.{wrapping_next, after_note};
+ghost use Rattle.appender_store.specs.Folder.{wrapping_next};
 ghost use Rattle.std.specs.FinSet as set;
 ghost use Rattle.std.specs.FinMap as fin;
 
-use super::NoticeKind;
 use std::alloc::{AllocError, Global};
 use std::collections::{BTreeMap, BTreeSet};
 use std::io;
@@ -113,58 +112,5 @@ impl Calls {
         };
         self.shortened.insert(call, least)?;
         Ok(())
-    }
-}
-
-// The count of each kind of notice, modulo 2^64.
-#[derive(Clone, Copy)]
-pub(crate) struct NoticeCounts {
-    lists: u64,
-    removes: u64,
-    flushes: u64,
-    opens: u64,
-}
-
-impl NoticeCounts {
-    ghost use Rattle.appender_store.specs.Inside.Calls.{counts_of};
-    ghost use Rattle.appender_store.specs.MemoryState.{count_of};
-
-    pub(crate) fn new() -> NoticeCounts
-        ensures { counts_of result ≡ record { lists = 0; removes = 0; flushes = 0; opens = 0 } }
-    {
-        NoticeCounts {
-            lists: 0,
-            removes: 0,
-            flushes: 0,
-            opens: 0,
-        }
-    }
-
-    pub(crate) fn add(&mut self, kind: NoticeKind)
-        ensures { counts_of self.new ≡ after_note kind (counts_of self.old) }
-    {
-        match kind {
-            NoticeKind::List => self.lists = self.lists.wrapping_add(1),
-            NoticeKind::Remove => self.removes = self.removes.wrapping_add(1),
-            NoticeKind::Flush => self.flushes = self.flushes.wrapping_add(1),
-            NoticeKind::Open => self.opens = self.opens.wrapping_add(1),
-        }
-    }
-
-    pub(crate) fn of(&self, kind: NoticeKind) -> u64
-        ensures { result ≡ count_of kind (counts_of self.now) }
-    {
-        let NoticeCounts {
-            lists,
-            removes,
-            flushes,
-            opens,
-        } = *self;
-        match kind {
-            NoticeKind::List => lists,
-            NoticeKind::Remove => removes,
-            NoticeKind::Flush => flushes,
-            NoticeKind::Open => opens,
-        }
     }
 }

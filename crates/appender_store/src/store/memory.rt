@@ -3,11 +3,11 @@ ghost use Rattle.std.specs.Prelude.{◌≡◌, true};
 ghost use Rattle.appender_store.specs.Content.{IsSound};
 ghost use Rattle.appender_store.specs.Inside.Entries.{content_of};
 
-use super::calls::{Calls, NoticeCounts};
+use super::calls::Calls;
 use super::entries::{
     Item, Look, add_bytes, add_file, all_listed, all_names, look_up, put_item, take_name,
 };
-use super::{Folder, Kind, Listed, Notice, NoticeKind, PutError};
+use super::{Folder, Kind, Listed, Notice, NoticeCounts, NoticeKind, PutError};
 use std::alloc::{AllocError, Global};
 use std::collections::BTreeMap;
 use std::io;
@@ -392,12 +392,7 @@ impl Folder for MemoryFolder {
     }
 
     fn note(&mut self, notice: Notice<'_>) {
-        self.noted.add(match notice {
-            Notice::List(_) => NoticeKind::List,
-            Notice::Remove(_, _) => NoticeKind::Remove,
-            Notice::Flush(_) => NoticeKind::Flush,
-            Notice::Open(_) => NoticeKind::Open,
-        });
+        self.noted.add(notice.kind());
     }
 
     fn failures(&self) -> u64 {

@@ -1,7 +1,7 @@
 use Rattle.std.proofs.Common.{FitsSigned, rules}
 use Rattle.std.specs.Int.{w64}
 use Rattle.std.proofs.lemmas.Int.{to_z-of_z}
-use Rattle.rollplay.specs.Script.{queued}
+use Rattle.rollplay_script.specs.Script.{queued}
 use Rattle.rollplay.proofs.PlayLemmas.{tells_refusal}
 use Rattle.rollplay.proofs.play.play_queued.Goals as goal
 

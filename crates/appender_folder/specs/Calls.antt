@@ -1,0 +1,20 @@
+-- What the calls of a folder of the file system tell.
+use Rattle.std.specs.Prelude.{◌≡◌, ℕ, List, [], Result, MatchResult, OnOk, false}
+use Rattle.std.specs.FinMap as map
+use Rattle.std.specs.declared.io.Error.{Error}
+use Rattle.appender_names.specs.Name.{IsEntry}
+use Rattle.appender_store.specs.Content.{Content}
+use Rattle.appender_store.specs.Folder.{wrapping_next}
+
+-- a call counts a failure where it answers an Err, and there alone
+abbrev pub CountsFailure : {T : Type 0} → ℕ → ℕ → Result T Error → Type 0
+CountsFailure old new result = MatchResult result (λ _. new ≡ old) (λ _. new ≡ wrapping_next old)
+
+-- so does a call at an entry, and it succeeds for the name of one entry alone
+pub record CallsEntry {T : Type 0} (name : List ℕ) (old new : ℕ) (result : Result T Error) : Type 0 where
+  pub counts : CountsFailure old new result
+  pub entry : OnOk result (IsEntry name)
+
+-- no content is told
+abbrev pub untold : Content
+untold = record { there = false; bodies = []; names = map.empty }

@@ -1,0 +1,189 @@
+//! A folder of the file system, as an appender writes to it.
+ghost use Rattle.appender_folder.specs.Calls.{CountsFailure};
+
+mod entries;
+mod files;
+
+use appender_store::store::{Folder, Listed, Notice, NoticeCounts, NoticeKind};
+use entries::list_entries;
+use files::{make_link, open_plain, remove_link, remove_plain};
+use std::alloc::AllocError;
+use std::io::Write;
+use std::rt::Files;
+use std::{fs, io};
+
+/// A folder of the file system. What it holds no contract tells, since other programs write to the
+/// disk too. Each call that answers an `Err` is counted in `failures`, and a name that cannot be that
+/// of one entry is refused by the kind InvalidInput, so that no call leaves the folder. Notices go to
+/// standard error, a line each.
+#[derive(Drop)]
+pub struct DirFolder<R = HostRuntime> {
+    rt: R,
+    // Ends with a slash.
+    path: String,
+    failures: u64,
+    noted: NoticeCounts,
+}
+
+impl<R: Files + AllocGlobal + Eprint + Clone + Drop> DirFolder<R> {
+    ghost use Rattle.std.specs.Prelude.{◌≡◌, ◌%◌, ◌^◌};
+    ghost use Rattle.appender_store.specs.MemoryState.{count_of};
+    ghost use Rattle.appender_store.specs.NoticeCounts.{counts_of};
+
+    /// The folder at a path, which need not be there yet; an empty path is the current directory.
+    /// Nothing is read or made.
+    pub fn new(rt: R, path: &str) -> Result<DirFolder<R>, AllocError> {
+        let mut base = String::from_str(rt.alloc(), path)?;
+        if base.is_empty() {
+            base.push('.')?;
+        }
+        if !base.ends_with('/') {
+            base.push('/')?;
+        }
+        Ok(DirFolder {
+            rt,
+            path: base,
+            failures: 0,
+            noted: NoticeCounts::new(),
+        })
+    }
+
+    /// How often a kind of notice was noted, modulo 2^64.
+    pub fn notices(&self, kind: NoticeKind) -> u64
+        ensures { result ≡ count_of kind (counts_of self.now.noted) }
+    {
+        self.noted.of(kind)
+    }
+
+    // Counts a call that fails.
+    fn counted<T: Drop>(&mut self, answer: io::Result<T>) -> io::Result<T>
+        ensures same { result ≡ answer }
+        ensures failures { CountsFailure (self.old.failures % 2 ^ 64) (self.new.failures % 2 ^ 64) answer }
+        ensures noted { self.new.noted ≡ self.old.noted }
+    {
+        if answer.is_err() {
+            self.failures = self.failures.wrapping_add(1);
+        }
+        answer
+    }
+
+    // Tells a notice on standard error.
+    fn tell(&self, notice: Notice<'_>) -> io::Result<()> {
+        let rt = &self.rt;
+        match notice {
+            Notice::List(fault) => eprintln!(rt; "Error reading the log directory/files: {fault}"),
+            Notice::Remove(name, fault) => eprintln!(rt;
+                "Failed to remove old log file {}{name}: {fault}",
+                self.path
+            ),
+            Notice::Flush(fault) => eprintln!(rt; "Couldn't flush previous writer: {fault}"),
+            Notice::Open(fault) => eprintln!(rt; "Couldn't create writer for logs: {fault}"),
+        }
+    }
+}
+
+impl<R: Files + AllocGlobal + Eprint + Clone + Drop> Folder for DirFolder<R> {
+    ghost use Rattle.std.specs.Prelude.{◌≡◌, ◌%◌, ◌^◌, false};
+    ghost use Rattle.std.specs.Io.KnownBytes.{Keeps, WriteAppends};
+    ghost use Rattle.appender_store.specs.Folder.{after_note, kind_of};
+    ghost use Rattle.appender_store.specs.NoticeCounts.{counts_of};
+    ghost use Rattle.appender_folder.specs.Calls.{CountsFailure, CallsEntry, untold};
+
+    type File = R::File;
+
+    ghost tells = { false };
+
+    ghost content = { λ _. untold };
+
+    ghost body = { λ _. 0 };
+
+    ghost failures = { λ f. f.failures % 2 ^ 64 };
+
+    ghost noted = { λ f. counts_of f.noted };
+
+    ghost list_gives = { λ old r new. CountsFailure (old.failures % 2 ^ 64) (new.failures % 2 ^ 64) r };
+
+    ghost remove_gives = { λ old name r new. CallsEntry name (old.failures % 2 ^ 64) (new.failures % 2 ^ 64) r };
+
+    ghost open_gives = { λ old name r new. CallsEntry name (old.failures % 2 ^ 64) (new.failures % 2 ^ 64) r };
+
+    ghost make_folder_gives = { λ old r new. CountsFailure (old.failures % 2 ^ 64) (new.failures % 2 ^ 64) r };
+
+    ghost remove_link_gives = { λ old name r new. CallsEntry name (old.failures % 2 ^ 64) (new.failures % 2 ^ 64) r };
+
+    ghost make_link_gives = { λ old name target r new. CallsEntry name (old.failures % 2 ^ 64) (new.failures % 2 ^ 64) r };
+
+    ghost append_gives = { λ old file bytes r new after.
+        CountsFailure (old.failures % 2 ^ 64) (new.failures % 2 ^ 64) r
+        × WriteAppends (R.File.contents file) (R.File.contents after) r bytes };
+
+    ghost flush_gives = { λ old file r new after.
+        CountsFailure (old.failures % 2 ^ 64) (new.failures % 2 ^ 64) r
+        × Keeps (R.File.contents file) (R.File.contents after) };
+
+    ghost note_gives = { λ old said new.
+        counts_of new.noted ≡ after_note (kind_of said) (counts_of old.noted) };
+
+    ghost use Rattle.std.proofs.Common.{arith, rules};
+
+    ghost failures_fit = { λ f. Prim.omega arith };
+
+    ghost noted_fit = { λ f. record {
+      lists = Prim.omega arith;
+      removes = Prim.omega arith;
+      flushes = Prim.omega arith;
+      opens = Prim.omega arith;
+    } };
+
+    ghost sound = { λ f told. Prim.search rules };
+
+    fn list(&mut self) -> io::Result<Vec<Listed>> {
+        let answer = list_entries(&self.rt, self.path.as_str());
+        self.counted(answer)
+    }
+
+    fn remove(&mut self, name: &str) -> io::Result<()> {
+        let answer = remove_plain(&self.rt, self.path.as_str(), name);
+        self.counted(answer)
+    }
+
+    fn open(&mut self, name: &str) -> io::Result<R::File> {
+        let answer = open_plain(&self.rt, self.path.as_str(), name);
+        self.counted(answer)
+    }
+
+    fn make_folder(&mut self) -> io::Result<()> {
+        let answer = fs::create_dir_all(&self.rt, self.path.as_str());
+        self.counted(answer)
+    }
+
+    fn remove_link(&mut self, name: &str) -> io::Result<()> {
+        let answer = remove_link(&self.rt, self.path.as_str(), name);
+        self.counted(answer)
+    }
+
+    fn make_link(&mut self, name: &str, target: &str) -> io::Result<()> {
+        let answer = make_link(&self.rt, self.path.as_str(), name, target);
+        self.counted(answer)
+    }
+
+    fn append(&mut self, file: &mut R::File, bytes: &[u8]) -> io::Result<usize> {
+        let answer = file.write(bytes);
+        self.counted(answer)
+    }
+
+    fn flush(&mut self, file: &mut R::File) -> io::Result<()> {
+        let answer = file.flush();
+        self.counted(answer)
+    }
+
+    fn note(&mut self, notice: Notice<'_>) {
+        self.noted.add(notice.kind());
+        // A fault of standard error has nowhere to be told.
+        let _ = self.tell(notice);
+    }
+
+    fn failures(&self) -> u64 {
+        self.failures
+    }
+}

@@ -1,0 +1,66 @@
+// The entries of a folder, as they are listed.
+use appender_store::store::{Kind, Listed};
+use std::alloc::Global;
+use std::fs::{DirEntry, Metadata};
+use std::rt::Files;
+use std::time::UNIX_EPOCH;
+use std::{fs, io};
+
+/// All entries of a folder. A fault that breaks off the listing is the answer, so that no choice is
+/// made among some entries alone.
+pub(super) fn list_entries<R: Files + AllocGlobal + Clone + Drop>(
+    rt: &R,
+    path: &str,
+) -> io::Result<Vec<Listed>> {
+    let mut all = Vec::new(rt.alloc());
+    for entry in fs::read_dir(rt, path)? {
+        all.push(list_entry(rt.alloc(), entry)?)?;
+    }
+    Ok(all)
+}
+
+// An entry, or what stands for it where its name is no UTF-8 or its metadata can't be read.
+fn list_entry<R: Files + Clone + Drop>(
+    alloc: Global,
+    entry: io::Result<DirEntry<R, Global>>,
+) -> io::Result<Listed> {
+    let entry = match entry {
+        Ok(entry) => entry,
+        Err(fault) if fault.kind() == io::ErrorKind::InvalidFilename => return Ok(unreadable()),
+        Err(fault) => return Err(fault),
+    };
+    match entry.metadata() {
+        Ok(metadata) => Ok(Listed {
+            name: Some(String::from_str(alloc, entry.file_name())?),
+            kind: kind_of(&metadata),
+            created: created(&metadata),
+        }),
+        Err(_) => Ok(unreadable()),
+    }
+}
+
+fn unreadable() -> Listed {
+    Listed {
+        name: None,
+        kind: Kind::Other,
+        created: None,
+    }
+}
+
+fn kind_of(metadata: &Metadata) -> Kind {
+    if metadata.is_file() {
+        Kind::File
+    } else if metadata.is_dir() {
+        Kind::Folder
+    } else if metadata.is_symlink() {
+        Kind::Link
+    } else {
+        Kind::Other
+    }
+}
+
+// In nanoseconds since 1970-01-01 00:00:00 UTC, where the file system tells it and it is not earlier.
+fn created(metadata: &Metadata) -> Option<i128> {
+    let since = metadata.created().ok()?.duration_since(UNIX_EPOCH).ok()?;
+    i128::try_from(since.as_nanos()).ok()
+}

@@ -1,0 +1,76 @@
+// How often each kind of notice was noted.
+ghost use Rattle.std.specs.Prelude.{◌≡◌};
+ghost use Rattle.appender_store.specs.Folder.{after_note, message_of, kind_of};
+
+use super::{Notice, NoticeKind};
+
+impl Notice<'_> {
+    /// The kind by which it is counted.
+    pub fn kind(&self) -> NoticeKind
+        ensures { result ≡ kind_of (message_of self.now) }
+    {
+        match self {
+            Notice::List(_) => NoticeKind::List,
+            Notice::Remove(_, _) => NoticeKind::Remove,
+            Notice::Flush(_) => NoticeKind::Flush,
+            Notice::Open(_) => NoticeKind::Open,
+        }
+    }
+}
+
+/// The count of each kind of notice, modulo 2^64.
+#[derive(Clone, Copy, Debug)]
+pub struct NoticeCounts {
+    lists: u64,
+    removes: u64,
+    flushes: u64,
+    opens: u64,
+}
+
+impl NoticeCounts {
+    ghost use Rattle.appender_store.specs.NoticeCounts.{counts_of};
+    ghost use Rattle.appender_store.specs.MemoryState.{count_of};
+
+    /// Nothing was noted.
+    #[must_use]
+    pub fn new() -> NoticeCounts
+        ensures { counts_of result ≡ record { lists = 0; removes = 0; flushes = 0; opens = 0 } }
+    {
+        NoticeCounts {
+            lists: 0,
+            removes: 0,
+            flushes: 0,
+            opens: 0,
+        }
+    }
+
+    /// Counts one notice more.
+    pub fn add(&mut self, kind: NoticeKind)
+        ensures { counts_of self.new ≡ after_note kind (counts_of self.old) }
+    {
+        match kind {
+            NoticeKind::List => self.lists = self.lists.wrapping_add(1),
+            NoticeKind::Remove => self.removes = self.removes.wrapping_add(1),
+            NoticeKind::Flush => self.flushes = self.flushes.wrapping_add(1),
+            NoticeKind::Open => self.opens = self.opens.wrapping_add(1),
+        }
+    }
+
+    /// How often this kind was noted.
+    pub fn of(&self, kind: NoticeKind) -> u64
+        ensures { result ≡ count_of kind (counts_of self.now) }
+    {
+        let NoticeCounts {
+            lists,
+            removes,
+            flushes,
+            opens,
+        } = *self;
+        match kind {
+            NoticeKind::List => lists,
+            NoticeKind::Remove => removes,
+            NoticeKind::Flush => flushes,
+            NoticeKind::Open => opens,
+        }
+    }
+}

@@ -1,0 +1,178 @@
+// The whole program over a real folder, and its lines over a folder in memory.
+use crate::trail::{Fault, keep, write_lines};
+use std::alloc::Global;
+use std::cell::Cell;
+use std::io::Read;
+use std::process::Abort;
+use std::rt::Runtime;
+use std::test::Fail;
+use std::{env, fs, io, process};
+use tracing_appender::rolling::{Builder, Clock, RollingFileAppender, Rotation};
+use tracing_appender::store::MemoryFolder;
+
+// An input that can't be read.
+#[derive(Drop)]
+struct Broken;
+
+impl Read for Broken {
+    fn read(&mut self, _buf: &mut [u8]) -> io::Result<usize> {
+        Err(io::Error::from(io::ErrorKind::PermissionDenied))
+    }
+}
+
+// A clock that goes on by half an hour at each reading.
+#[derive(Drop)]
+struct Ticking {
+    now: Cell<i64>,
+}
+
+impl Clock for Ticking {
+    ghost now_gives = { λ clock m. Unit {0} };
+
+    fn now(&self) -> i64 {
+        let moment = self.now.get();
+        self.now.set(moment.saturating_add(1800));
+        moment
+    }
+}
+
+// A path of this test's own, where nothing stands.
+fn fresh(rt: &HostRuntime, name: &str) -> io::Result<String> {
+    let parent = env::temp_dir(rt)?;
+    let id = process::id(rt.process());
+    let path = format!(in rt.alloc(); "{}/audit_trail_{id}_{name}", parent.as_str())?;
+    let _ = fs::remove_dir_all(rt, path.as_str());
+    Ok(path)
+}
+
+// Runs the program, and compares the status and what it tells.
+fn check<R: Runtime + AllocGlobal + Abort>(
+    rt: &R,
+    arguments: &[String],
+    input: &[u8],
+    status: u8,
+    told: &str,
+) {
+    let mut input = input;
+    let mut errors = Vec::new(rt.alloc());
+    let answer = keep(rt, arguments, &mut input, &mut errors);
+    assert_eq!(rt; errors.as_slice(), told.as_bytes());
+    assert_eq!(rt; answer, status);
+}
+
+#[test]
+fn keeps_all_lines_of_all_runs(rt: HostRuntime) -> Result<(), Fail> {
+    let arguments = Vec::from_array(rt.alloc(), [fresh(&rt, "runs")?])?;
+    check(&rt, arguments.as_slice(), b"first\n\nlast", 0, "");
+    check(&rt, arguments.as_slice(), b"\nagain\n", 0, "");
+    let directory = arguments[0].as_str();
+    let link = format!(in rt.alloc(); "{directory}/latest.log")?;
+    assert_eq!(rt;
+        fs::read_to_string(&rt, link.as_str())?.as_str(),
+        "first\n\nlast\nagain\n"
+    );
+    assert!(rt; fs::symlink_metadata(&rt, link.as_str())?.is_symlink());
+    fs::remove_dir_all(&rt, directory)?;
+    Ok(())
+}
+
+#[test]
+fn tells_its_usage(rt: HostRuntime) -> Result<(), Fail> {
+    let usage = "usage: audit_trail DIRECTORY\n";
+    check(&rt, &[], b"a\n", 2, usage);
+    let two = Vec::from_array(rt.alloc(), [fresh(&rt, "one")?, fresh(&rt, "two")?])?;
+    check(&rt, two.as_slice(), b"a\n", 2, usage);
+    assert!(rt; !fs::exists(&rt, two[0].as_str())?);
+    Ok(())
+}
+
+#[test]
+fn tells_a_folder_that_is_none(rt: HostRuntime) -> Result<(), Fail> {
+    let arguments = Vec::from_array(rt.alloc(), [fresh(&rt, "file")?])?;
+    let path = arguments[0].as_str();
+    fs::write(&rt, path, "here")?;
+    let told = "failed to create log directory: File exists (os error 17)\n";
+    check(&rt, arguments.as_slice(), b"a\n", 1, told);
+    assert_eq!(rt; fs::read_to_string(&rt, path)?.as_str(), "here");
+    fs::remove_file(&rt, path)?;
+    Ok(())
+}
+
+#[test]
+fn tells_an_input_that_is_not_read(rt: HostRuntime) -> Result<(), Fail> {
+    let arguments = Vec::from_array(rt.alloc(), [fresh(&rt, "read")?])?;
+    let mut errors = Vec::new(rt.alloc());
+    assert_eq!(rt;
+        keep(&rt, arguments.as_slice(), &mut Broken, &mut errors),
+        1
+    );
+    assert_eq!(rt;
+        errors.as_slice(),
+        b"read failed: permission denied\n".as_slice()
+    );
+    fs::remove_dir_all(&rt, arguments[0].as_str())?;
+    Ok(())
+}
+
+// An appender over a folder in memory, opened at 2020-02-01 10:01:00.
+fn hourly(
+    alloc: Global,
+    folder: MemoryFolder,
+) -> Result<RollingFileAppender<MemoryFolder, Ticking>, Fail> {
+    let clock = Ticking {
+        now: Cell::new(1_580_551_260),
+    };
+    let builder = Builder::new()
+        .rotation(Rotation::HOURLY)
+        .filename_prefix(alloc, "app")?;
+    match builder.build_in(alloc, folder, clock) {
+        Ok(appender) => Ok(appender),
+        Err((error, _, _)) => Err(Fail::from(error)),
+    }
+}
+
+#[test]
+fn each_line_is_put_at_its_moment(rt: HostRuntime) -> Result<(), Fail> {
+    let alloc = rt.alloc();
+    let mut appender = hourly(alloc, MemoryFolder::new(alloc))?;
+    let mut input = b"a\nb\nc".as_slice();
+    assert!(rt; write_lines(alloc, &mut input, &mut appender).is_ok());
+    let (folder, _) = appender.into_parts();
+    assert_eq!(rt; folder.bytes("app.2020-02-01-10"), Some(b"a\n".as_slice()));
+    assert_eq!(rt; folder.bytes("app.2020-02-01-11"), Some(b"b\nc".as_slice()));
+    Ok(())
+}
+
+#[test]
+fn a_line_cut_short_is_told(rt: HostRuntime) -> Result<(), Fail> {
+    let alloc = rt.alloc();
+    let mut folder = MemoryFolder::new(alloc);
+    folder.short_append(2, 1)?;
+    let mut appender = hourly(alloc, folder)?;
+    let mut input = b"ab\nc\n".as_slice();
+    assert!(rt;
+        matches!(
+            write_lines(alloc, &mut input, &mut appender),
+            Err(Fault::Cut)
+        )
+    );
+    let (folder, _) = appender.into_parts();
+    assert_eq!(rt; folder.bytes("app.2020-02-01-10"), Some(b"a".as_slice()));
+    Ok(())
+}
+
+#[test]
+fn a_write_that_fails_is_told(rt: HostRuntime) -> Result<(), Fail> {
+    let alloc = rt.alloc();
+    let mut folder = MemoryFolder::new(alloc);
+    folder.fail_call(2)?;
+    let mut appender = hourly(alloc, folder)?;
+    let mut input = b"ab\n".as_slice();
+    assert!(rt;
+        matches!(
+            write_lines(alloc, &mut input, &mut appender),
+            Err(Fault::Write(_))
+        )
+    );
+    Ok(())
+}

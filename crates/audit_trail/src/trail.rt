@@ -1,0 +1,173 @@
+//! An audit trail of lines.
+ghost use Rattle.std.specs.Prelude.{◌≡◌, ◌≤◌, ℕ, List, [], false, Some, Ok, OnOk};
+ghost use Rattle.std.specs.Io.BufRead.{take_through, drop_through};
+ghost use Rattle.std.specs.Io.KnownBytes.{IsAtEnd};
+ghost use Rattle.audit_trail.specs.Trail.{PutsLine, PutsLines};
+
+use std::alloc::{AllocError, Global};
+use std::io::{BufRead, BufReader, Read, Write};
+use std::rt::Runtime;
+use std::{fs, io};
+use thiserror::Error;
+use tracing_appender::rolling::{Clock, FileAppender, InitError, RollingFileAppender, Rotation};
+use tracing_appender::store::Folder;
+
+/// How many files are kept, one a day.
+const KEPT_DAYS: usize = 366;
+
+/// Why a trail ended early.
+#[derive(Debug, Drop, Error)]
+pub enum Fault {
+    /// There was no argument, or more than one.
+    #[error("usage: audit_trail DIRECTORY")]
+    Usage,
+    /// No log was opened.
+    #[error("{0}")]
+    Open(InitError),
+    /// Standard input was not read.
+    #[error("read failed: {0}")]
+    Read(io::Error),
+    /// A line was not written.
+    #[error("write failed: {0}")]
+    Write(io::Error),
+    /// The beginning of a line was written, and the rest was not.
+    #[error("line cut short")]
+    Cut,
+    /// Memory was refused.
+    #[error("out of memory")]
+    Memory,
+}
+
+impl Fault {
+    // The status that the program ends with.
+    fn status(&self) -> u8
+        ensures { result ≤ 3 }
+    {
+        match self {
+            Fault::Usage => 2,
+            Fault::Memory | Fault::Open(InitError::Memory) => 3,
+            _ => 1,
+        }
+    }
+}
+
+impl From<AllocError> for Fault {
+    fn from(_error: AllocError) -> Fault {
+        Fault::Memory
+    }
+}
+
+/// A fault of reading.
+impl From<io::Error> for Fault {
+    fn from(fault: io::Error) -> Fault {
+        match fault.kind() {
+            io::ErrorKind::OutOfMemory => Fault::Memory,
+            _ => Fault::Read(fault),
+        }
+    }
+}
+
+/// Writes each line of `input` to the log of its day, in the folder that the one argument names.
+/// What stands in the way goes to `errors`, whose own faults are ignored. The answer is the status of
+/// the process: 0; 1 where the log was not opened, the input not read or a line not written whole; 2
+/// where there isn't one argument; 3 where memory was refused.
+pub fn keep<R: Runtime + AllocGlobal, I: Read, E: Write>(
+    rt: &R,
+    arguments: &[String],
+    input: &mut I,
+    errors: &mut E,
+) -> u8
+    ensures { result ≤ 3 }
+{
+    match copy_lines(rt, arguments, input) {
+        Ok(()) => 0,
+        Err(fault) => tell(&fault, errors),
+    }
+}
+
+/// Tells a fault on `errors`, and answers its status.
+pub fn tell<E: Write>(fault: &Fault, errors: &mut E) -> u8
+    ensures { result ≤ 3 }
+{
+    let _ = writeln!(errors, "{fault}");
+    fault.status()
+}
+
+fn copy_lines<R: Runtime + AllocGlobal, I: Read>(
+    rt: &R,
+    arguments: &[String],
+    input: &mut I,
+) -> Result<(), Fault> {
+    let [directory] = arguments else {
+        return Err(Fault::Usage);
+    };
+    let alloc = rt.alloc();
+    let mut input = BufReader::new(alloc, input)?;
+    let mut appender = open_log(rt, directory.as_str()).map_err(Fault::Open)?;
+    write_lines(alloc, &mut input, &mut appender)?;
+    appender.flush().map_err(Fault::Write)
+}
+
+/// Opens the log of the day in a folder, which is made where it isn't there.
+fn open_log<R: Runtime + AllocGlobal>(
+    rt: &R,
+    directory: &str,
+) -> Result<FileAppender<R>, InitError> {
+    let alloc = rt.alloc();
+    fs::create_dir_all(rt, directory).map_err(InitError::Directory)?;
+    RollingFileAppender::builder()
+        .rotation(Rotation::DAILY)
+        .filename_prefix(alloc, "audit")?
+        .filename_suffix(alloc, "log")?
+        .latest_symlink(alloc, "latest.log")?
+        .max_log_files(KEPT_DAYS)
+        .build(rt.clone()?, directory)
+}
+
+/// Writes each line of `input`, with its newline, if it has one.
+pub fn write_lines<I: BufRead, S: Folder, C: Clock>(
+    alloc: Global,
+    input: &mut I,
+    appender: &mut RollingFileAppender<S, C>,
+) -> Result<(), Fault>
+    ensures { OnOk result ((text : List ℕ) → I.remaining input.old ≡ Some text →
+        (count : ℕ) × PutsLines S.Folder C.Clock count text appender.old [] appender.new) }
+{
+    let mut line = Vec::new(alloc);
+    for _ in 0..u64::MAX {
+        if !read_line(input, &mut line)? {
+            return Ok(());
+        }
+        write_line(line.as_slice(), appender)?;
+    }
+    Err(Fault::Read(io::Error::other("too many lines")))
+}
+
+// Reads the next line, in place of what `line` holds, and tells whether there was one.
+fn read_line<I: BufRead>(input: &mut I, line: &mut Vec<u8>) -> Result<bool, Fault>
+    ensures line { OnOk result ((text : List ℕ) → I.remaining input.old ≡ Some text →
+        line.new.items ≡ take_through 10 text) }
+    ensures rest { OnOk result ((text : List ℕ) → I.remaining input.old ≡ Some text →
+        I.remaining input.new ≡ Some (drop_through 10 text)) }
+    ensures end { result ≡ Ok false → IsAtEnd (I.remaining input.old) }
+{
+    line.clear();
+    match input.read_until(b'\n', line) {
+        Ok(length) => Ok(length > 0),
+        Err(fault) => Err(Fault::from(fault)),
+    }
+}
+
+/// Writes a line whole, by one put, to the file of the moment that the clock tells.
+fn write_line<S: Folder, C: Clock>(
+    line: &[u8],
+    appender: &mut RollingFileAppender<S, C>,
+) -> Result<(), Fault>
+    ensures { OnOk result (PutsLine S.Folder C.Clock line.now appender.old appender.new) }
+{
+    match appender.put(line).1 {
+        Ok(taken) if taken < line.len() => Err(Fault::Cut),
+        Ok(_) => Ok(()),
+        Err(fault) => Err(Fault::Write(fault)),
+    }
+}

@@ -1,0 +1,174 @@
+-- Whole scripts: which line may stand where, and what it sets.
+use Rattle.std.specs.Prelude.{◌≡◌, ◌≢◌, ◌⊎◌, ℕ, zero, suc, ℤ, Bool, true, false, not, List, [], ◌∷◌, ◌++◌, All, Option, None, Some, is_some, string_bytes, if◌then◌else◌}
+use Rattle.std.specs.FinMap as fin
+use Rattle.std.specs.FinSet as set
+use Rattle.appender_store.specs.Content.{Link as ToLink, Folder as ToFolder}
+use Rattle.appender_store.specs.declared.store.put.PutError.{PutError}
+use Rattle.appender_store.specs.declared.store.put.PutError.TheVariants.{Name, Used, Memory as OutOfMemory}
+use Rattle.appender_store.specs.MemoryPut.{put_refusal}
+use Rattle.appender_store.specs.MemoryState.{State, empty_state, lesser_limit, with_file, with_entry}
+use Rattle.appender_rolling.specs.Config.{Config, defaults}
+use Rattle.appender_replay.specs.declared.replay.RollStep.{RollStep}
+use Rattle.appender_replay.specs.declared.replay.whole.Step.{Step as StepOfQueue}
+use Rattle.rollplay_script.specs.declared.line.Queueing.{Queueing}
+use Rattle.rollplay_script.specs.declared.line.ScriptLine.{ScriptLine}
+use Rattle.rollplay_script.specs.declared.line.ScriptLine.TheVariants.{Setting as Sets, Start, Step, QueueStep}
+use Rattle.rollplay_script.specs.declared.line.Setting.{Setting}
+use Rattle.rollplay_script.specs.declared.line.Setting.TheVariants.{Rotation, Prefix, Suffix, Link, Max, Created, File, Folder, LinkAt, Absent, Fail, Short, Queue}
+use Rattle.rollplay_script.specs.Line.{IsLine, IsNoLine}
+use Rattle.rollplay_words.specs.declared.words.LineError.{LineError}
+use Rattle.rollplay_words.specs.declared.words.LineError.TheVariants.{Fault, Memory}
+
+-- A script as far as it was read: whether anything was set up, with what the log is opened, the folder before it, the queue
+-- if there is one, the moment of the opening once it is known, and the steps so far, of a log by itself and of a queue.
+pub record Progress : Type 0 where
+  pub begun : Bool
+  pub config : Config
+  pub folder : State
+  pub queueing : Option Queueing
+  pub start : Option ℤ
+  pub steps : List RollStep
+  pub queue_steps : List StepOfQueue
+
+-- before the first line
+abbrev pub nothing_read : Progress
+nothing_read = record {
+  begun = false;
+  config = defaults;
+  folder = empty_state true;
+  queueing = None;
+  start = None;
+  steps = [];
+  queue_steps = [];
+}
+
+-- nothing can be put under the name
+abbrev pub is_no_name : State → List ℕ → Bool
+is_no_name folder name = is_some (put_refusal folder.content.names name)
+
+-- what a put that was refused is to its line
+abbrev pub error_of_put : PutError → LineError
+error_of_put Name = Fault
+error_of_put Used = Fault
+error_of_put OutOfMemory = Memory
+
+-- what puts something under a name that can't be
+abbrev pub is_refused_put : Setting → State → Bool
+is_refused_put (File name text) folder = is_no_name folder name.now
+is_refused_put (Folder name) folder = is_no_name folder name.now
+is_refused_put (LinkAt name target) folder = is_no_name folder name.now
+is_refused_put setting folder = false
+
+-- what may not be set up now: such a put, and in any line but the first that the folder is absent
+abbrev pub is_refused : Setting → Progress → Bool
+is_refused Absent p = p.begun
+is_refused setting p = is_refused_put setting p.folder
+
+-- a line that may not stand here: settings come before the start, steps behind it, those of a queue where there is one and the
+-- others where there is none, and the start once
+abbrev pub is_misplaced : ScriptLine → Progress → Bool
+is_misplaced (Sets setting) p = if is_some p.start then true else is_refused setting p
+is_misplaced (Start m) p = is_some p.start
+is_misplaced (Step step) p = if is_some p.start then is_some p.queueing else true
+is_misplaced (QueueStep step) p = if is_some p.start then not (is_some p.queueing) else true
+
+abbrev pub config_after : Setting → Config → Config
+config_after (Rotation r) c = record c { rotation = r }
+config_after (Prefix text) c = record c { prefix = string_bytes text }
+config_after (Suffix text) c = record c { suffix = string_bytes text }
+config_after (Link text) c = record c { link = string_bytes text }
+config_after (Max n) c = record c { max_files = n }
+config_after setting c = c
+
+abbrev pub folder_after : Setting → State → State
+folder_after (Created moment) s = record s { created = moment }
+folder_after (File name text) s = with_file s name.now (string_bytes text)
+folder_after (Folder name) s = with_entry s name.now ToFolder
+folder_after (LinkAt name target) s = with_entry s name.now (ToLink target.now)
+folder_after Absent s = empty_state false
+folder_after (Fail call) s = record s { failing = set.insert s.failing call }
+folder_after (Short call limit) s =
+    record s { shortened = fin.insert s.shortened call (lesser_limit (fin.get s.shortened call) limit) }
+folder_after setting s = s
+
+abbrev pub queueing_after : Setting → Option Queueing → Option Queueing
+queueing_after (Queue given) queueing = Some given
+queueing_after setting queueing = queueing
+
+abbrev pub after_setting : Setting → Progress → Progress
+after_setting setting p = record p {
+  begun = true;
+  config = config_after setting p.config;
+  folder = folder_after setting p.folder;
+  queueing = queueing_after setting p.queueing;
+}
+
+-- what a line adds
+abbrev pub after_line : ScriptLine → Progress → Progress
+after_line (Sets setting) p = after_setting setting p
+after_line (Start m) p = record p { start = Some m }
+after_line (Step step) p = record p { steps = p.steps ++ step ∷ [] }
+after_line (QueueStep step) p = record p { queue_steps = p.queue_steps ++ step ∷ [] }
+
+-- the text is a line that may stand here, and was added
+pub record Adds (text : List ℕ) (old new : Progress) : Type 0 where
+  pub line : ScriptLine
+  pub reads : IsLine text line
+  pub fits : is_misplaced line old ≡ false
+  pub after : new ≡ after_line line old
+
+-- the text is no line, or one that may not stand here
+abbrev pub IsFaultyLine : List ℕ → Progress → Type 0
+IsFaultyLine text p = IsNoLine text ⊎ ((line : ScriptLine) × IsLine text line × (is_misplaced line p ≡ true))
+
+-- ---- line by line
+
+-- the first line of a text, and what stands behind its newline; the last line may have none
+pub record BeginsWithLine (text line rest : List ℕ) : Type 0 where
+  pub one : All (λ b. b ≢ 10) line
+  pub join : (text ≡ line ++ (10 ∷ rest)) ⊎ ((text ≡ line) × (rest ≡ []))
+  pub some : text ≢ []
+
+-- after so many lines of the text, each of which may stand where it does, this rest is left, and this far the script was read
+abbrev pub Reaches : List ℕ → ℕ → List ℕ → Progress → Type 0
+Reaches text zero rest p = (rest ≡ text) × (p ≡ nothing_read)
+Reaches text (suc k) rest p = (before : List ℕ) × (line : List ℕ) × (q : Progress)
+    × Reaches text k before q × BeginsWithLine before line rest × Adds line q p
+
+-- what is done with a log once it is open: steps of it by itself, or of a queue of so many lines, lossy or not, and a worker
+pub data Plan : Type 0 where
+  rolling : List RollStep → Plan
+  queued : ℕ → Bool → List StepOfQueue → Plan
+
+-- it is decided by whether there is a queue
+abbrev pub plan_with : Option Queueing → List RollStep → List StepOfQueue → Plan
+plan_with None steps queue_steps = rolling steps
+plan_with (Some queueing) steps queue_steps = queued queueing.limit queueing.lossy queue_steps
+
+-- What was read gives this: with what the log is opened, the folder before it, when, and what is done then.
+pub record Gives (p : Progress) (config : Config) (folder : State) (start : ℤ) (plan : Plan) : Type 0 where
+  pub config_is : p.config ≡ config
+  pub folder_is : p.folder ≡ folder
+  pub start_is : p.start ≡ Some start
+  pub plan_is : plan_with p.queueing p.steps p.queue_steps ≡ plan
+
+-- all lines of the text were taken, and they give this
+pub record IsScript (text : List ℕ) (config : Config) (folder : State) (start : ℤ) (plan : Plan) : Type 0 where
+  pub lines : ℕ
+  pub progress : Progress
+  pub reached : Reaches text lines [] progress
+  pub gives : Gives progress config folder start plan
+
+-- the next line is faulty; where nothing is left, the start is missing
+abbrev pub Stops : List ℕ → Progress → Type 0
+Stops [] p = p.start ≡ None
+Stops (b ∷ bs) p = (line : List ℕ) × (rest : List ℕ) × BeginsWithLine (b ∷ bs) line rest × IsFaultyLine line p
+
+-- the first fault lies in the line of this number, counted from 1
+pub record HasFirstFault (text : List ℕ) (number : ℕ) : Type 0 where
+  pub taken : ℕ
+  pub counted : number ≡ suc taken
+  pub rest : List ℕ
+  pub progress : Progress
+  pub reached : Reaches text taken rest progress
+  pub stops : Stops rest progress

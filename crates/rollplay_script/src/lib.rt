@@ -1,0 +1,5 @@
+//! The language of scripts: what a line says, and which line may stand where.
+#![tactic(auto)]
+
+pub mod line;
+pub mod script;

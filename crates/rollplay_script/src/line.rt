@@ -1,0 +1,162 @@
+//! A line of a script: what is set up, the start, or a step.
+
+ghost use Rattle.std.specs.Prelude.{◌≡◌, ◌≢◌, Option, List, ℕ, Bool, None, Some, Err, IfOk, IfErr};
+ghost use Rattle.appender_names.specs.declared.rotation.Rotation.{Rotation};
+ghost use Rattle.rollplay_script.specs.Line.{rotation_word, mode_word, BeginsWith, ContinuesWith, IsNoQueueLine};
+ghost use Rattle.rollplay_script.specs.Line.{IsLine, IsNoLine};
+
+use appender_names::rotation::Rotation;
+use appender_replay::replay::{RollStep, Step};
+use rollplay_words::words::{LineError, Words};
+use std::alloc::Global;
+
+/// The queue before a worker that writes the log.
+#[derive(Clone, Copy, Debug, PartialEq, Eq)]
+pub struct Queueing {
+    /// How many lines have room in it.
+    pub limit: usize,
+    /// Whether a line that finds no room is dropped and counted; else its sender is to try again.
+    pub lossy: bool,
+}
+
+/// A line that sets something up.
+#[derive(Drop)]
+pub enum Setting<'a> {
+    /// How often a new file begins.
+    Rotation(Rotation),
+    /// What the name of each file begins with.
+    Prefix(String),
+    /// What it ends with.
+    Suffix(String),
+    /// The link to the newest file.
+    Link(String),
+    /// How many files are kept.
+    Max(usize),
+    /// The creation moment of files from here on, in nanoseconds since the epoch.
+    Created(Option<i128>),
+    /// A file that is there, with its contents.
+    File(&'a str, String),
+    /// A folder that is there.
+    Folder(&'a str),
+    /// A link that is there, with its target.
+    LinkAt(&'a str, &'a str),
+    /// That the folder itself is not there.
+    Absent,
+    /// A call that fails, by its number.
+    Fail(u64),
+    /// An append that takes so many bytes at most, by the number of its call.
+    Short(u64, usize),
+    /// That a worker writes the log, from this queue.
+    Queue(Queueing),
+}
+
+/// A line that is good by itself, wherever it stands.
+#[derive(Drop)]
+pub enum ScriptLine<'a> {
+    /// Comes before the start.
+    Setting(Setting<'a>),
+    /// The log is opened at this moment, in seconds of UTC since the epoch.
+    Start(i64),
+    /// Comes behind the start, where no queue is set up.
+    Step(RollStep),
+    /// Comes behind the start, where a queue is set up.
+    QueueStep(Step),
+}
+
+impl<'a> ScriptLine<'a> {
+    /// Reads a whole line, without its newline.
+    pub fn read(alloc: Global, line: &'a str) -> Result<ScriptLine<'a>, LineError>
+        ensures ok { IfOk result (IsLine line.now) }
+        ensures fault { result ≡ Err LineError.Fault → IsNoLine line.now }
+    {
+        let mut words = Words::new(line);
+        let line = ScriptLine::read_words(alloc, &mut words)?;
+        words.end()?;
+        Ok(line)
+    }
+
+    // Reads what belongs to the first word.
+    fn read_words(alloc: Global, words: &mut Words<'a>) -> Result<ScriptLine<'a>, LineError>
+        ensures ok { IfOk result (λ line. BeginsWith words.old line words.new) }
+        ensures fault { result ≡ Err LineError.Fault →
+            (line : _) → (left : Option (List ℕ)) → ¬ (BeginsWith words.old line left) }
+    {
+        Ok(match words.word()? {
+            "rotation" => ScriptLine::Setting(Setting::Rotation(read_rotation(words.word()?)?)),
+            "prefix" => ScriptLine::Setting(Setting::Prefix(words.text(alloc)?)),
+            "suffix" => ScriptLine::Setting(Setting::Suffix(words.text(alloc)?)),
+            "link" => ScriptLine::Setting(Setting::Link(words.text(alloc)?)),
+            "max" => ScriptLine::Setting(Setting::Max(words.count()?)),
+            "created" => ScriptLine::Setting(Setting::Created(words.created()?)),
+            "file" => ScriptLine::Setting(Setting::File(words.word()?, words.text(alloc)?)),
+            "folder" => ScriptLine::Setting(Setting::Folder(words.word()?)),
+            "link-at" => ScriptLine::Setting(Setting::LinkAt(words.word()?, words.word()?)),
+            "absent" => ScriptLine::Setting(Setting::Absent),
+            "fail" => ScriptLine::Setting(Setting::Fail(words.call()?)),
+            "short" => ScriptLine::Setting(Setting::Short(words.call()?, words.count()?)),
+            "start" => ScriptLine::Start(words.seconds()?),
+            "see" => ScriptLine::Step(RollStep::See(words.seconds()?)),
+            "put" => ScriptLine::Step(RollStep::Put(
+                words.seconds()?,
+                words.text(alloc)?.into_bytes(),
+            )),
+            "write" => ScriptLine::Step(RollStep::Write(words.text(alloc)?.into_bytes())),
+            "flush" => ScriptLine::Step(RollStep::Flush),
+            word => ScriptLine::read_queue_words(alloc, word, words)?,
+        })
+    }
+
+    // Reads what belongs to a first word, if that is one of a queue's.
+    fn read_queue_words(
+        alloc: Global,
+        word: &str,
+        words: &mut Words<'a>,
+    ) -> Result<ScriptLine<'a>, LineError>
+        ensures ok { IfOk result (λ line. ContinuesWith word.now words.old line words.new) }
+        ensures fault { result ≡ Err LineError.Fault → IsNoQueueLine word.now words.old }
+    {
+        Ok(match word {
+            "queue" => ScriptLine::Setting(Setting::Queue(Queueing {
+                limit: words.count()?,
+                lossy: read_mode(words.word()?)?,
+            })),
+            "offer" => ScriptLine::QueueStep(Step::Offer(
+                words.label()?,
+                words.text(alloc)?.into_bytes(),
+            )),
+            "shut" => ScriptLine::QueueStep(Step::Shut),
+            "add" => ScriptLine::QueueStep(Step::AddSender),
+            "drop" => ScriptLine::QueueStep(Step::DropSender),
+            "work" => ScriptLine::QueueStep(Step::Work(words.seconds()?)),
+            _ => return Err(LineError::Fault),
+        })
+    }
+}
+
+// Whether a queue is lossy.
+fn read_mode(word: &str) -> Result<bool, LineError>
+    ensures ok { IfOk result (λ lossy. word.now ≡ mode_word lossy) }
+    ensures err { IfErr result (λ e. (e ≡ LineError.Fault)
+        × ((lossy : Bool) → word.now ≢ mode_word lossy)) }
+{
+    match word {
+        "lossy" => Ok(true),
+        "waiting" => Ok(false),
+        _ => Err(LineError::Fault),
+    }
+}
+
+fn read_rotation(word: &str) -> Result<Rotation, LineError>
+    ensures ok { IfOk result (λ r. word.now ≡ rotation_word r) }
+    ensures err { IfErr result (λ e. (e ≡ LineError.Fault)
+        × ((r : Rotation) → word.now ≢ rotation_word r)) }
+{
+    match word {
+        "minutely" => Ok(Rotation::MINUTELY),
+        "hourly" => Ok(Rotation::HOURLY),
+        "daily" => Ok(Rotation::DAILY),
+        "weekly" => Ok(Rotation::WEEKLY),
+        "never" => Ok(Rotation::NEVER),
+        _ => Err(LineError::Fault),
+    }
+}

@@ -1,0 +1,259 @@
+//! A script: what is set up, then the moment at which the log is opened, then the steps.
+
+ghost use Rattle.std.specs.Prelude.{◌≡◌, ◌≢◌, ◌≤◌, ℕ, [], length, false, true, IfOk, Some, Err, IfSome};
+ghost use Rattle.std.specs.Prelude.{IsNone, OnOk};
+ghost use Rattle.appender_store.specs.MemoryView.{state_of};
+ghost use Rattle.rollplay_script.specs.Script.{BeginsWithLine, config_after, folder_after, queueing_after, is_refused_put, error_of_put};
+
+use crate::line::{Queueing, ScriptLine, Setting};
+use appender_replay::replay::{RollStep, Step};
+use appender_rolling::rolling::Builder;
+use appender_store::store::{MemoryFolder, PutError};
+use rollplay_words::words::LineError;
+use std::alloc::{AllocError, Global};
+use std::mem;
+
+/// How many bytes a script may have.
+pub const LONGEST: usize = 1_048_576;
+
+/// Why there is no script in a text.
+#[derive(Clone, Copy, Debug, PartialEq, Eq)]
+pub enum ScriptError {
+    /// The first faulty line, counted from 1. Where `start` is missing, it is the one behind the last.
+    Fault(usize),
+    /// Memory was refused.
+    Memory,
+}
+
+impl ScriptError {
+    // What the error of this line is to a whole script.
+    fn at(line: usize, error: LineError) -> ScriptError
+        ensures fault { error ≡ LineError.Fault → result ≡ ScriptError.Fault line }
+        ensures memory { error ≡ LineError.Memory → result ≡ ScriptError.Memory }
+    {
+        match error {
+            LineError::Fault => ScriptError::Fault(line),
+            LineError::Memory => ScriptError::Memory,
+        }
+    }
+}
+
+/// What is done with a log once it is open.
+#[derive(Drop)]
+pub enum Plan {
+    /// It is written by itself.
+    Rolling(Vec<RollStep>),
+    /// A worker writes it, from a queue.
+    Queued(Queueing, Vec<Step>),
+}
+
+/// A whole script, of which each line is known to be good.
+#[derive(Drop)]
+pub struct Script {
+    /// What the log is set up with.
+    pub builder: Builder,
+    /// The folder before the log is opened.
+    pub folder: MemoryFolder,
+    /// When it is opened, in seconds of UTC since the epoch.
+    pub start: i64,
+    /// What is done then.
+    pub plan: Plan,
+}
+
+impl Script {
+    ghost use Rattle.rollplay_script.specs.Draft.{plan_of};
+    ghost use Rattle.rollplay_script.specs.Script.{IsScript, HasFirstFault};
+
+    /// Reads a script up to its first faulty line.
+    pub fn read(alloc: Global, text: &str) -> Result<Script, ScriptError>
+        requires { length text.now ≤ LONGEST }
+        ensures ok { IfOk result (λ s.
+            IsScript text.now s.builder (state_of s.folder) s.start (plan_of s.plan)) }
+        ensures fault { (number : ℕ) → result ≡ Err (ScriptError.Fault number) →
+            HasFirstFault text.now number }
+    {
+        let mut draft = Draft::new(alloc);
+        let mut rest = text;
+        let mut number = 1;
+        while !rest.is_empty() {
+            let (line, behind) = split_line(rest);
+            if let Err(error) = draft.add(alloc, line) {
+                return Err(ScriptError::at(number, error));
+            }
+            rest = behind;
+            number += 1;
+        }
+        draft.finish().ok_or(ScriptError::Fault(number))
+    }
+}
+
+// The first line of a text, and what stands behind its newline.
+fn split_line(text: &str) -> (&str, &str)
+    requires { text.now ≢ [] }
+    ensures { BeginsWithLine text.now result.0.now result.1.now }
+{
+    text.split_once('\n').unwrap_or((text, ""))
+}
+
+// A script as far as it was read.
+#[derive(Drop)]
+struct Draft {
+    // Whether anything was set up.
+    begun: bool,
+    builder: Builder,
+    folder: MemoryFolder,
+    queueing: Option<Queueing>,
+    start: Option<i64>,
+    // One of the two is empty, by whether there is a queue.
+    steps: Vec<RollStep>,
+    queue_steps: Vec<Step>,
+}
+
+impl Draft {
+    ghost use Rattle.rollplay_script.specs.Draft.{progress_of, plan_of};
+    ghost use Rattle.rollplay_script.specs.Script.{Adds, IsFaultyLine, Gives, nothing_read, after_setting, is_refused};
+
+    fn new(alloc: Global) -> Draft
+        ensures { progress_of result ≡ nothing_read }
+    {
+        Draft {
+            begun: false,
+            builder: Builder::new(),
+            folder: MemoryFolder::new(alloc),
+            queueing: None,
+            start: None,
+            steps: Vec::new(alloc),
+            queue_steps: Vec::new(alloc),
+        }
+    }
+
+    // Takes the next line. Settings come first, then `start` once, then the steps, of a queue where there is one.
+    fn add(&mut self, alloc: Global, line: &str) -> Result<(), LineError>
+        ensures ok { OnOk result (Adds line.now (progress_of self.old) (progress_of self.new)) }
+        ensures fault { result ≡ Err LineError.Fault → IsFaultyLine line.now (progress_of self.old) }
+    {
+        match (self.start, self.queueing, ScriptLine::read(alloc, line)?) {
+            (None, _, ScriptLine::Setting(setting)) => self.set(alloc, &setting),
+            (None, _, ScriptLine::Start(moment)) => {
+                self.start = Some(moment);
+                Ok(())
+            }
+            (Some(_), None, ScriptLine::Step(step)) => {
+                self.steps.push(step).map_err(AllocError::from)?;
+                Ok(())
+            }
+            (Some(_), Some(_), ScriptLine::QueueStep(step)) => {
+                self.queue_steps.push(step).map_err(AllocError::from)?;
+                Ok(())
+            }
+            _ => Err(LineError::Fault),
+        }
+    }
+
+    // Sets something up, if it can be set up now.
+    fn set(&mut self, alloc: Global, setting: &Setting<'_>) -> Result<(), LineError>
+        ensures ok { OnOk result
+            (progress_of self.new ≡ after_setting setting.now (progress_of self.old)) }
+        ensures fits { OnOk result (is_refused setting.now (progress_of self.old) ≡ false) }
+        ensures fault { result ≡ Err LineError.Fault →
+            is_refused setting.now (progress_of self.old) ≡ true }
+    {
+        if self.begun && matches!(setting, Setting::Absent) {
+            return Err(LineError::Fault);
+        }
+        set_folder(alloc, &mut self.folder, setting)?;
+        self.builder = builder_with(alloc, mem::take(&mut self.builder), setting)?;
+        self.queueing = queueing_with(self.queueing, setting);
+        self.begun = true;
+        Ok(())
+    }
+
+    // The whole script; `None` where `start` is missing.
+    fn finish(self) -> Option<Script>
+        ensures none { IsNone result → self.start ≡ None }
+        ensures some { IfSome result (λ s.
+            Gives (progress_of self) s.builder (state_of s.folder) s.start (plan_of s.plan)) }
+    {
+        let Draft {
+            begun: _,
+            builder,
+            folder,
+            queueing,
+            start,
+            steps,
+            queue_steps,
+        } = self;
+        let plan = match queueing {
+            None => Plan::Rolling(steps),
+            Some(queueing) => Plan::Queued(queueing, queue_steps),
+        };
+        Some(Script {
+            builder,
+            folder,
+            start: start?,
+            plan,
+        })
+    }
+}
+
+// A builder with what a line sets of it.
+fn builder_with(
+    alloc: Global,
+    builder: Builder,
+    setting: &Setting<'_>,
+) -> Result<Builder, AllocError>
+    ensures { IfOk result (λ b. b ≡ config_after setting.now builder) }
+{
+    match setting {
+        Setting::Rotation(rotation) => Ok(builder.rotation(*rotation)),
+        Setting::Prefix(prefix) => builder.filename_prefix(alloc, prefix.as_str()),
+        Setting::Suffix(suffix) => builder.filename_suffix(alloc, suffix.as_str()),
+        Setting::Link(link) => builder.latest_symlink(alloc, link.as_str()),
+        Setting::Max(max) => Ok(builder.max_log_files(*max)),
+        _ => Ok(builder),
+    }
+}
+
+// The queue, if there is one, with what a line sets of it.
+fn queueing_with(queueing: Option<Queueing>, setting: &Setting<'_>) -> Option<Queueing>
+    ensures { result ≡ queueing_after setting.now queueing }
+{
+    match setting {
+        Setting::Queue(queueing) => Some(*queueing),
+        _ => queueing,
+    }
+}
+
+// Does what a line says of the folder.
+fn set_folder(
+    alloc: Global,
+    folder: &mut MemoryFolder,
+    setting: &Setting<'_>,
+) -> Result<(), LineError>
+    ensures ok { OnOk result (state_of folder.new ≡ folder_after setting.now (state_of folder.old)) }
+    ensures fits { OnOk result (is_refused_put setting.now (state_of folder.old) ≡ false) }
+    ensures fault { result ≡ Err LineError.Fault →
+        is_refused_put setting.now (state_of folder.old) ≡ true }
+{
+    match setting {
+        Setting::Created(moment) => folder.set_created(*moment),
+        Setting::File(name, text) => folder.put_file(name, text.as_bytes()).map_err(line_error)?,
+        Setting::Folder(name) => folder.put_folder(name).map_err(line_error)?,
+        Setting::LinkAt(name, target) => folder.put_link(name, target).map_err(line_error)?,
+        Setting::Absent => *folder = MemoryFolder::absent(alloc),
+        Setting::Fail(call) => folder.fail_call(*call)?,
+        Setting::Short(call, limit) => folder.short_append(*call, *limit)?,
+        _ => {}
+    }
+    Ok(())
+}
+
+// What a put that was refused is to its line.
+fn line_error(put: PutError) -> LineError
+    ensures { result ≡ error_of_put put }
+{
+    match put {
+        PutError::Name | PutError::Used => LineError::Fault,
+        PutError::Memory => LineError::Memory,
+    }
+}
