@@ -1,0 +1,219 @@
+// Each call of a folder of the file system, once by itself.
+
+use crate::scene::{
+    at, clear, expect_files, fresh, kind_of_error, names_in, put, put_link, target_of, text_of,
+};
+use std::io::ErrorKind;
+use std::process::Abort;
+use std::test::Fail;
+use std::{env, fs, io};
+use tracing_appender::folder::DirFolder;
+use tracing_appender::store::{Folder, Kind, Listed};
+
+const INVALID: Option<ErrorKind> = Some(ErrorKind::InvalidInput);
+
+const IN_USE: Option<ErrorKind> = Some(ErrorKind::AlreadyExists);
+
+const ABSENT: Option<ErrorKind> = Some(ErrorKind::NotFound);
+
+// What each call with a name answers to this one.
+fn expect_refusal<S: Folder>(rt: &impl Abort, folder: &mut S, name: &str) {
+    assert_eq!(rt; kind_of_error(folder.open(name)), INVALID, "{name:?}");
+    assert_eq!(rt; kind_of_error(folder.remove(name)), INVALID, "{name:?}");
+    assert_eq!(rt;
+        kind_of_error(folder.remove_link(name)),
+        INVALID,
+        "{name:?}"
+    );
+    assert_eq!(rt;
+        kind_of_error(folder.make_link(name, "a")),
+        INVALID,
+        "{name:?}"
+    );
+}
+
+#[test]
+fn a_name_that_leaves_the_folder_is_refused(rt: HostRuntime) -> Result<(), Fail> {
+    let parent = fresh(rt, "leaves")?;
+    let parent = parent.as_str();
+    put(&rt, parent, "outside", "kept")?;
+    put_link(&rt, parent, "link", "outside")?;
+    let mut folder = DirFolder::new(rt, at(rt.alloc(), parent, "inside")?.as_str())?;
+    folder.make_folder()?;
+    for name in [
+        "",
+        ".",
+        "..",
+        "/",
+        "../outside",
+        "../link",
+        "../new",
+        "a/b",
+        "a\0",
+    ] {
+        expect_refusal(&rt, &mut folder, name);
+    }
+    assert_eq!(rt; folder.failures(), 36);
+    assert!(rt; folder.list()?.is_empty());
+    assert_eq!(rt; names_in(&rt, parent)?.len(), 3);
+    assert_eq!(rt; text_of(&rt, parent, "outside")?.as_str(), "kept");
+    assert_eq!(rt; target_of(&rt, parent, "link")?.as_str(), "outside");
+    clear(&rt, parent)?;
+    Ok(())
+}
+
+#[test]
+fn plain_files_alone_are_opened_and_removed(rt: HostRuntime) -> Result<(), Fail> {
+    let directory = fresh(rt, "plain")?;
+    let directory = directory.as_str();
+    put(&rt, directory, "file", "text")?;
+    put_link(&rt, directory, "link", "file")?;
+    put_link(&rt, directory, "dangling", "nothing")?;
+    let mut folder = DirFolder::new(rt, directory)?;
+    fs::create_dir(&rt, at(rt.alloc(), directory, "sub")?)?;
+    for name in ["link", "dangling", "sub"] {
+        assert_eq!(rt; kind_of_error(folder.open(name)), IN_USE, "{name}");
+        assert_eq!(rt; kind_of_error(folder.remove(name)), IN_USE, "{name}");
+    }
+    assert_eq!(rt; kind_of_error(folder.remove("absent")), ABSENT);
+    assert_eq!(rt; folder.failures(), 7);
+    assert_eq!(rt; names_in(&rt, directory)?.len(), 4);
+    assert_eq!(rt; target_of(&rt, directory, "link")?.as_str(), "file");
+    assert_eq!(rt; target_of(&rt, directory, "dangling")?.as_str(), "nothing");
+    assert_eq!(rt; text_of(&rt, directory, "file")?.as_str(), "text");
+    folder.remove("file")?;
+    assert_eq!(rt; names_in(&rt, directory)?.len(), 3);
+    clear(&rt, directory)?;
+    Ok(())
+}
+
+#[test]
+fn links_alone_are_removed_as_links(rt: HostRuntime) -> Result<(), Fail> {
+    let directory = fresh(rt, "links")?;
+    let directory = directory.as_str();
+    put(&rt, directory, "file", "text")?;
+    fs::create_dir(&rt, at(rt.alloc(), directory, "sub")?)?;
+    let mut folder = DirFolder::new(rt, directory)?;
+    for name in ["file", "sub"] {
+        assert_eq!(rt; kind_of_error(folder.remove_link(name)), IN_USE, "{name}");
+        assert_eq!(rt;
+            kind_of_error(folder.make_link(name, "a")),
+            IN_USE,
+            "{name}"
+        );
+    }
+    assert_eq!(rt; kind_of_error(folder.remove_link("absent")), ABSENT);
+    for target in ["file", "sub", "nothing", "../elsewhere"] {
+        folder.make_link("link", target)?;
+        assert_eq!(rt; target_of(&rt, directory, "link")?.as_str(), target);
+        folder.remove_link("link")?;
+    }
+    assert_eq!(rt; folder.failures(), 5);
+    assert_eq!(rt; names_in(&rt, directory)?.len(), 2);
+    assert_eq!(rt; text_of(&rt, directory, "file")?.as_str(), "text");
+    clear(&rt, directory)?;
+    Ok(())
+}
+
+// Opens a file and appends to it.
+fn append_to<S: Folder>(folder: &mut S, name: &str, bytes: &[u8]) -> io::Result<usize> {
+    let mut file = folder.open(name)?;
+    let taken = folder.append(&mut file, bytes)?;
+    folder.flush(&mut file)?;
+    Ok(taken)
+}
+
+#[test]
+fn appends_go_behind_what_stands(rt: HostRuntime) -> Result<(), Fail> {
+    let directory = fresh(rt, "appends")?;
+    let directory = directory.as_str();
+    put(&rt, directory, "standing", "one")?;
+    let mut folder = DirFolder::new(rt, directory)?;
+    assert_eq!(rt; append_to(&mut folder, "standing", b"two")?, 3);
+    assert_eq!(rt; append_to(&mut folder, "made", b"three")?, 5);
+    assert_eq!(rt; append_to(&mut folder, "made", b"")?, 0);
+    assert_eq!(rt; folder.failures(), 0);
+    expect_files(&rt, directory, &[("standing", "onetwo"), ("made", "three")])?;
+    clear(&rt, directory)?;
+    Ok(())
+}
+
+#[test]
+fn a_folder_is_made_with_its_parents(rt: HostRuntime) -> Result<(), Fail> {
+    let parent = fresh(rt, "parents")?;
+    let parent = parent.as_str();
+    for path in ["a/b/c", "a/b/d/", "a", "e//f"] {
+        let path = at(rt.alloc(), parent, path)?;
+        let mut folder = DirFolder::new(rt, path.as_str())?;
+        for _ in 0..2 {
+            folder.make_folder()?;
+            assert_eq!(rt; append_to(&mut folder, "file", b"x")?, 1, "{path}");
+        }
+        assert_eq!(rt; text_of(&rt, path.as_str(), "file")?.as_str(), "xx");
+        assert_eq!(rt; folder.failures(), 0, "{path}");
+    }
+    put(&rt, parent, "plain", "text")?;
+    let mut folder = DirFolder::new(rt, at(rt.alloc(), parent, "plain")?.as_str())?;
+    assert!(rt; folder.make_folder().is_err());
+    assert_eq!(rt; text_of(&rt, parent, "plain")?.as_str(), "text");
+    clear(&rt, parent)?;
+    Ok(())
+}
+
+#[test]
+fn an_empty_path_is_the_current_directory(rt: HostRuntime) -> Result<(), Fail> {
+    let directory = fresh(rt, "current")?;
+    let directory = directory.as_str();
+    env::set_current_dir(&rt, directory)?;
+    for path in ["", ".", "./"] {
+        let mut folder = DirFolder::new(rt, path)?;
+        folder.make_folder()?;
+        assert_eq!(rt; append_to(&mut folder, "file", b"x")?, 1);
+        assert_eq!(rt; folder.list()?.len(), 1);
+    }
+    expect_files(&rt, directory, &[("file", "xxx")])?;
+    clear(&rt, directory)?;
+    Ok(())
+}
+
+// Checks one entry of a listing.
+fn expect_entry(rt: &impl Abort, entry: &Listed, tells_creation: bool) -> Result<(), Fail> {
+    let name = entry.name.as_deref();
+    let wanted = match name {
+        Some("file") => Kind::File,
+        Some("link" | "dangling") => Kind::Link,
+        Some("sub") => Kind::Folder,
+        _ => return Err(Fail::new("another name")),
+    };
+    assert_eq!(rt; entry.kind, wanted, "{name:?}");
+    assert_eq!(rt; entry.created.is_some(), tells_creation, "{name:?}");
+    // Later than 2020-02-01 in nanoseconds, and not in seconds.
+    let is_late = match entry.created {
+        Some(moment) => moment > 1_580_515_200_000_000_000,
+        None => true,
+    };
+    assert!(rt; is_late, "{name:?}");
+    Ok(())
+}
+
+#[test]
+fn a_listing_tells_kinds_and_creation(rt: HostRuntime) -> Result<(), Fail> {
+    let directory = fresh(rt, "listing")?;
+    let directory = directory.as_str();
+    let mut folder = DirFolder::new(rt, directory)?;
+    assert!(rt; folder.list()?.is_empty());
+    put(&rt, directory, "file", "text")?;
+    put_link(&rt, directory, "link", "file")?;
+    put_link(&rt, directory, "dangling", "nothing")?;
+    fs::create_dir(&rt, at(rt.alloc(), directory, "sub")?)?;
+    let tells_creation = fs::metadata(&rt, directory)?.created().is_ok();
+    let listed = folder.list()?;
+    assert_eq!(rt; listed.len(), 4);
+    for entry in &listed {
+        expect_entry(&rt, entry, tells_creation)?;
+    }
+    clear(&rt, directory)?;
+    assert_eq!(rt; kind_of_error(folder.list()), ABSENT);
+    assert_eq!(rt; folder.failures(), 1);
+    Ok(())
+}
