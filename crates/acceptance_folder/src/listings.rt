@@ -74,7 +74,7 @@ fn a_listing_that_breaks_off_removes_nothing(rt: HostRuntime) -> Result<(), Fail
     assert_eq!(rt; folder.notices(NoticeKind::Remove), 0);
     assert_eq!(rt;
         script.take_said(alloc).as_str(),
-        "Error reading the log directory/files: the listing broke off\n"
+        "Error reading the log directory/files: File name too long (os error 36)\n"
     );
     assert_eq!(rt; names_in(&rt, directory)?.len(), 4);
     clear(&rt, directory)?;

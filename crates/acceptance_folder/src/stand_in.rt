@@ -346,7 +346,8 @@ impl Read for StandInDir<'_> {
     fn read(&mut self, buf: &mut [u8]) -> io::Result<usize> {
         if self.is_begun {
             if self.script.breaks_off.get() {
-                return Err(Error::other("the listing broke off"));
+                // ENAMETOOLONG, whose kind is also that of a name that is no UTF-8.
+                return Err(Error::from_raw_os_error(36));
             }
             return self.dir.read(buf);
         }

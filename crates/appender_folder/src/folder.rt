@@ -13,9 +13,10 @@ use std::rt::Files;
 use std::{fs, io};
 
 /// A folder of the file system. What it holds no contract tells, since other programs write to the
-/// disk too. Each call that answers an `Err` is counted in `failures`, and a name that cannot be that
-/// of one entry is refused by the kind InvalidInput, so that no call leaves the folder. Notices go to
-/// standard error, a line each.
+/// disk too. Each call that answers an `Err` is counted in `failures`, also where an opening goes on
+/// after it: a folder or a link that isn't there yet. A name that cannot be that of one entry is
+/// refused by the kind InvalidInput, so that no call leaves the folder. Notices go to standard error,
+/// a line each.
 #[derive(Drop)]
 pub struct DirFolder<R = HostRuntime> {
     rt: R,

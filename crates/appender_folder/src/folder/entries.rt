@@ -26,7 +26,7 @@ fn list_entry<R: Files + Clone + Drop>(
 ) -> io::Result<Listed> {
     let entry = match entry {
         Ok(entry) => entry,
-        Err(fault) if fault.kind() == io::ErrorKind::InvalidFilename => return Ok(unreadable()),
+        Err(fault) if is_no_text(&fault) => return Ok(unreadable()),
         Err(fault) => return Err(fault),
     };
     match entry.metadata() {
@@ -37,6 +37,11 @@ fn list_entry<R: Files + Clone + Drop>(
         }),
         Err(_) => Ok(unreadable()),
     }
+}
+
+// Whether std refused a name that is no UTF-8. A fault of the system of the same kind has a number.
+fn is_no_text(fault: &io::Error) -> bool {
+    fault.kind() == io::ErrorKind::InvalidFilename && fault.raw_os_error().is_none()
 }
 
 fn unreadable() -> Listed {
