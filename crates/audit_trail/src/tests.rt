@@ -131,6 +131,14 @@ fn hourly(
     }
 }
 
+// Checks what a file of a folder in memory holds.
+fn expect_file(rt: &impl Abort, folder: &MemoryFolder, name: &str, text: &str) {
+    match folder.bytes(name) {
+        Some(bytes) => assert_eq!(rt; bytes, text.as_bytes(), "{name}"),
+        None => assert!(rt; false, "no {name}"),
+    }
+}
+
 #[test]
 fn each_line_is_put_at_its_moment(rt: HostRuntime) -> Result<(), Fail> {
     let alloc = rt.alloc();
@@ -138,8 +146,8 @@ fn each_line_is_put_at_its_moment(rt: HostRuntime) -> Result<(), Fail> {
     let mut input = b"a\nb\nc".as_slice();
     assert!(rt; write_lines(alloc, &mut input, &mut appender).is_ok());
     let (folder, _) = appender.into_parts();
-    assert_eq!(rt; folder.bytes("app.2020-02-01-10"), Some(b"a\n".as_slice()));
-    assert_eq!(rt; folder.bytes("app.2020-02-01-11"), Some(b"b\nc".as_slice()));
+    expect_file(&rt, &folder, "app.2020-02-01-10", "a\n");
+    expect_file(&rt, &folder, "app.2020-02-01-11", "b\nc");
     Ok(())
 }
 
@@ -157,7 +165,7 @@ fn a_line_cut_short_is_told(rt: HostRuntime) -> Result<(), Fail> {
         )
     );
     let (folder, _) = appender.into_parts();
-    assert_eq!(rt; folder.bytes("app.2020-02-01-10"), Some(b"a".as_slice()));
+    expect_file(&rt, &folder, "app.2020-02-01-10", "a");
     Ok(())
 }
 
