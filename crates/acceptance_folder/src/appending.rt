@@ -4,7 +4,6 @@ use crate::scene::{
     ELEVEN, START, TWELVE, TestClock, at, clear, expect_files, fresh, hourly_log, names_in, opened,
     target_of, text_of,
 };
-use crate::stand_in::{Script, StandIn};
 use std::alloc::Global;
 use std::io::Write;
 use std::process::Abort;
@@ -219,17 +218,5 @@ fn an_appender_shows_its_file_and_boundary(rt: HostRuntime) -> Result<(), Fail> 
     );
     let shown = format!(in alloc; "{:?}", SystemClock::new(rt))?;
     assert!(rt; shown.as_str().starts_with("SystemClock"), "{shown}");
-    Ok(())
-}
-
-#[test]
-fn the_system_clock_tells_whole_seconds(rt: HostRuntime) -> Result<(), Fail> {
-    let script = Script::new(rt.alloc());
-    let clock = SystemClock::new(StandIn::new(rt, &script));
-    assert_eq!(rt; clock.now(), i64::MIN);
-    for (seconds, moment) in [(0, 0), (1_580_551_260, START), (u64::MAX, i64::MIN)] {
-        script.seconds.set(Some(seconds));
-        assert_eq!(rt; clock.now(), moment);
-    }
     Ok(())
 }

@@ -1,4 +1,4 @@
-//! Tests of the log writers over real folders, and over a system whose calls fail as a test chooses.
+//! Tests of the log writers over real folders.
 #![tactic(auto)]
 
 #[cfg(test)]
@@ -6,16 +6,4 @@ mod appending;
 #[cfg(test)]
 mod calls;
 #[cfg(test)]
-mod each_call;
-#[cfg(test)]
-mod faults;
-#[cfg(test)]
-mod listings;
-#[cfg(test)]
-mod notices;
-#[cfg(test)]
 mod scene;
-#[cfg(test)]
-mod scripts;
-#[cfg(test)]
-mod stand_in;

@@ -8,7 +8,7 @@ use std::process::Abort;
 use std::rt::Files;
 use std::test::Fail;
 use std::{env, fs, io, process};
-use tracing_appender::rolling::{Builder, Clock, InitError, RollingFileAppender, Rotation};
+use tracing_appender::rolling::{Builder, Clock, RollingFileAppender, Rotation};
 use tracing_appender::store::Folder;
 
 /// 2020-02-01 10:01:00.
@@ -157,19 +157,6 @@ pub fn opened<S: Folder, C: Clock>(
     match builder.build_in(alloc, folder, clock) {
         Ok(appender) => Ok(appender),
         Err((error, _folder, _clock)) => Err(Fail::from(error)),
-    }
-}
-
-/// The error of an opening that has to be refused.
-pub fn refused<S: Folder, C: Clock>(
-    alloc: Global,
-    builder: &Builder,
-    folder: S,
-    clock: C,
-) -> Result<(InitError, S), Fail> {
-    match builder.build_in(alloc, folder, clock) {
-        Ok(_appender) => Err(Fail::new("opened")),
-        Err((error, folder, _clock)) => Ok((error, folder)),
     }
 }
 
