@@ -9,7 +9,8 @@ use std::io::Write;
 use std::process::Abort;
 use std::rt::Files;
 use std::test::Fail;
-use std::{env, fs, io};
+use std::time::Duration;
+use std::{env, fs, io, time};
 use tracing_appender::folder::DirFolder;
 use tracing_appender::rolling::{
     Builder, Clock, FileAppender, RollingFileAppender, SystemClock, daily, hourly, minutely, never,
@@ -219,4 +220,33 @@ fn an_appender_shows_its_file_and_boundary(rt: HostRuntime) -> Result<(), Fail> 
     let shown = format!(in alloc; "{:?}", SystemClock::new(rt))?;
     assert!(rt; shown.as_str().starts_with("SystemClock"), "{shown}");
     Ok(())
+}
+
+// A system whose clock tells so many seconds since 1970, if it can be read.
+#[derive(Drop)]
+struct Stopped {
+    seconds: Option<u64>,
+}
+
+impl time::Clock for Stopped {
+    fn monotonic(&self) -> io::Result<Duration> {
+        self.since_1970()
+    }
+
+    fn since_1970(&self) -> io::Result<Duration> {
+        let seconds = self.seconds.ok_or(io::ErrorKind::Unsupported)?;
+        Ok(Duration::from_secs(seconds))
+    }
+}
+
+#[test]
+fn the_system_clock_tells_whole_seconds(rt: HostRuntime) {
+    for (seconds, moment) in [
+        (None, i64::MIN),
+        (Some(0), 0),
+        (Some(1_580_551_260), START),
+        (Some(u64::MAX), i64::MIN),
+    ] {
+        assert_eq!(rt; SystemClock::new(Stopped { seconds }).now(), moment);
+    }
 }

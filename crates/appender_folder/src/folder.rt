@@ -27,13 +27,17 @@ pub struct DirFolder<R = HostRuntime> {
 }
 
 impl<R: Files + AllocGlobal + Eprint + Clone + Drop> DirFolder<R> {
-    ghost use Rattle.std.specs.Prelude.{◌≡◌, ◌%◌, ◌^◌};
+    ghost use Rattle.std.specs.Prelude.{◌≡◌, ◌%◌, ◌^◌, IfOk};
     ghost use Rattle.appender_store.specs.MemoryState.{count_of};
     ghost use Rattle.appender_store.specs.NoticeCounts.{counts_of};
 
     /// The folder at a path, which need not be there yet; an empty path is the current directory.
     /// Nothing is read or made.
-    pub fn new(rt: R, path: &str) -> Result<DirFolder<R>, AllocError> {
+    pub fn new(rt: R, path: &str) -> Result<DirFolder<R>, AllocError>
+        ensures failures { IfOk result (λ folder. folder.failures ≡ 0) }
+        ensures notices { IfOk result (λ folder. counts_of folder.noted ≡
+            record { lists = 0; removes = 0; flushes = 0; opens = 0 }) }
+    {
         let mut base = String::from_str(rt.alloc(), path)?;
         if base.is_empty() {
             base.push('.')?;

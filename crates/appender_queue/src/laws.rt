@@ -39,6 +39,7 @@ ghost use Rattle.appender_queue.specs.Runs.{
 
 /// An accepted line lies last and has the next ticket. A refused one changes at most the count of
 /// dropped lines.
+#[inline(always)]
 pub fn offers_change_little()
     ensures { (old new : Queue) (line : Vec ℕ Global) (reply : Result ℕ Refused)
         → Offers old line reply new → OfferLeaves old new line.items reply }

@@ -132,6 +132,7 @@ impl<S: Store> Rules<S> {
         }
     }
 
+    #[inline(always)]
     fn is_roomy(&self) -> bool
         requires { self.now.closed ≡ false }
         ensures { result ≡ has_room self.now }
@@ -144,7 +145,7 @@ impl<S: Store> Rules<S> {
         }
     }
 
-    #[inline]
+    #[inline(always)]
     fn offer(&mut self, line: Vec<u8>) -> Result<u64, Refused>
         ensures { Offers self.old line result self.new }
     {
@@ -179,7 +180,7 @@ impl<S: Store> Rules<S> {
         Shut::Sent
     }
 
-    #[inline]
+    #[inline(always)]
     fn take(&mut self, waits: bool) -> Taken
         ensures { Takes self.old waits result self.new }
     {
@@ -259,7 +260,8 @@ impl Model for LineQueue {
 }
 
 impl LineQueue {
-    ghost use Rattle.appender_queue.specs.Queue.{fresh, IsLawful};
+    ghost use Rattle.std.specs.Prelude.{not, ◌&&◌};
+    ghost use Rattle.appender_queue.specs.Queue.{fresh, has_room, IsLawful};
     ghost use Rattle.appender_queue.specs.QueueCalls.{
       Offers,
       Shuts,
@@ -282,7 +284,7 @@ impl LineQueue {
     }
 
     /// Puts a line at the end, and answers its ticket: 1 for the first accepted line, then 2, ..
-    #[inline]
+    #[inline(always)]
     pub fn offer(&mut self, line: Vec<u8>) -> Result<u64, Refused>
         ensures { Offers self.old line result self.new }
     {
@@ -298,7 +300,7 @@ impl LineQueue {
 
     /// Takes what lies first, for the worker. `waits` says whether the worker will wait where
     /// nothing is there, so that at limit 0 a line can be handed over.
-    #[inline]
+    #[inline(always)]
     pub fn take(&mut self, waits: bool) -> Taken
         ensures { Takes self.old waits result self.new }
     {
@@ -319,7 +321,16 @@ impl LineQueue {
         self.rules.drop_sender()
     }
 
+    /// Whether neither a line nor the shutdown would find a place. A closed queue isn't full.
+    #[inline(always)]
+    pub fn is_full(&self) -> bool
+        ensures { result ≡ (not self.now.closed && not (has_room self.now)) }
+    {
+        !self.rules.closed && !self.rules.is_roomy()
+    }
+
     /// How many lines were accepted, handed, are queued, are left and were dropped.
+    #[inline(always)]
     pub fn counts(&self) -> Counts
         ensures { TellsCounts self.now result }
     {

@@ -6,9 +6,9 @@ ghost use Rattle.appender_queue.specs.CoreReplies.{answer_of};
 ghost use Rattle.appender_queue.specs.Inside.LineSteps.{IsNext};
 
 use crate::queue::Taken;
-use std::io;
 use std::io::{ErrorKind, Write};
 use std::marker::Model;
+use std::{io, mem};
 
 // How often the writing of one line may be interrupted and tried again.
 const MOST_REPEATS: u32 = 100;
@@ -51,6 +51,8 @@ enum State {
 #[derive(Debug, Drop)]
 pub struct WorkerCore {
     state: State,
+    // The buffer of the line that was written last, until somebody wants it.
+    spent: Option<Vec<u8>>,
 }
 
 impl Model for WorkerCore {
@@ -82,7 +84,17 @@ impl WorkerCore {
     {
         WorkerCore {
             state: State::Take { waits: true },
+            spent: None,
         }
+    }
+
+    /// The buffer of the line that was written or given up last, to be used for another line. It is
+    /// there once.
+    #[inline(always)]
+    pub fn take_spent(&mut self) -> Option<Vec<u8>>
+        ensures { self.new ≡ self.old }
+    {
+        self.spent.take()
     }
 
     /// What to do next.
@@ -138,8 +150,18 @@ impl WorkerCore {
         match next(line.len() - *from, *repeats, &answer) {
             Step::More(n) => *from += n,
             Step::Again => *repeats += 1,
-            Step::Whole => self.state = State::Take { waits: false },
-            Step::GivenUp => self.state = State::Take { waits: true },
+            Step::Whole => self.end_line(false),
+            Step::GivenUp => self.end_line(true),
+        }
+    }
+
+    // Ends the line in hand, and keeps its buffer.
+    fn end_line(&mut self, waits: bool)
+        ensures { self.new ≡ Taking waits }
+    {
+        let ended = mem::replace(&mut self.state, State::Take { waits });
+        if let State::Write { line, .. } = ended {
+            self.spent = Some(line);
         }
     }
 

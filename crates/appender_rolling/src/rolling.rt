@@ -14,6 +14,7 @@ pub use appender_names::rotation::Rotation;
 use appender_names::rotation::in_range;
 use appender_store::laws::names_change_one_at_a_time;
 use appender_store::store::{Folder, Notice};
+pub use appender_writers::MakeWriter;
 pub use builder::Builder;
 pub use clock::{Clock, SystemClock};
 use setup::{Opened, Setup, is_refused_name};

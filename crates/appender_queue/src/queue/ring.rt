@@ -41,10 +41,12 @@ impl Store for Ring {
 
     ghost room = { λ r. r.1 };
 
+    #[inline(always)]
     fn len(&self) -> usize {
         self.lines.len()
     }
 
+    #[inline(always)]
     fn put(&mut self, line: Vec<u8>) {
         // A full ring would give the line back. Here there is room.
         let Ok(()) = self.lines.try_push_back(line) else {
@@ -52,6 +54,7 @@ impl Store for Ring {
         };
     }
 
+    #[inline(always)]
     fn take_first(&mut self) -> Option<Vec<u8>> {
         self.lines.pop_front()
     }

@@ -1,0 +1,110 @@
+// Scripts of `rollplay` without a queue, carried out over a folder in memory and over a fake disk.
+
+use appender_folder::folder::DirFolder;
+use appender_replay::replay::replay_rolling;
+use appender_rolling::rolling::Builder;
+use appender_store::store::{Folder, Kind, MemoryFolder};
+use fake_files::disk::{Disk, FOLDER};
+use fake_files::fake::Fake;
+use rollplay_rows::PLAYED;
+use rollplay_script::script::{LONGEST, Plan, Script};
+use std::alloc::Global;
+use std::io;
+use std::io::Error;
+use std::test::Fail;
+
+// Whether a disk can't do what a script says: fail at a call by its number among those of a folder,
+// or give a creation moment.
+fn needs_memory(script: &str) -> bool {
+    for line in script.lines() {
+        if line.starts_with("fail ") || line.starts_with("short ") || line.starts_with("created ") {
+            return true;
+        }
+    }
+    false
+}
+
+fn read(alloc: Global, script: &str) -> io::Result<Script> {
+    if script.len() > LONGEST {
+        return Err(Error::other("too long"));
+    }
+    match Script::read(alloc, script) {
+        Ok(script) => Ok(script),
+        Err(_) => Err(Error::other("no script")),
+    }
+}
+
+// The folder after a plan was carried out in it.
+fn carry_out<S: Folder>(
+    alloc: Global,
+    builder: &Builder,
+    folder: S,
+    start: i64,
+    plan: &Plan,
+) -> io::Result<S> {
+    match plan {
+        Plan::Rolling(steps) => match replay_rolling(alloc, builder, folder, start, steps) {
+            Ok(run) => Ok(run.roller.into_folder()),
+            Err(_) => Err(Error::other("not opened")),
+        },
+        Plan::Queued(_, _) => Err(Error::other("with a queue")),
+    }
+}
+
+// What a folder in memory holds after a script, as `Disk::shown` tells it.
+fn play_in_memory(alloc: Global, script: &str) -> io::Result<String> {
+    let Script {
+        builder,
+        folder,
+        start,
+        plan,
+    } = read(alloc, script)?;
+    let folder = carry_out(alloc, &builder, folder, start, &plan)?;
+    let copy = copied(alloc, &folder)?;
+    copy.shown()
+}
+
+// What a fake disk holds after a script.
+fn play_on_disk(alloc: Global, script: &str) -> io::Result<String> {
+    let is_absent = script.starts_with("absent\n");
+    let script = read(alloc, script)?;
+    let disk = copied(alloc, &script.folder)?;
+    if is_absent {
+        disk.remove_folder()?;
+    }
+    let folder = DirFolder::new(Fake::new(&disk), FOLDER)?;
+    carry_out(alloc, &script.builder, folder, script.start, &script.plan)?;
+    disk.shown()
+}
+
+// A disk that holds what a folder in memory does.
+fn copied(alloc: Global, folder: &MemoryFolder) -> io::Result<Disk> {
+    let disk = Disk::new(alloc);
+    for name in &folder.names()? {
+        copy_entry(&disk, folder, name.as_str())?;
+    }
+    Ok(disk)
+}
+
+fn copy_entry(disk: &Disk, folder: &MemoryFolder, name: &str) -> io::Result<()> {
+    match folder.kind(name) {
+        Some(Kind::Folder) => disk.put_folder(name),
+        Some(Kind::Link) => disk.put_link(name, folder.target(name).unwrap_or("")),
+        _ => disk.put_file(name.as_bytes(), folder.bytes(name).unwrap_or(b"")),
+    }
+}
+
+#[test]
+fn a_disk_comes_to_hold_what_memory_does(rt: HostRuntime) -> Result<(), Fail> {
+    let alloc = rt.alloc();
+    let mut compared = 0usize;
+    for (script, _) in PLAYED {
+        if !needs_memory(script) {
+            let on_disk = play_on_disk(alloc, script)?;
+            assert_eq!(rt; on_disk, play_in_memory(alloc, script)?, "{script:?}");
+            compared = compared.saturating_add(1);
+        }
+    }
+    assert_eq!(rt; compared, 26);
+    Ok(())
+}

@@ -1,0 +1,207 @@
+// What becomes of lines.
+use crate::gate::{come, comes, over_gate};
+use appender_non_blocking::non_blocking::{
+    Closing, DEFAULT_BUFFERED_LINES_LIMIT, NonBlocking, NonBlockingBuilder, non_blocking,
+};
+use appender_writers::MakeWriter;
+use std::io::{ErrorKind, Write};
+use std::process::Abort;
+use std::sync::atomic::Ordering::SeqCst;
+use std::test::Fail;
+use std::time::Duration;
+use std::{io, thread};
+
+#[test]
+fn a_lossy_queue_drops_what_finds_no_room(rt: HostRuntime) -> Result<(), Fail> {
+    let builder = NonBlockingBuilder::default().buffered_lines_limit(1);
+    let (mut sender, guard, seen) = over_gate(rt, builder, b"g")?;
+    let counter = sender.error_counter()?;
+    sender.write(b"g")?;
+    assert!(rt; comes(rt, &seen.holds));
+    assert_eq!(rt; sender.write(b"a")?, 1);
+    assert_eq!(rt; sender.write(b"b")?, 1);
+    assert_eq!(rt; counter.dropped_lines(), 1);
+    seen.open.store(true, SeqCst);
+    assert_eq!(rt; guard.close(), Closing::Done { left: 0 });
+    seen.shows(rt, b"g|a|")?;
+    // What was offered and never came.
+    assert_eq!(rt; counter.dropped_lines(), 3 - seen.count(rt).min(3));
+    Ok(())
+}
+
+// The writer is in the first line until the write of the second one has answered.
+#[test]
+fn a_held_writer_holds_no_sender(rt: HostRuntime) -> Result<(), Fail> {
+    let builder = NonBlockingBuilder::default()
+        .lossy(false)
+        .buffered_lines_limit(4);
+    let (mut sender, guard, seen) = over_gate(rt, builder, b"1")?;
+    sender.write(b"1")?;
+    assert!(rt; comes(rt, &seen.holds));
+    assert_eq!(rt; sender.write(b"2")?, 1);
+    seen.open.store(true, SeqCst);
+    drop(guard);
+    seen.shows(rt, b"1|2|")?;
+    assert!(rt; seen.last_flushes(rt) >= 2);
+    Ok(())
+}
+
+#[test]
+fn a_full_queue_keeps_its_sender_waiting(rt: HostRuntime) -> Result<(), Fail> {
+    let builder = NonBlockingBuilder::default()
+        .lossy(false)
+        .buffered_lines_limit(1);
+    let (mut sender, guard, seen) = over_gate(rt, builder, b"Hello")?;
+    let counter = sender.error_counter()?;
+    sender.write_all(b"Hello")?;
+    assert!(rt; comes(rt, &seen.holds));
+    sender.write_all(b", World")?;
+    let waits = thread::spawn(&rt, move || sender.write_all(b"!").is_ok())?;
+    assert_eq!(rt; seen.count(rt), 1);
+    assert_eq!(rt; counter.dropped_lines(), 0);
+    seen.open.store(true, SeqCst);
+    assert!(rt; waits.join(&rt));
+    assert_eq!(rt; guard.close(), Closing::Done { left: 0 });
+    seen.shows(rt, b"Hello|, World|!|")?;
+    assert_eq!(rt; counter.dropped_lines(), 0);
+    Ok(())
+}
+
+#[test]
+fn every_thread_gets_its_line_through(rt: HostRuntime) -> Result<(), Fail> {
+    let builder = NonBlockingBuilder::default();
+    let (sender, guard, seen) = over_gate(rt, builder, b"")?;
+    let counter = sender.error_counter()?;
+    let mut running = Vec::new(rt.alloc());
+    for _ in 0..10u32 {
+        let mut mine = sender.make_writer()?;
+        running.push(thread::spawn(&rt, move || {
+            let _ = mine.write_all(b"Hello");
+        })?)?;
+    }
+    for thread in running {
+        thread.join(&rt);
+    }
+    assert!(rt; come(rt, &seen, 10));
+    assert_eq!(rt; counter.dropped_lines(), 0);
+    drop(guard);
+    let lines = b"Hello|Hello|Hello|Hello|Hello|Hello|Hello|Hello|Hello|Hello|";
+    seen.shows(rt, lines.as_slice())
+}
+
+#[test]
+fn every_byte_comes_as_it_was(rt: HostRuntime) -> Result<(), Fail> {
+    let builder = NonBlockingBuilder::default().thread_name(rt.alloc(), "bytes")?;
+    let (mut sender, guard, seen) = over_gate(rt, builder, b"")?;
+    let mut line = Vec::new(rt.alloc());
+    for byte in 0..=255u8 {
+        line.push(byte)?;
+    }
+    assert_eq!(rt; sender.write(line.as_slice())?, 256);
+    sender.flush()?;
+    assert_eq!(rt; guard.close(), Closing::Done { left: 0 });
+    line.push(b'|')?;
+    seen.shows(rt, line.as_slice())
+}
+
+// The shutdown stands before the lines that come later, though the queue takes them.
+#[test]
+fn lines_behind_the_shutdown_are_not_written(rt: HostRuntime) -> Result<(), Fail> {
+    let (mut sender, guard, seen) = over_gate(rt, NonBlockingBuilder::default(), b"g")?;
+    let counter = sender.error_counter()?;
+    sender.write(b"g")?;
+    assert!(rt; comes(rt, &seen.holds));
+    assert_eq!(rt; guard.close(), Closing::Pending);
+    sender.write(b"late")?;
+    assert_eq!(rt; counter.dropped_lines(), 0);
+    seen.open.store(true, SeqCst);
+    // The queue closes once the worker takes the shutdown, and drops what comes then.
+    for _ in 0..10_000u32 {
+        if counter.dropped_lines() > 0 {
+            break;
+        }
+        sender.write(b"later")?;
+        thread::sleep(&rt, Duration::from_millis(1));
+    }
+    assert!(rt; counter.dropped_lines() > 0);
+    seen.shows(rt, b"g|")
+}
+
+#[test]
+fn a_closed_queue_takes_no_line(rt: HostRuntime) -> Result<(), Fail> {
+    for lossy in [true, false] {
+        let builder = NonBlockingBuilder::default().lossy(lossy);
+        let (mut sender, guard, seen) = over_gate(rt, builder, b"")?;
+        let counter = sender.error_counter()?.clone()?;
+        assert_eq!(rt; guard.close(), Closing::Done { left: 0 });
+        match sender.write(b"late") {
+            Ok(taken) => assert!(rt; lossy && taken == 4),
+            Err(fault) => assert!(rt; !lossy && fault.kind() == ErrorKind::Other),
+        }
+        assert_eq!(rt; counter.dropped_lines(), if lossy { 1 } else { 0 });
+        assert_eq!(rt; seen.count(rt), 0);
+    }
+    Ok(())
+}
+
+// The guard finds no room for the shutdown, and says so.
+#[test]
+fn a_guard_tells_that_the_queue_stays_full(rt: HostRuntime) -> Result<(), Fail> {
+    let builder = NonBlockingBuilder::default()
+        .lossy(false)
+        .buffered_lines_limit(1);
+    let (mut sender, guard, seen) = over_gate(rt, builder, b"g")?;
+    sender.write(b"g")?;
+    assert!(rt; comes(rt, &seen.holds));
+    sender.write(b"a")?;
+    assert_eq!(rt; guard.close(), Closing::Full);
+    seen.open.store(true, SeqCst);
+    drop(sender);
+    // The worker ends with its last sender, and leaves no line behind.
+    assert!(rt; come(rt, &seen, 2));
+    Ok(())
+}
+
+// A writer of which each write fails.
+#[derive(Drop)]
+struct Failing;
+
+impl Write for Failing {
+    fn write(&mut self, _buf: &[u8]) -> io::Result<usize> {
+        Err(io::Error::from(ErrorKind::StorageFull))
+    }
+
+    fn flush(&mut self) -> io::Result<()> {
+        Err(io::Error::from(ErrorKind::StorageFull))
+    }
+}
+
+// Each line is given up, and the worker goes on to its end.
+#[test]
+fn a_writer_that_fails_ends_too(rt: HostRuntime) -> Result<(), Fail> {
+    let (mut sender, guard) = non_blocking(rt, rt.alloc(), Failing)?;
+    sender.write(b"a")?;
+    sender.write(b"b")?;
+    assert_eq!(rt; guard.close(), Closing::Done { left: 0 });
+    let (mut sender, guard) = NonBlocking::new(rt, rt.alloc(), Failing)?;
+    sender.write(b"a")?;
+    drop(sender);
+    assert_eq!(rt; guard.close(), Closing::Done { left: 0 });
+    Ok(())
+}
+
+#[test]
+fn all_types_can_be_shown(rt: HostRuntime) -> Result<(), Fail> {
+    let builder = NonBlockingBuilder::default();
+    let shown = format!(in rt.alloc(); "{builder:?}")?;
+    assert!(rt; shown.as_str().contains("128000"), "{shown}");
+    assert_eq!(rt; DEFAULT_BUFFERED_LINES_LIMIT, 128_000);
+    let (sender, guard, _seen) = over_gate(rt, builder, b"")?;
+    let counter = sender.error_counter()?;
+    let shown = format!(in rt.alloc(); "{sender:?} {guard:?} {counter:?}")?;
+    assert_eq!(rt;
+        shown.as_str(),
+        "NonBlocking { .. } WorkerGuard { .. } ErrorCounter { .. }"
+    );
+    Ok(())
+}

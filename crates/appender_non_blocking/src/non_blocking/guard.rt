@@ -1,0 +1,110 @@
+// The guard that ends the worker.
+ghost use Rattle.std.specs.Prelude.{◌≡◌};
+
+use super::pace::Patience;
+use super::shared::Shared;
+use appender_queue::queue::Shut;
+use std::alloc::Global;
+use std::fmt;
+use std::fmt::{Debug, Formatter};
+use std::sync::{Arc, CondvarTimeouts, Wait};
+use std::time::{Clock, Duration};
+
+// How long a guard tries to send the shutdown, and then waits for the worker's end, in milliseconds:
+// those of the crate tracing-appender.
+const SHUTDOWN_MILLIS: u64 = 100;
+
+const END_MILLIS: u64 = 1000;
+
+/// What became of a guard that was closed.
+#[derive(Clone, Copy, PartialEq, Eq, Debug)]
+pub enum Closing {
+    /// The worker ended.
+    Done {
+        /// How many accepted lines stood behind the shutdown, and so were not written.
+        left: u64,
+    },
+    /// The shutdown was sent, and the worker had not ended after 1,000 milliseconds.
+    Pending,
+    /// No shutdown was sent: the queue stayed full for 100 milliseconds.
+    Full,
+    /// The queue was closed already.
+    Ended,
+}
+
+/// Sends the shutdown when it is dropped, and then waits for the worker's end, for up to 1,000
+/// milliseconds. It counts as a sender. Keep it as long as lines are to be written.
+#[must_use]
+pub struct WorkerGuard<R: Wait + Clock + Print + Drop> {
+    rt: R,
+    shared: Arc<Shared, Global>,
+}
+
+impl<R: Wait + Clock + Print + Drop> WorkerGuard<R> {
+    pub(super) fn new(rt: R, shared: Arc<Shared, Global>) -> WorkerGuard<R> {
+        WorkerGuard { rt, shared }
+    }
+
+    /// Does what dropping does, and tells what came of it.
+    pub fn close(self) -> Closing {
+        let WorkerGuard { rt, shared } = self;
+        let closing = close(&rt, &*shared);
+        shared.drop_sender(&rt);
+        closing
+    }
+}
+
+impl<R: Wait + Clock + Print + Drop> Drop for WorkerGuard<R> {
+    fn drop(self) {
+        let WorkerGuard { rt, shared } = self;
+        if let Closing::Full = close(&rt, &*shared) {
+            let _ = rt.println("Failed to send shutdown signal to logging worker. Error: Shutdown");
+        }
+        shared.drop_sender(&rt);
+    }
+}
+
+impl<R: Wait + Clock + Print + Drop> Debug for WorkerGuard<R> {
+    fn fmt<W: fmt::Write>(&self, f: &mut Formatter<W>) -> fmt::Result {
+        f.pad("WorkerGuard { .. }")
+    }
+}
+
+fn close<R: Wait + Clock>(rt: &R, shared: &Shared) -> Closing {
+    match send_shutdown(rt, shared) {
+        Shut::Closed => Closing::Ended,
+        Shut::Full => Closing::Full,
+        Shut::Sent | Shut::Already => wait_for_end(rt, shared),
+    }
+}
+
+// Sends the shutdown, for which it waits for room.
+fn send_shutdown<R: Wait + Clock>(rt: &R, shared: &Shared) -> Shut {
+    let mut state = shared.lock(rt, &mut Patience::NEW);
+    let waits = state.begins_waiting();
+    if waits {
+        let time = Duration::from_millis(SHUTDOWN_MILLIS);
+        state = shared
+            .room
+            .wait_timeout_while(rt, state, time, |state| state.goes_on_waiting())
+            .0;
+    }
+    let (reply, calls) = state.shut(waits);
+    drop(state);
+    shared.wake(calls);
+    reply
+}
+
+fn wait_for_end<R: Wait + Clock>(rt: &R, shared: &Shared) -> Closing {
+    let time = Duration::from_millis(END_MILLIS);
+    let (ended, result) = shared
+        .end
+        .wait_timeout_while(rt, shared.ended.lock(rt), time, |ended| !*ended);
+    drop(ended);
+    if result.timed_out() {
+        return Closing::Pending;
+    }
+    Closing::Done {
+        left: shared.lock(rt, &mut Patience::NEW).left(),
+    }
+}

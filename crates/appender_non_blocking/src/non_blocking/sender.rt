@@ -1,0 +1,301 @@
+// Senders, and the count of lines that they could not queue.
+ghost use Rattle.std.specs.Prelude.{◌≡◌, length, IfOk, IfErr, IsErr, IsOk, true, false};
+ghost use Rattle.std.specs.IoError.{error_kind};
+ghost use Rattle.appender_non_blocking.specs.Refusal.{IsRefusal};
+
+use super::pace::{FULL_REST, LOOKS, MOST_BYTES, Patience, rest};
+use super::shared::Shared;
+use appender_queue::queue::Refused;
+use appender_writers::MakeWriter;
+use std::alloc::{AllocError, Global};
+use std::fmt::{Debug, Formatter};
+use std::io::{ErrorKind, Write};
+use std::sync::atomic::Ordering::SeqCst;
+use std::sync::{Arc, Wait};
+use std::{fmt, io, mem};
+
+/// Offers lines to a queue, which a worker empties. Each `write` is one line, and `flush` does
+/// nothing: the worker flushes its writer whenever it finds the queue empty. A clone is one more
+/// sender; once the last one and the guard are dropped, the worker writes what lies in the queue, and
+/// ends.
+pub struct NonBlocking<R: Wait + Drop> {
+    rt: R,
+    alloc: Global,
+    shared: Arc<Shared, Global>,
+    lossy: bool,
+    // The buffer for the next line.
+    spare: Vec<u8>,
+    patience: Patience,
+}
+
+impl<R: Wait + Drop> NonBlocking<R> {
+    /// The sender that a new queue counts already.
+    pub(super) fn first(
+        rt: R,
+        alloc: Global,
+        shared: Arc<Shared, Global>,
+        lossy: bool,
+    ) -> NonBlocking<R>
+        ensures { result.lossy ≡ lossy }
+    {
+        NonBlocking {
+            rt,
+            alloc,
+            shared,
+            lossy,
+            spare: Vec::new(alloc),
+            patience: Patience::NEW,
+        }
+    }
+
+    /// The count of lines that were dropped. `AllocError` only where the runtime can't count one more
+    /// owner of the queue.
+    pub fn error_counter(&self) -> Result<ErrorCounter, AllocError>
+        ensures { IfOk result (λ counter. counter.lossy ≡ self.now.lossy) }
+    {
+        Ok(ErrorCounter {
+            shared: Arc::try_clone(&self.shared)?,
+            lossy: self.lossy,
+        })
+    }
+
+    // Copies a line, and sends the copy. An error is told by its kind alone, since an `io::Error` is
+    // large and this is the way of every line.
+    #[inline(always)]
+    fn send_copy(&mut self, buf: &[u8]) -> Result<(), ErrorKind>
+        ensures kind { IfErr result (λ kind. IsRefusal self.old.lossy kind) }
+        ensures same { self.new.lossy ≡ self.old.lossy }
+    {
+        let NonBlocking {
+            rt,
+            alloc,
+            shared,
+            lossy,
+            spare,
+            patience,
+        } = self;
+        let mut line = mem::replace(spare, Vec::new(*alloc));
+        line.clear();
+        if line.extend_from_slice(buf).is_err() {
+            return Err(ErrorKind::OutOfMemory);
+        }
+        if send(rt, &**shared, *lossy, line, spare, patience) {
+            Ok(())
+        } else {
+            Err(ErrorKind::Other)
+        }
+    }
+}
+
+impl<R: Wait + Drop> Write for NonBlocking<R> {
+    /// Queues a copy of the bytes as one line, be it an empty one, and answers their number. Where the
+    /// queue is full or closed, a lossy one drops the line and answers no less; else the call waits for
+    /// room, and a closed queue is an error of the kind `Other`. `OutOfMemory` where there is no memory
+    /// for the copy: then nothing was queued or counted.
+    #[inline]
+    fn write(&mut self, buf: &[u8]) -> io::Result<usize>
+        ensures whole { IfOk result (λ n. n ≡ length buf.now) }
+        ensures kind { IfErr result (λ e. IsRefusal self.old.lossy (error_kind e)) }
+    {
+        if let Err(kind) = self.send_copy(buf) {
+            return fault(kind);
+        }
+        Ok(buf.len())
+    }
+
+    fn flush(&mut self) -> io::Result<()>
+        ensures { IsOk result }
+    {
+        Ok(())
+    }
+}
+
+#[cold]
+#[inline(never)]
+fn fault(kind: ErrorKind) -> io::Result<usize>
+    ensures kind { IfErr result (λ e. error_kind e ≡ kind) }
+    ensures err { IsErr result }
+{
+    Err(io::Error::from(kind))
+}
+
+// One locked offer. Where a waiting queue is full, others follow once it may have room. Answers
+// whether the line was queued or dropped, and not refused by a closed queue.
+#[inline(always)]
+fn send<R: Wait>(
+    rt: &R,
+    shared: &Shared,
+    lossy: bool,
+    line: Vec<u8>,
+    spare: &mut Vec<u8>,
+    patience: &mut Patience,
+) -> bool
+    ensures { lossy ≡ true → result ≡ true }
+{
+    let mut state = shared.lock(rt, patience);
+    let (reply, calls) = state.offer(line, false, spare);
+    match reply {
+        Ok(pace) => {
+            drop(state);
+            shared.wake(calls);
+            pace.keep();
+            true
+        }
+        Err(refused) if lossy => {
+            shared.dropped.store(state.dropped(), SeqCst);
+            drop(state);
+            shared.wake(calls);
+            recycle(spare, refused);
+            true
+        }
+        Err(Refused::Closed(_)) => {
+            drop(state);
+            shared.wake(calls);
+            false
+        }
+        Err(Refused::Full(line)) => {
+            drop(state);
+            shared.wake(calls);
+            send_later(rt, shared, line, spare, patience)
+        }
+    }
+}
+
+// Looks for room a number of times, then sleeps until there is some, and offers the line again.
+#[cold]
+#[inline(never)]
+fn send_later<R: Wait>(
+    rt: &R,
+    shared: &Shared,
+    line: Vec<u8>,
+    spare: &mut Vec<u8>,
+    patience: &mut Patience,
+) -> bool {
+    let mut line = line;
+    let mut came = false;
+    let mut looks = 1u32;
+    rest(FULL_REST);
+    let mut state = shared.lock(rt, patience);
+    for _ in rt.forever() {
+        let (reply, calls) = state.offer(line, came, spare);
+        came = false;
+        match reply {
+            Ok(_) => {
+                drop(state);
+                shared.wake(calls);
+                return true;
+            }
+            Err(Refused::Closed(_)) => {
+                drop(state);
+                shared.wake(calls);
+                return false;
+            }
+            Err(Refused::Full(back)) => {
+                line = back;
+                shared.wake(calls);
+                if looks < LOOKS {
+                    drop(state);
+                    rest(FULL_REST);
+                    looks += 1;
+                    state = shared.lock(rt, patience);
+                } else if state.begins_waiting() {
+                    state = shared.room.wait(rt, state);
+                    came = true;
+                }
+            }
+        }
+    }
+    unreachable!()
+}
+
+// Keeps the buffer of a line that was refused, unless it is large.
+fn recycle(spare: &mut Vec<u8>, refused: Refused) {
+    let (Refused::Full(line) | Refused::Closed(line)) = refused;
+    if line.capacity() <= MOST_BYTES {
+        *spare = line;
+    }
+}
+
+impl<R: Wait + Clone> Clone for NonBlocking<R> {
+    ghost is_clone = { λ x y. y.lossy ≡ x.lossy };
+
+    fn clone(&self) -> Result<NonBlocking<R>, AllocError> {
+        let rt = self.rt.clone()?;
+        let shared = Arc::try_clone(&self.shared)?;
+        shared.add_sender(&rt);
+        Ok(NonBlocking {
+            rt,
+            alloc: self.alloc,
+            shared,
+            lossy: self.lossy,
+            spare: Vec::new(self.alloc),
+            patience: Patience::NEW,
+        })
+    }
+}
+
+impl<'a, R: Wait + Clone> MakeWriter<'a> for NonBlocking<R> {
+    type Writer = NonBlocking<R>;
+
+    /// One more sender.
+    fn make_writer(&'a self) -> Result<NonBlocking<R>, AllocError> {
+        self.clone()
+    }
+}
+
+impl<R: Wait + Drop> Drop for NonBlocking<R> {
+    fn drop(self) {
+        let NonBlocking {
+            rt,
+            alloc: _,
+            shared,
+            lossy: _,
+            spare: _,
+            patience: _,
+        } = self;
+        shared.drop_sender(&rt);
+    }
+}
+
+impl<R: Wait + Drop> Debug for NonBlocking<R> {
+    fn fmt<W: fmt::Write>(&self, f: &mut Formatter<W>) -> fmt::Result {
+        f.pad("NonBlocking { .. }")
+    }
+}
+
+/// How many lines a lossy queue dropped, as far as it is known; 0 where senders wait.
+#[derive(Drop)]
+pub struct ErrorCounter {
+    shared: Arc<Shared, Global>,
+    lossy: bool,
+}
+
+impl ErrorCounter {
+    /// The number of dropped lines, as it was stored last. The call takes no lock.
+    pub fn dropped_lines(&self) -> usize
+        ensures waiting { self.now.lossy ≡ false → result ≡ 0 }
+    {
+        if self.lossy {
+            self.shared.dropped.load(SeqCst)
+        } else {
+            0
+        }
+    }
+}
+
+impl Clone for ErrorCounter {
+    ghost is_clone = { λ x y. y.lossy ≡ x.lossy };
+
+    fn clone(&self) -> Result<ErrorCounter, AllocError> {
+        Ok(ErrorCounter {
+            shared: Arc::try_clone(&self.shared)?,
+            lossy: self.lossy,
+        })
+    }
+}
+
+impl Debug for ErrorCounter {
+    fn fmt<W: fmt::Write>(&self, f: &mut Formatter<W>) -> fmt::Result {
+        f.pad("ErrorCounter { .. }")
+    }
+}

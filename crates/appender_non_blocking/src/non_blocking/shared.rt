@@ -1,0 +1,104 @@
+// What senders, guard and worker share.
+use super::pace::{PAUSES, Patience, YIELDS};
+use super::state::{Calls, State};
+use crossbeam_utils::CachePadded;
+use std::alloc::{AllocError, Global};
+use std::sync::atomic::AtomicUsize;
+use std::sync::{Condvar, Mutex, MutexGuard, Wait};
+use std::thread;
+
+#[derive(Drop)]
+pub(super) struct Shared {
+    // Alone on its lines of the processor's cache.
+    state: CachePadded<Mutex<State>>,
+    // The worker waits here.
+    pub(super) came: Condvar,
+    // Senders and the guard wait here.
+    pub(super) room: Condvar,
+    // Whether the worker has ended, and where the guard waits for that.
+    pub(super) ended: Mutex<bool>,
+    pub(super) end: Condvar,
+    // A copy of the count of dropped lines, stored while the lock is held.
+    pub(super) dropped: AtomicUsize,
+}
+
+impl Shared {
+    /// An empty queue with one sender.
+    pub(super) fn new(alloc: Global, limit: usize, lossy: bool) -> Result<Shared, AllocError> {
+        Ok(Shared {
+            state: CachePadded::new(Mutex::new(State::new(alloc, limit, lossy)?)),
+            came: Condvar::new(),
+            room: Condvar::new(),
+            ended: Mutex::new(false),
+            end: Condvar::new(),
+            dropped: AtomicUsize::new(0),
+        })
+    }
+
+    /// Takes the lock: tries for a while before it sleeps.
+    #[inline(always)]
+    pub(super) fn lock<R: Wait>(&self, rt: &R, patience: &mut Patience) -> MutexGuard<'_, State> {
+        let lock: &Mutex<State> = &self.state;
+        if let Some(guard) = lock.try_lock() {
+            patience.shrinks();
+            return guard;
+        }
+        self.lock_again(rt, patience)
+    }
+
+    #[cold]
+    #[inline(never)]
+    fn lock_again<R: Wait>(&self, rt: &R, patience: &mut Patience) -> MutexGuard<'_, State> {
+        let lock: &Mutex<State> = &self.state;
+        for turn in 0..PAUSES + YIELDS {
+            if turn < PAUSES {
+                patience.pauses();
+            } else {
+                thread::yield_now();
+            }
+            if let Some(guard) = lock.try_lock() {
+                return guard;
+            }
+        }
+        lock.lock(rt)
+    }
+
+    /// Wakes those who are called. The lock was let go, or is let go by a wait.
+    #[inline(always)]
+    pub(super) fn wake(&self, calls: Calls) {
+        let Calls { worker, sender } = calls;
+        if worker || sender {
+            self.notify(worker, sender);
+        }
+    }
+
+    #[cold]
+    #[inline(never)]
+    fn notify(&self, worker: bool, sender: bool) {
+        if worker {
+            self.came.notify_one();
+        }
+        if sender {
+            self.room.notify_one();
+        }
+    }
+
+    /// One sender more.
+    pub(super) fn add_sender<R: Wait>(&self, rt: &R) {
+        self.lock(rt, &mut Patience::NEW).add_sender();
+    }
+
+    /// One sender less.
+    pub(super) fn drop_sender<R: Wait>(&self, rt: &R) {
+        let mut state = self.lock(rt, &mut Patience::NEW);
+        let calls = state.drop_sender();
+        drop(state);
+        self.wake(calls);
+    }
+
+    /// Tells the guard that the worker has ended.
+    pub(super) fn announce_end<R: Wait>(&self, rt: &R) {
+        *self.ended.lock(rt) = true;
+        self.end.notify_all();
+    }
+}

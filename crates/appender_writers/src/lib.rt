@@ -1,0 +1,15 @@
+//! What makes writers, as loggers ask for them.
+#![tactic(auto)]
+
+use std::alloc::AllocError;
+use std::io::Write;
+
+/// Makes a writer for each piece that a logger writes, as the trait of the same name in the crate
+/// `tracing-subscriber` does.
+pub trait MakeWriter<'a> {
+    /// What it makes, which may borrow from it.
+    type Writer: Write;
+
+    /// A writer for one piece. `AllocError` where there is no memory for it.
+    fn make_writer(&'a self) -> Result<Self::Writer, AllocError>;
+}

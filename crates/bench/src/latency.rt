@@ -1,0 +1,135 @@
+// The time of one lossy write, at 100,000 a second.
+use crate::channel::start_channel;
+use crate::plain::start_plain;
+use crate::queue::{Ending, Limit, LineSender, Queue, start_ours};
+use appender_non_blocking::non_blocking::DEFAULT_BUFFERED_LINES_LIMIT;
+use std::alloc::Global;
+use std::fs::OpenOptions;
+use std::hint::spin_loop;
+use std::io::Write;
+use std::rt::Files;
+use std::sync::Wait;
+use std::thread::Threads;
+use std::time::{Clock, Duration, Instant};
+use std::{fs, io};
+
+const GAP_MICROS: u64 = 10;
+
+const LIMIT: usize = DEFAULT_BUFFERED_LINES_LIMIT;
+
+// Where the direct writes go.
+const FILE: &str = "bench.log";
+
+/// So many lines of so many bytes.
+#[derive(Clone, Copy)]
+pub(crate) struct Case {
+    pub(crate) lines: u32,
+    pub(crate) bytes: usize,
+}
+
+// Writes each line straight to a file.
+#[derive(Drop)]
+struct Direct<W: Write> {
+    file: W,
+}
+
+impl<W: Write> LineSender for Direct<W> {
+    fn send<R: Wait>(&mut self, _rt: &R, line: &[u8]) {
+        let _ = self.file.write(line);
+    }
+}
+
+/// Measures each queue, and writes to a file, once a round.
+pub(crate) fn compare<R: Files + Threads + Wait + Clock + Print + Eprint + Copy + Send + 'static>(
+    rt: R,
+    alloc: Global,
+    case: Case,
+    rounds: u32,
+) -> io::Result<()> {
+    let limit = Limit {
+        lines: LIMIT,
+        lossy: true,
+    };
+    for round in 0..rounds {
+        through(&rt, alloc, start_ours(rt, alloc, limit)?, case, round)?;
+        through(&rt, alloc, start_channel(rt, alloc, limit)?, case, round)?;
+        through(&rt, alloc, start_plain(rt, alloc, limit)?, case, round)?;
+        let file = OpenOptions::new()
+            .create(true)
+            .append(true)
+            .open(&rt, FILE)?;
+        measure(&rt, alloc, &mut Direct { file }, "file", case, round)?;
+        fs::remove_file(&rt, FILE)?;
+    }
+    Ok(())
+}
+
+fn through<S: LineSender + Drop, E: Ending + Drop, R: Threads + Wait + Clock + Print>(
+    rt: &R,
+    alloc: Global,
+    queue: Queue<S, E>,
+    case: Case,
+    round: u32,
+) -> io::Result<()> {
+    let Queue {
+        name,
+        sender,
+        ending,
+        told: _told,
+    } = queue;
+    let mut sender = sender;
+    measure(rt, alloc, &mut sender, name, case, round)?;
+    drop(sender);
+    ending.end(rt);
+    Ok(())
+}
+
+fn measure<S: LineSender, R: Wait + Clock + Print>(
+    rt: &R,
+    alloc: Global,
+    sender: &mut S,
+    name: &str,
+    case: Case,
+    round: u32,
+) -> io::Result<()> {
+    let Case { lines, bytes } = case;
+    let times = times_of(rt, alloc, sender, case)?;
+    for (mode, percent) in [("p50", 50usize), ("p99", 99)] {
+        let place = (times.len() / 100).saturating_mul(percent);
+        let tenths = times.get(place).map_or(0, |nanos| nanos.saturating_mul(10));
+        println!(rt; "{name},{mode},{LIMIT},{bytes},1,{round},{lines},{tenths},0")?;
+    }
+    Ok(())
+}
+
+// How many nanoseconds each line takes, the shortest time first. Each has a reading of the clock in it.
+fn times_of<S: LineSender, R: Wait + Clock>(
+    rt: &R,
+    alloc: Global,
+    sender: &mut S,
+    case: Case,
+) -> io::Result<Vec<u128>> {
+    let line = vec![in alloc; b'x'; case.bytes]?;
+    let mut times = Vec::with_capacity(alloc, case.lines as usize)?;
+    let mut last = Instant::now(rt)?;
+    for _ in 0..case.lines {
+        last = wait_since(rt, last)?;
+        sender.send(rt, line.as_slice());
+        times.push(last.elapsed(rt)?.as_nanos())?;
+    }
+    times.sort_unstable();
+    Ok(times)
+}
+
+// Spins until the gap behind the last line is over, and tells the time.
+fn wait_since<R: Clock>(rt: &R, last: Instant) -> io::Result<Instant> {
+    let gap = Duration::from_micros(GAP_MICROS);
+    for _ in 0..u64::MAX {
+        let now = Instant::now(rt)?;
+        if now.duration_since(last) >= gap {
+            return Ok(now);
+        }
+        spin_loop();
+    }
+    Ok(last)
+}

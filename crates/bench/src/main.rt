@@ -1,0 +1,92 @@
+//! Measures how fast lines go through `NonBlocking`, a channel and a plain queue under a lock, in
+//! turns, so that what else the machine does hits all alike.
+#![tactic(auto)]
+
+mod channel;
+mod latency;
+mod plain;
+mod queue;
+mod sink;
+mod throughput;
+
+use appender_non_blocking::non_blocking::NonBlockingBuilder;
+use queue::Limit;
+use std::alloc::Global;
+use std::io::{ErrorKind, Write};
+use std::rt::Files;
+use std::sync::Wait;
+use std::thread::Threads;
+use std::time::{Clock, Duration};
+use std::{env, io, thread};
+
+const USAGE: &str = "\
+usage: bench waiting ROUNDS LINES SENDERS BYTES LIMIT
+       bench lossy ROUNDS LINES SENDERS BYTES LIMIT
+       bench write ROUNDS LINES BYTES
+       bench idle SECONDS
+waiting, lossy: the time of a line through a queue of LIMIT lines, where each of SENDERS threads sends LINES lines
+write: the time of one lossy write at 100,000 a second, and of one straight to a file: half and 99 % take no longer
+idle: a line, and then nothing for so long";
+
+const HEADER: &str = "variant,mode,limit,bytes,senders,round,lines,nanos_per_line_tenths,dropped";
+
+fn main(rt: HostRuntime) -> io::Result<()> {
+    let mut numbers = Vec::new(rt.alloc());
+    for word in env::args(&rt)?.skip(2) {
+        let Ok(number) = word.parse::<u32>() else {
+            return Err(io::Error::from(ErrorKind::InvalidInput));
+        };
+        numbers.push(number)?;
+    }
+    match env::args(&rt)?.nth(1) {
+        Some(mode) => run(rt, rt.alloc(), mode.as_str(), numbers.as_slice()),
+        None => println!(rt; "{USAGE}"),
+    }
+}
+
+fn run<R: Files + Threads + Wait + Clock + Print + Eprint + Copy + Send + 'static>(
+    rt: R,
+    alloc: Global,
+    mode: &str,
+    numbers: &[u32],
+) -> io::Result<()> {
+    match (mode, numbers) {
+        ("idle", [seconds]) => idle(rt, alloc, *seconds),
+        ("write", [rounds, lines, bytes]) => {
+            let case = latency::Case {
+                lines: *lines,
+                bytes: *bytes as usize,
+            };
+            println!(rt; "{HEADER}")?;
+            latency::compare(rt, alloc, case, *rounds)
+        }
+        ("waiting" | "lossy", [rounds, lines, senders, bytes, limit]) => {
+            let case = throughput::Case {
+                limit: Limit {
+                    lines: *limit as usize,
+                    lossy: mode == "lossy",
+                },
+                bytes: *bytes as usize,
+                senders: *senders,
+                each: *lines,
+            };
+            println!(rt; "{HEADER}")?;
+            throughput::compare(rt, alloc, case, *rounds)
+        }
+        _ => Err(io::Error::from(ErrorKind::InvalidInput)),
+    }
+}
+
+// A queue with nothing to do behind its first line.
+fn idle<R: Threads + Wait + Clock + Print + Eprint + Copy + Send + 'static>(
+    rt: R,
+    alloc: Global,
+    seconds: u32,
+) -> io::Result<()> {
+    let (sender, guard) = NonBlockingBuilder::default().finish(rt, alloc, io::sink())?;
+    let mut sender = sender;
+    sender.write(b"one line\n")?;
+    thread::sleep(&rt, Duration::from_secs(u64::from(seconds)));
+    drop(guard);
+    Ok(())
+}

@@ -1,0 +1,115 @@
+// The time of a line, from the first one that is sent until the last one is written.
+use crate::channel::start_channel;
+use crate::plain::start_plain;
+use crate::queue::{Ending, Limit, LineSender, Queue, start_ours};
+use std::alloc::Global;
+use std::io::ErrorKind;
+use std::sync::atomic::Ordering::SeqCst;
+use std::sync::{Arc, Barrier, Wait};
+use std::thread::{JoinHandle, Threads};
+use std::time::{Clock, Duration, Instant};
+use std::{io, thread};
+
+/// So many lines of so many bytes from each of so many threads.
+#[derive(Clone, Copy)]
+pub(crate) struct Case {
+    pub(crate) limit: Limit,
+    pub(crate) bytes: usize,
+    pub(crate) senders: u32,
+    pub(crate) each: u32,
+}
+
+/// Measures each queue once a round.
+pub(crate) fn compare<R: Threads + Wait + Clock + Print + Eprint + Copy + Send + 'static>(
+    rt: R,
+    alloc: Global,
+    case: Case,
+    rounds: u32,
+) -> io::Result<()> {
+    for round in 0..rounds {
+        measure(rt, alloc, start_ours(rt, alloc, case.limit)?, case, round)?;
+        measure(
+            rt,
+            alloc,
+            start_channel(rt, alloc, case.limit)?,
+            case,
+            round,
+        )?;
+        measure(rt, alloc, start_plain(rt, alloc, case.limit)?, case, round)?;
+    }
+    Ok(())
+}
+
+// Fails if a line was neither written nor counted as dropped.
+fn measure<
+    S: LineSender + Clone + Send + Drop + 'static,
+    E: Ending + Drop,
+    R: Threads + Wait + Clock + Print + Copy + Send + 'static,
+>(rt: R, alloc: Global, queue: Queue<S, E>, case: Case, round: u32) -> io::Result<()> {
+    let Queue {
+        name,
+        sender,
+        ending,
+        told,
+    } = queue;
+    let start = send_all(rt, alloc, sender, case)?;
+    let dropped = ending.end(&rt);
+    let nanos = start.elapsed(&rt)?.as_nanos();
+    let Case {
+        limit,
+        bytes,
+        senders,
+        each,
+    } = case;
+    let lines = u64::from(senders).saturating_mul(u64::from(each));
+    let written = lines.saturating_sub(dropped).saturating_mul(bytes as u64);
+    if told.load(SeqCst) != written {
+        return Err(io::Error::from(ErrorKind::InvalidData));
+    }
+    let mode = if limit.lossy { "lossy" } else { "waiting" };
+    let limit = limit.lines;
+    let tenths = nanos
+        .saturating_mul(10)
+        .checked_div(u128::from(lines))
+        .unwrap_or(0);
+    println!(rt; "{name},{mode},{limit},{bytes},{senders},{round},{lines},{tenths},{dropped}")
+}
+
+// Sends the lines of a case from its threads, and tells when they began.
+fn send_all<
+    S: LineSender + Clone + Send + Drop + 'static,
+    R: Threads + Wait + Clock + Copy + Send + 'static,
+>(rt: R, alloc: Global, sender: S, case: Case) -> io::Result<Instant> {
+    let threads = (case.senders as usize).saturating_add(1);
+    let gate = Arc::new(alloc, Barrier::new(threads))?;
+    let mut running = Vec::new(alloc);
+    for _ in 0..case.senders {
+        let mine = sender.clone()?;
+        let theirs = gate.clone()?;
+        let line = vec![in alloc; b'x'; case.bytes]?;
+        running.push(thread::spawn(&rt, move || {
+            theirs.wait(&rt);
+            send_some(&rt, mine, line.as_slice(), case.each);
+        })?)?;
+    }
+    drop(sender);
+    // Time for all of them to come to the gate.
+    thread::sleep(&rt, Duration::from_millis(2));
+    let start = Instant::now(&rt)?;
+    gate.wait(&rt);
+    join_all(&rt, running);
+    Ok(start)
+}
+
+fn join_all<R: Threads>(rt: &R, running: Vec<JoinHandle<()>>) {
+    for thread in running {
+        thread.join(rt);
+    }
+}
+
+fn send_some<S: LineSender + Drop, R: Wait>(rt: &R, sender: S, line: &[u8], count: u32) {
+    let mut sender = sender;
+    for _ in 0..count {
+        sender.send(rt, line);
+    }
+}

@@ -1,0 +1,4 @@
+//! Logs over the fake file system, as tests run them.
+#![tactic(auto)]
+
+pub mod runs;

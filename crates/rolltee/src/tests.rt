@@ -1,0 +1,254 @@
+// The whole program over a real folder.
+use crate::tee::{Host, Logs, tee};
+use std::io::{Read, Write};
+use std::process::Abort;
+use std::rt::Files;
+use std::test::Fail;
+use std::time::{Clock, Duration};
+use std::{env, fs, io, process, thread};
+use tracing_appender::rolling::{InitError, Rotation};
+
+// An input that can't be read behind these bytes.
+#[derive(Drop)]
+struct Broken<'a> {
+    left: &'a [u8],
+    kind: io::ErrorKind,
+}
+
+impl<'a> Read for Broken<'a> {
+    fn read(&mut self, buf: &mut [u8]) -> io::Result<usize> {
+        if self.left.is_empty() {
+            return Err(io::Error::from(self.kind));
+        }
+        self.left.read(buf)
+    }
+}
+
+// A log that takes its time for each line.
+#[derive(Drop)]
+struct Slow<R: Clock> {
+    rt: R,
+    millis: u64,
+}
+
+impl<R: Clock> Write for Slow<R> {
+    fn write(&mut self, buf: &[u8]) -> io::Result<usize> {
+        thread::sleep(&self.rt, Duration::from_millis(self.millis));
+        Ok(buf.len())
+    }
+
+    fn flush(&mut self) -> io::Result<()> {
+        Ok(())
+    }
+}
+
+#[derive(Clone, Copy)]
+struct SlowLogs<R> {
+    rt: R,
+    millis: u64,
+}
+
+impl<R: Clock + Copy + Send + 'static> Logs for SlowLogs<R> {
+    type Log = Slow<R>;
+
+    fn open_log(&self, _: Rotation, _: &str, _: &str) -> Result<Slow<R>, InitError> {
+        Ok(Slow {
+            rt: self.rt,
+            millis: self.millis,
+        })
+    }
+}
+
+struct NoLogs;
+
+impl Logs for NoLogs {
+    type Log = io::Sink;
+
+    fn open_log(&self, _: Rotation, _: &str, _: &str) -> Result<io::Sink, InitError> {
+        Err(InitError::Memory)
+    }
+}
+
+// A path of this test's own, where nothing stands.
+fn fresh(rt: &HostRuntime, name: &str) -> io::Result<String> {
+    let parent = env::temp_dir(rt)?;
+    let id = process::id(rt.process());
+    let path = format!(in rt.alloc(); "{}/rolltee_{id}_{name}", parent.as_str())?;
+    let _ = fs::remove_dir_all(rt, path.as_str());
+    Ok(path)
+}
+
+// Runs the program over these logs, and compares its status and what it tells.
+fn check<R: Host + Abort, L: Logs, I: Read>(
+    rt: R,
+    logs: &L,
+    arguments: &[&str],
+    input: &mut I,
+    status: u8,
+    told: &str,
+) -> Result<(), Fail> {
+    let mut texts = Vec::new(rt.alloc());
+    for argument in arguments {
+        texts.push(argument.to_string(rt.alloc())?)?;
+    }
+    let mut errors = Vec::new(rt.alloc());
+    let answer = tee(rt, logs, texts.as_slice(), input, &mut errors);
+    assert_eq!(rt; errors.as_slice(), told.as_bytes());
+    assert_eq!(rt; answer, status);
+    Ok(())
+}
+
+// Compares the bytes of a file of a folder.
+fn holds<R: Files + AllocGlobal + Abort + Copy>(
+    rt: R,
+    directory: &str,
+    name: &str,
+    bytes: &[u8],
+) -> Result<(), Fail> {
+    let path = format!(in rt.alloc(); "{directory}/{name}")?;
+    assert_eq!(rt; fs::read(&rt, path.as_str())?.as_slice(), bytes);
+    Ok(())
+}
+
+// How many bytes the files of a folder have.
+fn length_in(rt: &HostRuntime, directory: &str) -> io::Result<u64> {
+    let mut length = 0u64;
+    for entry in fs::read_dir(rt, directory)? {
+        let bytes = match entry {
+            Ok(entry) => entry.metadata()?.len(),
+            Err(fault) => return Err(fault),
+        };
+        length = length.saturating_add(bytes);
+    }
+    Ok(length)
+}
+
+#[test]
+fn writes_every_line_of_every_run(rt: HostRuntime) -> Result<(), Fail> {
+    let directory = fresh(&rt, "runs")?;
+    let arguments = ["never", directory.as_str(), "app"];
+    for text in ["a\nb", "a\nba\nb"] {
+        check(rt, &rt, &arguments, &mut b"a\nb".as_slice(), 0, "")?;
+        holds(rt, directory.as_str(), "app", text.as_bytes())?;
+    }
+    fs::remove_dir_all(&rt, directory.as_str())?;
+    Ok(())
+}
+
+// Writes these lines to a log of this rotation, and finds as many bytes in its folder.
+fn fills<R: Host + Abort>(
+    rt: R,
+    files: &HostRuntime,
+    rotation: &str,
+    lines: &[u8],
+) -> Result<(), Fail> {
+    let directory = fresh(files, rotation)?;
+    let arguments = [rotation, directory.as_str(), "app"];
+    let mut input = lines;
+    check(rt, files, &arguments, &mut input, 0, "")?;
+    assert_eq!(rt; length_in(files, directory.as_str())?, lines.len() as u64);
+    fs::remove_dir_all(files, directory.as_str())?;
+    Ok(())
+}
+
+// More lines than may wait, to the log of each rotation.
+#[test]
+fn waits_for_the_log(rt: HostRuntime) -> Result<(), Fail> {
+    let mut lines = Vec::new(rt.alloc());
+    for _ in 0..3000u32 {
+        lines.extend_from_slice(b"one line\n")?;
+    }
+    for rotation in ["minutely", "hourly", "daily", "weekly", "never"] {
+        fills(rt, &rt, rotation, lines.as_slice())?;
+    }
+    Ok(())
+}
+
+#[test]
+fn tells_its_usage(rt: HostRuntime) -> Result<(), Fail> {
+    let wrong: [&[&str]; 5] = [
+        &[],
+        &["never", "dir"],
+        &["never", "dir", "app", "more"],
+        &["yearly", "dir", "app"],
+        &["Never", "dir", "app"],
+    ];
+    for arguments in wrong {
+        let logs = SlowLogs { rt, millis: 0 };
+        let usage = "usage: rolltee ROTATION DIR PREFIX\n";
+        check(rt, &logs, arguments, &mut b"a\n".as_slice(), 2, usage)?;
+    }
+    Ok(())
+}
+
+#[test]
+fn tells_a_name_that_is_not_allowed(rt: HostRuntime) -> Result<(), Fail> {
+    let directory = fresh(&rt, "name")?;
+    let arguments = ["hourly", directory.as_str(), "a/b"];
+    let told = "name not allowed\n";
+    check(rt, &rt, &arguments, &mut b"a\n".as_slice(), 1, told)?;
+    assert!(rt; !fs::exists(&rt, directory.as_str())?);
+    Ok(())
+}
+
+#[test]
+fn tells_a_folder_that_is_none(rt: HostRuntime) -> Result<(), Fail> {
+    let path = fresh(&rt, "file")?;
+    fs::write(&rt, path.as_str(), "here")?;
+    let arguments = ["never", path.as_str(), "app"];
+    let told = "failed to create log directory: File exists (os error 17)\n";
+    check(rt, &rt, &arguments, &mut b"a\n".as_slice(), 1, told)?;
+    assert_eq!(rt; fs::read_to_string(&rt, path.as_str())?.as_str(), "here");
+    fs::remove_file(&rt, path.as_str())?;
+    Ok(())
+}
+
+// Also where there is no memory for an opening.
+#[test]
+fn tells_why_no_log_is_opened(rt: HostRuntime) -> Result<(), Fail> {
+    let arguments = ["never", "dir", "app"];
+    let told = "out of memory\n";
+    check(rt, &NoLogs, &arguments, &mut b"a\n".as_slice(), 1, told)
+}
+
+// What was read before the fault is written, since the guard is closed all the same.
+#[test]
+fn tells_an_input_that_is_not_read(rt: HostRuntime) -> Result<(), Fail> {
+    for (kind, status, told) in [
+        (io::ErrorKind::PermissionDenied, 1, "read failed\n"),
+        (io::ErrorKind::OutOfMemory, 3, "no memory\n"),
+    ] {
+        let directory = fresh(&rt, "read")?;
+        let mut input = Broken {
+            left: b"a\nb".as_slice(),
+            kind,
+        };
+        let arguments = ["never", directory.as_str(), "app"];
+        check(rt, &rt, &arguments, &mut input, status, told)?;
+        holds(rt, directory.as_str(), "app", b"a\n")?;
+        fs::remove_dir_all(&rt, directory.as_str())?;
+    }
+    Ok(())
+}
+
+// The log takes longer for its one line than the end waits.
+#[test]
+fn tells_that_lines_are_still_written(rt: HostRuntime) -> Result<(), Fail> {
+    let logs = SlowLogs { rt, millis: 3000 };
+    let arguments = ["never", "dir", "app"];
+    let told = "shutdown pending\n";
+    check(rt, &logs, &arguments, &mut b"a\n".as_slice(), 1, told)
+}
+
+// While the log takes its time for the first line, the others fill the queue.
+#[test]
+fn tells_that_the_queue_stays_full(rt: HostRuntime) -> Result<(), Fail> {
+    let mut lines = Vec::new(rt.alloc());
+    for _ in 0..1025u32 {
+        lines.extend_from_slice(b"\n")?;
+    }
+    let logs = SlowLogs { rt, millis: 3000 };
+    let arguments = ["never", "dir", "app"];
+    let told = "shutdown full\n";
+    check(rt, &logs, &arguments, &mut lines.as_slice(), 1, told)
+}
