@@ -3,6 +3,8 @@
 use crate::scene::{
     at, clear, expect_files, fresh, kind_of_error, names_in, put, put_link, target_of, text_of,
 };
+use crate::swapping::Swapping;
+use std::cell::Cell;
 use std::io::ErrorKind;
 use std::process::Abort;
 use std::test::Fail;
@@ -215,5 +217,23 @@ fn a_listing_tells_kinds_and_creation(rt: HostRuntime) -> Result<(), Fail> {
     clear(&rt, directory)?;
     assert_eq!(rt; kind_of_error(folder.list()), ABSENT);
     assert_eq!(rt; folder.failures(), 1);
+    Ok(())
+}
+
+// The name leads to a plain file before and after, but not to the one that was opened.
+#[test]
+fn a_link_that_comes_and_goes_is_not_followed(rt: HostRuntime) -> Result<(), Fail> {
+    let directory = fresh(rt, "comes_and_goes")?;
+    let directory = directory.as_str();
+    put(&rt, directory, "victim", "kept")?;
+    put(&rt, directory, "log", "text")?;
+    let target = Cell::new(Some("victim"));
+    let mut folder = DirFolder::new(Swapping::new(rt, &target), directory)?;
+    assert_eq!(rt; kind_of_error(folder.open("log")), IN_USE);
+    let mut file = folder.open("log")?;
+    assert_eq!(rt; folder.append(&mut file, b"new")?, 3);
+    assert_eq!(rt; folder.failures(), 1);
+    expect_files(&rt, directory, &[("victim", "kept"), ("log", "new")])?;
+    clear(&rt, directory)?;
     Ok(())
 }

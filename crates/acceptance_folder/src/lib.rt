@@ -7,3 +7,5 @@ mod appending;
 mod calls;
 #[cfg(test)]
 mod scene;
+#[cfg(test)]
+mod swapping;
