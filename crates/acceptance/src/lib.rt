@@ -1,17 +1,8 @@
-//! Tests of the log writers as their users see them, through public calls alone.
+//! Tests of logs over a folder in memory, through public calls alone. Whole runs, as scripts with
+//! what they print, are tests of `rollplay`.
 #![tactic(auto)]
 
 #[cfg(test)]
-mod folders;
+mod faults;
 #[cfg(test)]
-mod names;
-#[cfg(test)]
-mod opening;
-#[cfg(test)]
-mod retention;
-#[cfg(test)]
-mod rolling;
-#[cfg(test)]
-mod runs;
-#[cfg(test)]
-mod whole;
+mod rollers;

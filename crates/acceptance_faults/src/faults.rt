@@ -14,7 +14,7 @@ fn write_log(alloc: Global, steps: &[Step]) -> Result<Outcome, Fail> {
 }
 
 // Steps with what they answer, the files at the end, and what is told.
-const WRITES: [(&[Step], &str, &str, &str); 5] = [
+static WRITES: [(&[Step], &str, &str, &str); 5] = [
     // A disk that is full takes what there is room for, and more once there is room again.
     (
         &[
@@ -91,9 +91,9 @@ const WRITES: [(&[Step], &str, &str, &str); 5] = [
 #[test]
 fn what_is_counted_stands(rt: HostRuntime) -> Result<(), Fail> {
     let alloc = rt.alloc();
-    for (steps, answers, files, printed) in WRITES {
+    for (steps, answers, files, printed) in &WRITES {
         let outcome = write_log(alloc, steps)?;
-        assert_eq!(rt; outcome.texts(), (answers, files, printed));
+        assert_eq!(rt; outcome.texts(), (*answers, *files, *printed));
         let counted = format!(in alloc; "kept{}", outcome.counted)?;
         assert_eq!(rt; outcome.appended, counted);
     }
@@ -110,7 +110,7 @@ const LINKED: &str = "app.2020-02-01-10 -> other.txt\nother.txt kept\n";
 
 // Whether the log stands at first, the call before which a name becomes a link to `other.txt` and
 // that name; the answers, the files, and what is told.
-const LINKS: [(bool, usize, &str, &str, &str, &str); 6] = [
+static LINKS: [(bool, usize, &str, &str, &str, &str); 6] = [
     // Before the look at the name, and between look and opening.
     (false, 1, LOG, REFUSED, LINKED, "failures 2\n"),
     (false, 2, LOG, REFUSED, LINKED, "failures 2\n"),
@@ -140,18 +140,18 @@ const LINKS: [(bool, usize, &str, &str, &str, &str); 6] = [
 #[test]
 fn a_link_that_comes_in_between_is_not_followed(rt: HostRuntime) -> Result<(), Fail> {
     let alloc = rt.alloc();
-    for (stands, call, name, answers, files, printed) in LINKS {
+    for (stands, call, name, answers, files, printed) in &LINKS {
         let disk = Disk::new(alloc);
         disk.put_file(b"other.txt", b"kept")?;
-        if stands {
+        if *stands {
             disk.put_file(LOG.as_bytes(), b"x")?;
         }
-        disk.link_comes.set(Some((call, name)));
+        disk.link_comes.set(Some((*call, *name)));
         let steps = [Step::Put(START, "one"), Step::Put(ELEVEN, "two")];
         let outcome = run_log(&disk, &hourly_log(alloc, 0, "")?, START, &steps)?;
         assert_eq!(rt;
             outcome.texts(),
-            (answers, files, printed),
+            (*answers, *files, *printed),
             "{call} {stands}"
         );
     }

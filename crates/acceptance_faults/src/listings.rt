@@ -24,7 +24,7 @@ fn open_log(disk: &Disk, alloc: Global, max: usize) -> Result<String, Fail> {
 }
 
 // Faults with their texts: that of a kind, and those of numbers that Linux gives.
-const FAULTS: [(Fault, &str); 3] = [
+static FAULTS: [(Fault, &str); 3] = [
     (Fault::Kind(ErrorKind::Other), "other error"),
     (Fault::Number(5), "Input/output error (os error 5)"),
     (Fault::Number(36), "File name too long (os error 36)"),
@@ -33,7 +33,7 @@ const FAULTS: [(Fault, &str); 3] = [
 #[test]
 fn a_listing_that_breaks_off_removes_nothing(rt: HostRuntime) -> Result<(), Fail> {
     let alloc = rt.alloc();
-    for (fault, text) in FAULTS {
+    for (fault, text) in &FAULTS {
         let wanted = format!(in alloc;
             "app.2020-02-01-07 a\napp.2020-02-01-08 b\napp.2020-02-01-09 c\napp.2020-02-01-10 \n\
              Error reading the log directory/files: {text}\nfailures 1\n"
@@ -41,7 +41,7 @@ fn a_listing_that_breaks_off_removes_nothing(rt: HostRuntime) -> Result<(), Fail
         // The opening of the folder, then each reading, between which an entry is looked at.
         for number in [1, 2, 4, 6, 8] {
             let disk = three_logs(alloc)?;
-            disk.fault.set(fault);
+            disk.fault.set(*fault);
             disk.fails_at.set(Some(number));
             assert_eq!(rt; open_log(&disk, alloc, 1)?, wanted, "{number}");
         }

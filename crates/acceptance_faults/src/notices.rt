@@ -6,7 +6,7 @@ use fake_logs::runs::{Step, run_log};
 use std::test::Fail;
 
 // The calls that fail at the boundary, the link if there is one, and what is told.
-const NOTICES: [(Call, &str, &str); 5] = [
+static NOTICES: [(Call, &str, &str); 5] = [
     (
         Call::OpenDir,
         "",
@@ -39,16 +39,16 @@ const NOTICES: [(Call, &str, &str); 5] = [
 #[test]
 fn each_fault_of_a_boundary_is_told_once(rt: HostRuntime) -> Result<(), Fail> {
     let alloc = rt.alloc();
-    for (call, link, printed) in NOTICES {
+    for (call, link, printed) in &NOTICES {
         let disk = old_logs(alloc)?;
         let steps = [
             Step::Put(START, "one"),
-            Step::Fail(Some(call)),
+            Step::Fail(Some(*call)),
             Step::Put(ELEVEN, "two"),
             Step::Put(ELEVEN, "three"),
         ];
         let outcome = run_log(&disk, &hourly_log(alloc, 2, link)?, START, &steps)?;
-        assert_eq!(rt; outcome.printed.as_str(), printed);
+        assert_eq!(rt; outcome.printed.as_str(), *printed);
         assert_eq!(rt; outcome.counted.as_str(), "onetwothree", "{call:?}");
     }
     Ok(())

@@ -6,7 +6,7 @@ use std::alloc::{AllocError, Global};
 use std::process::Abort;
 use std::test::Fail;
 
-const STEPS: [Step; 4] = [
+static STEPS: [Step; 4] = [
     Step::Put(START, "a"),
     Step::Put(ELEVEN, "b"),
     Step::Put(ELEVEN - 1, "c"),
@@ -42,7 +42,7 @@ const LINK_IN_USE: &str =
     "Couldn't create writer for logs: failed to create symlink to latest log file: entity already exists\nfailures 3\n";
 
 // What fails, and what comes of it: the answers, the files, and what is told.
-const TURNS: [(&[usize], &str, &str, &str); 18] = [
+static TURNS: [(&[usize], &str, &str, &str); 18] = [
     // The listing at the opening; at the boundary two files go.
     (&[1, 2, 4, 6, 8, 10], ANSWERS, FILES, LIST),
     // An entry that can't be looked at is no log file.
@@ -129,13 +129,13 @@ fn expect_turns(
 
 #[test]
 fn each_call_fails_in_its_turn(rt: HostRuntime) -> Result<(), Fail> {
-    for (numbers, answers, files, printed) in TURNS {
-        expect_turns(&rt, numbers, (answers, files, printed))?;
+    for (numbers, answers, files, printed) in &TURNS {
+        expect_turns(&rt, numbers, (*answers, *files, *printed))?;
     }
     Ok(())
 }
 
-const LONG_STEPS: [Step; 8] = [
+static LONG_STEPS: [Step; 8] = [
     Step::Put(START, "one"),
     Step::Take(2),
     Step::Put(START, "two"),

@@ -4,7 +4,6 @@ use crate::scene::{
     ELEVEN, START, TWELVE, TestClock, at, clear, expect_files, fresh, hourly_log, names_in, opened,
     target_of, text_of,
 };
-use std::alloc::Global;
 use std::io::Write;
 use std::process::Abort;
 use std::rt::Files;
@@ -23,7 +22,7 @@ fn each_write_reads_the_clock_once(rt: HostRuntime) -> Result<(), Fail> {
     let alloc = rt.alloc();
     let builder = hourly_log(alloc, "app")?;
     let clock = TestClock::new(START);
-    let mut appender = opened(alloc, &builder, MemoryFolder::new(alloc), &clock)?;
+    let mut appender = opened(rt, &builder, MemoryFolder::new(alloc), &clock)?;
     clock.set(ELEVEN);
     assert_eq!(rt; appender.write(b"a")?, 1);
     clock.set(ELEVEN - 1);
@@ -96,10 +95,14 @@ fn a_log_of_each_rotation_is_one_file(rt: HostRuntime) -> Result<(), Fail> {
 }
 
 // Two lines, and an hour later two more.
-fn write_two_hours<S: Folder>(alloc: Global, folder: S, prefix: &str) -> Result<S, Fail> {
-    let builder = hourly_log(alloc, prefix)?;
+fn write_two_hours<S: Folder, R: AllocGlobal + Drop>(
+    rt: R,
+    folder: S,
+    prefix: &str,
+) -> Result<S, Fail> {
+    let builder = hourly_log(rt.alloc(), prefix)?;
     let clock = TestClock::new(START);
-    let mut appender = opened(alloc, &builder, folder, &clock)?;
+    let mut appender = opened(rt, &builder, folder, &clock)?;
     for _ in 0..2 {
         appender.write_all(b"file 1\n")?;
     }
@@ -115,7 +118,7 @@ fn write_two_hours<S: Folder>(alloc: Global, folder: S, prefix: &str) -> Result<
 fn the_next_hour_goes_to_the_next_file(rt: HostRuntime) -> Result<(), Fail> {
     let directory = fresh(rt, "hours")?;
     let folder = DirFolder::new(rt, directory.as_str())?;
-    let folder = write_two_hours(rt.alloc(), folder, "test_make_writer")?;
+    let folder = write_two_hours(rt, folder, "test_make_writer")?;
     assert_eq!(rt; folder.failures(), 0);
     let files = [
         ("test_make_writer.2020-02-01-10", "file 1\nfile 1\n"),
@@ -127,10 +130,10 @@ fn the_next_hour_goes_to_the_next_file(rt: HostRuntime) -> Result<(), Fail> {
 }
 
 // Two lines in each of three hours, of which two files are kept.
-fn write_three_hours<S: Folder>(alloc: Global, folder: S) -> Result<S, Fail> {
-    let builder = hourly_log(alloc, "test_max_log_files")?.max_log_files(2);
+fn write_three_hours<S: Folder, R: AllocGlobal + Drop>(rt: R, folder: S) -> Result<S, Fail> {
+    let builder = hourly_log(rt.alloc(), "test_max_log_files")?.max_log_files(2);
     let clock = TestClock::new(START);
-    let mut appender = opened(alloc, &builder, folder, &clock)?;
+    let mut appender = opened(rt, &builder, folder, &clock)?;
     for (moment, line) in [
         (START, b"file 1\n"),
         (ELEVEN, b"file 2\n"),
@@ -151,13 +154,13 @@ const KEPT: [(&str, &str); 2] = [
 
 #[test]
 fn two_files_are_kept(rt: HostRuntime) -> Result<(), Fail> {
-    let folder = write_three_hours(rt.alloc(), MemoryFolder::new(rt.alloc()))?;
+    let folder = write_three_hours(rt, MemoryFolder::new(rt.alloc()))?;
     assert_eq!(rt; folder.names()?.len(), 2);
     for (name, text) in KEPT {
         assert_eq!(rt; folder.bytes(name), Some(text.as_bytes()), "{name}");
     }
     let directory = fresh(rt, "kept")?;
-    let folder = write_three_hours(rt.alloc(), DirFolder::new(rt, directory.as_str())?)?;
+    let folder = write_three_hours(rt, DirFolder::new(rt, directory.as_str())?)?;
     assert_eq!(rt; folder.failures(), 0);
     expect_files(&rt, directory.as_str(), &KEPT)?;
     clear(&rt, directory.as_str())?;
@@ -169,7 +172,7 @@ fn write_with_link(rt: HostRuntime, directory: &str) -> Result<u64, Fail> {
     let alloc = rt.alloc();
     let builder = hourly_log(alloc, "test_latest_symlink")?.latest_symlink(alloc, "latest.log")?;
     let clock = TestClock::new(START);
-    let mut appender = opened(alloc, &builder, DirFolder::new(rt, directory)?, &clock)?;
+    let mut appender = opened(rt, &builder, DirFolder::new(rt, directory)?, &clock)?;
     appender.write_all(b"file 1\n")?;
     clock.set(ELEVEN);
     appender.write_all(b"file 2\n")?;
@@ -211,7 +214,7 @@ fn an_appender_shows_its_file_and_boundary(rt: HostRuntime) -> Result<(), Fail> 
     let alloc = rt.alloc();
     let builder = hourly_log(alloc, "app")?;
     let clock = TestClock::new(START);
-    let appender = opened(alloc, &builder, MemoryFolder::new(alloc), &clock)?;
+    let appender = opened(rt, &builder, MemoryFolder::new(alloc), &clock)?;
     let shown = format!(in alloc; "{appender:?}")?;
     assert_eq!(rt;
         shown.as_str(),

@@ -12,35 +12,35 @@ use tracing_appender::rolling::{Builder, Clock, RollingFileAppender, Rotation};
 use tracing_appender::store::Folder;
 
 /// 2020-02-01 10:01:00.
-pub const START: i64 = 1_580_551_260;
+pub(crate) const START: i64 = 1_580_551_260;
 
 /// 2020-02-01 11:00:00.
-pub const ELEVEN: i64 = 1_580_554_800;
+pub(crate) const ELEVEN: i64 = 1_580_554_800;
 
 /// 2020-02-01 12:00:00.
-pub const TWELVE: i64 = 1_580_558_400;
+pub(crate) const TWELVE: i64 = 1_580_558_400;
 
 /// A clock that stands until it is set.
 #[derive(Drop)]
-pub struct TestClock {
+pub(crate) struct TestClock {
     moment: Cell<i64>,
     reads: Cell<u64>,
 }
 
 impl TestClock {
-    pub fn new(moment: i64) -> TestClock {
+    pub(crate) fn new(moment: i64) -> TestClock {
         TestClock {
             moment: Cell::new(moment),
             reads: Cell::new(0),
         }
     }
 
-    pub fn set(&self, moment: i64) {
+    pub(crate) fn set(&self, moment: i64) {
         self.moment.set(moment);
     }
 
     /// How often it was read.
-    pub fn reads(&self) -> u64 {
+    pub(crate) fn reads(&self) -> u64 {
         self.reads.get()
     }
 }
@@ -55,7 +55,7 @@ impl Clock for TestClock {
 }
 
 /// An empty directory of the test's own.
-pub fn fresh(rt: HostRuntime, test: &str) -> io::Result<String> {
+pub(crate) fn fresh(rt: HostRuntime, test: &str) -> io::Result<String> {
     let temp = env::temp_dir(&rt)?;
     let parent = temp.as_str();
     let process = process::id(rt.process());
@@ -66,7 +66,7 @@ pub fn fresh(rt: HostRuntime, test: &str) -> io::Result<String> {
 }
 
 /// Removes a directory of a test, if it is there.
-pub fn clear(rt: &(impl Files + AllocGlobal), path: &str) -> io::Result<()> {
+pub(crate) fn clear(rt: &(impl Files + AllocGlobal), path: &str) -> io::Result<()> {
     match fs::remove_dir_all(rt, path) {
         Err(fault) if fault.kind() != ErrorKind::NotFound => Err(fault),
         _ => Ok(()),
@@ -74,12 +74,12 @@ pub fn clear(rt: &(impl Files + AllocGlobal), path: &str) -> io::Result<()> {
 }
 
 /// The path of an entry.
-pub fn at(alloc: Global, directory: &str, name: &str) -> Result<String, AllocError> {
+pub(crate) fn at(alloc: Global, directory: &str, name: &str) -> Result<String, AllocError> {
     format!(in alloc; "{directory}/{name}")
 }
 
 /// Makes a file.
-pub fn put(
+pub(crate) fn put(
     rt: &(impl Files + AllocGlobal),
     directory: &str,
     name: &str,
@@ -89,7 +89,7 @@ pub fn put(
 }
 
 /// Makes a link.
-pub fn put_link(
+pub(crate) fn put_link(
     rt: &(impl Files + AllocGlobal),
     directory: &str,
     name: &str,
@@ -99,12 +99,16 @@ pub fn put_link(
 }
 
 /// What can be read under a name, through links too.
-pub fn text_of(rt: &(impl Files + AllocGlobal), directory: &str, name: &str) -> io::Result<String> {
+pub(crate) fn text_of(
+    rt: &(impl Files + AllocGlobal),
+    directory: &str,
+    name: &str,
+) -> io::Result<String> {
     fs::read_to_string(rt, at(rt.alloc(), directory, name)?)
 }
 
 /// What a link says.
-pub fn target_of(
+pub(crate) fn target_of(
     rt: &(impl Files + AllocGlobal),
     directory: &str,
     name: &str,
@@ -114,7 +118,7 @@ pub fn target_of(
 }
 
 /// The names of a directory, sorted.
-pub fn names_in<R: Files + AllocGlobal + Clone + Drop>(
+pub(crate) fn names_in<R: Files + AllocGlobal + Clone + Drop>(
     rt: &R,
     directory: &str,
 ) -> io::Result<Vec<String>> {
@@ -127,7 +131,7 @@ pub fn names_in<R: Files + AllocGlobal + Clone + Drop>(
 }
 
 /// Checks that a directory has exactly these entries, which read as these texts.
-pub fn expect_files<R: Files + AllocGlobal + Abort + Clone + Drop>(
+pub(crate) fn expect_files<R: Files + AllocGlobal + Abort + Clone + Drop>(
     rt: &R,
     directory: &str,
     wanted: &[(&str, &str)],
@@ -141,27 +145,28 @@ pub fn expect_files<R: Files + AllocGlobal + Abort + Clone + Drop>(
 }
 
 /// A builder of an hourly log.
-pub fn hourly_log(alloc: Global, prefix: &str) -> Result<Builder, AllocError> {
+pub(crate) fn hourly_log(alloc: Global, prefix: &str) -> Result<Builder, AllocError> {
     Builder::new()
         .rotation(Rotation::HOURLY)
         .filename_prefix(alloc, prefix)
 }
 
 /// An appender that has to be opened.
-pub fn opened<S: Folder, C: Clock>(
-    alloc: Global,
+pub(crate) fn opened<S: Folder, C: Clock, R: AllocGlobal + Drop>(
+    rt: R,
     builder: &Builder,
     folder: S,
     clock: C,
-) -> Result<RollingFileAppender<S, C>, Fail> {
-    match builder.build_in(alloc, folder, clock) {
+) -> Result<RollingFileAppender<S, C, R>, Fail> {
+    let alloc = rt.alloc();
+    match builder.build_in(rt, alloc, folder, clock) {
         Ok(appender) => Ok(appender),
         Err((error, _folder, _clock)) => Err(Fail::from(error)),
     }
 }
 
 /// The kind of the error, if there is one.
-pub fn kind_of_error<T: Drop>(answer: io::Result<T>) -> Option<ErrorKind> {
+pub(crate) fn kind_of_error<T: Drop>(answer: io::Result<T>) -> Option<ErrorKind> {
     match answer {
         Ok(_) => None,
         Err(error) => Some(error.kind()),

@@ -10,13 +10,13 @@ use std::rt::Files;
 /// The system. Just before the next opening a link to `target` comes in place of what has the
 /// file's name, and just behind it that link goes again and an empty file has the name.
 #[derive(Clone, Copy)]
-pub struct Swapping<'a> {
+pub(crate) struct Swapping<'a> {
     rt: HostRuntime,
     target: &'a Cell<Option<&'static str>>,
 }
 
 impl<'a> Swapping<'a> {
-    pub fn new(rt: HostRuntime, target: &'a Cell<Option<&'static str>>) -> Swapping<'a> {
+    pub(crate) fn new(rt: HostRuntime, target: &'a Cell<Option<&'static str>>) -> Swapping<'a> {
         Swapping { rt, target }
     }
 }

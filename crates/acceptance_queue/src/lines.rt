@@ -14,7 +14,7 @@ struct LineRun {
     fault: Option<(usize, ErrorKind)>,
 }
 
-const LINE_RUNS: [LineRun; 6] = [
+static LINE_RUNS: [LineRun; 6] = [
     LineRun {
         line: "x",
         interruptions: 100,

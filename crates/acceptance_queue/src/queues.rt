@@ -26,7 +26,7 @@ struct QueueRun {
     counts: (u64, u64, u64, u64, usize),
 }
 
-const QUEUE_RUNS: [QueueRun; 9] = [
+static QUEUE_RUNS: [QueueRun; 9] = [
     QueueRun {
         lossy: true,
         limit: 3,

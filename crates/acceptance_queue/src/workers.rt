@@ -19,7 +19,7 @@ struct WorkerRun {
     text: &'static str,
 }
 
-const WORKER_RUNS: [WorkerRun; 6] = [
+static WORKER_RUNS: [WorkerRun; 6] = [
     WorkerRun {
         lines: &["hello", "x"],
         shuts: false,

@@ -105,6 +105,6 @@ fn a_disk_comes_to_hold_what_memory_does(rt: HostRuntime) -> Result<(), Fail> {
             compared = compared.saturating_add(1);
         }
     }
-    assert_eq!(rt; compared, 26);
+    assert_eq!(rt; compared, 37);
     Ok(())
 }

@@ -6,14 +6,14 @@ use Rattle.appender_queue.specs.Queue.{Queue, after_offer}
 use Rattle.appender_queue.specs.QueueReplies.{offer_reply}
 use Rattle.appender_queue.specs.declared.queue.Refused.{Refused}
 
--- a sender is told a pace where the queue answers a ticket, and else what the queue answers
-abbrev pub Told : Result ℕ Refused → Result Pace Refused → Type 0
-Told (Ok ticket) (Ok pace) = Unit {0}
+-- a sender is told what the queue answers, and a pace beside a ticket
+abbrev pub Told : Result ℕ Refused → Result (ℕ × Pace) Refused → Type 0
+Told (Ok ticket) (Ok told) = told.0 ≡ ticket
 Told (Err refused) (Err told) = told ≡ refused
 Told (Ok ticket) (Err told) = ⊥
-Told (Err refused) (Ok pace) = ⊥
+Told (Err refused) (Ok told) = ⊥
 
 -- the queue answers and is left as by its own offer
-pub record Offers (old : Queue) (line : Vec ℕ Global) (result : Result Pace Refused) (new : Queue) : Type 0 where
+pub record Offers (old : Queue) (line : Vec ℕ Global) (result : Result (ℕ × Pace) Refused) (new : Queue) : Type 0 where
   pub reply : Told (offer_reply old line) result
   pub after : new ≡ after_offer old line.items

@@ -4,7 +4,10 @@
 //! queue. A worker takes line after line, and writes each to the writer that it was given. The lock
 //! is held for one offer or one take alone, and never while a line is copied or written.
 
+mod account;
+mod books;
 mod builder;
+mod counted;
 mod guard;
 mod pace;
 mod sender;
@@ -12,6 +15,9 @@ mod shared;
 mod state;
 mod worker;
 
+pub use account::{Account, CountedGuard, Unsettled};
+pub use appender_queue::queue::Shut;
 pub use builder::{DEFAULT_BUFFERED_LINES_LIMIT, NonBlockingBuilder, non_blocking};
+pub use counted::CountedSender;
 pub use guard::{Closing, WorkerGuard};
-pub use sender::{ErrorCounter, NonBlocking};
+pub use sender::{ErrorCounter, NonBlocking, Sent};

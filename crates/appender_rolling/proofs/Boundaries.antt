@@ -1,5 +1,5 @@
 -- When the next boundary lies ahead.
-use Rattle.std.proofs.Common.{◌≡◌, ◌↔◌, ℤ, ◌≤ℤ◌, ◌<ℤ◌, true, false, Option, None, Some, IsNone, IfSome, arith, refl, subst}
+use Rattle.std.proofs.Common.{◌≡◌, ◌↔◌, ℤ, ◌<ℤ◌, true, false, Option, None, Some, IsNone, IfSome, arith, refl, subst}
 use Rattle.std.proofs.lemmas.Int.{ints}
 use Rattle.appender_names.specs.declared.rotation.Rotation.{Rotation}
 use Rattle.appender_names.specs.Rotation.{IsMoment, IsNever, IsNextBoundary, IsBoundary}
@@ -28,15 +28,15 @@ pub due_is_moment : (m : ℤ) (b : Option ℤ) → is_due b m ≡ true → IsMom
 due_is_moment m None due = absurd (let both : false ≡ true = due in cc)
 due_is_moment m (Some b) due = (grind (arith, ints), grind (arith, ints))
 
--- a moment that is due lies behind that of the open file
-pub due_is_later : (r : Rotation) (opened m : ℤ) (b : Option ℤ) → LiesAhead r opened b → is_due b m ≡ true → opened ≤ℤ m
-due_is_later r opened m None ahead due = cc
+-- a moment that is due is later than that of the open file
+pub due_is_later : (r : Rotation) (opened m : ℤ) (b : Option ℤ) → LiesAhead r opened b → is_due b m ≡ true → opened <ℤ m
+due_is_later r opened m None ahead due = absurd (let both : false ≡ true = due in cc)
 due_is_later r opened m (Some b) ahead due =
     let before : opened <ℤ b = ahead.ahead b refl in
     grind (arith, ints, before)
 
 -- what lies ahead of a moment lies ahead of those before it
-pub ahead_of_earlier : (r : Rotation) (earlier m : ℤ) (b : Option ℤ) → earlier ≤ℤ m → LiesAhead r m b → LiesAhead r earlier b
+pub ahead_of_earlier : (r : Rotation) (earlier m : ℤ) (b : Option ℤ) → earlier <ℤ m → LiesAhead r m b → LiesAhead r earlier b
 ahead_of_earlier r earlier m b le ahead = record {
   none = ahead.none;
   never = ahead.never;

@@ -1,8 +1,8 @@
 -- What each part of an opening keeps.
-use Rattle.std.proofs.Common.{◌≡◌, ◌≢◌, ◌⊎◌, ℕ, ◌<◌, ℤ, List, [], ◌∷◌, ◌++◌, length, length-append, get_or, Option, None, Some, arith, inl, inr, refl, ap, sym, ◌∙◌, zero, suc}
+use Rattle.std.proofs.Common.{◌≡◌, ◌⊎◌, ℕ, ℤ, List, [], ◌∷◌, ◌++◌, length-append, get_or, Option, None, Some, arith, inl, inr, refl, ap, sym, ◌∙◌, zero, suc}
 use Rattle.std.specs.FinMap as fin
 use Rattle.appender_names.specs.Name.{Naming}
-use Rattle.appender_store.specs.Content.{Content, NameMap, Entry, File, Link, body_at, after_make_folder, Opens, MakesLink}
+use Rattle.appender_store.specs.Content.{Content, NameMap, Entry, File, Link, after_make_folder, Opens, MakesLink}
 use Rattle.appender_store.specs.NameLaws.{NameLaws, RemovalsTakeOneName, AdditionsAddOneName}
 use Rattle.appender_retain.specs.Survival.{TakesOnlyOld}
 use Rattle.appender_rolling.specs.Config.{Config, naming_of}

@@ -4,3 +4,4 @@ pub mod Refusals
 pub mod Openings
 pub mod Clashes
 pub mod Closings
+pub mod Limits

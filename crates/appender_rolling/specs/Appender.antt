@@ -1,5 +1,5 @@
 -- An appender: a roller that a clock is read for. `kind` has what folders of one kind tell, and `time` what clocks do.
-use Rattle.std.specs.Prelude.{◌≡◌, ℕ, ℤ, List, Result}
+use Rattle.std.specs.Prelude.{◌≡◌, ℕ, ℤ, true, List, Result}
 use Rattle.std.specs.declared.io.Error.{Error}
 use Rattle.appender_names.specs.declared.error.InitError.{InitError}
 use Rattle.appender_names.specs.declared.rotation.Rotation.{Rotation}
@@ -7,11 +7,13 @@ use Rattle.appender_store.specs.declared.store.Folder.{Ghosts}
 use Rattle.appender_rolling.specs.declared.rolling.clock.Clock.{Ghosts as Readings}
 use Rattle.appender_rolling.specs.declared.rolling.Switch.{Switch}
 use Rattle.appender_rolling.specs.Config.{Config, defaults}
-use Rattle.appender_rolling.specs.Roller.{Rolling, OpensRoller, OpensNoRoller, Puts}
+use Rattle.appender_rolling.specs.Roller.{Rolling, OpensRoller, OpensNoRoller, Sees, Writes, Puts, Flushes, is_due}
 
 -- only these are set
 abbrev pub plain_config : Rotation → List ℕ → Config
 plain_config rotation prefix = record defaults { rotation = rotation; prefix = prefix }
+
+-- ---- for one thread
 
 pub record Appending (S F C : Type 0) : Type 0 where
   pub roller : Rolling S F
@@ -24,6 +26,15 @@ pub record PutsNow {S F C : Type 0} (kind : Ghosts S F) (time : Readings C) (byt
   pub puts : Puts kind moment bytes switch answer old.roller new.roller
   pub clock : new.clock ≡ old.clock
 
+-- so they were by a write, which doesn't tell the switch
+abbrev pub WritesNow : {S F C : Type 0} → Ghosts S F → Readings C → List ℕ → Result ℕ Error → Appending S F C → Appending S F C → Type 0
+WritesNow kind time bytes answer old new = (switch : Switch) × PutsNow kind time bytes switch answer old new
+
+-- the open file was flushed, and the clock not read
+pub record FlushesNow {S F C : Type 0} (kind : Ghosts S F) (answer : Result (Unit {0}) Error) (old new : Appending S F C) : Type 0 where
+  pub flushes : Flushes kind answer old.roller new.roller
+  pub clock : new.clock ≡ old.clock
+
 -- the clock was read, and a roller was opened at the moment that it told
 pub record OpensNow {S F C : Type 0} (kind : Ghosts S F) (time : Readings C) (config : Config) (folder : S) (clock : C) (new : Appending S F C) : Type 0 where
   pub moment : ℤ
@@ -31,9 +42,65 @@ pub record OpensNow {S F C : Type 0} (kind : Ghosts S F) (time : Readings C) (co
   pub opens : OpensRoller kind config moment folder new.roller
   pub clock_is : new.clock ≡ clock
 
+-- so it was in some folder, by some clock
+abbrev pub OpensSome : {S F C : Type 0} → Ghosts S F → Readings C → Config → Appending S F C → Type 0
+OpensSome {S} {F} {C} kind time config new = (folder : S) × (clock : C) × OpensNow kind time config folder clock new
+
 -- it was read, and none was opened, for this reason
 pub record OpensNone {S F C : Type 0} (kind : Ghosts S F) (time : Readings C) (config : Config) (folder : S) (clock : C) (error : InitError) (left : S) (same : C) : Type 0 where
   pub moment : ℤ
   pub told : time.now_gives clock moment
   pub refuses : OpensNoRoller kind config moment folder error left
   pub clock_is : same ≡ clock
+
+-- ---- for many threads
+
+-- What is seen of an appender that threads share: its clock. The roller stands under a lock, so of each call it is known what
+-- it did to the roller that it found there, and not which one that was.
+pub record Sharing (C : Type 0) : Type 0 where
+  pub clock : C
+
+-- a log was opened with this in a folder, at the moment that the clock told, and is shared
+pub record SharesNow {S F C : Type 0} (kind : Ghosts S F) (time : Readings C) (config : Config) (folder : S) (clock : C) (new : Sharing C) : Type 0 where
+  pub file : Appending S F C
+  pub opens : OpensNow kind time config folder clock file
+  pub clock_is : new.clock ≡ clock
+
+-- so it was in some folder, by some clock
+abbrev pub SharesSome : {S F C : Type 0} → Ghosts S F → Readings C → Config → Sharing C → Type 0
+SharesSome {S} {F} {C} kind time config new = (folder : S) × (clock : C) × SharesNow kind time config folder clock new
+
+-- a roller looked at the clock
+pub record SeesSome {S F : Type 0} (kind : Ghosts S F) (m : ℤ) : Type 0 where
+  pub switch : Switch
+  pub found : Rolling S F
+  pub left : Rolling S F
+  pub sees : Sees kind m switch found left
+
+-- the clock was read, and the roller asked whether a boundary has come: if so, it looked at that moment
+pub record LooksNow {S F C : Type 0} (kind : Ghosts S F) (time : Readings C) (clock : C) : Type 0 where
+  pub moment : ℤ
+  pub told : time.now_gives clock moment
+  pub asked : Rolling S F
+  pub looks : is_due asked.boundary moment ≡ true → SeesSome kind moment
+
+-- the bytes were written to the open file of a roller
+pub record WritesSome {S F : Type 0} (kind : Ghosts S F) (bytes : List ℕ) (answer : Result ℕ Error) : Type 0 where
+  pub found : Rolling S F
+  pub left : Rolling S F
+  pub writes : Writes kind bytes answer found left
+
+-- the clock was read, and the bytes were put at the moment that it told
+pub record PutsSome {S F C : Type 0} (kind : Ghosts S F) (time : Readings C) (clock : C) (bytes : List ℕ) (answer : Result ℕ Error) : Type 0 where
+  pub moment : ℤ
+  pub told : time.now_gives clock moment
+  pub switch : Switch
+  pub found : Rolling S F
+  pub left : Rolling S F
+  pub puts : Puts kind moment bytes switch answer found left
+
+-- the open file of a roller was flushed
+pub record FlushesSome {S F : Type 0} (kind : Ghosts S F) (answer : Result (Unit {0}) Error) : Type 0 where
+  pub found : Rolling S F
+  pub left : Rolling S F
+  pub flushes : Flushes kind answer found left

@@ -3,3 +3,4 @@ pub mod Opening
 pub mod Roller
 pub mod Kept
 pub mod Appender
+pub mod Limits

@@ -31,12 +31,17 @@ pub record LiesAhead (r : Rotation) (opened : ℤ) (boundary : Option ℤ) : Typ
   pub is_boundary : (b : ℤ) → boundary ≡ Some b → IsBoundary r b
   pub ahead : (b : ℤ) → boundary ≡ Some b → opened <ℤ b
 
--- What holds of every roller: the open file's body is in the folder, and the file has the name of its moment.
-pub record IsRolling {S F : Type 0} (kind : Ghosts S F) (config : Config) (folder : S) (file : F) (name : List ℕ) (opened : ℤ) (boundary : Option ℤ) : Type 0 where
-  pub body_is_there : IsTrue kind.tells → kind.body file < length (kind.content folder).bodies
+-- What is kept over all calls, of a roller under a lock too, whichever threads take it: the open file has the name of the
+-- moment of the last opening that succeeded, and the next boundary lies ahead of that moment.
+pub record Stands (config : Config) (name : List ℕ) (opened : ℤ) (boundary : Option ℤ) : Type 0 where
   pub in_range : IsMoment opened
   pub name_is : name ≡ file_name_of config opened
   pub lies_ahead : LiesAhead config.rotation opened boundary
+
+-- What holds of every roller: it stands so, and the open file's body is in the folder.
+pub record IsRolling {S F : Type 0} (kind : Ghosts S F) (config : Config) (folder : S) (file : F) (name : List ℕ) (opened : ℤ) (boundary : Option ℤ) : Type 0 where
+  pub body_is_there : IsTrue kind.tells → kind.body file < length (kind.content folder).bodies
+  pub stands : Stands config name opened boundary
 
 -- ---- opening
 
@@ -80,9 +85,10 @@ pub record ClosesLast {S F : Type 0} (kind : Ghosts S F) (old : S) (file : F) (n
   pub noted : kind.noted flushed ≡ kind.noted old
   pub notes : MatchResult answer (λ _. new ≡ flushed) (λ fault. Notes kind flushed (NotedFlush fault) new)
 
--- A new file was opened at m and stands in place of the last one.
+-- A new file was opened at m, which is later than the last opening, and stands in place of the last one.
 pub record SwitchesFile {S F : Type 0} (kind : Ghosts S F) (m : ℤ) (old new : Rolling S F) : Type 0 where
   pub due : is_due old.boundary m ≡ true
+  pub later : old.opened <ℤ m
   pub config_is : new.config ≡ old.config
   pub opened : new.opened ≡ m
   pub boundary : new.boundary ≡ next_of old.config.rotation m
@@ -98,6 +104,7 @@ pub record SwitchesFile {S F : Type 0} (kind : Ghosts S F) (m : ℤ) (old new : 
 -- is left as little changed as the refused opening left it.
 pub record KeepsFile {S F : Type 0} (kind : Ghosts S F) (m : ℤ) (old new : Rolling S F) : Type 0 where
   pub due : is_due old.boundary m ≡ true
+  pub later : old.opened <ℤ m
   pub config_is : new.config ≡ old.config
   pub opened : new.opened ≡ old.opened
   pub boundary : new.boundary ≡ next_of old.config.rotation m
@@ -108,7 +115,8 @@ pub record KeepsFile {S F : Type 0} (kind : Ghosts S F) (m : ℤ) (old new : Rol
   pub notes : Notes kind refused (NotedOpen reason) new.folder
   pub content : IsTrue kind.tells → LeavesLittle old.config (file_name_of old.config m) (kind.content old.folder) (kind.content new.folder)
 
--- What a look at the clock at m does: nothing at all unless a boundary has come.
+-- What a look at the clock at m does: nothing at all unless a boundary has come. So a moment that isn't later than the last
+-- opening switches nothing.
 abbrev pub Sees : {S F : Type 0} → Ghosts S F → ℤ → Switch → Rolling S F → Rolling S F → Type 0
 Sees kind m Stayed old new = (is_due old.boundary m ≡ false) × (new ≡ old)
 Sees kind m Switched old new = SwitchesFile kind m old new

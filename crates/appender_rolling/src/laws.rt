@@ -1,13 +1,42 @@
 //! What holds of all openings of log files. A caller cites a law by a call: the function does
 //! nothing, and its contract is the law.
+ghost use Rattle.std.specs.Prelude.{◌≡◌, ℕ, List, IsTrue};
+ghost use Rattle.appender_names.specs.declared.error.InitError.{InitError};
+ghost use Rattle.appender_rolling.specs.Config.{Config};
 ghost use Rattle.appender_rolling.specs.Kept.{PartsKeep};
+ghost use Rattle.appender_rolling.specs.Limits.{TakesLittle, HasReason};
+ghost use Rattle.appender_rolling.specs.Opening.{OpensFile, RefusesFile};
 
 use appender_store::laws::names_change_one_at_a_time;
+use appender_store::store::Folder;
 
 /// Each part of an opening keeps every body with its bytes, and no file gets a name but the one that
 /// is opened.
 pub fn openings_keep_files()
     ensures { PartsKeep }
+{
+    names_change_one_at_a_time();
+}
+
+/// An opening, and a refused one too, takes no name away but those that don't survive retention, and a
+/// link under the name of the link that is set.
+pub fn openings_take_little<S: Folder>()
+    ensures opened { (config : Config) (name : List ℕ) (old : S) (file : S.File) (new : S)
+        → OpensFile S.Folder config name old file new → IsTrue S.tells
+        → TakesLittle config (S.content old) (S.content new) }
+    ensures refused { (config : Config) (name : List ℕ) (old : S) (error : InitError) (new : S)
+        → RefusesFile S.Folder config name old error new → IsTrue S.tells
+        → TakesLittle config (S.content old) (S.content new) }
+{
+    names_change_one_at_a_time();
+}
+
+/// An opening is refused for a reason: the call whose fault is told counted a failure or was refused
+/// memory; or what had the file's name before was a link or a folder; or what had the link's name a
+/// file or a folder, or its removal counted a failure.
+pub fn refusals_have_reasons<S: Folder>()
+    ensures { (config : Config) (name : List ℕ) (old : S) (error : InitError) (new : S)
+        → RefusesFile S.Folder config name old error new → HasReason S.Folder config name old error }
 {
     names_change_one_at_a_time();
 }

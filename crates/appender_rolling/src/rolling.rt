@@ -5,7 +5,9 @@ ghost use Rattle.appender_rolling.specs.Roller.{ClosesLast};
 mod appender;
 mod builder;
 mod clock;
+mod file;
 mod setup;
+mod writer;
 
 pub use appender::{FileAppender, RollingFileAppender, daily, hourly, minutely, never, weekly};
 pub use appender_names::error::InitError;
@@ -17,10 +19,13 @@ use appender_store::store::{Folder, Notice};
 pub use appender_writers::MakeWriter;
 pub use builder::Builder;
 pub use clock::{Clock, SystemClock};
+pub use file::RollingFile;
 use setup::{Opened, Setup, is_refused_name};
 use std::alloc::Global;
 use std::io;
+use std::io::Write;
 use std::marker::Model;
+pub use writer::RollingWriter;
 
 /// What a look at the clock led to.
 #[derive(Clone, Copy, Debug, PartialEq, Eq)]
@@ -74,7 +79,7 @@ impl<S: Folder> Roller<S> {
     ghost use Rattle.std.specs.Prelude.{◌≡◌, IfOk, IfErr};
     ghost use Rattle.appender_rolling.specs.Config.{naming_of};
     ghost use Rattle.appender_rolling.specs.Opening.{file_name_of};
-    ghost use Rattle.appender_rolling.specs.Roller.{OpensRoller, OpensNoRoller, Sees, Writes, Puts, Flushes, LiesAhead, is_due};
+    ghost use Rattle.appender_rolling.specs.Roller.{OpensRoller, OpensNoRoller, Sees, Writes, Puts, Flushes, LiesAhead, Stands, is_due};
 
     /// Opens the file of a moment, in seconds of UTC since the epoch, and hands the folder back where
     /// that is refused. `Name` (prefix, suffix or link make no names), `Moment` (out of range),
@@ -194,6 +199,14 @@ impl<S: Folder> Roller<S> {
         self.boundary
     }
 
+    /// The name of the open file and the second at which the next one begins, as they stand together
+    /// in every roller, and so in one under a lock each time the lock is taken.
+    pub fn standing(&self) -> (&str, Option<i64>)
+        ensures { Stands self.now.config result.0.now self.now.opened result.1 }
+    {
+        (self.name.as_str(), self.boundary)
+    }
+
     /// What its files are called.
     pub fn names(&self) -> &Names
         ensures { result.now ≡ naming_of self.now.config }
@@ -213,5 +226,27 @@ impl<S: Folder> Roller<S> {
         ensures { result ≡ self.folder }
     {
         self.folder
+    }
+}
+
+impl<S: Folder> Write for Roller<S> {
+    ghost use Rattle.std.specs.Prelude.{None};
+    ghost use Rattle.std.specs.Io.{WritesAtMost};
+    ghost use Rattle.std.specs.Io.KnownBytes.{WriteAppends};
+    ghost use Rattle.appender_rolling.specs.Roller.{Writes, Flushes};
+
+    /// One append to the open file. A roller reads no clock.
+    fn write(&mut self, bytes: &[u8]) -> io::Result<usize>
+        ensures bound { WritesAtMost result bytes.now }
+        ensures bytes { WriteAppends None None result bytes.now }
+        ensures append { Writes S.Folder bytes.now result self.old self.new }
+    {
+        Roller::write(self, bytes)
+    }
+
+    fn flush(&mut self) -> io::Result<()>
+        ensures { Flushes S.Folder result self.old self.new }
+    {
+        Roller::flush(self)
     }
 }

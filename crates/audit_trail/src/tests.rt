@@ -1,4 +1,5 @@
 // The whole program over a real folder, and its lines over a folder in memory.
+use crate::gather::keep_all;
 use crate::trail::{Fault, keep, write_lines};
 use std::alloc::Global;
 use std::cell::Cell;
@@ -7,7 +8,7 @@ use std::process::Abort;
 use std::rt::Runtime;
 use std::test::Fail;
 use std::{env, fs, io, process};
-use tracing_appender::rolling::{Builder, Clock, RollingFileAppender, Rotation};
+use tracing_appender::rolling::{Builder, Clock, RollingFile, Rotation};
 use tracing_appender::store::MemoryFolder;
 
 // An input that can't be read.
@@ -78,11 +79,13 @@ fn keeps_all_lines_of_all_runs(rt: HostRuntime) -> Result<(), Fail> {
 
 #[test]
 fn tells_its_usage(rt: HostRuntime) -> Result<(), Fail> {
-    let usage = "usage: audit_trail DIRECTORY\n";
-    check(&rt, &[], b"a\n", 2, usage);
-    let two = Vec::from_array(rt.alloc(), [fresh(&rt, "one")?, fresh(&rt, "two")?])?;
-    check(&rt, two.as_slice(), b"a\n", 2, usage);
-    assert!(rt; !fs::exists(&rt, two[0].as_str())?);
+    check(
+        &rt,
+        &[],
+        b"a\n",
+        2,
+        "usage: audit_trail DIRECTORY [SOURCE..]\n",
+    );
     Ok(())
 }
 
@@ -114,19 +117,66 @@ fn tells_an_input_that_is_not_read(rt: HostRuntime) -> Result<(), Fail> {
     Ok(())
 }
 
-// An appender over a folder in memory, opened at 2020-02-01 10:01:00.
-fn hourly(
-    alloc: Global,
-    folder: MemoryFolder,
-) -> Result<RollingFileAppender<MemoryFolder, Ticking>, Fail> {
+// A file of this test's own, with this content.
+fn source(rt: &HostRuntime, name: &str, content: &str) -> io::Result<String> {
+    let path = fresh(rt, name)?;
+    fs::write(rt, path.as_str(), content)?;
+    Ok(path)
+}
+
+#[test]
+fn gives_an_account_of_all_sources(rt: HostRuntime) -> Result<(), Fail> {
+    let directory = fresh(&rt, "sources")?;
+    let first = source(&rt, "source_1", "a 1\na 2\na 3")?;
+    let second = source(&rt, "source_2", "b 1\n\n")?;
+    let sources = Vec::from_array(rt.alloc(), [first, fresh(&rt, "nothing")?, second])?;
+    let (mut output, mut errors) = (Vec::new(rt.alloc()), Vec::new(rt.alloc()));
+    let status = keep_all(
+        rt,
+        &rt,
+        directory.as_str(),
+        sources.as_slice(),
+        &mut output,
+        &mut errors,
+    );
+    assert_eq!(rt;
+        output.as_slice(),
+        b"accepted 5 handed 5 left 0 dropped 0\n".as_slice()
+    );
+    assert!(rt; errors.as_slice().starts_with(b"read failed: "));
+    assert_eq!(rt; status, 1);
+    let link = format!(in rt.alloc(); "{directory}/latest.log")?;
+    let written = fs::read_to_string(&rt, link.as_str())?;
+    assert_eq!(rt; written.as_str().len(), 17);
+    // Those of one source stand in their order.
+    for (begin, wanted) in [
+        ("a", "a 1|a 2|a 3|"),
+        ("b", "b 1|"),
+        ("", "a 1|a 2|a 3|b 1||"),
+    ] {
+        let mut found = String::new(rt.alloc());
+        for line in written.as_str().lines() {
+            if line.starts_with(begin) {
+                found.push_str(line)?;
+                found.push('|')?;
+            }
+        }
+        assert!(rt; found.as_str() == wanted || begin.is_empty() && found.len() == wanted.len());
+    }
+    fs::remove_dir_all(&rt, directory.as_str())?;
+    Ok(())
+}
+
+// A log over a folder in memory, opened at 2020-02-01 10:01:00.
+fn hourly(alloc: Global, folder: MemoryFolder) -> Result<RollingFile<MemoryFolder, Ticking>, Fail> {
     let clock = Ticking {
         now: Cell::new(1_580_551_260),
     };
     let builder = Builder::new()
         .rotation(Rotation::HOURLY)
         .filename_prefix(alloc, "app")?;
-    match builder.build_in(alloc, folder, clock) {
-        Ok(appender) => Ok(appender),
+    match builder.open_in(alloc, folder, clock) {
+        Ok(log) => Ok(log),
         Err((error, _, _)) => Err(Fail::from(error)),
     }
 }
@@ -142,10 +192,10 @@ fn expect_file(rt: &impl Abort, folder: &MemoryFolder, name: &str, text: &str) {
 #[test]
 fn each_line_is_put_at_its_moment(rt: HostRuntime) -> Result<(), Fail> {
     let alloc = rt.alloc();
-    let mut appender = hourly(alloc, MemoryFolder::new(alloc))?;
+    let mut log = hourly(alloc, MemoryFolder::new(alloc))?;
     let mut input = b"a\nb\nc".as_slice();
-    assert!(rt; write_lines(alloc, &mut input, &mut appender).is_ok());
-    let (folder, _) = appender.into_parts();
+    assert!(rt; write_lines(alloc, &mut input, &mut log).is_ok());
+    let (folder, _) = log.into_parts();
     expect_file(&rt, &folder, "app.2020-02-01-10", "a\n");
     expect_file(&rt, &folder, "app.2020-02-01-11", "b\nc");
     Ok(())
@@ -156,15 +206,10 @@ fn a_line_cut_short_is_told(rt: HostRuntime) -> Result<(), Fail> {
     let alloc = rt.alloc();
     let mut folder = MemoryFolder::new(alloc);
     folder.short_append(2, 1)?;
-    let mut appender = hourly(alloc, folder)?;
+    let mut log = hourly(alloc, folder)?;
     let mut input = b"ab\nc\n".as_slice();
-    assert!(rt;
-        matches!(
-            write_lines(alloc, &mut input, &mut appender),
-            Err(Fault::Cut)
-        )
-    );
-    let (folder, _) = appender.into_parts();
+    assert!(rt; matches!(write_lines(alloc, &mut input, &mut log), Err(Fault::Cut)));
+    let (folder, _) = log.into_parts();
     expect_file(&rt, &folder, "app.2020-02-01-10", "a");
     Ok(())
 }
@@ -174,11 +219,11 @@ fn a_write_that_fails_is_told(rt: HostRuntime) -> Result<(), Fail> {
     let alloc = rt.alloc();
     let mut folder = MemoryFolder::new(alloc);
     folder.fail_call(2)?;
-    let mut appender = hourly(alloc, folder)?;
+    let mut log = hourly(alloc, folder)?;
     let mut input = b"ab\n".as_slice();
     assert!(rt;
         matches!(
-            write_lines(alloc, &mut input, &mut appender),
+            write_lines(alloc, &mut input, &mut log),
             Err(Fault::Write(_))
         )
     );

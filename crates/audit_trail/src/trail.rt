@@ -9,7 +9,8 @@ use std::io::{BufRead, BufReader, Read, Write};
 use std::rt::Runtime;
 use std::{fs, io};
 use thiserror::Error;
-use tracing_appender::rolling::{Clock, FileAppender, InitError, RollingFileAppender, Rotation};
+use tracing_appender::folder::DirFolder;
+use tracing_appender::rolling::{Builder, Clock, InitError, RollingFile, Rotation, SystemClock};
 use tracing_appender::store::Folder;
 
 /// How many files are kept, one a day.
@@ -18,8 +19,8 @@ const KEPT_DAYS: usize = 366;
 /// Why a trail ended early.
 #[derive(Debug, Drop, Error)]
 pub enum Fault {
-    /// There was no argument, or more than one.
-    #[error("usage: audit_trail DIRECTORY")]
+    /// There was no argument.
+    #[error("usage: audit_trail DIRECTORY [SOURCE..]")]
     Usage,
     /// No log was opened.
     #[error("{0}")]
@@ -33,6 +34,12 @@ pub enum Fault {
     /// The beginning of a line was written, and the rest was not.
     #[error("line cut short")]
     Cut,
+    /// A source got no thread of its own.
+    #[error("no thread")]
+    Thread,
+    /// A sender didn't come back.
+    #[error("no account")]
+    Unsettled,
     /// Memory was refused.
     #[error("out of memory")]
     Memory,
@@ -103,48 +110,48 @@ fn copy_lines<R: Runtime + AllocGlobal, I: Read>(
     };
     let alloc = rt.alloc();
     let mut input = BufReader::new(alloc, input)?;
-    let mut appender = open_log(rt, directory.as_str()).map_err(Fault::Open)?;
-    write_lines(alloc, &mut input, &mut appender)?;
-    appender.flush().map_err(Fault::Write)
+    let mut log = open_log(rt, directory.as_str()).map_err(Fault::Open)?;
+    write_lines(alloc, &mut input, &mut log)?;
+    log.flush().map_err(Fault::Write)
 }
 
 /// Opens the log of the day in a folder, which is made where it isn't there.
-fn open_log<R: Runtime + AllocGlobal>(
+pub fn open_log<R: Runtime + AllocGlobal>(
     rt: &R,
     directory: &str,
-) -> Result<FileAppender<R>, InitError> {
+) -> Result<RollingFile<DirFolder<R>, SystemClock<R>>, InitError> {
     let alloc = rt.alloc();
     fs::create_dir_all(rt, directory).map_err(InitError::Directory)?;
-    RollingFileAppender::builder()
+    Builder::new()
         .rotation(Rotation::DAILY)
         .filename_prefix(alloc, "audit")?
         .filename_suffix(alloc, "log")?
         .latest_symlink(alloc, "latest.log")?
         .max_log_files(KEPT_DAYS)
-        .build(rt.clone()?, directory)
+        .open(rt.clone()?, directory)
 }
 
 /// Writes each line of `input`, with its newline, if it has one.
 pub fn write_lines<I: BufRead, S: Folder, C: Clock>(
     alloc: Global,
     input: &mut I,
-    appender: &mut RollingFileAppender<S, C>,
+    log: &mut RollingFile<S, C>,
 ) -> Result<(), Fault>
     ensures { OnOk result ((text : List ℕ) → I.remaining input.old ≡ Some text →
-        (count : ℕ) × PutsLines S.Folder C.Clock count text appender.old [] appender.new) }
+        (count : ℕ) × PutsLines S.Folder C.Clock count text log.old [] log.new) }
 {
     let mut line = Vec::new(alloc);
     for _ in 0..u64::MAX {
         if !read_line(input, &mut line)? {
             return Ok(());
         }
-        write_line(line.as_slice(), appender)?;
+        write_line(line.as_slice(), log)?;
     }
     Err(Fault::Read(io::Error::other("too many lines")))
 }
 
 // Reads the next line, in place of what `line` holds, and tells whether there was one.
-fn read_line<I: BufRead>(input: &mut I, line: &mut Vec<u8>) -> Result<bool, Fault>
+pub fn read_line<I: BufRead>(input: &mut I, line: &mut Vec<u8>) -> Result<bool, Fault>
     ensures line { OnOk result ((text : List ℕ) → I.remaining input.old ≡ Some text →
         line.new.items ≡ take_through 10 text) }
     ensures rest { OnOk result ((text : List ℕ) → I.remaining input.old ≡ Some text →
@@ -159,13 +166,10 @@ fn read_line<I: BufRead>(input: &mut I, line: &mut Vec<u8>) -> Result<bool, Faul
 }
 
 /// Writes a line whole, by one put, to the file of the moment that the clock tells.
-fn write_line<S: Folder, C: Clock>(
-    line: &[u8],
-    appender: &mut RollingFileAppender<S, C>,
-) -> Result<(), Fault>
-    ensures { OnOk result (PutsLine S.Folder C.Clock line.now appender.old appender.new) }
+fn write_line<S: Folder, C: Clock>(line: &[u8], log: &mut RollingFile<S, C>) -> Result<(), Fault>
+    ensures { OnOk result (PutsLine S.Folder C.Clock line.now log.old log.new) }
 {
-    match appender.put(line).1 {
+    match log.put(line).1 {
         Ok(taken) if taken < line.len() => Err(Fault::Cut),
         Ok(_) => Ok(()),
         Err(fault) => Err(Fault::Write(fault)),

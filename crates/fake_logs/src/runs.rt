@@ -1,7 +1,7 @@
 //! Runs of a log over a fake disk, told as texts.
 
 use appender_folder::folder::DirFolder;
-use appender_rolling::rolling::{Builder, Clock, RollingFileAppender, Switch, SystemClock};
+use appender_rolling::rolling::{Builder, Clock, RollingFile, Switch, SystemClock};
 use appender_store::store::Folder;
 use fake_files::disk::{Call, Disk, FOLDER};
 use fake_files::fake::Fake;
@@ -56,7 +56,7 @@ impl Outcome {
 // An open log, its disk, and what was told so far.
 #[derive(Drop)]
 struct Run<'a, S: Folder, C: Clock> {
-    appender: RollingFileAppender<S, C>,
+    log: RollingFile<S, C>,
     disk: &'a Disk,
     answers: String,
     counted: String,
@@ -65,7 +65,7 @@ struct Run<'a, S: Folder, C: Clock> {
 impl<S: Folder, C: Clock> Run<'_, S, C> {
     fn put(&mut self, moment: u64, text: &str) -> io::Result<()> {
         self.disk.seconds.set(moment);
-        let (switch, written) = self.appender.put(text.as_bytes());
+        let (switch, written) = self.log.put(text.as_bytes());
         let switch = word(switch);
         match written {
             Ok(count) => {
@@ -78,7 +78,7 @@ impl<S: Folder, C: Clock> Run<'_, S, C> {
     }
 
     fn flush(&mut self) -> io::Result<()> {
-        let word = match self.appender.flush() {
+        let word = match self.log.flush() {
             Ok(()) => "ok\n",
             Err(_) => "err\n",
         };
@@ -140,16 +140,16 @@ fn run_over<S: Folder, C: Clock>(
     clock: C,
     steps: &[Step],
 ) -> io::Result<Outcome> {
-    match builder.build_in(alloc, folder, clock) {
-        Ok(appender) => {
+    match builder.open_in(alloc, folder, clock) {
+        Ok(log) => {
             let mut run = Run {
-                appender,
+                log,
                 disk,
                 answers: String::from_str(alloc, "open\n")?,
                 counted: String::new(alloc),
             };
             run.steps(steps)?;
-            let failures = run.appender.into_parts().0.failures();
+            let failures = run.log.into_parts().0.failures();
             told(alloc, disk, run.answers, run.counted, failures)
         }
         Err((error, folder, _)) => {

@@ -2,7 +2,7 @@
 mod queued;
 
 use crate::play::play;
-use rollplay_rows::PLAYED;
+use rollplay_rows::{AROUND_FAULTS, FAULTS, PLAYED};
 use std::alloc::Global;
 use std::io;
 use std::io::{Read, Write};
@@ -31,8 +31,19 @@ fn plays(rt: HostRuntime) {
     }
 }
 
+#[test]
+fn plays_on_where_a_call_fails(rt: HostRuntime) -> Result<(), Fail> {
+    let alloc = rt.alloc();
+    let (before, behind) = AROUND_FAULTS;
+    for (fault, output) in &FAULTS {
+        let script = format!(in alloc; "{before}{fault}{behind}")?;
+        check(&rt, alloc, script.as_bytes(), 0, output, "");
+    }
+    Ok(())
+}
+
 // Scripts whose log is not opened, and what is printed.
-static REFUSED: [(&str, &str); 20] = [
+static REFUSED: [(&str, &str); 26] = [
     (
         "rotation hourly\nprefix a/b\nstart 1580551260\n",
         "init error 5\n",
@@ -73,6 +84,22 @@ static REFUSED: [(&str, &str); 20] = [
         "init error 5\n",
     ),
     ("prefix app\nlink a/b\nstart 0\n", "init error 5\n"),
+    (
+        "rotation hourly\nprefix app\nlink app.2020-02-01-10\nstart 1580551260\n",
+        "init error 5\n",
+    ),
+    (
+        "rotation daily\nprefix app\nlink app.1970-01-01\nstart 1580551260\n",
+        "init error 5\n",
+    ),
+    ("prefix app\nlink a\0\nstart 0\n", "init error 5\n"),
+    ("prefix app\nlink .\nstart 0\n", "init error 5\n"),
+    ("rotation weekly\nstart -62135596801\n", "init error 4\n"),
+    // The fifth call of the run makes its link.
+    (
+        "rotation hourly\nprefix app\nmax 2\nlink latest.log\nfile app.2020-02-01-08 o\nfile app.2020-02-01-09 p\nfail 5\nstart 1580551260\nput 1580551260 a\n",
+        "init error 3\nfile app.2020-02-01-09 1 p\nfile app.2020-02-01-10 0\n",
+    ),
     // The moment is looked at before the link's name is compared.
     (
         "rotation daily\nlink 2020-02-01\nstart 253370764800\n",

@@ -2,7 +2,7 @@
 #![tactic(auto)]
 
 /// Scripts without a queue whose log is opened, and what is printed.
-pub static PLAYED: [(&str, &str); 31] = [
+pub static PLAYED: [(&str, &str); 45] = [
     // Arrivals an hour apart; a clock that goes back keeps the file.
     (
         "rotation hourly\nprefix app\nstart 1580551260\nput 1580554800 a\nput 1580554799 b\n",
@@ -140,6 +140,71 @@ pub static PLAYED: [(&str, &str); 31] = [
         "prefix app\nstart 0000001580551260\nsee 9223372036854775807\nsee -9223372036854775808\n",
         "open app\nnone\nnone\nfile app 0\n",
     ),
+    // A boundary before the epoch, the Sunday that ends a week, and the end of a minute.
+    (
+        "rotation daily\nstart -1\nput -1 v\nput 0 w\n",
+        "open 1969-12-31\nnone ok 1\nopened ok 1\nfile 1969-12-31 1 v\nfile 1970-01-01 1 w\n",
+    ),
+    (
+        "rotation weekly\nprefix my_prefix\nsuffix log\nstart 1739786460\nput 1740268799 x\nput 1740268800 y\n",
+        "open my_prefix.2025-02-16.log\nnone ok 1\nopened ok 1\nfile my_prefix.2025-02-16.log 1 x\nfile my_prefix.2025-02-23.log 1 y\n",
+    ),
+    (
+        "rotation minutely\nsuffix log\nstart 1580551260\nput 1580551319 x\nput 1580551320 y\n",
+        "open 2020-02-01-10-01.log\nnone ok 1\nopened ok 1\nfile 2020-02-01-10-01.log 1 x\nfile 2020-02-01-10-02.log 1 y\n",
+    ),
+    // Moments outside the years 1 to 9998 count as not seen.
+    (
+        "rotation daily\nstart 253370764799\nput 253370764800 x\n",
+        "open 9998-12-31\nnone ok 1\nfile 9998-12-31 1 x\n",
+    ),
+    (
+        "rotation hourly\nprefix app\nstart 1580551260\nput 253370764800 x\nput -62135596801 y\nput 1580554800 z\nput 9223372036854775807 w\n",
+        "open app.2020-02-01-10\nnone ok 1\nnone ok 1\nopened ok 1\nnone ok 1\nfile app.2020-02-01-10 2 xy\nfile app.2020-02-01-11 2 zw\n",
+    ),
+    // A write and a flush look at no clock.
+    (
+        "rotation hourly\nprefix app\nfile app.2020-02-01-10 held\nstart 1580551260\nsee 1580554799\nwrite one\nflush\nsee 1580554800\n",
+        "open app.2020-02-01-10\nnone\nok 3\nok\nopened\nfile app.2020-02-01-10 7 heldone\nfile app.2020-02-01-11 0\n",
+    ),
+    // A date is no name of a log under never with a prefix, nor is one without an hour under hourly.
+    (
+        "prefix app\nlink app.2020-02-01\nstart 1580551260\n",
+        "open app\nfile app 0\nlink app.2020-02-01 app\n",
+    ),
+    (
+        "rotation hourly\nprefix app\nlink app.2020-02-01\nstart 1580551260\n",
+        "open app.2020-02-01-10\nlink app.2020-02-01 app.2020-02-01-10\nfile app.2020-02-01-10 0\n",
+    ),
+    // A run keeps the newest files.
+    (
+        "rotation hourly\nprefix test\nmax 2\nstart 1580551260\nput 1580551260 1\\n\nput 1580551261 1\\n\nput 1580554861 2\\n\nput 1580554862 2\\n\nput 1580558462 3\\n\nput 1580558463 3\\n\n",
+        "open test.2020-02-01-10\nnone ok 2\nnone ok 2\nopened ok 2\nnone ok 2\nopened ok 2\nnone ok 2\nfile test.2020-02-01-11 4 2\\n2\\n\nfile test.2020-02-01-12 4 3\\n3\\n\n",
+    ),
+    // The period's own file is a candidate: it stays as the newest, and one file less is left.
+    (
+        "rotation hourly\nprefix app\nmax 2\nfile app.2020-02-01-09 p\nfile app.2020-02-01-10 q\nstart 1580551260\n",
+        "open app.2020-02-01-10\nfile app.2020-02-01-10 1 q\n",
+    ),
+    (
+        "rotation hourly\nprefix app\nmax 1\nfile app.2020-02-01-10 x\nstart 1580551260\n",
+        "open app.2020-02-01-10\nfile app.2020-02-01-10 0\n",
+    ),
+    // A listing that fails, and one of three removals.
+    (
+        "rotation hourly\nprefix app\nmax 1\nfile app.2020-02-01-07\nfile app.2020-02-01-08\nfail 1\nfail 4\nstart 1580551260\nsee 1580554800\n",
+        "open app.2020-02-01-10\nopened\nfile app.2020-02-01-07 0\nfile app.2020-02-01-11 0\n",
+    ),
+    // Between boundaries nothing is listed: calls 3 to 5 are the appends.
+    (
+        "rotation hourly\nprefix app\nmax 2\nfail 3\nfail 5\nstart 1580551260\nput 1580551260 a\nput 1580551261 b\nput 1580551262 c\n",
+        "open app.2020-02-01-10\nnone err\nnone ok 1\nnone err\nfile app.2020-02-01-10 1 b\n",
+    ),
+    // A fault of the file that gives way is no fault of the switch.
+    (
+        "rotation hourly\nprefix app\nfail 3\nstart 1580551260\nput 1580554800 a\n",
+        "open app.2020-02-01-10\nopened ok 1\nfile app.2020-02-01-10 0\nfile app.2020-02-01-11 1 a\n",
+    ),
 ];
 
 /// Scripts with a queue whose log is opened, and what is printed.
@@ -242,5 +307,82 @@ pub static QUEUED: [(&str, &str); 20] = [
     (
         "rotation hourly\nprefix app\nfolder app.2020-02-01-11\nqueue 1 lossy\nstart 1580551260\noffer 1 a\nwork 0\nwork 1580554800\n",
         "open app.2020-02-01-10\naccepted 1\ntook 1\nwrote failed ok 1\nfile app.2020-02-01-10 1 a\nfolder app.2020-02-01-11\ncounts 1 1 0 0 0\n",
+    ),
+];
+
+/// What comes before and behind the line of `FAULTS` in a script whose run makes fifteen calls of its
+/// folder: an opening that lists, removes, opens and renews the link, a write, a switch that does the same
+/// and flushes the last file, two writes and a flush.
+pub static AROUND_FAULTS: (&str, &str) = (
+    "rotation hourly\nprefix app\nmax 2\nlink latest.log\nfile app.2020-02-01-08 o\nfile app.2020-02-01-09 p\n",
+    "start 1580551260\nput 1580551260 a\nput 1580554800 b\nput 1580554799 c\nflush\n",
+);
+
+/// A call that fails or falls short, and what is printed. Call 5 is that of the opening's link, without
+/// which nothing is opened.
+pub static FAULTS: [(&str, &str); 16] = [
+    (
+        "fail 1\n",
+        "open app.2020-02-01-10\nnone ok 1\nopened ok 1\nnone ok 1\nok\nfile app.2020-02-01-10 1 a\nfile app.2020-02-01-11 2 bc\nlink latest.log app.2020-02-01-11\n",
+    ),
+    (
+        "fail 2\n",
+        "open app.2020-02-01-10\nnone ok 1\nopened ok 1\nnone ok 1\nok\nfile app.2020-02-01-10 1 a\nfile app.2020-02-01-11 2 bc\nlink latest.log app.2020-02-01-11\n",
+    ),
+    (
+        "fail 3\n",
+        "open app.2020-02-01-10\nnone ok 1\nopened ok 1\nnone ok 1\nok\nfile app.2020-02-01-10 1 a\nfile app.2020-02-01-11 2 bc\nlink latest.log app.2020-02-01-11\n",
+    ),
+    (
+        "fail 4\n",
+        "open app.2020-02-01-10\nnone ok 1\nopened ok 1\nnone ok 1\nok\nfile app.2020-02-01-10 1 a\nfile app.2020-02-01-11 2 bc\nlink latest.log app.2020-02-01-11\n",
+    ),
+    (
+        "fail 6\n",
+        "open app.2020-02-01-10\nnone err\nopened ok 1\nnone ok 1\nok\nfile app.2020-02-01-10 0\nfile app.2020-02-01-11 2 bc\nlink latest.log app.2020-02-01-11\n",
+    ),
+    (
+        "fail 7\n",
+        "open app.2020-02-01-10\nnone ok 1\nopened ok 1\nnone ok 1\nok\nfile app.2020-02-01-09 1 p\nfile app.2020-02-01-10 1 a\nfile app.2020-02-01-11 2 bc\nlink latest.log app.2020-02-01-11\n",
+    ),
+    (
+        "fail 8\n",
+        "open app.2020-02-01-10\nnone ok 1\nopened ok 1\nnone ok 1\nok\nfile app.2020-02-01-09 1 p\nfile app.2020-02-01-10 1 a\nfile app.2020-02-01-11 2 bc\nlink latest.log app.2020-02-01-11\n",
+    ),
+    (
+        "fail 9\n",
+        "open app.2020-02-01-10\nnone ok 1\nopened ok 1\nnone ok 1\nok\nfile app.2020-02-01-10 1 a\nfile app.2020-02-01-11 2 bc\nlink latest.log app.2020-02-01-11\n",
+    ),
+    (
+        "fail 10\n",
+        "open app.2020-02-01-10\nnone ok 1\nfailed ok 1\nnone ok 1\nok\nfile app.2020-02-01-10 3 abc\nfile app.2020-02-01-11 0\nlink latest.log app.2020-02-01-10\n",
+    ),
+    (
+        "fail 11\n",
+        "open app.2020-02-01-10\nnone ok 1\nfailed ok 1\nnone ok 1\nok\nfile app.2020-02-01-10 3 abc\nfile app.2020-02-01-11 0\n",
+    ),
+    (
+        "fail 12\n",
+        "open app.2020-02-01-10\nnone ok 1\nopened ok 1\nnone ok 1\nok\nfile app.2020-02-01-10 1 a\nfile app.2020-02-01-11 2 bc\nlink latest.log app.2020-02-01-11\n",
+    ),
+    (
+        "fail 13\n",
+        "open app.2020-02-01-10\nnone ok 1\nopened err\nnone ok 1\nok\nfile app.2020-02-01-10 1 a\nfile app.2020-02-01-11 1 c\nlink latest.log app.2020-02-01-11\n",
+    ),
+    (
+        "fail 14\n",
+        "open app.2020-02-01-10\nnone ok 1\nopened ok 1\nnone err\nok\nfile app.2020-02-01-10 1 a\nfile app.2020-02-01-11 1 b\nlink latest.log app.2020-02-01-11\n",
+    ),
+    (
+        "fail 15\n",
+        "open app.2020-02-01-10\nnone ok 1\nopened ok 1\nnone ok 1\nerr\nfile app.2020-02-01-10 1 a\nfile app.2020-02-01-11 2 bc\nlink latest.log app.2020-02-01-11\n",
+    ),
+    (
+        "fail 16\n",
+        "open app.2020-02-01-10\nnone ok 1\nopened ok 1\nnone ok 1\nok\nfile app.2020-02-01-10 1 a\nfile app.2020-02-01-11 2 bc\nlink latest.log app.2020-02-01-11\n",
+    ),
+    (
+        "short 13 0\n",
+        "open app.2020-02-01-10\nnone ok 1\nopened ok 0\nnone ok 1\nok\nfile app.2020-02-01-10 1 a\nfile app.2020-02-01-11 1 c\nlink latest.log app.2020-02-01-11\n",
     ),
 ];

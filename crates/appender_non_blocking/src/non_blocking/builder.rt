@@ -1,14 +1,19 @@
 // How a worker and its first sender are made.
-ghost use Rattle.std.specs.Prelude.{◌≡◌, IfOk, None, true};
+ghost use Rattle.std.specs.Prelude.{◌≡◌, ◌+◌, IfOk, None, true, replicate};
+ghost use Rattle.appender_non_blocking.specs.Account.{new_sender, new_guard};
 
+use super::account::CountedGuard;
+use super::books::{Done, FourBooks, NoBooks, Pass};
+use super::counted::{CountedSender, make_senders};
 use super::guard::WorkerGuard;
 use super::sender::NonBlocking;
 use super::shared::Shared;
-use super::worker::{PlainDesk, serve};
+use super::worker::serve;
 use std::alloc::{AllocError, Global};
 use std::io::Write;
+use std::sync::ledger::{Blank, Ledger};
 use std::sync::{Arc, Wait};
-use std::thread::Threads;
+use std::thread::{JoinHandle, Threads};
 use std::time::Clock;
 use std::{io, thread};
 
@@ -90,26 +95,112 @@ impl NonBlockingBuilder {
         ensures { IfOk result (λ made. made.0.lossy ≡ self.lossy) }
     {
         let NonBlockingBuilder { limit, lossy, name } = self;
-        let shared = Arc::new(alloc, Shared::new(alloc, limit, lossy)?)?;
+        let shared = Arc::new(alloc, Shared::new(alloc, limit, lossy, NoBooks)?)?;
         let served = Arc::try_clone(&shared)?;
         let guarded = Arc::try_clone(&shared)?;
-        let name = match &name {
-            Some(name) => name.as_str(),
-            None => DEFAULT_NAME,
-        };
         // The guard is a sender too.
         shared.add_sender(&rt);
         let mut writer = writer;
         let _worker = thread::Builder::new()
-            .name(name.to_string(alloc)?)
-            .spawn(&rt, move || {
-                serve(&rt, &mut PlainDesk::new(&*served), &mut writer);
-                served.announce_end(&rt);
-            })?;
+            .name(named(alloc, name)?)
+            .spawn(&rt, move || serve(&rt, &*served, &mut writer, ()))?;
         Ok((
             NonBlocking::first(rt, alloc, shared, lossy),
             WorkerGuard::new(rt, guarded),
         ))
+    }
+
+    /// Starts the worker, and makes so many counted senders and the guard that settles their account.
+    /// The books of accepted lines need a blank of one part more than there are senders, the other
+    /// three one of one part each. Errors are those of `finish`.
+    pub fn finish_counted<
+        A: Ledger + Send + Sync + 'static,
+        H: Ledger + Send + Sync + 'static,
+        S: Ledger + Send + Sync + 'static,
+        C: Ledger + Send + Sync + 'static,
+        W: Write + Send + Drop + 'static,
+        R: Threads + Wait + Clock + Print + Eprint + Copy + Send + 'static,
+    >(
+        self,
+        rt: R,
+        alloc: Global,
+        writer: W,
+        senders: usize,
+        accepted: Blank,
+        handed: Blank,
+        shutdowns: Blank,
+        closings: Blank,
+    ) -> io::Result<
+        (
+            Vec<CountedSender<A, H, S, C, R>>,
+            CountedGuard<A, H, S, C, R>,
+        ),
+    >
+        requires accepted { (accepted.name ≡ A.name) × (accepted.parts ≡ A.parts) × (accepted.parts ≡ senders + 1) }
+        requires handed { (handed.name ≡ H.name) × (handed.parts ≡ H.parts) × (handed.parts ≡ 1) }
+        requires shutdowns { (shutdowns.name ≡ S.name) × (shutdowns.parts ≡ S.parts) × (shutdowns.parts ≡ 1) }
+        requires closings { (closings.name ≡ C.name) × (closings.parts ≡ C.parts) × (closings.parts ≡ 1) }
+        ensures senders { IfOk result (λ made. made.0.items ≡ replicate senders (new_sender self.lossy)) }
+        ensures guard { IfOk result (λ made. made.1 ≡ new_guard senders) }
+    {
+        let NonBlockingBuilder { limit, lossy, name } = self;
+        let (accepted, share) = accepted.open::<A>();
+        let (handed, lines) = handed.open::<H>();
+        let (shutdowns, sent) = shutdowns.open::<S>();
+        let (closings, closed) = closings.open::<C>();
+        let books = FourBooks {
+            accepted,
+            handed,
+            shutdowns,
+            closings,
+        };
+        let shared = Arc::new(alloc, Shared::new(alloc, limit, lossy, books)?)?;
+        // The guard is the sender that the queue counts already.
+        let (made, part) = make_senders(rt, alloc, &shared, lossy, share, senders)?;
+        let pass = Pass {
+            handed: lines,
+            closings: closed,
+        };
+        let served = Arc::try_clone(&shared)?;
+        let worker = start_counted(rt, named(alloc, name)?, served, writer, pass)?;
+        Ok((
+            made,
+            CountedGuard::new(rt, shared, part, sent, senders, worker),
+        ))
+    }
+}
+
+// Starts the worker's thread, which hands back its shares in the end.
+fn start_counted<
+    A: Ledger + Send + Sync + 'static,
+    H: Ledger + Send + Sync + 'static,
+    S: Ledger + Send + Sync + 'static,
+    C: Ledger + Send + Sync + 'static,
+    W: Write + Send + Drop + 'static,
+    R: Threads + Wait + Eprint + Copy + Send + 'static,
+>(
+    rt: R,
+    name: String,
+    shared: Arc<Shared<FourBooks<A, H, S, C>>, Global>,
+    writer: W,
+    pass: Pass<H, C>,
+) -> io::Result<JoinHandle<Done<H, C>>>
+    requires { (pass.handed.parts ≡ 1) × (H.parts ≡ 1) × (pass.closings.parts ≡ 1) × (C.parts ≡ 1)
+        × (pass.closings.amount ≡ 0) }
+{
+    let mut writer = writer;
+    let job = move || -> Done<H, C>
+        requires { (pass.handed.parts ≡ 1) × (H.parts ≡ 1) × (pass.closings.parts ≡ 1) × (C.parts ≡ 1)
+            × (pass.closings.amount ≡ 0) }
+    { serve(&rt, &*shared, &mut writer, pass) };
+    thread::Builder::new().name(name).spawn(&rt, job)
+}
+
+// The name of a worker's thread.
+fn named(alloc: Global, name: Option<String>) -> Result<String, AllocError> {
+    match name {
+        Some(name) => Ok(name),
+        None => DEFAULT_NAME.to_string(alloc),
     }
 }
 

@@ -1,6 +1,7 @@
 // The guard that ends the worker.
 ghost use Rattle.std.specs.Prelude.{◌≡◌};
 
+use super::books::{Books, NoBooks};
 use super::pace::Patience;
 use super::shared::Shared;
 use appender_queue::queue::Shut;
@@ -37,18 +38,18 @@ pub enum Closing {
 #[must_use]
 pub struct WorkerGuard<R: Wait + Clock + Print + Drop> {
     rt: R,
-    shared: Arc<Shared, Global>,
+    shared: Arc<Shared<NoBooks>, Global>,
 }
 
 impl<R: Wait + Clock + Print + Drop> WorkerGuard<R> {
-    pub(super) fn new(rt: R, shared: Arc<Shared, Global>) -> WorkerGuard<R> {
+    pub(super) fn new(rt: R, shared: Arc<Shared<NoBooks>, Global>) -> WorkerGuard<R> {
         WorkerGuard { rt, shared }
     }
 
     /// Does what dropping does, and tells what came of it.
     pub fn close(self) -> Closing {
         let WorkerGuard { rt, shared } = self;
-        let closing = close(&rt, &*shared);
+        let closing = close(&rt, &*shared, &mut ());
         shared.drop_sender(&rt);
         closing
     }
@@ -57,10 +58,7 @@ impl<R: Wait + Clock + Print + Drop> WorkerGuard<R> {
 impl<R: Wait + Clock + Print + Drop> Drop for WorkerGuard<R> {
     fn drop(self) {
         let WorkerGuard { rt, shared } = self;
-        if let Closing::Full = close(&rt, &*shared) {
-            let _ = rt.println("Failed to send shutdown signal to logging worker. Error: Shutdown");
-        }
-        shared.drop_sender(&rt);
+        end(&rt, &*shared, &mut ());
     }
 }
 
@@ -70,8 +68,24 @@ impl<R: Wait + Clock + Print + Drop> Debug for WorkerGuard<R> {
     }
 }
 
-fn close<R: Wait + Clock>(rt: &R, shared: &Shared) -> Closing {
-    match send_shutdown(rt, shared) {
+/// What a guard does when it is dropped.
+pub(super) fn end<B: Books, R: Wait + Clock + Print>(
+    rt: &R,
+    shared: &Shared<B>,
+    mine: &mut B::Shutdowns,
+)
+    requires { B.may_shut mine.old }
+{
+    if let Closing::Full = close(rt, shared, mine) {
+        let _ = rt.println("Failed to send shutdown signal to logging worker. Error: Shutdown");
+    }
+    shared.drop_sender(rt);
+}
+
+fn close<B: Books, R: Wait + Clock>(rt: &R, shared: &Shared<B>, mine: &mut B::Shutdowns) -> Closing
+    requires { B.may_shut mine.old }
+{
+    match send_shutdown(rt, shared, mine) {
         Shut::Closed => Closing::Ended,
         Shut::Full => Closing::Full,
         Shut::Sent | Shut::Already => wait_for_end(rt, shared),
@@ -79,7 +93,13 @@ fn close<R: Wait + Clock>(rt: &R, shared: &Shared) -> Closing {
 }
 
 // Sends the shutdown, for which it waits for room.
-fn send_shutdown<R: Wait + Clock>(rt: &R, shared: &Shared) -> Shut {
+fn send_shutdown<B: Books, R: Wait + Clock>(
+    rt: &R,
+    shared: &Shared<B>,
+    mine: &mut B::Shutdowns,
+) -> Shut
+    requires { B.may_shut mine.old }
+{
     let mut state = shared.lock(rt, &mut Patience::NEW);
     let waits = state.begins_waiting();
     if waits {
@@ -89,13 +109,13 @@ fn send_shutdown<R: Wait + Clock>(rt: &R, shared: &Shared) -> Shut {
             .wait_timeout_while(rt, state, time, |state| state.goes_on_waiting())
             .0;
     }
-    let (reply, calls) = state.shut(waits);
+    let (reply, calls) = state.shut(waits, mine);
     drop(state);
     shared.wake(calls);
     reply
 }
 
-fn wait_for_end<R: Wait + Clock>(rt: &R, shared: &Shared) -> Closing {
+fn wait_for_end<B: Books, R: Wait + Clock>(rt: &R, shared: &Shared<B>) -> Closing {
     let time = Duration::from_millis(END_MILLIS);
     let (ended, result) = shared
         .end

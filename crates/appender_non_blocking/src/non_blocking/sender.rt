@@ -1,8 +1,22 @@
 // Senders, and the count of lines that they could not queue.
-ghost use Rattle.std.specs.Prelude.{◌≡◌, length, IfOk, IfErr, IsErr, IsOk, true, false};
+ghost use Rattle.std.specs.Prelude.{
+  ◌≡◌,
+  ◌≢◌,
+  length,
+  Some,
+  IfOk,
+  IfErr,
+  IsErr,
+  IsOk,
+  IsSome,
+  true,
+  false,
+};
 ghost use Rattle.std.specs.IoError.{error_kind};
 ghost use Rattle.appender_non_blocking.specs.Refusal.{IsRefusal};
+ghost use Rattle.appender_non_blocking.specs.Told.{AsQueued};
 
+use super::books::{Books, NoBooks};
 use super::pace::{FULL_REST, LOOKS, MOST_BYTES, Patience, rest};
 use super::shared::Shared;
 use appender_queue::queue::Refused;
@@ -14,6 +28,15 @@ use std::sync::atomic::Ordering::SeqCst;
 use std::sync::{Arc, Wait};
 use std::{fmt, io, mem};
 
+/// What became of a line.
+#[derive(Clone, Copy, PartialEq, Eq, Debug)]
+pub enum Sent {
+    /// It is queued, and has this ticket: 1 for the first line of all senders, then 2, ..
+    Queued(u64),
+    /// It found a lossy queue full or closed, and was dropped.
+    Dropped,
+}
+
 /// Offers lines to a queue, which a worker empties. Each `write` is one line, and `flush` does
 /// nothing: the worker flushes its writer whenever it finds the queue empty. A clone is one more
 /// sender; once the last one and the guard are dropped, the worker writes what lies in the queue, and
@@ -21,7 +44,7 @@ use std::{fmt, io, mem};
 pub struct NonBlocking<R: Wait + Drop> {
     rt: R,
     alloc: Global,
-    shared: Arc<Shared, Global>,
+    shared: Arc<Shared<NoBooks>, Global>,
     lossy: bool,
     // The buffer for the next line.
     spare: Vec<u8>,
@@ -33,7 +56,7 @@ impl<R: Wait + Drop> NonBlocking<R> {
     pub(super) fn first(
         rt: R,
         alloc: Global,
-        shared: Arc<Shared, Global>,
+        shared: Arc<Shared<NoBooks>, Global>,
         lossy: bool,
     ) -> NonBlocking<R>
         ensures { result.lossy ≡ lossy }
@@ -74,15 +97,10 @@ impl<R: Wait + Drop> NonBlocking<R> {
             spare,
             patience,
         } = self;
-        let mut line = mem::replace(spare, Vec::new(*alloc));
-        line.clear();
-        if line.extend_from_slice(buf).is_err() {
-            return Err(ErrorKind::OutOfMemory);
-        }
-        if send(rt, &**shared, *lossy, line, spare, patience) {
-            Ok(())
-        } else {
-            Err(ErrorKind::Other)
+        let line = copied(*alloc, spare, buf)?;
+        match send(rt, &**shared, *lossy, line, spare, patience, &mut ()) {
+            Some(_) => Ok(()),
+            None => Err(ErrorKind::Other),
         }
     }
 }
@@ -119,44 +137,62 @@ fn fault(kind: ErrorKind) -> io::Result<usize>
     Err(io::Error::from(kind))
 }
 
-// One locked offer. Where a waiting queue is full, others follow once it may have room. Answers
-// whether the line was queued or dropped, and not refused by a closed queue.
+/// A copy of a line, in the spare buffer.
 #[inline(always)]
-fn send<R: Wait>(
+pub(super) fn copied(alloc: Global, spare: &mut Vec<u8>, buf: &[u8]) -> Result<Vec<u8>, ErrorKind>
+    ensures copy { IfOk result (λ line. line.items ≡ buf.now) }
+    ensures kind { IfErr result (λ kind. kind ≡ ErrorKind.OutOfMemory) }
+{
+    let mut line = mem::replace(spare, Vec::new(alloc));
+    line.clear();
+    if line.extend_from_slice(buf).is_err() {
+        return Err(ErrorKind::OutOfMemory);
+    }
+    Ok(line)
+}
+
+/// One locked offer. Where a waiting queue is full, others follow once it may have room. None where a
+/// waiting queue is closed.
+#[inline(always)]
+pub(super) fn send<B: Books, R: Wait>(
     rt: &R,
-    shared: &Shared,
+    shared: &Shared<B>,
     lossy: bool,
     line: Vec<u8>,
     spare: &mut Vec<u8>,
     patience: &mut Patience,
-) -> bool
-    ensures { lossy ≡ true → result ≡ true }
+    mine: &mut B::Mine,
+) -> Option<Sent>
+    requires { B.may_accept mine.old }
+    ensures counted { AsQueued result (B.counts_line mine.old mine.new) (mine.new ≡ mine.old) }
+    ensures waiting { lossy ≡ false → result ≢ Some Sent.Dropped }
+    ensures lossy { lossy ≡ true → IsSome result }
 {
     let mut state = shared.lock(rt, patience);
-    let (reply, calls) = state.offer(line, false, spare);
+    let (reply, calls) = state.offer(line, false, spare, mine);
     match reply {
-        Ok(pace) => {
+        Ok((ticket, pace)) => {
             drop(state);
             shared.wake(calls);
             pace.keep();
-            true
+            Some(Sent::Queued(ticket))
         }
         Err(refused) if lossy => {
             shared.dropped.store(state.dropped(), SeqCst);
             drop(state);
             shared.wake(calls);
             recycle(spare, refused);
-            true
+            Some(Sent::Dropped)
         }
         Err(Refused::Closed(_)) => {
             drop(state);
             shared.wake(calls);
-            false
+            None
         }
         Err(Refused::Full(line)) => {
             drop(state);
             shared.wake(calls);
-            send_later(rt, shared, line, spare, patience)
+            send_later(rt, shared, line, spare, patience, mine)
         }
     }
 }
@@ -164,31 +200,36 @@ fn send<R: Wait>(
 // Looks for room a number of times, then sleeps until there is some, and offers the line again.
 #[cold]
 #[inline(never)]
-fn send_later<R: Wait>(
+fn send_later<B: Books, R: Wait>(
     rt: &R,
-    shared: &Shared,
+    shared: &Shared<B>,
     line: Vec<u8>,
     spare: &mut Vec<u8>,
     patience: &mut Patience,
-) -> bool {
+    mine: &mut B::Mine,
+) -> Option<Sent>
+    requires { B.may_accept mine.old }
+    ensures counted { AsQueued result (B.counts_line mine.old mine.new) (mine.new ≡ mine.old) }
+    ensures waiting { result ≢ Some Sent.Dropped }
+{
     let mut line = line;
     let mut came = false;
     let mut looks = 1u32;
     rest(FULL_REST);
     let mut state = shared.lock(rt, patience);
     for _ in rt.forever() {
-        let (reply, calls) = state.offer(line, came, spare);
+        let (reply, calls) = state.offer(line, came, spare, mine);
         came = false;
         match reply {
-            Ok(_) => {
+            Ok((ticket, _)) => {
                 drop(state);
                 shared.wake(calls);
-                return true;
+                return Some(Sent::Queued(ticket));
             }
             Err(Refused::Closed(_)) => {
                 drop(state);
                 shared.wake(calls);
-                return false;
+                return None;
             }
             Err(Refused::Full(back)) => {
                 line = back;
@@ -266,7 +307,7 @@ impl<R: Wait + Drop> Debug for NonBlocking<R> {
 /// How many lines a lossy queue dropped, as far as it is known; 0 where senders wait.
 #[derive(Drop)]
 pub struct ErrorCounter {
-    shared: Arc<Shared, Global>,
+    shared: Arc<Shared<NoBooks>, Global>,
     lossy: bool,
 }
 

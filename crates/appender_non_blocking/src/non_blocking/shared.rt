@@ -1,4 +1,7 @@
 // What senders, guard and worker share.
+ghost use Rattle.appender_non_blocking.specs.Tally.{no_tally};
+
+use super::books::Books;
 use super::pace::{PAUSES, Patience, YIELDS};
 use super::state::{Calls, State};
 use crossbeam_utils::CachePadded;
@@ -8,9 +11,9 @@ use std::sync::{Condvar, Mutex, MutexGuard, Wait};
 use std::thread;
 
 #[derive(Drop)]
-pub(super) struct Shared {
+pub(super) struct Shared<B: Books> {
     // Alone on its lines of the processor's cache.
-    state: CachePadded<Mutex<State>>,
+    state: CachePadded<Mutex<State<B>>>,
     // The worker waits here.
     pub(super) came: Condvar,
     // Senders and the guard wait here.
@@ -22,11 +25,18 @@ pub(super) struct Shared {
     pub(super) dropped: AtomicUsize,
 }
 
-impl Shared {
-    /// An empty queue with one sender.
-    pub(super) fn new(alloc: Global, limit: usize, lossy: bool) -> Result<Shared, AllocError> {
+impl<B: Books> Shared<B> {
+    /// An empty queue with one sender, beside new books.
+    pub(super) fn new(
+        alloc: Global,
+        limit: usize,
+        lossy: bool,
+        books: B,
+    ) -> Result<Shared<B>, AllocError>
+        requires { B.say books no_tally }
+    {
         Ok(Shared {
-            state: CachePadded::new(Mutex::new(State::new(alloc, limit, lossy)?)),
+            state: CachePadded::new(Mutex::new(State::new(alloc, limit, lossy, books)?)),
             came: Condvar::new(),
             room: Condvar::new(),
             ended: Mutex::new(false),
@@ -37,8 +47,12 @@ impl Shared {
 
     /// Takes the lock: tries for a while before it sleeps.
     #[inline(always)]
-    pub(super) fn lock<R: Wait>(&self, rt: &R, patience: &mut Patience) -> MutexGuard<'_, State> {
-        let lock: &Mutex<State> = &self.state;
+    pub(super) fn lock<R: Wait>(
+        &self,
+        rt: &R,
+        patience: &mut Patience,
+    ) -> MutexGuard<'_, State<B>> {
+        let lock: &Mutex<State<B>> = &self.state;
         if let Some(guard) = lock.try_lock() {
             patience.shrinks();
             return guard;
@@ -48,8 +62,8 @@ impl Shared {
 
     #[cold]
     #[inline(never)]
-    fn lock_again<R: Wait>(&self, rt: &R, patience: &mut Patience) -> MutexGuard<'_, State> {
-        let lock: &Mutex<State> = &self.state;
+    fn lock_again<R: Wait>(&self, rt: &R, patience: &mut Patience) -> MutexGuard<'_, State<B>> {
+        let lock: &Mutex<State<B>> = &self.state;
         for turn in 0..PAUSES + YIELDS {
             if turn < PAUSES {
                 patience.pauses();

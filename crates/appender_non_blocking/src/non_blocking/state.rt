@@ -1,12 +1,14 @@
 // What lies under the lock, and who is to be woken once it is let go.
 ghost use Rattle.std.specs.Prelude.{◌≡◌, ◌<◌, ℕ, true, false, not, ◌&&◌, ◌||◌, IfOk};
-ghost use Rattle.appender_non_blocking.specs.Quiet.{IsQuiet};
-ghost use Rattle.appender_queue.specs.Queue.{IsLawful, has_room};
+ghost use Rattle.appender_queue.specs.Queue.{has_room};
 
+use super::books::{Books, Done, FourBooks};
 use super::pace::{MOST_BYTES, MOST_SPARES, Pace};
-use appender_queue::laws::offers_change_little;
-use appender_queue::queue::{LineQueue, Refused, Shut, Taken};
+use appender_queue::laws::{offers_change_little, shutdowns_change_little, takes_change_little};
+use appender_queue::queue::{Counts, LineQueue, Refused, Shut, Taken};
 use std::alloc::{AllocError, Global};
+use std::marker::Model;
+use std::sync::ledger::{Ledger, Share};
 
 /// Who is to be woken. It can't be dropped: `Shared::wake` uses it up once the lock is let go.
 #[must_use]
@@ -16,9 +18,9 @@ pub(super) struct Calls {
     pub(super) sender: bool,
 }
 
-/// The queue, who sleeps, and the buffers that may be used again.
+/// The queue and its books, who sleeps, and the buffers that may be used again.
 #[derive(Drop)]
-pub(super) struct State {
+pub(super) struct State<B: Books> {
     // Whether the worker sleeps and was not called.
     asleep: bool,
     // Whether one of the threads that wait for room was called, and has not come yet.
@@ -27,11 +29,24 @@ pub(super) struct State {
     waiting: u32,
     spares: Vec<Vec<u8>>,
     queue: LineQueue,
-    ghost lawful: { IsLawful queue },
-    // Nobody waits uncalled but at a full queue, which is open and has no room.
-    ghost called_to_room: { 0 < waiting → called ≡ false → (not queue.closed && not (has_room queue)) ≡ true },
-    // The worker is not left asleep where a take would answer anything but that nothing is there.
-    ghost called_to_work: { asleep ≡ true → IsQuiet queue },
+    books: B,
+}
+
+impl<B: Books> Model for State<B> {
+    ghost use Rattle.std.specs.Prelude.{◌≡◌, ◌<◌, true, false, not, ◌&&◌};
+    ghost use Rattle.appender_non_blocking.specs.Quiet.{IsQuiet};
+    ghost use Rattle.appender_non_blocking.specs.Tally.{tally_of};
+    ghost use Rattle.appender_queue.specs.Queue.{Queue, IsLawful, has_room};
+
+    ghost Value = { Queue };
+
+    ghost view = { λ s. s.queue };
+
+    // The books say what the queue says. Nobody waits uncalled but at a full queue, which is open and has
+    // no room. The worker is not left asleep where a take would answer anything but that nothing is there.
+    ghost invariant = { λ s. IsLawful s.queue × B.say s.books (tally_of s.queue)
+        × (0 < s.waiting → s.called ≡ false → (not s.queue.closed && not (has_room s.queue)) ≡ true)
+        × (s.asleep ≡ true → IsQuiet s.queue) };
 }
 
 // Whom to wake, now that the queue may have changed. Nobody is called twice.
@@ -59,14 +74,23 @@ fn call(
     }
 }
 
-impl State {
+impl<B: Books> State<B> {
+    ghost use Rattle.std.specs.Prelude.{◌+◌, OnOk, OnErr, IfOk};
     ghost use Rattle.appender_non_blocking.specs.Steps.{Offers};
+    ghost use Rattle.appender_non_blocking.specs.Tally.{no_tally};
+    ghost use Rattle.appender_non_blocking.specs.Told.{AsSent, AsTaken};
     ghost use Rattle.appender_queue.specs.Queue.{fresh, left_of};
     ghost use Rattle.appender_queue.specs.QueueCalls.{Shuts, Takes, AddsSender, DropsSender};
 
-    /// An empty queue with one sender.
-    pub(super) fn new(alloc: Global, limit: usize, lossy: bool) -> Result<State, AllocError>
-        ensures { IfOk result (λ s. s.queue ≡ fresh limit lossy) }
+    /// An empty queue with one sender, beside new books.
+    pub(super) fn new(
+        alloc: Global,
+        limit: usize,
+        lossy: bool,
+        books: B,
+    ) -> Result<State<B>, AllocError>
+        requires { B.say books no_tally }
+        ensures { IfOk result (λ s. s ≡ fresh limit lossy) }
     {
         let queue = LineQueue::new(alloc, limit, lossy)?;
         let spares = Vec::with_capacity(alloc, limit.min(MOST_SPARES))?;
@@ -76,6 +100,7 @@ impl State {
             waiting: 0,
             spares,
             queue,
+            books,
         })
     }
 
@@ -87,8 +112,13 @@ impl State {
         line: Vec<u8>,
         came: bool,
         spare: &mut Vec<u8>,
-    ) -> (Result<Pace, Refused>, Calls)
-        ensures { Offers self.old.queue line result.0 self.new.queue }
+        mine: &mut B::Mine,
+    ) -> (Result<(u64, Pace), Refused>, Calls)
+        requires { B.may_accept mine.old }
+        ensures offer { Offers self.old line result.0 self.new }
+        ensures ticket { IfOk result.0 (λ told. told.0 ≡ self.old.accepted + 1) }
+        ensures counted { OnOk result.0 (B.counts_line mine.old mine.new) }
+        ensures refused { OnErr result.0 (mine.new ≡ mine.old) }
     {
         let State {
             asleep,
@@ -96,6 +126,7 @@ impl State {
             waiting,
             spares,
             queue,
+            books,
         } = self;
         if came {
             *waiting = waiting.saturating_sub(1);
@@ -106,10 +137,11 @@ impl State {
         let calls = call(asleep, called, *waiting, queue, reply.is_ok());
         match reply {
             Ok(ticket) => {
+                books.accept(mine);
                 if let Some(buffer) = spares.pop() {
                     *spare = buffer;
                 }
-                (Ok(Pace::behind(ticket, queue)), calls)
+                (Ok((ticket, Pace::behind(ticket, queue))), calls)
             }
             Err(refused) => (Err(refused), calls),
         }
@@ -117,21 +149,21 @@ impl State {
 
     /// How many lines a lossy queue refused.
     pub(super) fn dropped(&self) -> usize
-        ensures { result ≡ self.now.queue.dropped }
+        ensures { result ≡ self.now.dropped }
     {
         self.queue.counts().dropped
     }
 
     /// How many accepted lines nobody took before the queue was closed.
     pub(super) fn left(&self) -> u64
-        ensures { result ≡ left_of self.now.queue }
+        ensures { result ≡ left_of self.now }
     {
         self.queue.counts().left
     }
 
     /// Whether a thread that found no room has to wait, and is counted among those that do.
     pub(super) fn begins_waiting(&mut self) -> bool
-        ensures { self.new.queue ≡ self.old.queue }
+        ensures { self.new ≡ self.old }
     {
         if !self.queue.is_full() {
             return false;
@@ -142,7 +174,7 @@ impl State {
 
     /// Whether a guard that waits has to go on. A call that came to it is used up.
     pub(super) fn goes_on_waiting(&mut self) -> bool
-        ensures { self.new.queue ≡ self.old.queue }
+        ensures { self.new ≡ self.old }
     {
         if !self.queue.is_full() {
             return false;
@@ -152,23 +184,33 @@ impl State {
     }
 
     /// Tries to send the shutdown, for a guard that `came` from waiting.
-    pub(super) fn shut(&mut self, came: bool) -> (Shut, Calls)
-        ensures { Shuts self.old.queue result.0 self.new.queue }
+    pub(super) fn shut(&mut self, came: bool, mine: &mut B::Shutdowns) -> (Shut, Calls)
+        requires { B.may_shut mine.old }
+        ensures shut { Shuts self.old result.0 self.new }
+        ensures counted { AsSent result.0 (B.counts_shutdown mine.old mine.new) (mine.new ≡ mine.old) }
     {
         let State {
             asleep,
             called,
             waiting,
             queue,
+            books,
             ..
         } = self;
         if came {
             *waiting = waiting.saturating_sub(1);
             *called = false;
         }
+        shutdowns_change_little();
         let reply = queue.shut();
         let calls = call(asleep, called, *waiting, queue, true);
-        (reply, calls)
+        match reply {
+            Shut::Sent => {
+                books.shut(mine);
+                (reply, calls)
+            }
+            Shut::Already | Shut::Full | Shut::Closed => (reply, calls),
+        }
     }
 
     /// Takes for the worker, which sleeps then, if it wants to and nothing is there. The buffer of its
@@ -179,8 +221,12 @@ impl State {
         waits: bool,
         sleeps: bool,
         spent: Option<Vec<u8>>,
+        pass: &mut B::Pass,
     ) -> (Taken, Option<Vec<u8>>, Calls)
-        ensures { Takes self.old.queue waits result.0 self.new.queue }
+        requires { B.may_take pass.old }
+        ensures take { Takes self.old waits result.0 self.new }
+        ensures counted { AsTaken result.0 (B.counts_take pass.old pass.new) (B.has_ended pass.new) (pass.new ≡ pass.old) }
+        ensures may { AsTaken result.0 (B.may_take pass.new) (B.has_ended pass.new) (B.may_take pass.new) }
     {
         let State {
             asleep,
@@ -188,9 +234,16 @@ impl State {
             waiting,
             spares,
             queue,
+            books,
         } = self;
         let surplus = keep(spares, spent);
+        takes_change_little();
         let taken = queue.take(waits);
+        match &taken {
+            Taken::Line(..) => books.hand(pass),
+            Taken::Shutdown | Taken::Gone => books.close(pass),
+            Taken::Empty => {}
+        }
         *asleep = false;
         let calls = call(asleep, called, *waiting, queue, false);
         if let Taken::Empty = &taken {
@@ -201,20 +254,20 @@ impl State {
 
     /// The worker is awake, whatever woke it.
     pub(super) fn wakes(&mut self)
-        ensures { self.new.queue ≡ self.old.queue }
+        ensures { self.new ≡ self.old }
     {
         self.asleep = false;
     }
 
     pub(super) fn add_sender(&mut self)
-        ensures { AddsSender self.old.queue self.new.queue.senders self.new.queue }
+        ensures { AddsSender self.old self.new.senders self.new }
     {
         self.queue.add_sender();
     }
 
     /// One sender less. Where it was the last one, the worker ends.
     pub(super) fn drop_sender(&mut self) -> Calls
-        ensures { DropsSender self.old.queue self.new.queue.senders self.new.queue }
+        ensures { DropsSender self.old self.new.senders self.new }
     {
         let State {
             asleep,
@@ -225,6 +278,36 @@ impl State {
         } = self;
         queue.drop_sender();
         call(asleep, called, *waiting, queue, true)
+    }
+}
+
+impl<A: Ledger, H: Ledger, S: Ledger, C: Ledger> State<FourBooks<A, H, S, C>> {
+    ghost use Rattle.std.specs.Prelude.{◌+◌};
+
+    /// What all shares together say of the queue, once the worker has closed it.
+    pub(super) fn settled(
+        &mut self,
+        accepted: Share<A>,
+        shutdowns: Share<S>,
+        done: Done<H, C>,
+    ) -> Counts
+        requires { (accepted.parts ≡ A.parts) × (H.parts ≡ 1) × (shutdowns.parts ≡ S.parts) × (C.parts ≡ 1) }
+        ensures accepted { result.accepted ≡ accepted.amount }
+        ensures handed { result.handed ≡ done.handed.amount }
+        ensures adds_up { result.accepted ≡ result.handed + result.left }
+        ensures none_left { shutdowns.amount ≡ 0 → result.left ≡ 0 }
+    {
+        let Done { handed, closings } = done;
+        let mut accepted = accepted;
+        let mut handed = handed;
+        let mut shutdowns = shutdowns;
+        let mut closings = closings;
+        let State { queue, books, .. } = self;
+        books.accepted.audit(&mut accepted);
+        books.handed.audit(&mut handed);
+        books.shutdowns.audit(&mut shutdowns);
+        books.closings.audit(&mut closings);
+        queue.counts()
     }
 }
 

@@ -1,7 +1,9 @@
 // What the worker's thread does.
 ghost use Rattle.std.specs.Prelude.{◌≡◌, true};
-ghost use Rattle.appender_queue.specs.Core.{is_flushing};
+ghost use Rattle.appender_non_blocking.specs.Told.{AsTaken};
+ghost use Rattle.appender_queue.specs.Core.{after_flushed, is_flushing};
 
+use super::books::Books;
 use super::pace::{EMPTY_REST, LOOKS, Patience, rest};
 use super::shared::Shared;
 use appender_queue::queue::Taken;
@@ -10,58 +12,40 @@ use std::io;
 use std::io::Write;
 use std::sync::Wait;
 
-/// Where a worker takes lines.
-pub(super) trait Desk {
-    /// One locked take. Where nothing is there and the worker `sleeps`, it sleeps until it is called.
-    /// The buffer of the line that was written last goes back.
-    fn take<R: Wait>(&mut self, rt: &R, waits: bool, sleeps: bool, spent: Option<Vec<u8>>) -> Taken;
-}
-
-/// The desk of plain senders.
-#[derive(Drop)]
-pub(super) struct PlainDesk<'a> {
-    shared: &'a Shared,
-    patience: Patience,
-}
-
-impl<'a> PlainDesk<'a> {
-    pub(super) fn new(shared: &'a Shared) -> PlainDesk<'a> {
-        PlainDesk {
-            shared,
-            patience: Patience::NEW,
-        }
+// One locked take. Where nothing is there and the worker `sleeps`, it sleeps until it is called. The
+// buffer of the line that was written last goes back.
+#[inline]
+fn take<B: Books, R: Wait>(
+    rt: &R,
+    shared: &Shared<B>,
+    patience: &mut Patience,
+    waits: bool,
+    sleeps: bool,
+    spent: Option<Vec<u8>>,
+    pass: &mut B::Pass,
+) -> Taken
+    requires { B.may_take pass.old }
+    ensures { AsTaken result (B.may_take pass.new) (B.has_ended pass.new) (B.may_take pass.new) }
+{
+    let mut state = shared.lock(rt, patience);
+    let (taken, surplus, calls) = state.take(waits, sleeps, spent, pass);
+    if sleeps && matches!(&taken, Taken::Empty) {
+        // With a limit of 0 there is room only now.
+        shared.wake(calls);
+        let mut state = shared.came.wait(rt, state);
+        state.wakes();
+    } else {
+        drop(state);
+        shared.wake(calls);
     }
-}
-
-impl<'a> Desk for PlainDesk<'a> {
-    #[inline]
-    fn take<R: Wait>(
-        &mut self,
-        rt: &R,
-        waits: bool,
-        sleeps: bool,
-        spent: Option<Vec<u8>>,
-    ) -> Taken {
-        let shared = self.shared;
-        let mut state = shared.lock(rt, &mut self.patience);
-        let (taken, surplus, calls) = state.take(waits, sleeps, spent);
-        if sleeps && matches!(&taken, Taken::Empty) {
-            // With a limit of 0 there is room only now.
-            shared.wake(calls);
-            let mut state = shared.came.wait(rt, state);
-            state.wakes();
-        } else {
-            drop(state);
-            shared.wake(calls);
-        }
-        drop(surplus);
-        taken
-    }
+    drop(surplus);
+    taken
 }
 
 // One flush. A fault of the last one is told on standard error, since no line comes behind it.
 fn flush<W: Write, R: Eprint>(rt: &R, core: &mut WorkerCore, writer: &mut W)
     requires { is_flushing core.old ≡ true }
+    ensures { core.new ≡ after_flushed core.old }
 {
     match writer.flush() {
         Ok(()) => core.flushed(Ok(())),
@@ -74,8 +58,18 @@ fn flush<W: Write, R: Eprint>(rt: &R, core: &mut WorkerCore, writer: &mut W)
     }
 }
 
-/// Does what the worker's core wants, until it has ended.
-pub(super) fn serve<D: Desk, W: Write, R: Wait + Eprint>(rt: &R, desk: &mut D, writer: &mut W) {
+/// Does what the worker's core wants, until it has ended, and tells the guard so.
+#[tactic(auto, using(crate::proofs::Endings::ends_took, crate::proofs::Endings::ends_wrote, crate::proofs::Endings::ends_flushed))]
+pub(super) fn serve<B: Books, W: Write, R: Wait + Eprint>(
+    rt: &R,
+    shared: &Shared<B>,
+    writer: &mut W,
+    pass: B::Pass,
+) -> B::Done
+    requires { B.may_take pass }
+{
+    let mut pass = pass;
+    let mut patience = Patience::NEW;
     let mut core = WorkerCore::new();
     // How often the queue was found empty, one look after another.
     let mut looks = 0u32;
@@ -83,7 +77,8 @@ pub(super) fn serve<D: Desk, W: Write, R: Wait + Eprint>(rt: &R, desk: &mut D, w
         match core.want() {
             Want::Take { waits } => {
                 let spent = core.take_spent();
-                let taken = desk.take(rt, waits, waits && looks >= LOOKS, spent);
+                let sleeps = waits && looks >= LOOKS;
+                let taken = take(rt, shared, &mut patience, waits, sleeps, spent, &mut pass);
                 if !matches!(&taken, Taken::Empty) || looks >= LOOKS {
                     looks = 0;
                 } else if waits {
@@ -100,4 +95,6 @@ pub(super) fn serve<D: Desk, W: Write, R: Wait + Eprint>(rt: &R, desk: &mut D, w
             Want::Ended => break,
         }
     }
+    shared.announce_end(rt);
+    B::done(pass)
 }

@@ -1,104 +1,172 @@
-// A roller and the clock that it is asked by.
+// A roller that threads share, and the clock that it is asked by.
 ghost use Rattle.std.specs.Prelude.{◌≡◌, IfOk, IfErr};
 ghost use Rattle.appender_names.specs.declared.rotation.RotationKind.TheVariants.{Minutely, Hourly, Daily, Weekly, Never};
 ghost use Rattle.appender_rolling.specs.Config.{defaults};
-ghost use Rattle.appender_rolling.specs.Appender.{plain_config};
+ghost use Rattle.appender_rolling.specs.Appender.{plain_config, SharesSome};
 
-use super::{Builder, Clock, InitError, Roller, Rotation, Switch, SystemClock};
+use super::writer::RollingWriter;
+use super::{Builder, Clock, InitError, Roller, RollingFile, Rotation, SystemClock};
 use appender_folder::folder::DirFolder;
 use appender_store::store::Folder;
-use std::alloc::Global;
+use appender_writers::MakeWriter;
+use std::alloc::{AllocError, Global};
 use std::fmt::{Debug, Formatter};
 use std::io::Write;
 use std::marker::Model;
 use std::rt::Files;
+use std::sync::{Mutex, RwLock, Wait};
 use std::{fmt, io, time};
 
-/// Writes a log to the file of the moment: each write looks at the clock, and at a boundary of the
-/// rotation begins the next file.
+/// Writes a log to the file of the moment, from as many threads as make writers of it. Making a
+/// writer, and each write of its own, looks at the clock, and at a boundary of the rotation begins
+/// the next file.
 #[derive(Drop)]
-pub struct RollingFileAppender<S: Folder, C: Clock> {
-    roller: Roller<S>,
+pub struct RollingFileAppender<S: Folder, C: Clock, R: Drop = HostRuntime> {
+    rt: R,
+    // Writers hold it to read, so that no file begins between the pieces of one of them; a look at
+    // the clock that is to begin a file holds it alone.
+    gate: RwLock<()>,
+    roller: Mutex<Roller<S>>,
     clock: C,
 }
 
 /// An appender that writes to a folder of the file system by the system's clock.
-pub type FileAppender<R = HostRuntime> = RollingFileAppender<DirFolder<R>, SystemClock<R>>;
+pub type FileAppender<R = HostRuntime> = RollingFileAppender<DirFolder<R>, SystemClock<R>, R>;
 
-impl<S: Folder, C: Clock> Model for RollingFileAppender<S, C> {
-    ghost use Rattle.appender_rolling.specs.Appender.{Appending};
-    ghost use Rattle.appender_rolling.specs.Roller.{IsRolling};
+impl<S: Folder, C: Clock, R: Drop> Model for RollingFileAppender<S, C, R> {
+    ghost use Rattle.appender_rolling.specs.Appender.{Sharing};
 
-    ghost Value = { Appending S S.File C };
+    ghost Value = { Sharing C };
 
-    ghost view = { λ a. record { roller = a.roller; clock = a.clock } };
+    ghost view = { λ a. record { clock = a.clock } };
 }
 
-impl<S: Folder, C: Clock> RollingFileAppender<S, C> {
+impl<S: Folder, C: Clock> RollingFile<S, C> {
     ghost use Rattle.std.specs.Prelude.{◌≡◌};
-    ghost use Rattle.appender_rolling.specs.Appender.{PutsNow};
 
-    /// Looks at the clock, and then adds bytes to the open file by one append. Tells whether a new
-    /// file was begun, and how many bytes were taken.
-    pub fn put(&mut self, bytes: &[u8]) -> (Switch, io::Result<usize>)
-        ensures { PutsNow S.Folder C.Clock bytes.now result.0 result.1 self.old self.new }
+    /// The same log, for many threads. The runtime is what waits for its locks.
+    pub fn share<R: Drop>(self, rt: R) -> RollingFileAppender<S, C, R>
+        ensures { result.clock ≡ self.clock }
     {
-        let moment = self.clock.now();
-        self.roller.put(moment, bytes)
+        RollingFileAppender {
+            rt,
+            gate: RwLock::new(()),
+            roller: Mutex::new(self.roller),
+            clock: self.clock,
+        }
     }
+}
+
+impl<S: Folder, C: Clock, R: Wait + Drop> RollingFileAppender<S, C, R> {
+    ghost use Rattle.std.specs.Prelude.{◌≡◌};
+    ghost use Rattle.appender_rolling.specs.Roller.{Rolling, is_due};
+    ghost use Rattle.appender_rolling.specs.Appender.{SeesSome};
+
+    // Whether a look at the clock at this moment would switch.
+    fn is_due(&self, moment: i64) -> bool
+        ensures { (found : Rolling S S.File) × (result ≡ is_due found.boundary moment) }
+    {
+        self.roller.lock(&self.rt).due(moment)
+    }
+
+    // Looks at the clock while no writer is held.
+    fn switch(&self, moment: i64)
+        ensures { SeesSome S.Folder moment }
+    {
+        let _alone = self.gate.write(&self.rt);
+        self.roller.lock(&self.rt).see(moment);
+    }
+}
+
+impl<S: Folder, C: Clock, R: Drop> RollingFileAppender<S, C, R> {
+    ghost use Rattle.std.specs.Prelude.{◌≡◌};
 
     /// The folder and the clock, with the open file let go.
     pub fn into_parts(self) -> (S, C)
-        ensures folder { result.0 ≡ self.roller.folder }
         ensures clock { result.1 ≡ self.clock }
     {
-        (self.roller.into_folder(), self.clock)
+        (self.roller.into_inner().into_folder(), self.clock)
     }
 }
 
-impl<S: Folder, C: Clock> Write for RollingFileAppender<S, C> {
-    /// One `put`: the clock is read once. `write_all` repeats it for what was not taken, so that its
-    /// pieces may stand in two files.
-    fn write(&mut self, bytes: &[u8]) -> io::Result<usize> {
-        self.put(bytes).1
+impl<'a, S: Folder + 'a, C: Clock, R: Wait + Drop + 'a> MakeWriter<'a>
+    for RollingFileAppender<S, C, R> {
+    ghost use Rattle.std.specs.Prelude.{IsOk};
+    ghost use Rattle.appender_rolling.specs.Appender.{LooksNow};
+
+    type Writer = RollingWriter<'a, S, R>;
+
+    /// Looks at the clock, and answers a writer to the file that is open then; no other file begins
+    /// until it is dropped. A thread that holds one must not make another: it may wait for itself.
+    fn make_writer(&'a self) -> Result<RollingWriter<'a, S, R>, AllocError>
+        ensures ok { IsOk result }
+        ensures looks { LooksNow S.Folder C.Clock self.now.clock }
+    {
+        let moment = self.clock.now();
+        let mut gate = self.gate.read(&self.rt);
+        if self.is_due(moment) {
+            drop(gate);
+            self.switch(moment);
+            gate = self.gate.read(&self.rt);
+        }
+        Ok(RollingWriter::new(&self.rt, &self.roller, gate))
+    }
+}
+
+impl<S: Folder, C: Clock, R: Drop> Write for RollingFileAppender<S, C, R> {
+    ghost use Rattle.std.specs.Prelude.{None};
+    ghost use Rattle.std.specs.Io.{WritesAtMost};
+    ghost use Rattle.std.specs.Io.KnownBytes.{WriteAppends};
+    ghost use Rattle.appender_rolling.specs.Appender.{PutsSome, FlushesSome};
+
+    /// Reads the clock once, and puts the bytes at that moment. `write_all` repeats it for what was
+    /// not taken, so that its pieces may stand in two files. It takes no lock.
+    fn write(&mut self, bytes: &[u8]) -> io::Result<usize>
+        ensures bound { WritesAtMost result bytes.now }
+        ensures bytes { WriteAppends None None result bytes.now }
+        ensures put { PutsSome S.Folder C.Clock self.old.clock bytes.now result }
+    {
+        let moment = self.clock.now();
+        self.roller.get_mut().put(moment, bytes).1
     }
 
     /// Flushes the open file, and reads no clock.
-    fn flush(&mut self) -> io::Result<()> {
-        self.roller.flush()
+    fn flush(&mut self) -> io::Result<()>
+        ensures { FlushesSome S.Folder result }
+    {
+        self.roller.get_mut().flush()
     }
 }
 
-impl<S: Folder, C: Clock> Debug for RollingFileAppender<S, C> {
+impl<S: Folder, C: Clock, R: Wait + Drop> Debug for RollingFileAppender<S, C, R> {
     fn fmt<W: fmt::Write>(&self, f: &mut Formatter<W>) -> fmt::Result {
+        let roller = self.roller.lock(&self.rt);
+        let (open_name, boundary) = roller.standing();
         f.debug_struct("RollingFileAppender")
-            .field("open_name", &self.roller.open_name())
-            .field("boundary", &self.roller.boundary())
+            .field("open_name", &open_name)
+            .field("boundary", &boundary)
             .finish()
     }
 }
 
 impl Builder {
     ghost use Rattle.std.specs.Prelude.{◌≡◌};
-    ghost use Rattle.appender_rolling.specs.Appender.{OpensNow, OpensNone};
+    ghost use Rattle.appender_rolling.specs.Appender.{SharesNow, SharesSome, OpensNone};
 
     /// Opens an appender in a folder, at the moment that the clock tells. The errors are those of
     /// `Roller::open`, and hand folder and clock back.
-    pub fn build_in<S: Folder, C: Clock>(
+    pub fn build_in<S: Folder, C: Clock, R: Drop>(
         &self,
+        rt: R,
         alloc: Global,
         folder: S,
         clock: C,
-    ) -> Result<RollingFileAppender<S, C>, (InitError, S, C)>
-        ensures ok { IfOk result (OpensNow S.Folder C.Clock self.now folder clock) }
+    ) -> Result<RollingFileAppender<S, C, R>, (InitError, S, C)>
+        ensures ok { IfOk result (SharesNow S.Folder C.Clock self.now folder clock) }
         ensures err { IfErr result (λ refused.
             OpensNone S.Folder C.Clock self.now folder clock refused.0 refused.1 refused.2) }
     {
-        let moment = clock.now();
-        match Roller::open(alloc, self, folder, moment) {
-            Ok(roller) => Ok(RollingFileAppender { roller, clock }),
-            Err((error, folder)) => Err((error, folder, clock)),
-        }
+        Ok(self.open_in(alloc, folder, clock)?.share(rt))
     }
 
     /// Opens an appender in a folder of the file system, by the system's clock. The errors are those
@@ -108,15 +176,11 @@ impl Builder {
         rt: R,
         directory: &str,
     ) -> Result<FileAppender<R>, InitError>
-        ensures { IfOk result (λ appender. appender.roller.config ≡ self.now) }
+        ensures { IfOk result (SharesSome ⟦<DirFolder<R> as Folder>⟧ ⟦<SystemClock<R> as Clock>⟧
+            self.now) }
     {
-        let alloc = rt.alloc();
-        let clock = SystemClock::new(rt.clone()?);
-        let folder = DirFolder::new(rt, directory)?;
-        match self.build_in(alloc, folder, clock) {
-            Ok(appender) => Ok(appender),
-            Err((error, _, _)) => Err(error),
-        }
+        let waits = rt.clone()?;
+        Ok(self.open(rt, directory)?.share(waits))
     }
 }
 
@@ -133,6 +197,7 @@ impl RollingFileAppender<DirFolder, SystemClock> {
 impl<R: Files + AllocGlobal + Eprint + time::Clock + Clone + Drop> RollingFileAppender<
     DirFolder<R>,
     SystemClock<R>,
+    R,
 > {
     /// Opens an appender in a folder of the file system, by the system's clock. The names of its files
     /// begin with the prefix, and an empty one is none. The errors are those of `Builder::build`.
@@ -142,8 +207,8 @@ impl<R: Files + AllocGlobal + Eprint + time::Clock + Clone + Drop> RollingFileAp
         directory: &str,
         prefix: &str,
     ) -> Result<FileAppender<R>, InitError>
-        ensures { IfOk result (λ appender.
-            appender.roller.config ≡ plain_config rotation prefix.now) }
+        ensures { IfOk result (SharesSome ⟦<DirFolder<R> as Folder>⟧ ⟦<SystemClock<R> as Clock>⟧
+            (plain_config rotation prefix.now)) }
     {
         Builder::new()
             .rotation(rotation)
@@ -159,7 +224,8 @@ pub fn minutely<R: Files + AllocGlobal + Eprint + time::Clock + Clone + Drop>(
     directory: &str,
     prefix: &str,
 ) -> Result<FileAppender<R>, InitError>
-    ensures { IfOk result (λ a. a.roller.config ≡ plain_config (record { kind = Minutely }) prefix.now) }
+    ensures { IfOk result (SharesSome ⟦<DirFolder<R> as Folder>⟧ ⟦<SystemClock<R> as Clock>⟧
+        (plain_config (record { kind = Minutely }) prefix.now)) }
 {
     RollingFileAppender::new(rt, Rotation::MINUTELY, directory, prefix)
 }
@@ -171,7 +237,8 @@ pub fn hourly<R: Files + AllocGlobal + Eprint + time::Clock + Clone + Drop>(
     directory: &str,
     prefix: &str,
 ) -> Result<FileAppender<R>, InitError>
-    ensures { IfOk result (λ a. a.roller.config ≡ plain_config (record { kind = Hourly }) prefix.now) }
+    ensures { IfOk result (SharesSome ⟦<DirFolder<R> as Folder>⟧ ⟦<SystemClock<R> as Clock>⟧
+        (plain_config (record { kind = Hourly }) prefix.now)) }
 {
     RollingFileAppender::new(rt, Rotation::HOURLY, directory, prefix)
 }
@@ -183,7 +250,8 @@ pub fn daily<R: Files + AllocGlobal + Eprint + time::Clock + Clone + Drop>(
     directory: &str,
     prefix: &str,
 ) -> Result<FileAppender<R>, InitError>
-    ensures { IfOk result (λ a. a.roller.config ≡ plain_config (record { kind = Daily }) prefix.now) }
+    ensures { IfOk result (SharesSome ⟦<DirFolder<R> as Folder>⟧ ⟦<SystemClock<R> as Clock>⟧
+        (plain_config (record { kind = Daily }) prefix.now)) }
 {
     RollingFileAppender::new(rt, Rotation::DAILY, directory, prefix)
 }
@@ -195,7 +263,8 @@ pub fn weekly<R: Files + AllocGlobal + Eprint + time::Clock + Clone + Drop>(
     directory: &str,
     prefix: &str,
 ) -> Result<FileAppender<R>, InitError>
-    ensures { IfOk result (λ a. a.roller.config ≡ plain_config (record { kind = Weekly }) prefix.now) }
+    ensures { IfOk result (SharesSome ⟦<DirFolder<R> as Folder>⟧ ⟦<SystemClock<R> as Clock>⟧
+        (plain_config (record { kind = Weekly }) prefix.now)) }
 {
     RollingFileAppender::new(rt, Rotation::WEEKLY, directory, prefix)
 }
@@ -207,7 +276,8 @@ pub fn never<R: Files + AllocGlobal + Eprint + time::Clock + Clone + Drop>(
     directory: &str,
     prefix: &str,
 ) -> Result<FileAppender<R>, InitError>
-    ensures { IfOk result (λ a. a.roller.config ≡ plain_config (record { kind = Never }) prefix.now) }
+    ensures { IfOk result (SharesSome ⟦<DirFolder<R> as Folder>⟧ ⟦<SystemClock<R> as Clock>⟧
+        (plain_config (record { kind = Never }) prefix.now)) }
 {
     RollingFileAppender::new(rt, Rotation::NEVER, directory, prefix)
 }

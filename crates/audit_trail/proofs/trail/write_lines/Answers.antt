@@ -12,12 +12,12 @@ returns-then-not-branch g c = λ text told.
     let t = c.loop.invariant text told in
     let end = c.in_ok-read_line.ensures.end (ap Ok c.if-not-branch.true) in
     let none = subst IsAtEnd t.2 end in
-    (t.0, subst (λ rest. PutsLines g.S.Folder g.C.Clock t.0 text c.args.appender.now rest c.loop.appender) none t.3)
+    (t.0, subst (λ rest. PutsLines g.S.Folder g.C.Clock t.0 text c.args.log.now rest c.loop.log) none t.3)
 
 pub loop-preserved : goal.loop-preserved
 loop-preserved g c = λ text told.
     let t = c.loop.invariant text told in
     let read = c.in_ok-read_line.ensures in
     let line = c.as_slice.ensures.value ∙ read.line t.1 t.2 in
-    let puts = subst (λ line. PutsLine g.S.Folder g.C.Clock line c.loop.appender c.write_line.new.appender) line c.in_ok-write_line.ensures in
-    (suc t.0, drop_through 10 t.1, read.rest t.1 t.2, (t.1, c.loop.appender, t.3, puts, refl))
+    let puts = subst (λ line. PutsLine g.S.Folder g.C.Clock line c.loop.log c.write_line.new.log) line c.in_ok-write_line.ensures in
+    (suc t.0, drop_through 10 t.1, read.rest t.1 t.2, (t.1, c.loop.log, t.3, puts, refl))

@@ -7,4 +7,4 @@ abbrev pub invariant-loop : goal.invariant-loop
 invariant-loop g l =
     (text : List ℕ) → g.I.Read.remaining l.fn.input ≡ Some text →
     (count : ℕ) × (rest : List ℕ) × (g.I.Read.remaining l.input ≡ Some rest)
-    × PutsLines g.S.Folder g.C.Clock count text l.fn.appender rest l.appender
+    × PutsLines g.S.Folder g.C.Clock count text l.fn.log rest l.log

@@ -17,9 +17,7 @@ invariant_of-result g c =
     rw (← c.rotation.ensures) (next_lies_ahead _ _ _ next.none next.boundary) in
     simp to_z-of_z (record {
       body_is_there = c.in-Ok-open_file.ensures.ok.body_is_there;
-      in_range = range;
-      name_is = named;
-      lies_ahead = ahead;
+      stands = record { in_range = range; name_is = named; lies_ahead = ahead };
     })
 
 pub returns-in-Err-open_file-clause-err : goal.returns-in-Err-open_file-clause-err

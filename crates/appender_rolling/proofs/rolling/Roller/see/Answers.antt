@@ -18,9 +18,7 @@ invariant_of-self g c =
     rw (← c.rotation.ensures) (next_lies_ahead _ _ _ next.none next.boundary) in
     simp to_z-of_z (record {
       body_is_there = λ tells. rw c.close_last.ensures.content (opened.body_is_there tells);
-      in_range = due_is_moment _ _ due;
-      name_is = named;
-      lies_ahead = ahead;
+      stands = record { in_range = due_is_moment _ _ due; name_is = named; lies_ahead = ahead };
     })
 
 pub invariant_of-self-in-Err : goal.invariant_of-self-in-Err
@@ -28,22 +26,26 @@ invariant_of-self-in-Err g c =
     let fits : FitsSigned w64 c.args.moment = c.ranges.moment in
     let next = simp to_z-of_z at c.next_date-self-inside.ensures in
     let due : is_due c.self.inside.boundary c.args.moment ≡ true = search rules in
-    let later = due_is_later _ _ _ _ c.self.invariant.lies_ahead due in
+    let later = due_is_later _ _ _ _ c.self.invariant.stands.lies_ahead due in
     let ahead : LiesAhead c.self.inside.setup.rotation c.args.moment c.next_date-self-inside.result =
     rw (← c.rotation.ensures) (next_lies_ahead _ _ _ next.none next.boundary) in
     record {
       body_is_there = λ tells. rw c.note.ensures.content ((keeps_little (maps c.names_change_one_at_a_time.ensures.removals c.names_change_one_at_a_time.ensures.additions) _ _ _ _ (refuses_little _ _ _ _ _ _ tells c.in-Err.ensures.err)).keeps.more _ (c.self.invariant.body_is_there tells));
-      in_range = c.self.invariant.in_range;
-      name_is = c.self.invariant.name_is;
-      lies_ahead = ahead_of_earlier _ _ _ _ later ahead;
+      stands = record {
+        in_range = c.self.invariant.stands.in_range;
+        name_is = c.self.invariant.stands.name_is;
+        lies_ahead = ahead_of_earlier _ _ _ _ later ahead;
+      };
     }
 
 pub returns-in-Ok : goal.returns-in-Ok
 returns-in-Ok g c =
     let fits : FitsSigned w64 c.args.moment = c.ranges.moment in
     let opened = simp to_z-of_z at c.in-Ok.ensures.ok in
+    let due : is_due c.self.inside.boundary c.args.moment ≡ true = search rules in
     rw (← c.self.view_is) (simp to_z-of_z (record {
-      due = search rules;
+      due = due;
+      later = due_is_later _ _ _ _ c.self.invariant.stands.lies_ahead due;
       config_is = search rules;
       opened = search rules;
       boundary = search rules;
@@ -59,8 +61,10 @@ pub returns-in-Err : goal.returns-in-Err
 returns-in-Err g c =
     let fits : FitsSigned w64 c.args.moment = c.ranges.moment in
     let refused = simp to_z-of_z at c.in-Err.ensures.err in
+    let due : is_due c.self.inside.boundary c.args.moment ≡ true = search rules in
     rw (← c.self.view_is) (record {
-      due = search rules;
+      due = due;
+      later = due_is_later _ _ _ _ c.self.invariant.stands.lies_ahead due;
       config_is = search rules;
       opened = search rules;
       boundary = search rules;

@@ -1,0 +1,171 @@
+// One run in which each call of the folder fails in turn: what is noted, and that no byte that was told
+// as written is lost. What the run prints and leaves then stands among the scripts of `rollplay_rows`.
+
+use std::alloc::{AllocError, Global};
+use std::process::Abort;
+use std::test::Fail;
+use tracing_appender::replay::{
+    ReplayError, Reply, RollReply, RollStep, Step, replay, replay_rolling,
+};
+use tracing_appender::rolling::{Builder, Rotation};
+use tracing_appender::store::{Folder, MemoryFolder, NoticeKind};
+
+// 2020-02-01 10:01:00.
+const START: i64 = 1_580_551_260;
+
+const ELEVEN: i64 = 1_580_554_800;
+
+// No run makes so many calls.
+const LAST: u64 = 64;
+
+fn builder(alloc: Global) -> Result<Builder, AllocError> {
+    Builder::new()
+        .rotation(Rotation::HOURLY)
+        .max_log_files(2)
+        .filename_prefix(alloc, "app")?
+        .latest_symlink(alloc, "latest.log")
+}
+
+// Two older files, and these calls fail.
+fn folder(alloc: Global, first: u64, last: u64) -> Result<MemoryFolder, Fail> {
+    let mut folder = MemoryFolder::new(alloc);
+    folder.put_file("app.2020-02-01-08", b"o")?;
+    folder.put_file("app.2020-02-01-09", b"p")?;
+    for call in first..=last {
+        folder.fail_call(call)?;
+    }
+    Ok(folder)
+}
+
+fn put(alloc: Global, moment: i64, text: &str) -> Result<RollStep, AllocError> {
+    Ok(RollStep::Put(moment, Vec::from_slice(alloc, text.as_bytes())?))
+}
+
+fn steps(alloc: Global) -> Result<Vec<RollStep>, AllocError> {
+    let mut steps = Vec::new(alloc);
+    steps.push(put(alloc, START, "a")?)?;
+    steps.push(put(alloc, ELEVEN, "b")?)?;
+    steps.push(put(alloc, ELEVEN - 1, "c")?)?;
+    steps.push(RollStep::Flush)?;
+    Ok(steps)
+}
+
+// A folder as a run left it, and how many bytes the run's answers count.
+type Played = (MemoryFolder, usize);
+
+fn play(alloc: Global, folder: MemoryFolder, steps: &[RollStep]) -> Result<Played, Fail> {
+    match replay_rolling(alloc, &builder(alloc)?, folder, START, steps) {
+        Ok(run) => {
+            let mut told = 0usize;
+            for reply in &run.replies {
+                if let RollReply::Put(_, Ok(taken)) = reply {
+                    told = told.saturating_add(*taken);
+                }
+            }
+            Ok((run.roller.into_folder(), told))
+        }
+        Err(ReplayError::Init(_, folder)) => Ok((folder, 0)),
+        Err(ReplayError::Memory(_)) => Err(Fail::from("no memory")),
+    }
+}
+
+fn play_queued(alloc: Global, folder: MemoryFolder, steps: &[Step]) -> Result<Played, Fail> {
+    match replay(alloc, &builder(alloc)?, 4, false, folder, START, steps) {
+        Ok(run) => {
+            let mut told = 0usize;
+            for reply in &run.replies {
+                if let Reply::Wrote(_, Ok(taken)) = reply {
+                    told = told.saturating_add(*taken);
+                }
+            }
+            Ok((run.roller.into_folder(), told))
+        }
+        Err(ReplayError::Init(_, folder)) => Ok((folder, 0)),
+        Err(ReplayError::Memory(_)) => Err(Fail::from("no memory")),
+    }
+}
+
+// The lines of `steps`, each offered, taken and written before the next one, and then the shutdown.
+fn queued_steps(alloc: Global) -> Result<Vec<Step>, AllocError> {
+    let mut steps = Vec::new(alloc);
+    for (moment, text) in [(START, "a"), (ELEVEN, "b"), (ELEVEN - 1, "c")] {
+        let line = Vec::from_slice(alloc, text.as_bytes())?;
+        steps.push(Step::Offer(1, line))?;
+        steps.push(Step::Work(moment))?;
+        steps.push(Step::Work(moment))?;
+    }
+    steps.push(Step::Shut)?;
+    for _ in 0..4 {
+        steps.push(Step::Work(ELEVEN))?;
+    }
+    Ok(steps)
+}
+
+// How many bytes the bodies hold that came after the first two.
+fn held(folder: &MemoryFolder) -> usize {
+    let mut count = 0usize;
+    for number in 2..8 {
+        if let Some(body) = folder.body(number) {
+            count = count.saturating_add(body.len());
+        }
+    }
+    count
+}
+
+// Which call fails, the notices that are then taken of listings, removals, openings and flushes, and the
+// bytes that are told as written.
+static NOTED: [(u64, [u64; 4], usize); 16] = [
+    (1, [1, 0, 0, 0], 3),
+    (2, [0, 1, 0, 0], 3),
+    (3, [0, 0, 0, 0], 3),
+    (4, [0, 0, 0, 0], 3),
+    // The link of the opening, without which nothing is opened.
+    (5, [0, 0, 0, 0], 0),
+    (6, [0, 0, 0, 0], 2),
+    (7, [1, 0, 0, 0], 3),
+    (8, [0, 1, 0, 0], 3),
+    (9, [0, 0, 0, 0], 3),
+    (10, [0, 0, 1, 0], 3),
+    (11, [0, 0, 1, 0], 3),
+    (12, [0, 0, 0, 1], 3),
+    (13, [0, 0, 0, 0], 2),
+    (14, [0, 0, 0, 0], 2),
+    (15, [0, 0, 0, 0], 3),
+    // The run makes no such call.
+    (16, [0, 0, 0, 0], 3),
+];
+
+#[test]
+fn each_call_that_fails_is_noted(rt: HostRuntime) -> Result<(), Fail> {
+    let alloc = rt.alloc();
+    let steps = steps(alloc)?;
+    for (call, noted, bytes) in &NOTED {
+        let (folder, told) = play(alloc, folder(alloc, *call, *call)?, &steps)?;
+        let counts = [
+            folder.notices(NoticeKind::List),
+            folder.notices(NoticeKind::Remove),
+            folder.notices(NoticeKind::Open),
+            folder.notices(NoticeKind::Flush),
+        ];
+        assert_eq!(rt; counts, *noted, "{call}");
+        assert_eq!(rt; folder.failures(), u64::from(*call < 16), "{call}");
+        assert_eq!(rt; (told, held(&folder)), (*bytes, *bytes), "{call}");
+    }
+    Ok(())
+}
+
+#[test]
+fn no_byte_is_lost_from_whichever_call_on_all_fail(rt: HostRuntime) -> Result<(), Fail> {
+    let alloc = rt.alloc();
+    let steps = steps(alloc)?;
+    let queued = queued_steps(alloc)?;
+    for last in 0..=15 {
+        let (left, told) = play(alloc, folder(alloc, last + 1, LAST)?, &steps)?;
+        assert_eq!(rt; held(&left), told, "{last}");
+        let (left, told) = play_queued(alloc, folder(alloc, last + 1, LAST)?, &queued)?;
+        assert_eq!(rt; held(&left), told, "queued, {last}");
+    }
+    let (left, told) = play_queued(alloc, folder(alloc, LAST, LAST)?, &queued)?;
+    assert_eq!(rt; (held(&left), told), (3, 3));
+    Ok(())
+}

@@ -1,0 +1,175 @@
+// Eight threads, and a folder of the file system.
+
+use crate::scene::{START, TestClock, hourly, opened};
+use std::alloc::{AllocError, Global};
+use std::io::{ErrorKind, Write};
+use std::process::Abort;
+use std::rt::Files;
+use std::sync::Wait;
+use std::test::Fail;
+use std::thread::Threads;
+use std::{env, fs, io, process, thread};
+use tracing_appender::folder::DirFolder;
+use tracing_appender::names::Names;
+use tracing_appender::rolling::{MakeWriter, RollingFileAppender};
+use tracing_appender::store::Folder;
+
+const THREADS: usize = 8;
+
+/// How many lines a thread writes, and the last of them once all threads have written the others.
+const LINES: i64 = 51;
+
+// A line: which thread wrote it, how many it had written, and what the clock was to tell before its
+// writer was made and while it was held.
+#[derive(Clone, Copy)]
+struct Line {
+    thread: usize,
+    number: i64,
+    before: i64,
+    after: i64,
+}
+
+// Writes these lines of one thread.
+fn write_lines<S: Folder, R: Wait + AllocGlobal + Drop>(
+    rt: &R,
+    appender: &RollingFileAppender<S, &TestClock, R>,
+    clock: &TestClock,
+    thread: usize,
+    numbers: (i64, i64),
+) -> io::Result<()> {
+    for number in numbers.0..numbers.1 {
+        let before = clock.next();
+        let mut writer = appender.make_writer()?;
+        let after = clock.next();
+        let line = format!(in rt.alloc(); "{thread} {number} {before} {after}\n")?;
+        writer.write_all(line.as_bytes())?;
+    }
+    Ok(())
+}
+
+// Writes these lines of each thread, and answers whether all of them were taken.
+fn write_in_threads<S: Folder + Send, R: Threads + Wait + AllocGlobal + Sync + Drop>(
+    rt: &R,
+    appender: &RollingFileAppender<S, &TestClock, R>,
+    clock: &TestClock,
+    numbers: (i64, i64),
+) -> Result<bool, AllocError>
+where
+    S::File: Send,
+{
+    let wrote = thread::map_indices(
+        rt,
+        rt.alloc(),
+        THREADS,
+        &|i| { write_lines(rt, appender, clock, i, numbers).is_ok() },
+    )?;
+    Ok(!wrote.contains(&false))
+}
+
+fn read_line(text: &str) -> Option<Line> {
+    let mut words = text.split(' ');
+    let line = Line {
+        thread: words.next()?.parse().ok()?,
+        number: words.next()?.parse().ok()?,
+        before: words.next()?.parse().ok()?,
+        after: words.next()?.parse().ok()?,
+    };
+    if words.next().is_none() {
+        Some(line)
+    } else {
+        None
+    }
+}
+
+// Checks the lines of the file of an hour: each is whole, came in that hour, and follows the one
+// before it of its thread.
+fn check_file(rt: &impl Abort, hour: i64, text: &str, last: &mut [i64; THREADS]) -> Option<()> {
+    for text in text.lines() {
+        let line = read_line(text)?;
+        let next = hour.saturating_add(3_600);
+        assert!(rt;
+            line.before < next && hour <= line.after,
+            "{text} in {hour}"
+        );
+        let last = last.get_mut(line.thread)?;
+        let follows = last.saturating_add(1) == line.number;
+        assert!(rt; *last < 0 || follows, "{text} after {last}");
+        *last = line.number;
+    }
+    Some(())
+}
+
+// The names of a directory but the link's, sorted.
+fn log_names<R: Files + AllocGlobal + Clone + Drop>(
+    rt: &R,
+    directory: &str,
+) -> io::Result<Vec<String>> {
+    let mut names = Vec::new(rt.alloc());
+    for entry in fs::read_dir(rt, directory)? {
+        let entry = entry?;
+        if entry.file_name() != "latest.log" {
+            names.push(String::from_str(rt.alloc(), entry.file_name())?)?;
+        }
+    }
+    names.sort_unstable();
+    Ok(names)
+}
+
+fn at(alloc: Global, directory: &str, name: &str) -> Result<String, AllocError> {
+    format!(in alloc; "{directory}/{name}")
+}
+
+// Checks the five files that stand, and the link.
+fn check_files<R: Files + AllocGlobal + Abort + Clone + Drop>(
+    rt: &R,
+    directory: &str,
+    names: &Names,
+) -> Result<(), Fail> {
+    let found = log_names(rt, directory)?;
+    assert_eq!(rt; found.len(), 5);
+    let mut last = [-1i64; THREADS];
+    for name in &found {
+        let hour = names.read(name.as_str()).ok_or("a name that is no date")?;
+        let text = fs::read_to_string(rt, at(rt.alloc(), directory, name.as_str())?)?;
+        check_file(rt, hour, text.as_str(), &mut last).ok_or("a line that is torn")?;
+    }
+    assert_eq!(rt; last, [LINES - 1; THREADS]);
+    let target = fs::read_link(rt, at(rt.alloc(), directory, "latest.log")?)?;
+    let newest = found.last().ok_or("no file")?;
+    assert_eq!(rt; target.as_str(), newest.as_str());
+    Ok(())
+}
+
+// An empty directory of this test's own.
+fn fresh(rt: &HostRuntime) -> io::Result<String> {
+    let parent = env::temp_dir(rt)?;
+    let id = process::id(rt.process());
+    let path = format!(in rt.alloc(); "{}/acceptance_shared_{id}", parent.as_str())?;
+    match fs::remove_dir_all(rt, path.as_str()) {
+        Err(fault) if fault.kind() != ErrorKind::NotFound => return Err(fault),
+        _ => (),
+    }
+    fs::create_dir(rt, path.as_str())?;
+    Ok(path)
+}
+
+// A hundred hours go by, and five files are kept.
+#[test]
+fn no_line_of_a_hundred_hours_is_lost(rt: HostRuntime) -> Result<(), Fail> {
+    let alloc = rt.alloc();
+    let directory = fresh(&rt)?;
+    let builder = hourly(alloc)?
+        .latest_symlink(alloc, "latest.log")?
+        .max_log_files(5);
+    let clock = TestClock::new(START, 900);
+    let folder = DirFolder::new(rt, directory.as_str())?;
+    let appender = opened(rt, &builder, folder, &clock)?;
+    for numbers in [(0, LINES - 1), (LINES - 1, LINES)] {
+        assert!(rt; write_in_threads(&rt, &appender, &clock, numbers)?);
+    }
+    // Before the first file there was no link to remove.
+    assert_eq!(rt; appender.into_parts().0.failures(), 1);
+    check_files(&rt, directory.as_str(), &builder.names(alloc)?)?;
+    fs::remove_dir_all(&rt, directory.as_str())?;
+    Ok(())
+}

@@ -1,0 +1,40 @@
+-- What books are kept of: the counts of a queue that never go down.
+use Rattle.std.specs.Prelude.{ℕ, ◌+◌, Bool, if◌then◌else◌}
+use Rattle.appender_queue.specs.Queue.{Queue, places_of}
+
+pub record Tally : Type 0 where
+  -- how many lines were accepted
+  pub accepted : ℕ
+  -- how many of them were handed to the worker
+  pub handed : ℕ
+  -- 1 once a shutdown was sent
+  pub shutdowns : ℕ
+  -- 1 once the queue is closed
+  pub closings : ℕ
+
+abbrev pub one_if : Bool → ℕ
+one_if b = if b then 1 else 0
+
+-- the counts of a queue
+abbrev pub tally_of : Queue → Tally
+tally_of q = record { accepted = q.accepted; handed = q.handed; shutdowns = places_of q.shutdown; closings = one_if q.closed }
+
+-- a queue of which nothing was asked yet
+abbrev pub no_tally : Tally
+no_tally = record { accepted = 0; handed = 0; shutdowns = 0; closings = 0 }
+
+-- one line more was accepted
+abbrev pub with_line : Tally → Tally
+with_line t = record t { accepted = t.accepted + 1 }
+
+-- one line more was handed to the worker
+abbrev pub with_handed : Tally → Tally
+with_handed t = record t { handed = t.handed + 1 }
+
+-- the shutdown was sent
+abbrev pub with_shutdown : Tally → Tally
+with_shutdown t = record t { shutdowns = 1 }
+
+-- the queue was closed
+abbrev pub with_closing : Tally → Tally
+with_closing t = record t { closings = 1 }

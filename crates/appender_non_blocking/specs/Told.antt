@@ -1,0 +1,55 @@
+-- What a sender, a guard and a worker are told.
+use Rattle.std.specs.Prelude.{◌+◌, ◌-◌, ◌^◌, Bool, true, false, ◌||◌, min, Option, Some, None, Result, Ok, Err}
+use Rattle.std.specs.declared.io.Error.{Error}
+use Rattle.appender_non_blocking.specs.Account.{Sums, Guard}
+use Rattle.appender_non_blocking.specs.declared.non_blocking.sender.Sent.{Sent}
+use Rattle.appender_non_blocking.specs.declared.non_blocking.sender.Sent.TheVariants.{Queued, Dropped}
+use Rattle.appender_queue.specs.declared.queue.Shut.{Shut}
+use Rattle.appender_queue.specs.declared.queue.Shut.TheVariants.{Sent as ShutSent, Already, Full, Closed}
+use Rattle.appender_queue.specs.declared.queue.Taken.{Taken}
+use Rattle.appender_queue.specs.declared.queue.Taken.TheVariants.{Line, Shutdown, Gone, Empty}
+use Rattle.appender_queue.specs.Core.{Core, Taking, Writing, Flushing, Ending, Over}
+
+-- a sender is told a ticket, and then the first fact holds; else the second one does
+abbrev pub AsQueued : Option Sent → Type 0 → Type 0 → Type 0
+AsQueued (Some (Queued ticket)) P Q = P
+AsQueued (Some Dropped) P Q = Q
+AsQueued None P Q = Q
+
+-- a guard is told that the shutdown was sent, and then the first fact holds; else the second one does
+abbrev pub AsSent : Shut → Type 0 → Type 0 → Type 0
+AsSent ShutSent P Q = P
+AsSent Already P Q = Q
+AsSent Full P Q = Q
+AsSent Closed P Q = Q
+
+-- a worker is told a line, the end, or nothing, and then the first, the second or the third fact holds
+abbrev pub AsTaken : Taken → Type 0 → Type 0 → Type 0 → Type 0
+AsTaken (Line ticket line) P Q N = P
+AsTaken Shutdown P Q N = Q
+AsTaken Gone P Q N = Q
+AsTaken Empty P Q N = N
+
+-- a worker that was told of the end has the second fact, and else the first
+abbrev pub AsEnding : Core → Type 0 → Type 0 → Type 0
+AsEnding (Taking waits) P Q = P
+AsEnding (Writing rest repeats) P Q = P
+AsEnding Flushing P Q = P
+AsEnding (Ending n) P Q = Q
+AsEnding Over P Q = Q
+
+-- the sums of a sender after a line: one more queued exactly with Queued, and one more dropped exactly with Dropped
+abbrev pub after_line : Sums → Result Sent Error → Sums
+after_line s (Ok (Queued ticket)) = record s { queued = s.queued + 1 }
+after_line s (Ok Dropped) = record s { dropped = min (s.dropped + 1) (2 ^ 64 - 1) }
+after_line s (Err e) = s
+
+abbrev pub is_sent : Shut → Bool
+is_sent ShutSent = true
+is_sent Already = false
+is_sent Full = false
+is_sent Closed = false
+
+-- the guard after it tried to send the shutdown: once one was sent, that stays
+abbrev pub after_try : Guard → Shut → Guard
+after_try g reply = record g { sent = g.sent || is_sent reply }

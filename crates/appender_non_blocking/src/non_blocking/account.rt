@@ -1,0 +1,276 @@
+// The guard of counted senders, and the account of what became of their lines.
+ghost use Rattle.std.specs.Prelude.{
+  ◌≡◌,
+  ◌+◌,
+  ◌-◌,
+  ◌^◌,
+  ◌<◌,
+  ◌≤◌,
+  IfOk,
+  IfErr,
+  OnOk,
+  min,
+  vec_len,
+};
+ghost use Rattle.appender_non_blocking.specs.Account.{
+  Guard,
+  IsAccount,
+  new_guard,
+  total_queued,
+  total_dropped,
+};
+ghost use Rattle.appender_non_blocking.specs.Told.{after_try};
+
+use super::books::{Done, FourBooks};
+use super::counted::CountedSender;
+use super::guard::end;
+use super::pace::Patience;
+use super::shared::Shared;
+use appender_queue::queue::Shut;
+use std::alloc::Global;
+use std::fmt;
+use std::fmt::{Debug, Formatter};
+use std::marker::Model;
+use std::sync::ledger::{Ledger, Share};
+use std::sync::{Arc, Wait};
+use std::thread::{JoinHandle, Threads};
+use std::time::Clock;
+
+/// What became of all lines of a guard's senders.
+#[derive(Clone, Copy, PartialEq, Eq, Debug)]
+pub struct Account {
+    /// Lines that were queued.
+    pub accepted: u64,
+    /// Lines that the worker took, and wrote or gave up.
+    pub handed: u64,
+    /// Lines that stood behind a shutdown, and were not written.
+    pub left: u64,
+    /// Lines that a lossy queue refused, at most `usize::MAX`.
+    pub dropped: usize,
+}
+
+/// The guard of counted senders, which are settled with it. It counts as a sender. Dropped, it does what
+/// a `WorkerGuard` does.
+#[must_use]
+pub struct CountedGuard<
+    A: Ledger,
+    H: Ledger,
+    S: Ledger,
+    C: Ledger,
+    R: Wait + Clock + Print + Drop,
+> {
+    rt: R,
+    shared: Arc<Shared<FourBooks<A, H, S, C>>, Global>,
+    part: Share<A>,
+    shutdowns: Share<S>,
+    made: usize,
+    sent: bool,
+    worker: JoinHandle<Done<H, C>>,
+}
+
+impl<A: Ledger, H: Ledger, S: Ledger, C: Ledger, R: Wait + Clock + Print + Drop> Model
+    for CountedGuard<A, H, S, C, R> {
+    ghost use Rattle.std.specs.Prelude.{◌≡◌};
+    ghost use Rattle.appender_non_blocking.specs.Account.{Guard};
+    ghost use Rattle.appender_non_blocking.specs.Tally.{one_if};
+
+    ghost Value = { Guard };
+
+    ghost view = { λ g. record { made = g.made; sent = g.sent } };
+
+    ghost invariant = { λ g. (g.part.parts ≡ 1) × (g.part.amount ≡ 0) × (g.shutdowns.parts ≡ 1)
+        × (g.shutdowns.amount ≡ one_if g.sent) };
+}
+
+/// Some senders are missing. All that came is given back as it was.
+#[derive(Drop)]
+pub struct Unsettled<A: Ledger, H: Ledger, S: Ledger, C: Ledger, R: Wait + Clock + Print + Drop> {
+    /// The guard.
+    pub guard: CountedGuard<A, H, S, C, R>,
+    /// The senders that came.
+    pub senders: Vec<CountedSender<A, H, S, C, R>>,
+}
+
+impl<A: Ledger, H: Ledger, S: Ledger, C: Ledger, R: Wait + Clock + Print + Drop> CountedGuard<
+    A,
+    H,
+    S,
+    C,
+    R,
+> {
+    /// The guard of so many senders, with what they left of the book of accepted lines.
+    pub(super) fn new(
+        rt: R,
+        shared: Arc<Shared<FourBooks<A, H, S, C>>, Global>,
+        part: Share<A>,
+        shutdowns: Share<S>,
+        made: usize,
+        worker: JoinHandle<Done<H, C>>,
+    ) -> CountedGuard<A, H, S, C, R>
+        requires part { (part.parts ≡ 1) × (part.amount ≡ 0) }
+        requires shutdowns { (shutdowns.parts ≡ 1) × (shutdowns.amount ≡ 0) }
+        ensures { result ≡ new_guard made }
+    {
+        CountedGuard {
+            rt,
+            shared,
+            part,
+            shutdowns,
+            made,
+            sent: false,
+            worker,
+        }
+    }
+
+    /// Tries once to send the shutdown: lines that are accepted later are left.
+    pub fn shut(&mut self) -> Shut
+        ensures { self.new ≡ after_try self.old result }
+    {
+        let CountedGuard {
+            rt,
+            shared,
+            shutdowns,
+            sent,
+            ..
+        } = self;
+        let mut state = shared.lock(rt, &mut Patience::NEW);
+        let (reply, calls) = state.shut(false, shutdowns);
+        drop(state);
+        shared.wake(calls);
+        if let Shut::Sent = reply {
+            *sent = true;
+        }
+        reply
+    }
+
+    /// Whether a call of `shut` has answered `Sent`.
+    pub fn sent(&self) -> bool
+        ensures { result ≡ self.now.sent }
+    {
+        self.sent
+    }
+}
+
+impl<
+    A: Ledger,
+    H: Ledger,
+    S: Ledger,
+    C: Ledger,
+    R: Threads + Wait + Clock + Print + Drop,
+> CountedGuard<A, H, S, C, R> {
+    /// Ends all senders, waits for the worker's end, and tells what became of the lines. Where senders
+    /// are missing, all is given back and nothing has changed.
+    pub fn settle(
+        self,
+        senders: Vec<CountedSender<A, H, S, C, R>>,
+    ) -> Result<Account, Unsettled<A, H, S, C, R>>
+        requires { (A.parts ≡ self.made + 1) × (H.parts ≡ 1) × (S.parts ≡ 1) × (C.parts ≡ 1) }
+        ensures account { IfOk result (λ a. IsAccount a.accepted a.handed a.left a.dropped self senders.items) }
+        ensures all { OnOk result (vec_len senders ≡ self.made) }
+        ensures missing { IfErr result (λ u. vec_len senders < self.made) }
+        ensures given_back { IfErr result (λ u. (u.guard ≡ self) × (u.senders ≡ senders)) }
+    {
+        if senders.len() < self.made {
+            return Err(Unsettled {
+                guard: self,
+                senders,
+            });
+        }
+        let CountedGuard {
+            rt,
+            shared,
+            part,
+            shutdowns,
+            made: _,
+            sent: _,
+            worker,
+        } = self;
+        let (accepted, dropped) = end_all(senders, part);
+        shared.drop_sender(&rt);
+        let done = worker.join(&rt);
+        Ok(settled(&rt, &*shared, accepted, shutdowns, done, dropped))
+    }
+}
+
+// Ends the senders, and puts their shares to this one. Answers how many lines they dropped.
+fn end_all<A: Ledger, H: Ledger, S: Ledger, C: Ledger, R: Wait + Drop>(
+    senders: Vec<CountedSender<A, H, S, C, R>>,
+    part: Share<A>,
+) -> (Share<A>, usize)
+    requires { part.amount ≡ 0 }
+    ensures parts { result.0.parts ≡ part.parts + vec_len senders }
+    ensures few { result.0.parts ≤ A.parts }
+    ensures accepted { result.0.amount ≡ total_queued senders.items }
+    ensures dropped { result.1 ≡ min (total_dropped senders.items) (2 ^ 64 - 1) }
+{
+    let mut all = part;
+    let mut dropped = 0usize;
+    let mut senders = senders;
+    while let Some(sender) = senders.pop() {
+        let (share, count) = sender.end();
+        all.merge(share);
+        dropped = dropped.saturating_add(count);
+    }
+    // A merge tells that there are no more parts than were made.
+    let none = all.empty();
+    all.merge(none);
+    (all, dropped)
+}
+
+// Takes the lock once more, with all shares in hand.
+fn settled<A: Ledger, H: Ledger, S: Ledger, C: Ledger, R: Wait>(
+    rt: &R,
+    shared: &Shared<FourBooks<A, H, S, C>>,
+    accepted: Share<A>,
+    shutdowns: Share<S>,
+    done: Done<H, C>,
+    dropped: usize,
+) -> Account
+    requires all { (accepted.parts ≡ A.parts) × (H.parts ≡ 1) × (shutdowns.parts ≡ S.parts) × (C.parts ≡ 1) }
+    ensures accepted { result.accepted ≡ accepted.amount }
+    ensures handed { result.handed ≡ done.handed.amount }
+    ensures left { result.accepted ≡ result.handed + result.left }
+    ensures none { shutdowns.amount ≡ 0 → result.left ≡ 0 }
+    ensures dropped { result.dropped ≡ dropped }
+{
+    let counts = shared
+        .lock(rt, &mut Patience::NEW)
+        .settled(accepted, shutdowns, done);
+    Account {
+        accepted: counts.accepted,
+        handed: counts.handed,
+        left: counts.left,
+        dropped,
+    }
+}
+
+impl<A: Ledger, H: Ledger, S: Ledger, C: Ledger, R: Wait + Clock + Print + Drop> Drop
+    for CountedGuard<A, H, S, C, R> {
+    fn drop(self) {
+        let CountedGuard {
+            rt,
+            shared,
+            part: _,
+            shutdowns,
+            made: _,
+            sent: _,
+            worker: _,
+        } = self;
+        let mut shutdowns = shutdowns;
+        end(&rt, &*shared, &mut shutdowns);
+    }
+}
+
+impl<A: Ledger, H: Ledger, S: Ledger, C: Ledger, R: Wait + Clock + Print + Drop> Debug
+    for CountedGuard<A, H, S, C, R> {
+    fn fmt<W: fmt::Write>(&self, f: &mut Formatter<W>) -> fmt::Result {
+        f.pad("CountedGuard { .. }")
+    }
+}
+
+impl<A: Ledger, H: Ledger, S: Ledger, C: Ledger, R: Wait + Clock + Print + Drop> Debug
+    for Unsettled<A, H, S, C, R> {
+    fn fmt<W: fmt::Write>(&self, f: &mut Formatter<W>) -> fmt::Result {
+        f.pad("Unsettled { .. }")
+    }
+}

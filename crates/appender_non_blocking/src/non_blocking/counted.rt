@@ -1,0 +1,191 @@
+// Senders that count what they are told.
+ghost use Rattle.std.specs.Prelude.{◌≡◌, ◌≢◌, ◌+◌, Ok, IfOk, IfErr, false, replicate};
+ghost use Rattle.std.specs.IoError.{error_kind};
+ghost use Rattle.appender_non_blocking.specs.Account.{Sums, new_sender};
+ghost use Rattle.appender_non_blocking.specs.Refusal.{IsRefusal};
+ghost use Rattle.appender_non_blocking.specs.Told.{after_line};
+
+use super::books::FourBooks;
+use super::pace::Patience;
+use super::sender::{Sent, copied, send};
+use super::shared::Shared;
+use std::alloc::{AllocError, Global};
+use std::fmt::{Debug, Formatter};
+use std::io::ErrorKind;
+use std::marker::Model;
+use std::sync::ledger::{Ledger, Share};
+use std::sync::{Arc, Wait};
+use std::{fmt, io};
+
+/// A sender that counts the lines which it was told are queued, and those that were dropped. There is
+/// one for each thread: it has no clone, and its guard settles the account of all of them.
+pub struct CountedSender<A: Ledger, H: Ledger, S: Ledger, C: Ledger, R: Wait + Drop> {
+    rt: R,
+    alloc: Global,
+    shared: Arc<Shared<FourBooks<A, H, S, C>>, Global>,
+    lossy: bool,
+    // The buffer for the next line.
+    spare: Vec<u8>,
+    patience: Patience,
+    mine: Share<A>,
+    queued: u64,
+    dropped: usize,
+}
+
+impl<A: Ledger, H: Ledger, S: Ledger, C: Ledger, R: Wait + Drop> Model
+    for CountedSender<A, H, S, C, R> {
+    ghost use Rattle.std.specs.Prelude.{◌≡◌};
+    ghost use Rattle.appender_non_blocking.specs.Account.{Sums};
+
+    ghost Value = { Sums };
+
+    ghost view = { λ s. record { queued = s.queued; dropped = s.dropped; lossy = s.lossy } };
+
+    ghost invariant = { λ s. (s.mine.parts ≡ 1) × (s.mine.amount ≡ s.queued) };
+}
+
+impl<A: Ledger, H: Ledger, S: Ledger, C: Ledger, R: Wait + Drop> CountedSender<A, H, S, C, R> {
+    // One sender more.
+    fn new(
+        rt: R,
+        alloc: Global,
+        shared: Arc<Shared<FourBooks<A, H, S, C>>, Global>,
+        lossy: bool,
+        mine: Share<A>,
+    ) -> CountedSender<A, H, S, C, R>
+        requires { (mine.parts ≡ 1) × (mine.amount ≡ 0) }
+        ensures { result ≡ new_sender lossy }
+    {
+        shared.add_sender(&rt);
+        CountedSender {
+            rt,
+            alloc,
+            shared,
+            lossy,
+            spare: Vec::new(alloc),
+            patience: Patience::NEW,
+            mine,
+            queued: 0,
+            dropped: 0,
+        }
+    }
+
+    /// Queues a copy of the bytes as one line, be it an empty one, and tells its ticket. Where the queue
+    /// is full or closed, a lossy one drops the line and says so; else the call waits for room, and a
+    /// closed queue is an error of the kind `Other`. `OutOfMemory` where there is no memory for the copy.
+    /// With an error nothing was queued or counted.
+    pub fn write_line(&mut self, line: &[u8]) -> io::Result<Sent>
+        ensures sums { self.new ≡ after_line self.old result }
+        ensures waiting { self.old.lossy ≡ false → result ≢ Ok Sent.Dropped }
+        ensures kind { IfErr result (λ e. IsRefusal self.old.lossy (error_kind e)) }
+    {
+        let CountedSender {
+            rt,
+            alloc,
+            shared,
+            lossy,
+            spare,
+            patience,
+            mine,
+            queued,
+            dropped,
+        } = self;
+        let copy = match copied(*alloc, spare, line) {
+            Ok(copy) => copy,
+            Err(kind) => return Err(io::Error::from(kind)),
+        };
+        match send(rt, &**shared, *lossy, copy, spare, patience, mine) {
+            Some(Sent::Queued(ticket)) => {
+                *queued += 1;
+                Ok(Sent::Queued(ticket))
+            }
+            Some(Sent::Dropped) => {
+                *dropped = dropped.saturating_add(1);
+                Ok(Sent::Dropped)
+            }
+            None => Err(io::Error::from(ErrorKind::Other)),
+        }
+    }
+
+    /// How many lines this sender was told are queued.
+    pub fn queued(&self) -> u64
+        ensures { result ≡ self.now.queued }
+    {
+        self.queued
+    }
+
+    /// How many lines of this sender were dropped, at most `usize::MAX`.
+    pub fn dropped(&self) -> usize
+        ensures { result ≡ self.now.dropped }
+    {
+        self.dropped
+    }
+
+    /// One sender less. Its share and its count of dropped lines are kept.
+    pub(super) fn end(self) -> (Share<A>, usize)
+        ensures share { (result.0.parts ≡ 1) × (result.0.amount ≡ self.queued) }
+        ensures dropped { result.1 ≡ self.dropped }
+    {
+        let CountedSender {
+            rt,
+            alloc: _,
+            shared,
+            lossy: _,
+            spare: _,
+            patience: _,
+            mine,
+            queued: _,
+            dropped,
+        } = self;
+        shared.drop_sender(&rt);
+        (mine, dropped)
+    }
+}
+
+impl<A: Ledger, H: Ledger, S: Ledger, C: Ledger, R: Wait + Drop> Drop
+    for CountedSender<A, H, S, C, R> {
+    fn drop(self) {
+        let CountedSender {
+            rt,
+            alloc: _,
+            shared,
+            lossy: _,
+            spare: _,
+            patience: _,
+            mine: _,
+            queued: _,
+            dropped: _,
+        } = self;
+        shared.drop_sender(&rt);
+    }
+}
+
+impl<A: Ledger, H: Ledger, S: Ledger, C: Ledger, R: Wait + Drop> Debug
+    for CountedSender<A, H, S, C, R> {
+    fn fmt<W: fmt::Write>(&self, f: &mut Formatter<W>) -> fmt::Result {
+        f.pad("CountedSender { .. }")
+    }
+}
+
+/// So many senders, each with one part of the book of accepted lines, and what is left of it.
+pub(super) fn make_senders<A: Ledger, H: Ledger, S: Ledger, C: Ledger, R: Wait + Drop + Copy>(
+    rt: R,
+    alloc: Global,
+    shared: &Arc<Shared<FourBooks<A, H, S, C>>, Global>,
+    lossy: bool,
+    share: Share<A>,
+    senders: usize,
+) -> Result<(Vec<CountedSender<A, H, S, C, R>>, Share<A>), AllocError>
+    requires { (share.parts ≡ senders + 1) × (share.amount ≡ 0) }
+    ensures senders { IfOk result (λ made. made.0.items ≡ replicate senders (new_sender lossy)) }
+    ensures share { IfOk result (λ made. (made.1.parts ≡ 1) × (made.1.amount ≡ 0)) }
+{
+    let mut share = share;
+    let mut made = Vec::with_capacity(alloc, senders)?;
+    for _i in 0..senders {
+        let mine = share.split_off(1, 0);
+        let shared = Arc::try_clone(shared)?;
+        made.push(CountedSender::new(rt, alloc, shared, lossy, mine))?;
+    }
+    Ok((made, share))
+}

@@ -1,0 +1,68 @@
+-- Why an opening is refused.
+use Rattle.std.proofs.Common.{◌≡◌, ◌∙◌, ◌⊎◌, ℕ, Bool, List, [], ◌∷◌, Option, None, Result, Ok, Err, IsTrue, inl, inr, refl, sym, ap, subst}
+use Rattle.std.specs.FinMap as fin
+use Rattle.std.specs.declared.io.Error.{Error}
+use Rattle.appender_names.specs.declared.error.InitError.{InitError}
+use Rattle.appender_names.specs.declared.error.InitError.TheVariants.{Directory, File as NoFile, Symlink, Memory, Moment, Name}
+use Rattle.appender_store.specs.Content.{Content, Entry, File, IsLinkOrFolder, Opens, after_make_folder}
+use Rattle.appender_store.specs.NameLaws.{NameLaws}
+use Rattle.appender_store.specs.Folder.{HasCause}
+use Rattle.appender_store.specs.declared.store.Folder.{Ghosts}
+use Rattle.appender_retain.specs.Survival.{TakesOnlyOld}
+use Rattle.appender_retain.specs.Pruning.{Prunes}
+use Rattle.appender_rolling.specs.Config.{Config, naming_of}
+use Rattle.appender_rolling.specs.Opening.{GetsFile, LinksNot, RefusesFile, IsFileOrFolder}
+use Rattle.appender_rolling.specs.Limits.{FailsByItself, HasReason}
+
+module _ (maps : NameLaws) where
+  -- an opening changes what no other name leads to
+  opened_else : (name : List ℕ) (old new : Content) (b : ℕ) → Opens name old new b → (m : List ℕ) → (m ≡ name) ⊎ (fin.get new.names m ≡ fin.get old.names m)
+  opened_else name old new b (there, inl (t, own, same)) m = inr (ap (λ (c : Content). fin.get c.names m) same)
+  opened_else name old new b (there, inr (t, free, number, after)) m = elim (maps.additions old.names name (File b t) m) [
+    | inl own ↦ inl own.0
+    | inr other ↦ inr (ap (λ (c : Content). fin.get c.names m) after ∙ other.1)
+  ]
+
+  -- what retention leaves under a name, it found there
+  found : (P : Option Entry → Type 0) → ¬ P None → (c : Config) (old pruned : Content) → TakesOnlyOld (naming_of c) c.max_files old pruned → (name : List ℕ) → P (fin.get pruned.names name) → P (fin.get old.names name)
+  found P none c old pruned took name is = elim (took.names name) [
+    | inl same ↦ subst P same is
+    | inr gone ↦ absurd (none (subst P gone.0 is))
+  ]
+
+  module _ {S F : Type 0} (kind : Ghosts S F) (c : Config) where
+    fails : (T P : Type 0) (tells : Bool) (old : ℕ) (fault : Error) (new : ℕ) → HasCause {T = T} tells P old new (Err fault) → FailsByItself old fault new ⊎ (IsTrue tells × P)
+    fails T P tells old fault new (inl risen) = inl (inl risen)
+    fails T P tells old fault new (inr (same, inl memory)) = inl (inr memory)
+    fails T P tells old fault new (inr (same, inr forbidden)) = inr forbidden
+
+    link_has_reason : (link name : List ℕ) (old pruned unlinked : S) (file : F) (fault : Error) (new : S) → c.link ≡ link → Prunes kind (naming_of c) c.max_files old pruned → GetsFile kind name pruned file unlinked → LinksNot kind link name unlinked fault new → HasReason kind c name old (Symlink fault)
+    link_has_reason [] name old pruned unlinked file fault new is prunes gets never = absurd never
+    link_has_reason (b ∷ bs) name old pruned unlinked file fault new is prunes gets links_not = elim links_not.cause [
+      | inl risen ↦ inr (inl (unlinked, links_not.freed, links_not.removes.answer, subst (λ (l : List ℕ). kind.remove_link_gives unlinked l links_not.removes.answer links_not.freed) (sym is) links_not.removes.call, risen))
+      | inr cause ↦ elim (fails (Unit {0}) (IsFileOrFolder (fin.get (kind.content unlinked).names (b ∷ bs))) kind.tells (kind.failures links_not.freed) fault (kind.failures new) cause) [
+        | inl itself ↦ inl (links_not.freed, new, subst (λ (l : List ℕ). kind.make_link_gives links_not.freed l name (Err fault) new) (sym is) links_not.call, itself)
+        | inr forbidden ↦ inr (inr (forbidden.0, in_the_way forbidden.0 forbidden.1))
+      ]
+    ]
+      where
+        in_the_way : IsTrue kind.tells → IsFileOrFolder (fin.get (kind.content unlinked).names (b ∷ bs)) → (c.link ≡ name) ⊎ IsFileOrFolder (fin.get (kind.content old).names c.link)
+        in_the_way tells there = elim (opened_else name (after_make_folder (kind.content pruned)) (kind.content unlinked) (kind.body file) (gets.opens tells) (b ∷ bs)) [
+          | inl own ↦ inl (is ∙ own)
+          | inr same ↦ inr (subst (λ (l : List ℕ). IsFileOrFolder (fin.get (kind.content old).names l)) (sym is)
+              (found IsFileOrFolder (λ never. never) c (kind.content old) (kind.content pruned) (prunes.only_old tells) (b ∷ bs) (subst IsFileOrFolder same there)))
+        ]
+
+    pub refusal_has_reason : (name : List ℕ) (old : S) (error : InitError) (new : S) → RefusesFile kind c name old error new → HasReason kind c name old error
+    refusal_has_reason name old (Directory fault) new (pruned, prunes, none) = elim (fails (Unit {0}) ⊥ kind.tells (kind.failures none.refused) fault (kind.failures new) none.cause) [
+      | inl itself ↦ (none.refused, new, none.call, itself)
+      | inr forbidden ↦ absurd forbidden.1
+    ]
+    refusal_has_reason name old (NoFile fault) new (pruned, prunes, none) = elim (fails F (IsLinkOrFolder (fin.get (kind.content pruned).names name)) kind.tells (kind.failures none.ready) fault (kind.failures new) none.cause) [
+      | inl itself ↦ inl (none.ready, new, none.second.call, itself)
+      | inr forbidden ↦ inr (forbidden.0, found IsLinkOrFolder (λ never. never) c (kind.content old) (kind.content pruned) (prunes.only_old forbidden.0) name forbidden.1)
+    ]
+    refusal_has_reason name old (Symlink fault) new (pruned, unlinked, file, prunes, gets, links_not) = link_has_reason c.link name old pruned unlinked file fault new refl prunes gets links_not
+    refusal_has_reason name old Memory new same = tt
+    refusal_has_reason name old Moment new (pruned, prunes, never) = never
+    refusal_has_reason name old Name new (pruned, prunes, never) = never

@@ -1,0 +1,13 @@
+use Rattle.std.proofs.Common.{w64, FitsSigned}
+use Rattle.std.proofs.lemmas.Int.{to_z-of_z}
+use Rattle.appender_rolling.proofs.rolling.appender.RollingFileAppender.switch.Goals as goal
+
+pub returns : goal.returns
+returns g c =
+    let fits : FitsSigned w64 c.args.moment = c.ranges.moment in
+    record {
+      switch = c.see.result;
+      found = c.deref_mut.result.now;
+      left = c.see.new.self;
+      sees = simp to_z-of_z at c.see.ensures;
+    }

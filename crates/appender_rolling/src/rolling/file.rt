@@ -1,0 +1,127 @@
+// A roller and the clock that it is asked by, for one thread.
+ghost use Rattle.std.specs.Prelude.{◌≡◌, IfOk, IfErr};
+
+use super::{Builder, Clock, InitError, Roller, Switch, SystemClock};
+use appender_folder::folder::DirFolder;
+use appender_store::store::Folder;
+use std::alloc::Global;
+use std::fmt::{Debug, Formatter};
+use std::io::Write;
+use std::marker::Model;
+use std::rt::Files;
+use std::{fmt, io, time};
+
+/// A log for one thread, whose contract says what each put did to its folder: each looks at the
+/// clock, and at a boundary of the rotation begins the next file.
+#[derive(Drop)]
+pub struct RollingFile<S: Folder, C: Clock> {
+    pub(super) roller: Roller<S>,
+    pub(super) clock: C,
+}
+
+impl<S: Folder, C: Clock> Model for RollingFile<S, C> {
+    ghost use Rattle.appender_rolling.specs.Appender.{Appending};
+    ghost use Rattle.appender_rolling.specs.Roller.{IsRolling};
+
+    ghost Value = { Appending S S.File C };
+
+    ghost view = { λ a. record { roller = a.roller; clock = a.clock } };
+}
+
+impl<S: Folder, C: Clock> RollingFile<S, C> {
+    ghost use Rattle.std.specs.Prelude.{◌≡◌};
+    ghost use Rattle.appender_rolling.specs.Appender.{PutsNow};
+
+    /// Looks at the clock, and then adds bytes to the open file by one append. Tells whether a new
+    /// file was begun, and how many bytes were taken.
+    pub fn put(&mut self, bytes: &[u8]) -> (Switch, io::Result<usize>)
+        ensures { PutsNow S.Folder C.Clock bytes.now result.0 result.1 self.old self.new }
+    {
+        let moment = self.clock.now();
+        self.roller.put(moment, bytes)
+    }
+
+    /// The folder and the clock, with the open file let go.
+    pub fn into_parts(self) -> (S, C)
+        ensures folder { result.0 ≡ self.roller.folder }
+        ensures clock { result.1 ≡ self.clock }
+    {
+        (self.roller.into_folder(), self.clock)
+    }
+}
+
+impl<S: Folder, C: Clock> Write for RollingFile<S, C> {
+    ghost use Rattle.std.specs.Prelude.{None};
+    ghost use Rattle.std.specs.Io.{WritesAtMost};
+    ghost use Rattle.std.specs.Io.KnownBytes.{WriteAppends};
+    ghost use Rattle.appender_rolling.specs.Appender.{WritesNow, FlushesNow};
+
+    /// One `put`: the clock is read once. `write_all` repeats it for what was not taken, so that its
+    /// pieces may stand in two files.
+    fn write(&mut self, bytes: &[u8]) -> io::Result<usize>
+        ensures bound { WritesAtMost result bytes.now }
+        ensures bytes { WriteAppends None None result bytes.now }
+        ensures put { WritesNow S.Folder C.Clock bytes.now result self.old self.new }
+    {
+        self.put(bytes).1
+    }
+
+    /// Flushes the open file, and reads no clock.
+    fn flush(&mut self) -> io::Result<()>
+        ensures { FlushesNow S.Folder result self.old self.new }
+    {
+        self.roller.flush()
+    }
+}
+
+impl<S: Folder, C: Clock> Debug for RollingFile<S, C> {
+    fn fmt<W: fmt::Write>(&self, f: &mut Formatter<W>) -> fmt::Result {
+        f.debug_struct("RollingFile")
+            .field("open_name", &self.roller.open_name())
+            .field("boundary", &self.roller.boundary())
+            .finish()
+    }
+}
+
+impl Builder {
+    ghost use Rattle.std.specs.Prelude.{◌≡◌};
+    ghost use Rattle.appender_rolling.specs.Appender.{OpensNow, OpensSome, OpensNone};
+
+    /// Opens a log for one thread in a folder, at the moment that the clock tells. The errors are
+    /// those of `Roller::open`, and hand folder and clock back.
+    pub fn open_in<S: Folder, C: Clock>(
+        &self,
+        alloc: Global,
+        folder: S,
+        clock: C,
+    ) -> Result<RollingFile<S, C>, (InitError, S, C)>
+        ensures ok { IfOk result (OpensNow S.Folder C.Clock self.now folder clock) }
+        ensures err { IfErr result (λ refused.
+            OpensNone S.Folder C.Clock self.now folder clock refused.0 refused.1 refused.2) }
+    {
+        let moment = clock.now();
+        match Roller::open(alloc, self, folder, moment) {
+            Ok(roller) => Ok(RollingFile { roller, clock }),
+            Err((error, folder)) => Err((error, folder, clock)),
+        }
+    }
+
+    /// Opens a log for one thread in a folder of the file system, by the system's clock. The errors
+    /// are those of `Roller::open`.
+    pub fn open<R: Files + AllocGlobal + Eprint + time::Clock + Clone + Drop>(
+        &self,
+        rt: R,
+        directory: &str,
+    ) -> Result<RollingFile<DirFolder<R>, SystemClock<R>>, InitError>
+        ensures { IfOk result (OpensSome ⟦<DirFolder<R> as Folder>⟧ ⟦<SystemClock<R> as Clock>⟧
+            self.now) }
+    {
+        let alloc = rt.alloc();
+        let clock = SystemClock::new(rt.clone()?);
+        let folder = DirFolder::new(rt, directory)?;
+        match self.open_in(alloc, folder, clock) {
+            Ok(file) => Ok(file),
+            Err((error, _, _)) => Err(error),
+        }
+    }
+}
