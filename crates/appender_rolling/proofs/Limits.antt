@@ -1,5 +1,5 @@
 -- Why an opening is refused.
-use Rattle.std.proofs.Common.{◌≡◌, ◌∙◌, ◌⊎◌, ℕ, Bool, List, [], ◌∷◌, Option, None, Result, Ok, Err, IsTrue, inl, inr, refl, sym, ap, subst}
+use Rattle.std.proofs.Common.{◌≡◌, ◌∙◌, ◌⊎◌, ℕ, Bool, List, [], ◌∷◌, Option, None, Err, IsTrue, inl, inr, refl, sym, ap, subst}
 use Rattle.std.specs.FinMap as fin
 use Rattle.std.specs.declared.io.Error.{Error}
 use Rattle.appender_names.specs.declared.error.InitError.{InitError}

@@ -1,5 +1,5 @@
 -- An appender: a roller that a clock is read for. `kind` has what folders of one kind tell, and `time` what clocks do.
-use Rattle.std.specs.Prelude.{◌≡◌, ℕ, ℤ, true, List, Result}
+use Rattle.std.specs.Prelude.{◌≡◌, ℕ, ℤ, false, List, Option, Result}
 use Rattle.std.specs.declared.io.Error.{Error}
 use Rattle.appender_names.specs.declared.error.InitError.{InitError}
 use Rattle.appender_names.specs.declared.rotation.Rotation.{Rotation}
@@ -70,19 +70,31 @@ pub record SharesNow {S F C : Type 0} (kind : Ghosts S F) (time : Readings C) (c
 abbrev pub SharesSome : {S F C : Type 0} → Ghosts S F → Readings C → Config → Sharing C → Type 0
 SharesSome {S} {F} {C} kind time config new = (folder : S) × (clock : C) × SharesNow kind time config folder clock new
 
--- a roller looked at the clock
-pub record SeesSome {S F : Type 0} (kind : Ghosts S F) (m : ℤ) : Type 0 where
+-- a roller looked at the clock, and its next boundary is this one then
+pub record SeesSome {S F : Type 0} (kind : Ghosts S F) (m : ℤ) (boundary : Option ℤ) : Type 0 where
   pub switch : Switch
   pub found : Rolling S F
   pub left : Rolling S F
   pub sees : Sees kind m switch found left
+  pub boundary_is : boundary ≡ left.boundary
 
--- the clock was read, and the roller asked whether a boundary has come: if so, it looked at that moment
-pub record LooksNow {S F C : Type 0} (kind : Ghosts S F) (time : Readings C) (clock : C) : Type 0 where
+-- bytes were put into a roller at this moment, and its next boundary is this one then
+pub record PutsSome {S F : Type 0} (kind : Ghosts S F) (m : ℤ) (bytes : List ℕ) (answer : Result ℕ Error) (boundary : Option ℤ) : Type 0 where
+  pub switch : Switch
+  pub found : Rolling S F
+  pub left : Rolling S F
+  pub puts : Puts kind m bytes switch answer found left
+  pub boundary_is : boundary ≡ left.boundary
+
+-- What is seen of a writer: the second at which the next file begins. None does before the writer is dropped.
+pub record Holding : Type 0 where
+  pub boundary : Option ℤ
+
+-- the clock was read, and at the moment that it told no boundary has come
+pub record LooksNow {C : Type 0} (time : Readings C) (clock : C) (boundary : Option ℤ) : Type 0 where
   pub moment : ℤ
   pub told : time.now_gives clock moment
-  pub asked : Rolling S F
-  pub looks : is_due asked.boundary moment ≡ true → SeesSome kind moment
+  pub in_its_period : is_due boundary moment ≡ false
 
 -- the bytes were written to the open file of a roller
 pub record WritesSome {S F : Type 0} (kind : Ghosts S F) (bytes : List ℕ) (answer : Result ℕ Error) : Type 0 where
@@ -90,14 +102,12 @@ pub record WritesSome {S F : Type 0} (kind : Ghosts S F) (bytes : List ℕ) (ans
   pub left : Rolling S F
   pub writes : Writes kind bytes answer found left
 
--- the clock was read, and the bytes were put at the moment that it told
-pub record PutsSome {S F C : Type 0} (kind : Ghosts S F) (time : Readings C) (clock : C) (bytes : List ℕ) (answer : Result ℕ Error) : Type 0 where
+-- the clock was read, and the bytes were put into a roller at the moment that it told
+pub record PutsAtClock {S F C : Type 0} (kind : Ghosts S F) (time : Readings C) (clock : C) (bytes : List ℕ) (answer : Result ℕ Error) : Type 0 where
   pub moment : ℤ
   pub told : time.now_gives clock moment
-  pub switch : Switch
-  pub found : Rolling S F
-  pub left : Rolling S F
-  pub puts : Puts kind moment bytes switch answer found left
+  pub boundary : Option ℤ
+  pub puts : PutsSome kind moment bytes answer boundary
 
 -- the open file of a roller was flushed
 pub record FlushesSome {S F : Type 0} (kind : Ghosts S F) (answer : Result (Unit {0}) Error) : Type 0 where

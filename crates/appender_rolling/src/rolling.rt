@@ -1,11 +1,12 @@
 //! Log files that begin anew at each boundary of a rotation.
 ghost use Rattle.std.specs.Prelude.{◌≡◌};
-ghost use Rattle.appender_rolling.specs.Roller.{ClosesLast};
+ghost use Rattle.appender_rolling.specs.Roller.{ClosesLast, is_due};
 
 mod appender;
 mod builder;
 mod clock;
 mod file;
+mod gated;
 mod setup;
 mod writer;
 
@@ -66,6 +67,16 @@ impl<S: Folder> Model for Roller<S> {
     ghost invariant = { λ r. IsRolling S.Folder r.setup r.folder r.file (string_bytes r.name) r.opened r.boundary };
 }
 
+// Whether a moment is in range, and at or past a boundary.
+fn has_come(boundary: Option<i64>, moment: i64) -> bool
+    ensures { result ≡ is_due boundary moment }
+{
+    match boundary {
+        None => false,
+        Some(boundary) => in_range(moment) && moment >= boundary,
+    }
+}
+
 // Flushes a file that gives way to the next.
 fn close_last<S: Folder>(folder: &mut S, file: &mut S::File)
     ensures { ClosesLast S.Folder folder.old file.old folder.new }
@@ -79,7 +90,7 @@ impl<S: Folder> Roller<S> {
     ghost use Rattle.std.specs.Prelude.{◌≡◌, IfOk, IfErr};
     ghost use Rattle.appender_rolling.specs.Config.{naming_of};
     ghost use Rattle.appender_rolling.specs.Opening.{file_name_of};
-    ghost use Rattle.appender_rolling.specs.Roller.{OpensRoller, OpensNoRoller, Sees, Writes, Puts, Flushes, LiesAhead, Stands, is_due};
+    ghost use Rattle.appender_rolling.specs.Roller.{OpensRoller, OpensNoRoller, Sees, Writes, Puts, Flushes, LiesAhead, Stands};
 
     /// Opens the file of a moment, in seconds of UTC since the epoch, and hands the folder back where
     /// that is refused. `Name` (prefix, suffix or link make no names), `Moment` (out of range),
@@ -130,10 +141,7 @@ impl<S: Folder> Roller<S> {
     pub fn due(&self, moment: i64) -> bool
         ensures { result ≡ is_due self.now.boundary moment }
     {
-        match self.boundary {
-            None => false,
-            Some(boundary) => in_range(moment) && moment >= boundary,
-        }
+        has_come(self.boundary, moment)
     }
 
     /// Looks at the clock: where a boundary has come, opens the file of the moment's period in place

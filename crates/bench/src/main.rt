@@ -3,6 +3,7 @@
 #![tactic(auto)]
 
 mod channel;
+mod direct;
 mod latency;
 mod plain;
 mod queue;
@@ -10,11 +11,13 @@ mod sink;
 mod throughput;
 
 use appender_non_blocking::non_blocking::NonBlockingBuilder;
+use appender_rolling::rolling;
 use queue::Limit;
 use std::alloc::Global;
+use std::fs::OpenOptions;
 use std::io::{ErrorKind, Write};
 use std::rt::Files;
-use std::sync::Wait;
+use std::sync::{Mutex, Wait};
 use std::thread::Threads;
 use std::time::{Clock, Duration};
 use std::{env, io, thread};
@@ -23,9 +26,11 @@ const USAGE: &str = "\
 usage: bench waiting ROUNDS LINES SENDERS BYTES LIMIT
        bench lossy ROUNDS LINES SENDERS BYTES LIMIT
        bench write ROUNDS LINES BYTES
+       bench direct ROUNDS LINES THREADS BYTES
        bench idle SECONDS
 waiting, lossy: the time of a line through a queue of LIMIT lines, where each of SENDERS threads sends LINES lines
 write: the time of one lossy write at 100,000 a second, and of one straight to a file: half and 99 % take no longer
+direct: the time of a line of THREADS threads, or with 0 of one alone, to the log of this hour in the current folder
 idle: a line, and then nothing for so long";
 
 const HEADER: &str = "variant,mode,limit,bytes,senders,round,lines,nanos_per_line_tenths,dropped";
@@ -38,9 +43,27 @@ fn main(rt: HostRuntime) -> io::Result<()> {
         };
         numbers.push(number)?;
     }
-    match env::args(&rt)?.nth(1) {
-        Some(mode) => run(rt, rt.alloc(), mode.as_str(), numbers.as_slice()),
-        None => println!(rt; "{USAGE}"),
+    let Some(mode) = env::args(&rt)?.nth(1) else {
+        return println!(rt; "{USAGE}");
+    };
+    match (mode.as_str(), numbers.as_slice()) {
+        ("direct", [rounds, lines, threads, bytes]) => {
+            let case = direct::Case {
+                lines: *lines,
+                threads: *threads,
+                bytes: *bytes as usize,
+            };
+            let Ok(log) = rolling::hourly(rt, ".", "bench") else {
+                return Err(io::Error::from(ErrorKind::NotFound));
+            };
+            let file = OpenOptions::new()
+                .create(true)
+                .append(true)
+                .open(&rt, "bench.log")?;
+            println!(rt; "{HEADER}")?;
+            direct::compare(&rt, rt.alloc(), case, *rounds, log, Mutex::new(file))
+        }
+        (mode, numbers) => run(rt, rt.alloc(), mode, numbers),
     }
 }
 

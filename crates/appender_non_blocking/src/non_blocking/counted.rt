@@ -6,9 +6,9 @@ ghost use Rattle.appender_non_blocking.specs.Refusal.{IsRefusal};
 ghost use Rattle.appender_non_blocking.specs.Told.{after_line};
 
 use super::books::FourBooks;
-use super::pace::Patience;
 use super::sender::{Sent, copied, send};
 use super::shared::Shared;
+use appender_sync::sync::Patience;
 use std::alloc::{AllocError, Global};
 use std::fmt::{Debug, Formatter};
 use std::io::ErrorKind;

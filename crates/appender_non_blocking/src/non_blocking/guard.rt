@@ -2,9 +2,9 @@
 ghost use Rattle.std.specs.Prelude.{◌≡◌};
 
 use super::books::{Books, NoBooks};
-use super::pace::Patience;
 use super::shared::Shared;
 use appender_queue::queue::Shut;
+use appender_sync::sync::Patience;
 use std::alloc::Global;
 use std::fmt;
 use std::fmt::{Debug, Formatter};

@@ -1,16 +1,9 @@
-// How long threads pause and try again before they sleep, and how far senders may run ahead of the
-// worker. The numbers were found by measuring: they change how fast lines go, and nothing else.
+// How often threads look again before they sleep, and how far senders may run ahead of the worker. The numbers were found by measuring: they change how fast lines go, and nothing else.
 ghost use Rattle.std.specs.Prelude.{◌≡◌};
 
 use appender_queue::queue::LineQueue;
-use std::hint::spin_loop;
+use appender_sync::sync::rest;
 use std::thread;
-
-/// How often a thread that finds the lock taken pauses before it tries again, and how often it
-/// yields from then on, before it sleeps.
-pub(super) const PAUSES: u32 = 8;
-
-pub(super) const YIELDS: u32 = 24;
 
 /// How often the worker looks again at an empty queue, and a sender at a full one, before it sleeps.
 pub(super) const LOOKS: u32 = 16;
@@ -73,46 +66,4 @@ impl Pace {
             Pace::Rests => rest(BEHIND_REST),
         }
     }
-}
-
-/// How long one thread pauses where it finds the lock taken: twice as long each time, and a little
-/// less each time that it finds it free. So threads that meet often pause long, and take the lock
-/// many times in a row, while what lies under it stays in one processor's cache.
-#[derive(Clone, Copy)]
-pub(super) struct Patience {
-    turns: u32,
-}
-
-impl Patience {
-    const LEAST: u32 = 8;
-
-    const MOST: u32 = 512;
-
-    pub(super) const NEW: Patience = Patience {
-        turns: Patience::LEAST,
-    };
-
-    /// The lock was free.
-    #[inline(always)]
-    pub(super) fn shrinks(&mut self) {
-        self.turns = self.turns.saturating_sub(1).max(Patience::LEAST);
-    }
-
-    /// The lock was taken: a pause, and a longer one next time.
-    pub(super) fn pauses(&mut self) {
-        pause_for(self.turns);
-        self.turns = self.turns.saturating_mul(2).min(Patience::MOST);
-    }
-}
-
-fn pause_for(turns: u32) {
-    for _ in 0..turns {
-        spin_loop();
-    }
-}
-
-/// Lets others run for a while, where nothing can be done yet.
-pub(super) fn rest(turns: u32) {
-    thread::yield_now();
-    pause_for(turns);
 }

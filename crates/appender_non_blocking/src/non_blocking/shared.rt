@@ -2,13 +2,13 @@
 ghost use Rattle.appender_non_blocking.specs.Tally.{no_tally};
 
 use super::books::Books;
-use super::pace::{PAUSES, Patience, YIELDS};
 use super::state::{Calls, State};
+use appender_sync::sync;
+use appender_sync::sync::Patience;
 use crossbeam_utils::CachePadded;
 use std::alloc::{AllocError, Global};
 use std::sync::atomic::AtomicUsize;
 use std::sync::{Condvar, Mutex, MutexGuard, Wait};
-use std::thread;
 
 #[derive(Drop)]
 pub(super) struct Shared<B: Books> {
@@ -52,29 +52,7 @@ impl<B: Books> Shared<B> {
         rt: &R,
         patience: &mut Patience,
     ) -> MutexGuard<'_, State<B>> {
-        let lock: &Mutex<State<B>> = &self.state;
-        if let Some(guard) = lock.try_lock() {
-            patience.shrinks();
-            return guard;
-        }
-        self.lock_again(rt, patience)
-    }
-
-    #[cold]
-    #[inline(never)]
-    fn lock_again<R: Wait>(&self, rt: &R, patience: &mut Patience) -> MutexGuard<'_, State<B>> {
-        let lock: &Mutex<State<B>> = &self.state;
-        for turn in 0..PAUSES + YIELDS {
-            if turn < PAUSES {
-                patience.pauses();
-            } else {
-                thread::yield_now();
-            }
-            if let Some(guard) = lock.try_lock() {
-                return guard;
-            }
-        }
-        lock.lock(rt)
+        sync::lock(rt, &self.state, patience)
     }
 
     /// Wakes those who are called. The lock was let go, or is let go by a wait.

@@ -4,10 +4,11 @@ ghost use Rattle.appender_non_blocking.specs.Told.{AsTaken};
 ghost use Rattle.appender_queue.specs.Core.{after_flushed, is_flushing};
 
 use super::books::Books;
-use super::pace::{EMPTY_REST, LOOKS, Patience, rest};
+use super::pace::{EMPTY_REST, LOOKS};
 use super::shared::Shared;
 use appender_queue::queue::Taken;
 use appender_queue::worker::{Want, WorkerCore};
+use appender_sync::sync::{Patience, rest};
 use std::io;
 use std::io::Write;
 use std::sync::Wait;

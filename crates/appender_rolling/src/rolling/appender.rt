@@ -4,8 +4,9 @@ ghost use Rattle.appender_names.specs.declared.rotation.RotationKind.TheVariants
 ghost use Rattle.appender_rolling.specs.Config.{defaults};
 ghost use Rattle.appender_rolling.specs.Appender.{plain_config, SharesSome};
 
+use super::gated::Gated;
 use super::writer::RollingWriter;
-use super::{Builder, Clock, InitError, Roller, RollingFile, Rotation, SystemClock};
+use super::{Builder, Clock, InitError, RollingFile, Rotation, SystemClock};
 use appender_folder::folder::DirFolder;
 use appender_store::store::Folder;
 use appender_writers::MakeWriter;
@@ -14,7 +15,7 @@ use std::fmt::{Debug, Formatter};
 use std::io::Write;
 use std::marker::Model;
 use std::rt::Files;
-use std::sync::{Mutex, RwLock, Wait};
+use std::sync::{RwLock, RwLockReadGuard, Wait};
 use std::{fmt, io, time};
 
 /// Writes a log to the file of the moment, from as many threads as make writers of it. Making a
@@ -25,8 +26,7 @@ pub struct RollingFileAppender<S: Folder, C: Clock, R: Drop = HostRuntime> {
     rt: R,
     // Writers hold it to read, so that no file begins between the pieces of one of them; a look at
     // the clock that is to begin a file holds it alone.
-    gate: RwLock<()>,
-    roller: Mutex<Roller<S>>,
+    gate: RwLock<Gated<S>>,
     clock: C,
 }
 
@@ -50,31 +50,31 @@ impl<S: Folder, C: Clock> RollingFile<S, C> {
     {
         RollingFileAppender {
             rt,
-            gate: RwLock::new(()),
-            roller: Mutex::new(self.roller),
+            gate: RwLock::new(Gated::new(self.roller)),
             clock: self.clock,
         }
     }
 }
 
 impl<S: Folder, C: Clock, R: Wait + Drop> RollingFileAppender<S, C, R> {
-    ghost use Rattle.std.specs.Prelude.{◌≡◌};
-    ghost use Rattle.appender_rolling.specs.Roller.{Rolling, is_due};
+    ghost use Rattle.std.specs.Prelude.{◌≡◌, ℤ, Option, false, MatchOption};
+    ghost use Rattle.std.specs.Sync.RwLock.{read_guard_value};
+    ghost use Rattle.appender_rolling.specs.Roller.{is_due};
     ghost use Rattle.appender_rolling.specs.Appender.{SeesSome};
 
-    // Whether a look at the clock at this moment would switch.
-    fn is_due(&self, moment: i64) -> bool
-        ensures { (found : Rolling S S.File) × (result ≡ is_due found.boundary moment) }
+    // Goes through the gate, unless a boundary has come at this moment: then the roller looks at the
+    // clock while nobody else is inside, and the way is to be tried again.
+    fn pass(&self, moment: i64) -> Option<RwLockReadGuard<'_, Gated<S>>>
+        ensures { MatchOption result ((boundary : Option ℤ) × SeesSome S.Folder moment boundary)
+            (λ gate. is_due (read_guard_value gate).boundary moment ≡ false) }
     {
-        self.roller.lock(&self.rt).due(moment)
-    }
-
-    // Looks at the clock while no writer is held.
-    fn switch(&self, moment: i64)
-        ensures { SeesSome S.Folder moment }
-    {
-        let _alone = self.gate.write(&self.rt);
-        self.roller.lock(&self.rt).see(moment);
+        let gate = self.gate.read(&self.rt);
+        if !gate.due(moment) {
+            return Some(gate);
+        }
+        drop(gate);
+        self.gate.write(&self.rt).see(moment);
+        None
     }
 }
 
@@ -85,13 +85,16 @@ impl<S: Folder, C: Clock, R: Drop> RollingFileAppender<S, C, R> {
     pub fn into_parts(self) -> (S, C)
         ensures clock { result.1 ≡ self.clock }
     {
-        (self.roller.into_inner().into_folder(), self.clock)
+        (
+            self.gate.into_inner().into_inner().into_folder(),
+            self.clock,
+        )
     }
 }
 
 impl<'a, S: Folder + 'a, C: Clock, R: Wait + Drop + 'a> MakeWriter<'a>
     for RollingFileAppender<S, C, R> {
-    ghost use Rattle.std.specs.Prelude.{IsOk};
+    ghost use Rattle.std.specs.Prelude.{IsOk, IfOk};
     ghost use Rattle.appender_rolling.specs.Appender.{LooksNow};
 
     type Writer = RollingWriter<'a, S, R>;
@@ -100,16 +103,15 @@ impl<'a, S: Folder + 'a, C: Clock, R: Wait + Drop + 'a> MakeWriter<'a>
     /// until it is dropped. A thread that holds one must not make another: it may wait for itself.
     fn make_writer(&'a self) -> Result<RollingWriter<'a, S, R>, AllocError>
         ensures ok { IsOk result }
-        ensures looks { LooksNow S.Folder C.Clock self.now.clock }
+        ensures looks { IfOk result (λ writer. LooksNow C.Clock self.now.clock writer.boundary) }
     {
         let moment = self.clock.now();
-        let mut gate = self.gate.read(&self.rt);
-        if self.is_due(moment) {
-            drop(gate);
-            self.switch(moment);
-            gate = self.gate.read(&self.rt);
+        for _ in self.rt.forever() {
+            if let Some(gate) = self.pass(moment) {
+                return Ok(RollingWriter { rt: &self.rt, gate });
+            }
         }
-        Ok(RollingWriter::new(&self.rt, &self.roller, gate))
+        unreachable!()
     }
 }
 
@@ -117,35 +119,34 @@ impl<S: Folder, C: Clock, R: Drop> Write for RollingFileAppender<S, C, R> {
     ghost use Rattle.std.specs.Prelude.{None};
     ghost use Rattle.std.specs.Io.{WritesAtMost};
     ghost use Rattle.std.specs.Io.KnownBytes.{WriteAppends};
-    ghost use Rattle.appender_rolling.specs.Appender.{PutsSome, FlushesSome};
+    ghost use Rattle.appender_rolling.specs.Appender.{PutsAtClock, FlushesSome};
 
     /// Reads the clock once, and puts the bytes at that moment. `write_all` repeats it for what was
     /// not taken, so that its pieces may stand in two files. It takes no lock.
     fn write(&mut self, bytes: &[u8]) -> io::Result<usize>
         ensures bound { WritesAtMost result bytes.now }
         ensures bytes { WriteAppends None None result bytes.now }
-        ensures put { PutsSome S.Folder C.Clock self.old.clock bytes.now result }
+        ensures put { PutsAtClock S.Folder C.Clock self.old.clock bytes.now result }
     {
         let moment = self.clock.now();
-        self.roller.get_mut().put(moment, bytes).1
+        self.gate.get_mut().put(moment, bytes)
     }
 
     /// Flushes the open file, and reads no clock.
     fn flush(&mut self) -> io::Result<()>
         ensures { FlushesSome S.Folder result }
     {
-        self.roller.get_mut().flush()
+        self.gate.get_mut().get_mut().flush()
     }
 }
 
 impl<S: Folder, C: Clock, R: Wait + Drop> Debug for RollingFileAppender<S, C, R> {
     fn fmt<W: fmt::Write>(&self, f: &mut Formatter<W>) -> fmt::Result {
-        let roller = self.roller.lock(&self.rt);
-        let (open_name, boundary) = roller.standing();
-        f.debug_struct("RollingFileAppender")
-            .field("open_name", &open_name)
-            .field("boundary", &boundary)
-            .finish()
+        // Waiting here could be for a writer of the same thread.
+        match self.gate.try_read() {
+            Some(gate) => gate.fmt(&self.rt, f),
+            None => f.pad("RollingFileAppender { .. }"),
+        }
     }
 }
 

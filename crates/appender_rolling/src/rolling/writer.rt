@@ -3,28 +3,33 @@ ghost use Rattle.std.specs.Prelude.{None, OnOk};
 ghost use Rattle.std.specs.Io.{WritesAtMost};
 ghost use Rattle.std.specs.Io.KnownBytes.{Appends, WriteAppends};
 
-use super::Roller;
+use super::gated::Gated;
 use appender_store::store::Folder;
 use std::fmt::{Debug, Formatter};
 use std::io::Write;
-use std::sync::{Mutex, RwLockReadGuard, Wait};
+use std::marker::Model;
+use std::sync::{RwLockReadGuard, Wait};
 use std::{fmt, io};
 
 /// Writes to the file that was open when it was made: no other file begins until it is dropped.
-#[derive(Drop)]
 pub struct RollingWriter<'a, S: Folder, R = HostRuntime> {
-    rt: &'a R,
-    roller: &'a Mutex<Roller<S>>,
-    gate: RwLockReadGuard<'a, ()>,
+    pub(super) rt: &'a R,
+    pub(super) gate: RwLockReadGuard<'a, Gated<S>>,
 }
 
-impl<'a, S: Folder, R> RollingWriter<'a, S, R> {
-    pub(super) fn new(
-        rt: &'a R,
-        roller: &'a Mutex<Roller<S>>,
-        gate: RwLockReadGuard<'a, ()>,
-    ) -> RollingWriter<'a, S, R> {
-        RollingWriter { rt, roller, gate }
+impl<'a, S: Folder, R> Model for RollingWriter<'a, S, R> {
+    ghost use Rattle.std.specs.Sync.RwLock.{read_guard_value};
+    ghost use Rattle.appender_rolling.specs.Appender.{Holding};
+
+    ghost Value = { Holding };
+
+    ghost view = { λ w. record { boundary = (read_guard_value w.gate).boundary } };
+}
+
+impl<S: Folder, R> Drop for RollingWriter<'_, S, R> {
+    fn drop(self) {
+        let RollingWriter { rt: _, gate } = self;
+        drop(gate);
     }
 }
 
@@ -37,21 +42,21 @@ impl<'a, S: Folder, R: Wait> Write for RollingWriter<'a, S, R> {
         ensures bytes { WriteAppends None None result bytes.now }
         ensures append { WritesSome S.Folder bytes.now result }
     {
-        self.roller.lock(self.rt).write(bytes)
+        self.gate.write(self.rt, bytes)
     }
 
     /// Repeats it under one lock for what was not taken, so that no other piece comes between.
     fn write_all(&mut self, bytes: &[u8]) -> io::Result<()>
         ensures { OnOk result (Appends None None bytes.now) }
     {
-        self.roller.lock(self.rt).write_all(bytes)
+        self.gate.write_all(self.rt, bytes)
     }
 
     /// Flushes the open file.
     fn flush(&mut self) -> io::Result<()>
         ensures { FlushesSome S.Folder result }
     {
-        self.roller.lock(self.rt).flush()
+        self.gate.flush(self.rt)
     }
 }
 
