@@ -1,39 +1,36 @@
 // Appenders that are written to by std's `Write`, over real folders and over one in memory.
 
 use crate::scene::{
-    ELEVEN, START, TWELVE, TestClock, at, clear, expect_files, fresh, hourly_log, names_in, opened,
-    target_of, text_of,
+    ELEVEN, Host, START, TWELVE, TestClock, at, clear, expect_bytes, expect_files, folder_at,
+    fresh, hourly_log, names_in, opened, target_of, text_of,
 };
 use std::io::Write;
 use std::process::Abort;
-use std::rt::Files;
-use std::test::Fail;
 use std::time::Duration;
-use std::{env, fs, io, time};
-use tracing_appender::folder::DirFolder;
+use std::{env, io, time};
 use tracing_appender::rolling::{
-    Builder, Clock, FileAppender, RollingFileAppender, SystemClock, daily, hourly, minutely, never,
-    weekly,
+    Clock, FileAppender, InitError, SystemClock, daily, hourly, minutely, never, weekly,
 };
 use tracing_appender::store::{Folder, MemoryFolder};
 
 #[test]
-fn each_write_reads_the_clock_once(rt: HostRuntime) -> Result<(), Fail> {
+fn each_write_reads_the_clock_once(rt: HostRuntime) {
     let alloc = rt.alloc();
-    let builder = hourly_log(alloc, "app")?;
+    let builder = hourly_log(&rt, "app");
     let clock = TestClock::new(START);
-    let mut appender = opened(rt, &builder, MemoryFolder::new(alloc), &clock)?;
+    let mut appender = opened(rt, &builder, MemoryFolder::new(alloc), &clock);
     clock.set(ELEVEN);
-    assert_eq!(rt; appender.write(b"a")?, 1);
+    assert_eq!(rt; appender.write(b"a").expect(&rt, "a write"), 1);
     clock.set(ELEVEN - 1);
-    assert_eq!(rt; appender.write(b"b")?, 1);
-    appender.flush()?;
+    assert_eq!(rt; appender.write(b"b").expect(&rt, "a write"), 1);
+    appender.flush().expect(&rt, "a flush");
     assert_eq!(rt; clock.reads(), 3);
     let (folder, _clock) = appender.into_parts();
-    assert_eq!(rt; folder.names()?.len(), 2);
-    assert_eq!(rt; folder.bytes("app.2020-02-01-10"), Some(b"".as_slice()));
-    assert_eq!(rt; folder.bytes("app.2020-02-01-11"), Some(b"ab".as_slice()));
-    Ok(())
+    expect_bytes(
+        &rt,
+        &folder,
+        &[("app.2020-02-01-10", ""), ("app.2020-02-01-11", "ab")],
+    );
 }
 
 // What the system's clock reads, in whole minutes.
@@ -41,110 +38,110 @@ fn minute(rt: HostRuntime) -> i64 {
     SystemClock::new(rt).now().div_euclid(60)
 }
 
-fn say_hello(mut appender: FileAppender) -> io::Result<()> {
-    appender.write_all(b"Hello")?;
-    appender.flush()
+fn say_hello(rt: &impl Abort, opened: Result<FileAppender, InitError>) {
+    let mut appender = opened.expect(rt, "an appender");
+    appender.write_all(b"Hello").expect(rt, "a write");
+    appender.flush().expect(rt, "a flush");
 }
 
 const ROTATIONS: [&str; 5] = ["minutely", "hourly", "daily", "weekly", "never"];
 
 // A log of each rotation, each in a directory of its own.
-fn say_hello_to_each(rt: HostRuntime, directory: &str) -> Result<(), Fail> {
-    let alloc = rt.alloc();
+fn say_hello_to_each(rt: HostRuntime, host: &impl Host, directory: &str) {
     let [first, second, third, fourth, fifth] = ROTATIONS;
-    say_hello(minutely(rt, at(alloc, directory, first)?.as_str(), "app")?)?;
-    say_hello(hourly(rt, at(alloc, directory, second)?.as_str(), "app")?)?;
-    say_hello(daily(rt, at(alloc, directory, third)?.as_str(), "app")?)?;
-    say_hello(weekly(rt, at(alloc, directory, fourth)?.as_str(), "app")?)?;
-    say_hello(never(rt, at(alloc, directory, fifth)?.as_str(), "app")?)?;
-    Ok(())
+    say_hello(
+        host,
+        minutely(rt, at(host, directory, first).as_str(), "app"),
+    );
+    say_hello(
+        host,
+        hourly(rt, at(host, directory, second).as_str(), "app"),
+    );
+    say_hello(host, daily(rt, at(host, directory, third).as_str(), "app"));
+    say_hello(
+        host,
+        weekly(rt, at(host, directory, fourth).as_str(), "app"),
+    );
+    say_hello(host, never(rt, at(host, directory, fifth).as_str(), "app"));
 }
 
 // Checks that one file alone is there, which reads as `Hello`, and answers its name.
-fn expect_hello<R: Files + AllocGlobal + Abort + Clone + Drop>(
-    rt: &R,
-    directory: &str,
-) -> Result<String, Fail> {
-    let mut names = names_in(rt, directory)?;
+fn expect_hello(rt: &impl Host, directory: &str) -> String {
+    let mut names = names_in(rt, directory);
     assert_eq!(rt; names.len(), 1, "{directory}");
-    let name = names.pop().ok_or("no name")?;
-    assert_eq!(rt; text_of(rt, directory, name.as_str())?.as_str(), "Hello");
-    Ok(name)
+    let name = names.pop().expect(rt, "a name");
+    assert_eq!(rt; text_of(rt, directory, name.as_str()).as_str(), "Hello");
+    name
 }
 
 #[test]
-fn a_log_of_each_rotation_is_one_file(rt: HostRuntime) -> Result<(), Fail> {
+fn a_log_of_each_rotation_is_one_file(rt: HostRuntime) {
     // Once more where a minute ended in between.
     for _ in 0..3 {
-        let directory = fresh(rt, "rotations")?;
+        let directory = fresh(rt, "rotations").expect(&rt, "a directory");
         let before = minute(rt);
-        say_hello_to_each(rt, directory.as_str())?;
+        say_hello_to_each(rt, &rt, directory.as_str());
         if minute(rt) == before {
             for rotation in ROTATIONS {
-                let inner = at(rt.alloc(), directory.as_str(), rotation)?;
-                let name = expect_hello(&rt, inner.as_str())?;
+                let inner = at(&rt, directory.as_str(), rotation);
+                let name = expect_hello(&rt, inner.as_str());
                 assert!(rt; name.starts_with("app"), "{name}");
                 assert_eq!(rt; name.as_str() == "app", rotation == "never", "{name}");
             }
-            clear(&rt, directory.as_str())?;
-            return Ok(());
+            clear(&rt, directory.as_str());
+            return;
         }
-        clear(&rt, directory.as_str())?;
+        clear(&rt, directory.as_str());
     }
-    Err(Fail::new("the clock runs on"))
+    rt.panic("the clock runs on");
 }
 
 // Two lines, and an hour later two more.
-fn write_two_hours<S: Folder, R: AllocGlobal + Drop>(
-    rt: R,
-    folder: S,
-    prefix: &str,
-) -> Result<S, Fail> {
-    let builder = hourly_log(rt.alloc(), prefix)?;
+fn write_two_hours<S: Folder>(rt: impl Host, folder: S, prefix: &str) -> S {
+    let builder = hourly_log(&rt, prefix);
     let clock = TestClock::new(START);
-    let mut appender = opened(rt, &builder, folder, &clock)?;
+    let mut appender = opened(rt, &builder, folder, &clock);
     for _ in 0..2 {
-        appender.write_all(b"file 1\n")?;
+        appender.write_all(b"file 1\n").expect(&rt, "a write");
     }
     clock.set(START + 3_600);
     for _ in 0..2 {
-        appender.write_all(b"file 2\n")?;
+        appender.write_all(b"file 2\n").expect(&rt, "a write");
     }
-    appender.flush()?;
-    Ok(appender.into_parts().0)
+    appender.flush().expect(&rt, "a flush");
+    appender.into_parts().0
 }
 
 #[test]
-fn the_next_hour_goes_to_the_next_file(rt: HostRuntime) -> Result<(), Fail> {
-    let directory = fresh(rt, "hours")?;
-    let folder = DirFolder::new(rt, directory.as_str())?;
-    let folder = write_two_hours(rt, folder, "test_make_writer")?;
+fn the_next_hour_goes_to_the_next_file(rt: HostRuntime) {
+    let directory = fresh(rt, "hours").expect(&rt, "a directory");
+    let folder = folder_at(rt, directory.as_str());
+    let folder = write_two_hours(rt, folder, "test_make_writer");
     assert_eq!(rt; folder.failures(), 0);
     let files = [
         ("test_make_writer.2020-02-01-10", "file 1\nfile 1\n"),
         ("test_make_writer.2020-02-01-11", "file 2\nfile 2\n"),
     ];
-    expect_files(&rt, directory.as_str(), &files)?;
-    clear(&rt, directory.as_str())?;
-    Ok(())
+    expect_files(&rt, directory.as_str(), &files);
+    clear(&rt, directory.as_str());
 }
 
 // Two lines in each of three hours, of which two files are kept.
-fn write_three_hours<S: Folder, R: AllocGlobal + Drop>(rt: R, folder: S) -> Result<S, Fail> {
-    let builder = hourly_log(rt.alloc(), "test_max_log_files")?.max_log_files(2);
+fn write_three_hours<S: Folder>(rt: impl Host, folder: S) -> S {
+    let builder = hourly_log(&rt, "test_max_log_files").max_log_files(2);
     let clock = TestClock::new(START);
-    let mut appender = opened(rt, &builder, folder, &clock)?;
+    let mut appender = opened(rt, &builder, folder, &clock);
     for (moment, line) in [
         (START, b"file 1\n"),
         (ELEVEN, b"file 2\n"),
         (TWELVE, b"file 3\n"),
     ] {
         clock.set(moment);
-        appender.write_all(line)?;
-        appender.write_all(line)?;
-        appender.flush()?;
+        appender.write_all(line).expect(&rt, "a write");
+        appender.write_all(line).expect(&rt, "a write");
+        appender.flush().expect(&rt, "a flush");
     }
-    Ok(appender.into_parts().0)
+    appender.into_parts().0
 }
 
 const KEPT: [(&str, &str); 2] = [
@@ -153,49 +150,46 @@ const KEPT: [(&str, &str); 2] = [
 ];
 
 #[test]
-fn two_files_are_kept(rt: HostRuntime) -> Result<(), Fail> {
-    let folder = write_three_hours(rt, MemoryFolder::new(rt.alloc()))?;
-    assert_eq!(rt; folder.names()?.len(), 2);
-    for (name, text) in KEPT {
-        assert_eq!(rt; folder.bytes(name), Some(text.as_bytes()), "{name}");
-    }
-    let directory = fresh(rt, "kept")?;
-    let folder = write_three_hours(rt, DirFolder::new(rt, directory.as_str())?)?;
+fn two_files_are_kept(rt: HostRuntime) {
+    let folder = write_three_hours(rt, MemoryFolder::new(rt.alloc()));
+    expect_bytes(&rt, &folder, &KEPT);
+    let directory = fresh(rt, "kept").expect(&rt, "a directory");
+    let folder = write_three_hours(rt, folder_at(rt, directory.as_str()));
     assert_eq!(rt; folder.failures(), 0);
-    expect_files(&rt, directory.as_str(), &KEPT)?;
-    clear(&rt, directory.as_str())?;
-    Ok(())
+    expect_files(&rt, directory.as_str(), &KEPT);
+    clear(&rt, directory.as_str());
 }
 
 // A line in each of two hours, and a link that follows.
-fn write_with_link(rt: HostRuntime, directory: &str) -> Result<u64, Fail> {
-    let alloc = rt.alloc();
-    let builder = hourly_log(alloc, "test_latest_symlink")?.latest_symlink(alloc, "latest.log")?;
+fn write_with_link(rt: impl Host, directory: &str) -> u64 {
+    let builder = hourly_log(&rt, "test_latest_symlink")
+        .latest_symlink(rt.alloc(), "latest.log")
+        .expect(&rt, "memory");
     let clock = TestClock::new(START);
-    let mut appender = opened(rt, &builder, DirFolder::new(rt, directory)?, &clock)?;
-    appender.write_all(b"file 1\n")?;
+    let mut appender = opened(rt, &builder, folder_at(rt, directory), &clock);
+    appender.write_all(b"file 1\n").expect(&rt, "a write");
     clock.set(ELEVEN);
-    appender.write_all(b"file 2\n")?;
-    appender.flush()?;
-    Ok(appender.into_parts().0.failures())
+    appender.write_all(b"file 2\n").expect(&rt, "a write");
+    appender.flush().expect(&rt, "a flush");
+    appender.into_parts().0.failures()
 }
 
 #[test]
-fn the_link_leads_to_the_newest_file(rt: HostRuntime) -> Result<(), Fail> {
-    let parent = fresh(rt, "link")?;
-    env::set_current_dir(&rt, parent.as_str())?;
-    let whole = at(rt.alloc(), parent.as_str(), "whole")?;
+fn the_link_leads_to_the_newest_file(rt: HostRuntime) {
+    let parent = fresh(rt, "link").expect(&rt, "a directory");
+    env::set_current_dir(&rt, parent.as_str()).expect(&rt, "a directory");
+    let whole = at(&rt, parent.as_str(), "whole");
     for (given, place) in [
         (whole.as_str(), "whole"),
         ("relative", "relative"),
         ("./deep/logs", "deep/logs"),
     ] {
         // At first there is neither the directory nor a link to remove.
-        assert_eq!(rt; write_with_link(rt, given)?, 2, "{given}");
-        let directory = at(rt.alloc(), parent.as_str(), place)?;
+        assert_eq!(rt; write_with_link(rt, given), 2, "{given}");
+        let directory = at(&rt, parent.as_str(), place);
         let directory = directory.as_str();
         assert_eq!(rt;
-            target_of(&rt, directory, "latest.log")?.as_str(),
+            target_of(&rt, directory, "latest.log").as_str(),
             "test_latest_symlink.2020-02-01-11"
         );
         let files = [
@@ -203,26 +197,24 @@ fn the_link_leads_to_the_newest_file(rt: HostRuntime) -> Result<(), Fail> {
             ("test_latest_symlink.2020-02-01-10", "file 1\n"),
             ("test_latest_symlink.2020-02-01-11", "file 2\n"),
         ];
-        expect_files(&rt, directory, &files)?;
+        expect_files(&rt, directory, &files);
     }
-    clear(&rt, parent.as_str())?;
-    Ok(())
+    clear(&rt, parent.as_str());
 }
 
 #[test]
-fn an_appender_shows_its_file_and_boundary(rt: HostRuntime) -> Result<(), Fail> {
+fn an_appender_shows_its_file_and_boundary(rt: HostRuntime) {
     let alloc = rt.alloc();
-    let builder = hourly_log(alloc, "app")?;
+    let builder = hourly_log(&rt, "app");
     let clock = TestClock::new(START);
-    let appender = opened(rt, &builder, MemoryFolder::new(alloc), &clock)?;
-    let shown = format!(in alloc; "{appender:?}")?;
+    let appender = opened(rt, &builder, MemoryFolder::new(alloc), &clock);
+    let shown = format!(in alloc; "{appender:?}").expect(&rt, "memory");
     assert_eq!(rt;
         shown.as_str(),
         "RollingFileAppender { open_name: \"app.2020-02-01-10\", boundary: Some(1580554800) }"
     );
-    let shown = format!(in alloc; "{:?}", SystemClock::new(rt))?;
+    let shown = format!(in alloc; "{:?}", SystemClock::new(rt)).expect(&rt, "memory");
     assert!(rt; shown.as_str().starts_with("SystemClock"), "{shown}");
-    Ok(())
 }
 
 // A system whose clock tells so many seconds since 1970, if it can be read.

@@ -1,14 +1,14 @@
 // Each call of a folder of the file system, once by itself.
 
 use crate::scene::{
-    at, clear, expect_files, fresh, kind_of_error, names_in, put, put_link, target_of, text_of,
+    at, clear, expect_files, folder_at, fresh, kind_of_error, names_in, put, put_folder, put_link,
+    target_of, text_of,
 };
 use crate::swapping::Swapping;
 use std::cell::Cell;
 use std::io::ErrorKind;
 use std::process::Abort;
-use std::test::Fail;
-use std::{env, fs, io};
+use std::{env, fs};
 use tracing_appender::folder::DirFolder;
 use tracing_appender::store::{Folder, Kind, Listed};
 
@@ -35,13 +35,13 @@ fn expect_refusal<S: Folder>(rt: &impl Abort, folder: &mut S, name: &str) {
 }
 
 #[test]
-fn a_name_that_leaves_the_folder_is_refused(rt: HostRuntime) -> Result<(), Fail> {
-    let parent = fresh(rt, "leaves")?;
+fn a_name_that_leaves_the_folder_is_refused(rt: HostRuntime) {
+    let parent = fresh(rt, "leaves").expect(&rt, "a directory");
     let parent = parent.as_str();
-    put(&rt, parent, "outside", "kept")?;
-    put_link(&rt, parent, "link", "outside")?;
-    let mut folder = DirFolder::new(rt, at(rt.alloc(), parent, "inside")?.as_str())?;
-    folder.make_folder()?;
+    put(&rt, parent, "outside", "kept");
+    put_link(&rt, parent, "link", "outside");
+    let mut folder = folder_at(rt, at(&rt, parent, "inside").as_str());
+    folder.make_folder().expect(&rt, "a folder");
     for name in [
         "",
         ".",
@@ -56,46 +56,44 @@ fn a_name_that_leaves_the_folder_is_refused(rt: HostRuntime) -> Result<(), Fail>
         expect_refusal(&rt, &mut folder, name);
     }
     assert_eq!(rt; folder.failures(), 36);
-    assert!(rt; folder.list()?.is_empty());
-    assert_eq!(rt; names_in(&rt, parent)?.len(), 3);
-    assert_eq!(rt; text_of(&rt, parent, "outside")?.as_str(), "kept");
-    assert_eq!(rt; target_of(&rt, parent, "link")?.as_str(), "outside");
-    clear(&rt, parent)?;
-    Ok(())
+    assert!(rt; folder.list().expect(&rt, "a listing").is_empty());
+    assert_eq!(rt; names_in(&rt, parent).len(), 3);
+    assert_eq!(rt; text_of(&rt, parent, "outside").as_str(), "kept");
+    assert_eq!(rt; target_of(&rt, parent, "link").as_str(), "outside");
+    clear(&rt, parent);
 }
 
 #[test]
-fn plain_files_alone_are_opened_and_removed(rt: HostRuntime) -> Result<(), Fail> {
-    let directory = fresh(rt, "plain")?;
+fn plain_files_alone_are_opened_and_removed(rt: HostRuntime) {
+    let directory = fresh(rt, "plain").expect(&rt, "a directory");
     let directory = directory.as_str();
-    put(&rt, directory, "file", "text")?;
-    put_link(&rt, directory, "link", "file")?;
-    put_link(&rt, directory, "dangling", "nothing")?;
-    let mut folder = DirFolder::new(rt, directory)?;
-    fs::create_dir(&rt, at(rt.alloc(), directory, "sub")?)?;
+    put(&rt, directory, "file", "text");
+    put_link(&rt, directory, "link", "file");
+    put_link(&rt, directory, "dangling", "nothing");
+    let mut folder = folder_at(rt, directory);
+    put_folder(&rt, directory, "sub");
     for name in ["link", "dangling", "sub"] {
         assert_eq!(rt; kind_of_error(folder.open(name)), IN_USE, "{name}");
         assert_eq!(rt; kind_of_error(folder.remove(name)), IN_USE, "{name}");
     }
     assert_eq!(rt; kind_of_error(folder.remove("absent")), ABSENT);
     assert_eq!(rt; folder.failures(), 7);
-    assert_eq!(rt; names_in(&rt, directory)?.len(), 4);
-    assert_eq!(rt; target_of(&rt, directory, "link")?.as_str(), "file");
-    assert_eq!(rt; target_of(&rt, directory, "dangling")?.as_str(), "nothing");
-    assert_eq!(rt; text_of(&rt, directory, "file")?.as_str(), "text");
-    folder.remove("file")?;
-    assert_eq!(rt; names_in(&rt, directory)?.len(), 3);
-    clear(&rt, directory)?;
-    Ok(())
+    assert_eq!(rt; names_in(&rt, directory).len(), 4);
+    assert_eq!(rt; target_of(&rt, directory, "link").as_str(), "file");
+    assert_eq!(rt; target_of(&rt, directory, "dangling").as_str(), "nothing");
+    assert_eq!(rt; text_of(&rt, directory, "file").as_str(), "text");
+    folder.remove("file").expect(&rt, "a file");
+    assert_eq!(rt; names_in(&rt, directory).len(), 3);
+    clear(&rt, directory);
 }
 
 #[test]
-fn links_alone_are_removed_as_links(rt: HostRuntime) -> Result<(), Fail> {
-    let directory = fresh(rt, "links")?;
+fn links_alone_are_removed_as_links(rt: HostRuntime) {
+    let directory = fresh(rt, "links").expect(&rt, "a directory");
     let directory = directory.as_str();
-    put(&rt, directory, "file", "text")?;
-    fs::create_dir(&rt, at(rt.alloc(), directory, "sub")?)?;
-    let mut folder = DirFolder::new(rt, directory)?;
+    put(&rt, directory, "file", "text");
+    put_folder(&rt, directory, "sub");
+    let mut folder = folder_at(rt, directory);
     for name in ["file", "sub"] {
         assert_eq!(rt; kind_of_error(folder.remove_link(name)), IN_USE, "{name}");
         assert_eq!(rt;
@@ -106,86 +104,82 @@ fn links_alone_are_removed_as_links(rt: HostRuntime) -> Result<(), Fail> {
     }
     assert_eq!(rt; kind_of_error(folder.remove_link("absent")), ABSENT);
     for target in ["file", "sub", "nothing", "../elsewhere"] {
-        folder.make_link("link", target)?;
-        assert_eq!(rt; target_of(&rt, directory, "link")?.as_str(), target);
-        folder.remove_link("link")?;
+        folder.make_link("link", target).expect(&rt, "a link");
+        assert_eq!(rt; target_of(&rt, directory, "link").as_str(), target);
+        folder.remove_link("link").expect(&rt, "a link");
     }
     assert_eq!(rt; folder.failures(), 5);
-    assert_eq!(rt; names_in(&rt, directory)?.len(), 2);
-    assert_eq!(rt; text_of(&rt, directory, "file")?.as_str(), "text");
-    clear(&rt, directory)?;
-    Ok(())
+    assert_eq!(rt; names_in(&rt, directory).len(), 2);
+    assert_eq!(rt; text_of(&rt, directory, "file").as_str(), "text");
+    clear(&rt, directory);
 }
 
-// Opens a file and appends to it.
-fn append_to<S: Folder>(folder: &mut S, name: &str, bytes: &[u8]) -> io::Result<usize> {
-    let mut file = folder.open(name)?;
-    let taken = folder.append(&mut file, bytes)?;
-    folder.flush(&mut file)?;
-    Ok(taken)
+// Opens a file and appends to it, and tells how much it took.
+fn append_to<S: Folder>(rt: &impl Abort, folder: &mut S, name: &str, bytes: &[u8]) -> usize {
+    let mut file = folder.open(name).expect(rt, "a file");
+    let taken = folder.append(&mut file, bytes).expect(rt, "bytes taken");
+    folder.flush(&mut file).expect(rt, "a flush");
+    taken
 }
 
 #[test]
-fn appends_go_behind_what_stands(rt: HostRuntime) -> Result<(), Fail> {
-    let directory = fresh(rt, "appends")?;
+fn appends_go_behind_what_stands(rt: HostRuntime) {
+    let directory = fresh(rt, "appends").expect(&rt, "a directory");
     let directory = directory.as_str();
-    put(&rt, directory, "standing", "one")?;
-    let mut folder = DirFolder::new(rt, directory)?;
-    assert_eq!(rt; append_to(&mut folder, "standing", b"two")?, 3);
-    assert_eq!(rt; append_to(&mut folder, "made", b"three")?, 5);
-    assert_eq!(rt; append_to(&mut folder, "made", b"")?, 0);
+    put(&rt, directory, "standing", "one");
+    let mut folder = folder_at(rt, directory);
+    assert_eq!(rt; append_to(&rt, &mut folder, "standing", b"two"), 3);
+    assert_eq!(rt; append_to(&rt, &mut folder, "made", b"three"), 5);
+    assert_eq!(rt; append_to(&rt, &mut folder, "made", b""), 0);
     assert_eq!(rt; folder.failures(), 0);
-    expect_files(&rt, directory, &[("standing", "onetwo"), ("made", "three")])?;
-    clear(&rt, directory)?;
-    Ok(())
+    expect_files(&rt, directory, &[("standing", "onetwo"), ("made", "three")]);
+    clear(&rt, directory);
 }
 
 #[test]
-fn a_folder_is_made_with_its_parents(rt: HostRuntime) -> Result<(), Fail> {
-    let parent = fresh(rt, "parents")?;
+fn a_folder_is_made_with_its_parents(rt: HostRuntime) {
+    let parent = fresh(rt, "parents").expect(&rt, "a directory");
     let parent = parent.as_str();
     for path in ["a/b/c", "a/b/d/", "a", "e//f"] {
-        let path = at(rt.alloc(), parent, path)?;
-        let mut folder = DirFolder::new(rt, path.as_str())?;
+        let path = at(&rt, parent, path);
+        let mut folder = folder_at(rt, path.as_str());
         for _ in 0..2 {
-            folder.make_folder()?;
-            assert_eq!(rt; append_to(&mut folder, "file", b"x")?, 1, "{path}");
+            folder.make_folder().expect(&rt, "a folder");
+            assert_eq!(rt; append_to(&rt, &mut folder, "file", b"x"), 1, "{path}");
         }
-        assert_eq!(rt; text_of(&rt, path.as_str(), "file")?.as_str(), "xx");
+        assert_eq!(rt; text_of(&rt, path.as_str(), "file").as_str(), "xx");
         assert_eq!(rt; folder.failures(), 0, "{path}");
     }
-    put(&rt, parent, "plain", "text")?;
-    let mut folder = DirFolder::new(rt, at(rt.alloc(), parent, "plain")?.as_str())?;
+    put(&rt, parent, "plain", "text");
+    let mut folder = folder_at(rt, at(&rt, parent, "plain").as_str());
     assert!(rt; folder.make_folder().is_err());
-    assert_eq!(rt; text_of(&rt, parent, "plain")?.as_str(), "text");
-    clear(&rt, parent)?;
-    Ok(())
+    assert_eq!(rt; text_of(&rt, parent, "plain").as_str(), "text");
+    clear(&rt, parent);
 }
 
 #[test]
-fn an_empty_path_is_the_current_directory(rt: HostRuntime) -> Result<(), Fail> {
-    let directory = fresh(rt, "current")?;
+fn an_empty_path_is_the_current_directory(rt: HostRuntime) {
+    let directory = fresh(rt, "current").expect(&rt, "a directory");
     let directory = directory.as_str();
-    env::set_current_dir(&rt, directory)?;
+    env::set_current_dir(&rt, directory).expect(&rt, "a directory");
     for path in ["", ".", "./"] {
-        let mut folder = DirFolder::new(rt, path)?;
-        folder.make_folder()?;
-        assert_eq!(rt; append_to(&mut folder, "file", b"x")?, 1);
-        assert_eq!(rt; folder.list()?.len(), 1);
+        let mut folder = folder_at(rt, path);
+        folder.make_folder().expect(&rt, "a folder");
+        assert_eq!(rt; append_to(&rt, &mut folder, "file", b"x"), 1);
+        assert_eq!(rt; folder.list().expect(&rt, "a listing").len(), 1);
     }
-    expect_files(&rt, directory, &[("file", "xxx")])?;
-    clear(&rt, directory)?;
-    Ok(())
+    expect_files(&rt, directory, &[("file", "xxx")]);
+    clear(&rt, directory);
 }
 
 // Checks one entry of a listing.
-fn expect_entry(rt: &impl Abort, entry: &Listed, tells_creation: bool) -> Result<(), Fail> {
+fn expect_entry(rt: &impl Abort, entry: &Listed, tells_creation: bool) {
     let name = entry.name.as_deref();
     let wanted = match name {
         Some("file") => Kind::File,
         Some("link" | "dangling") => Kind::Link,
         Some("sub") => Kind::Folder,
-        _ => return Err(Fail::new("another name")),
+        _ => rt.panic("another name"),
     };
     assert_eq!(rt; entry.kind, wanted, "{name:?}");
     assert_eq!(rt; entry.created.is_some(), tells_creation, "{name:?}");
@@ -195,45 +189,45 @@ fn expect_entry(rt: &impl Abort, entry: &Listed, tells_creation: bool) -> Result
         None => true,
     };
     assert!(rt; is_late, "{name:?}");
-    Ok(())
 }
 
 #[test]
-fn a_listing_tells_kinds_and_creation(rt: HostRuntime) -> Result<(), Fail> {
-    let directory = fresh(rt, "listing")?;
+fn a_listing_tells_kinds_and_creation(rt: HostRuntime) {
+    let directory = fresh(rt, "listing").expect(&rt, "a directory");
     let directory = directory.as_str();
-    let mut folder = DirFolder::new(rt, directory)?;
-    assert!(rt; folder.list()?.is_empty());
-    put(&rt, directory, "file", "text")?;
-    put_link(&rt, directory, "link", "file")?;
-    put_link(&rt, directory, "dangling", "nothing")?;
-    fs::create_dir(&rt, at(rt.alloc(), directory, "sub")?)?;
-    let tells_creation = fs::metadata(&rt, directory)?.created().is_ok();
-    let listed = folder.list()?;
+    let mut folder = folder_at(rt, directory);
+    assert!(rt; folder.list().expect(&rt, "a listing").is_empty());
+    put(&rt, directory, "file", "text");
+    put_link(&rt, directory, "link", "file");
+    put_link(&rt, directory, "dangling", "nothing");
+    put_folder(&rt, directory, "sub");
+    let tells_creation = fs::metadata(&rt, directory)
+        .expect(&rt, "a directory")
+        .created()
+        .is_ok();
+    let listed = folder.list().expect(&rt, "a listing");
     assert_eq!(rt; listed.len(), 4);
     for entry in &listed {
-        expect_entry(&rt, entry, tells_creation)?;
+        expect_entry(&rt, entry, tells_creation);
     }
-    clear(&rt, directory)?;
+    clear(&rt, directory);
     assert_eq!(rt; kind_of_error(folder.list()), ABSENT);
     assert_eq!(rt; folder.failures(), 1);
-    Ok(())
 }
 
 // The name leads to a plain file before and after, but not to the one that was opened.
 #[test]
-fn a_link_that_comes_and_goes_is_not_followed(rt: HostRuntime) -> Result<(), Fail> {
-    let directory = fresh(rt, "comes_and_goes")?;
+fn a_link_that_comes_and_goes_is_not_followed(rt: HostRuntime) {
+    let directory = fresh(rt, "comes_and_goes").expect(&rt, "a directory");
     let directory = directory.as_str();
-    put(&rt, directory, "victim", "kept")?;
-    put(&rt, directory, "log", "text")?;
+    put(&rt, directory, "victim", "kept");
+    put(&rt, directory, "log", "text");
     let target = Cell::new(Some("victim"));
-    let mut folder = DirFolder::new(Swapping::new(rt, &target), directory)?;
+    let mut folder = DirFolder::new(Swapping::new(rt, &target), directory).expect(&rt, "memory");
     assert_eq!(rt; kind_of_error(folder.open("log")), IN_USE);
-    let mut file = folder.open("log")?;
-    assert_eq!(rt; folder.append(&mut file, b"new")?, 3);
+    let mut file = folder.open("log").expect(&rt, "a file");
+    assert_eq!(rt; folder.append(&mut file, b"new").expect(&rt, "a file"), 3);
     assert_eq!(rt; folder.failures(), 1);
-    expect_files(&rt, directory, &[("victim", "kept"), ("log", "new")])?;
-    clear(&rt, directory)?;
-    Ok(())
+    expect_files(&rt, directory, &[("victim", "kept"), ("log", "new")]);
+    clear(&rt, directory);
 }

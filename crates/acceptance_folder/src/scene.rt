@@ -1,15 +1,14 @@
 // Directories of the tests, a clock that they set, and what they compare.
 
-use std::alloc::{AllocError, Global};
 use std::cell::Cell;
 use std::io::ErrorKind;
 use std::os::unix::fs::symlink;
 use std::process::Abort;
 use std::rt::Files;
-use std::test::Fail;
 use std::{env, fs, io, process};
+use tracing_appender::folder::DirFolder;
 use tracing_appender::rolling::{Builder, Clock, RollingFileAppender, Rotation};
-use tracing_appender::store::Folder;
+use tracing_appender::store::{Folder, MemoryFolder};
 
 /// 2020-02-01 10:01:00.
 pub(crate) const START: i64 = 1_580_551_260;
@@ -54,114 +53,116 @@ impl Clock for TestClock {
     }
 }
 
+/// What the tests ask of their runtime. What a helper can't get ends the test.
+pub(crate) trait Host: Files + AllocGlobal + Eprint + Abort + Copy + Drop {}
+
+impl<R: Files + AllocGlobal + Eprint + Abort + Copy + Drop> Host for R {}
+
 /// An empty directory of the test's own.
 pub(crate) fn fresh(rt: HostRuntime, test: &str) -> io::Result<String> {
     let temp = env::temp_dir(&rt)?;
     let parent = temp.as_str();
     let process = process::id(rt.process());
     let path = format!(in rt.alloc(); "{parent}/acceptance_folder-{process}-{test}")?;
-    clear(&rt, path.as_str())?;
+    let _ = fs::remove_dir_all(&rt, path.as_str());
     fs::create_dir(&rt, path.as_str())?;
     Ok(path)
 }
 
 /// Removes a directory of a test, if it is there.
-pub(crate) fn clear(rt: &(impl Files + AllocGlobal), path: &str) -> io::Result<()> {
+pub(crate) fn clear(rt: &impl Host, path: &str) {
     match fs::remove_dir_all(rt, path) {
-        Err(fault) if fault.kind() != ErrorKind::NotFound => Err(fault),
-        _ => Ok(()),
+        Err(fault) if fault.kind() != ErrorKind::NotFound => rt.panic(fault),
+        _ => {}
     }
 }
 
 /// The path of an entry.
-pub(crate) fn at(alloc: Global, directory: &str, name: &str) -> Result<String, AllocError> {
-    format!(in alloc; "{directory}/{name}")
+pub(crate) fn at(rt: &impl Host, directory: &str, name: &str) -> String {
+    format!(in rt.alloc(); "{directory}/{name}").expect(rt, "memory")
+}
+
+/// The folder at a path.
+pub(crate) fn folder_at<R: Host>(rt: R, path: &str) -> DirFolder<R> {
+    DirFolder::new(rt, path).expect(&rt, "memory")
 }
 
 /// Makes a file.
-pub(crate) fn put(
-    rt: &(impl Files + AllocGlobal),
-    directory: &str,
-    name: &str,
-    text: &str,
-) -> io::Result<()> {
-    fs::write(rt, at(rt.alloc(), directory, name)?, text)
+pub(crate) fn put(rt: &impl Host, directory: &str, name: &str, text: &str) {
+    fs::write(rt, at(rt, directory, name), text).expect(rt, "a file");
 }
 
 /// Makes a link.
-pub(crate) fn put_link(
-    rt: &(impl Files + AllocGlobal),
-    directory: &str,
-    name: &str,
-    target: &str,
-) -> io::Result<()> {
-    symlink(rt, target, at(rt.alloc(), directory, name)?)
+pub(crate) fn put_link(rt: &impl Host, directory: &str, name: &str, target: &str) {
+    symlink(rt, target, at(rt, directory, name)).expect(rt, "a link");
+}
+
+/// Makes a directory.
+pub(crate) fn put_folder(rt: &impl Host, directory: &str, name: &str) {
+    fs::create_dir(rt, at(rt, directory, name)).expect(rt, "a directory");
 }
 
 /// What can be read under a name, through links too.
-pub(crate) fn text_of(
-    rt: &(impl Files + AllocGlobal),
-    directory: &str,
-    name: &str,
-) -> io::Result<String> {
-    fs::read_to_string(rt, at(rt.alloc(), directory, name)?)
+pub(crate) fn text_of(rt: &impl Host, directory: &str, name: &str) -> String {
+    fs::read_to_string(rt, at(rt, directory, name)).expect(rt, "a text")
 }
 
 /// What a link says.
-pub(crate) fn target_of(
-    rt: &(impl Files + AllocGlobal),
-    directory: &str,
-    name: &str,
-) -> io::Result<String> {
-    let target = fs::read_link(rt, at(rt.alloc(), directory, name)?)?;
-    Ok(String::from_str(rt.alloc(), target.as_str())?)
+pub(crate) fn target_of(rt: &impl Host, directory: &str, name: &str) -> String {
+    let target = fs::read_link(rt, at(rt, directory, name)).expect(rt, "a link");
+    String::from_str(rt.alloc(), target.as_str()).expect(rt, "memory")
 }
 
 /// The names of a directory, sorted.
-pub(crate) fn names_in<R: Files + AllocGlobal + Clone + Drop>(
-    rt: &R,
-    directory: &str,
-) -> io::Result<Vec<String>> {
+pub(crate) fn names_in(rt: &impl Host, directory: &str) -> Vec<String> {
     let mut names = Vec::new(rt.alloc());
-    for entry in fs::read_dir(rt, directory)? {
-        names.push(String::from_str(rt.alloc(), entry?.file_name())?)?;
+    for entry in fs::read_dir(rt, directory).expect(rt, "a directory") {
+        let entry = entry.expect(rt, "an entry");
+        let name = String::from_str(rt.alloc(), entry.file_name()).expect(rt, "memory");
+        names.push(name).expect(rt, "memory");
     }
     names.sort_unstable();
-    Ok(names)
+    names
 }
 
 /// Checks that a directory has exactly these entries, which read as these texts.
-pub(crate) fn expect_files<R: Files + AllocGlobal + Abort + Clone + Drop>(
-    rt: &R,
-    directory: &str,
-    wanted: &[(&str, &str)],
-) -> Result<(), Fail> {
-    let names = names_in(rt, directory)?;
+pub(crate) fn expect_files(rt: &impl Host, directory: &str, wanted: &[(&str, &str)]) {
+    let names = names_in(rt, directory);
     assert_eq!(rt; names.len(), wanted.len(), "{names:?}");
     for (name, text) in wanted {
-        assert_eq!(rt; text_of(rt, directory, name)?.as_str(), *text, "{name}");
+        assert_eq!(rt; text_of(rt, directory, name).as_str(), *text, "{name}");
     }
-    Ok(())
+}
+
+/// Checks that a folder in memory has exactly these files, which hold these texts.
+pub(crate) fn expect_bytes(rt: &impl Abort, folder: &MemoryFolder, wanted: &[(&str, &str)]) {
+    assert_eq!(rt; folder.names().map_or(0, |names| names.len()), wanted.len());
+    for (name, text) in wanted {
+        match folder.bytes(name) {
+            Some(bytes) => assert_eq!(rt; bytes, text.as_bytes(), "{name}"),
+            None => rt.panic(name),
+        }
+    }
 }
 
 /// A builder of an hourly log.
-pub(crate) fn hourly_log(alloc: Global, prefix: &str) -> Result<Builder, AllocError> {
+pub(crate) fn hourly_log(rt: &impl Host, prefix: &str) -> Builder {
     Builder::new()
         .rotation(Rotation::HOURLY)
-        .filename_prefix(alloc, prefix)
+        .filename_prefix(rt.alloc(), prefix)
+        .expect(rt, "memory")
 }
 
 /// An appender that has to be opened.
-pub(crate) fn opened<S: Folder, C: Clock, R: AllocGlobal + Drop>(
+pub(crate) fn opened<S: Folder, C: Clock, R: Host>(
     rt: R,
     builder: &Builder,
     folder: S,
     clock: C,
-) -> Result<RollingFileAppender<S, C, R>, Fail> {
-    let alloc = rt.alloc();
-    match builder.build_in(rt, alloc, folder, clock) {
-        Ok(appender) => Ok(appender),
-        Err((error, _folder, _clock)) => Err(Fail::from(error)),
+) -> RollingFileAppender<S, C, R> {
+    match builder.build_in(rt, rt.alloc(), folder, clock) {
+        Ok(appender) => appender,
+        Err((error, _folder, _clock)) => rt.panic(error),
     }
 }
 

@@ -1,6 +1,6 @@
 // The writing of one line.
 use crate::script::{Act, Script};
-use appender_queue::worker::run_line;
+use appender_worker::worker::run_line;
 use std::io::ErrorKind;
 use std::test::*;
 

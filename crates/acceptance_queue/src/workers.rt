@@ -1,7 +1,7 @@
 // Runs of a worker between a queue and a writer.
 use crate::script::{Act, Script};
 use appender_queue::queue::{LineQueue, Shut, Taken};
-use appender_queue::worker::{Want, WorkerCore};
+use appender_worker::worker::{Want, WorkerCore};
 use std::alloc::Global;
 use std::io;
 use std::io::{ErrorKind, Write};

@@ -6,29 +6,13 @@ use Rattle.appender_non_blocking.specs.declared.non_blocking.sender.Sent.{Sent}
 use Rattle.appender_non_blocking.specs.declared.non_blocking.sender.Sent.TheVariants.{Queued, Dropped}
 use Rattle.appender_queue.specs.declared.queue.Shut.{Shut}
 use Rattle.appender_queue.specs.declared.queue.Shut.TheVariants.{Sent as ShutSent, Already, Full, Closed}
-use Rattle.appender_queue.specs.declared.queue.Taken.{Taken}
-use Rattle.appender_queue.specs.declared.queue.Taken.TheVariants.{Line, Shutdown, Gone, Empty}
-use Rattle.appender_queue.specs.Core.{Core, Taking, Writing, Flushing, Ending, Over}
+use Rattle.appender_worker.specs.Core.{Core, Taking, Writing, Flushing, Ending, Over}
 
 -- a sender is told a ticket, and then the first fact holds; else the second one does
 abbrev pub AsQueued : Option Sent → Type 0 → Type 0 → Type 0
 AsQueued (Some (Queued ticket)) P Q = P
 AsQueued (Some Dropped) P Q = Q
 AsQueued None P Q = Q
-
--- a guard is told that the shutdown was sent, and then the first fact holds; else the second one does
-abbrev pub AsSent : Shut → Type 0 → Type 0 → Type 0
-AsSent ShutSent P Q = P
-AsSent Already P Q = Q
-AsSent Full P Q = Q
-AsSent Closed P Q = Q
-
--- a worker is told a line, the end, or nothing, and then the first, the second or the third fact holds
-abbrev pub AsTaken : Taken → Type 0 → Type 0 → Type 0 → Type 0
-AsTaken (Line ticket line) P Q N = P
-AsTaken Shutdown P Q N = Q
-AsTaken Gone P Q N = Q
-AsTaken Empty P Q N = N
 
 -- a worker that was told of the end has the second fact, and else the first
 abbrev pub AsEnding : Core → Type 0 → Type 0 → Type 0

@@ -5,14 +5,11 @@
 //! is held for one offer or one take alone, and never while a line is copied or written.
 
 mod account;
-mod books;
 mod builder;
 mod counted;
 mod guard;
-mod pace;
 mod sender;
 mod shared;
-mod state;
 mod worker;
 
 pub use account::{Account, CountedGuard, Unsettled};

@@ -5,8 +5,8 @@ use Rattle.std.specs.declared.io.ErrorKind.{ErrorKind}
 use Rattle.std.proofs.lemmas.List.{append-nil, map-append, drop-drop, take_all}
 use Rattle.std.proofs.lemmas.List.Elements.{All-cons, All-nil, All-head, All-tail}
 use Rattle.std.proofs.Math.Seq.{take-add, length-take-le}
-use Rattle.appender_queue.specs.Core.{Core, Taking, Writing, Flushing, Ending, Over, Wrote as DidWrite, Interrupted, Failed, Line, after_took, after_wrote, is_writing, most_repeats}
-use Rattle.appender_queue.specs.CoreReplies.{is_interruption}
+use Rattle.appender_worker.specs.Core.{Core, Taking, Writing, Flushing, Ending, Over, Wrote as DidWrite, Interrupted, Failed, Line, after_took, after_wrote, is_writing, most_repeats}
+use Rattle.appender_worker.specs.CoreReplies.{is_interruption}
 use Rattle.appender_queue.specs.Queue.{Queue, has_line, is_sent}
 use Rattle.appender_rolling.specs.Roller.{count_of}
 use Rattle.appender_rolling.specs.declared.rolling.Switch.{Switch}

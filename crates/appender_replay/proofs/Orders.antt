@@ -3,7 +3,7 @@ use Rattle.std.proofs.Common.{◌≡◌, ℕ, ◌+◌, ◌-◌, ◌<◌, ◌≤�
 use Rattle.std.specs.Prelude.{if◌then◌else◌, ◌==◌, nat_lt, filter}
 use Rattle.std.proofs.lemmas.List.{map-append, drop-map, take-append-le, take-append-drop, take_more, length-drop}
 use Rattle.std.proofs.lemmas.List.Elements.{filter-append}
-use Rattle.appender_queue.specs.Core.{Core, Taking, Writing, Flushing, Ending, Over, is_taking}
+use Rattle.appender_worker.specs.Core.{Core, Taking, Writing, Flushing, Ending, Over, is_taking}
 use Rattle.appender_queue.specs.Queue.{Queue, has_line, is_before, is_sent, left_of}
 use Rattle.appender_replay.specs.Record.{Answered, Offered, accepted_lines, handed_lines, is_closed, shutdown_place, with_ticket, worker_after, queue_after}
 use Rattle.appender_replay.specs.Answers.{WorkAnswers, Answers}

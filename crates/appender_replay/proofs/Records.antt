@@ -4,7 +4,7 @@ use Rattle.std.specs.Prelude.{if◌then◌else◌, ◌==◌, slice_index_or}
 use Rattle.std.specs.declared.alloc.Global.{Global}
 use Rattle.std.proofs.lemmas.List.{map-append, drop-append-le, drop-drop, length-map, get_or-drop}
 use Rattle.std.proofs.Math.ListN.{get_or-map}
-use Rattle.appender_queue.specs.Core.{Core, Taking, Writing, Flushing, Ending, Over, Line, Last, Nothing, after_took}
+use Rattle.appender_worker.specs.Core.{Core, Taking, Writing, Flushing, Ending, Over, Line, Last, Nothing, after_took}
 use Rattle.appender_queue.specs.Queue.{Queue, is_open, has_room, is_sent, has_line, saturating_next, one_less, after_shut, after_take, after_acceptance, after_refusal, after_closing}
 use Rattle.appender_queue.specs.QueueReplies.{shut_reply}
 use Rattle.appender_queue.specs.declared.queue.Shut.TheVariants.{Sent, Already, Full as ShutFull, Closed as ShutClosed}

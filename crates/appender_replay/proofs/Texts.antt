@@ -1,9 +1,9 @@
 -- When the worker of a run takes, waits and flushes, and that its text is that of the lines.
 use Rattle.std.proofs.Common.{◌≡◌, ℕ, Bool, true, false, ◌&&◌, if◌then◌else◌, List, [], ◌∷◌, ◌++◌, Option, Some, None, refl, ap, sym, ◌∙◌, subst}
 use Rattle.std.specs.Prelude.{◌==◌, ◌+◌, ℤ}
-use Rattle.appender_queue.specs.Core.{Core, Taking, Writing, Flushing, Ending, Over, Last}
+use Rattle.appender_worker.specs.Core.{Core, Taking, Writing, Flushing, Ending, Over, Last}
 use Rattle.appender_queue.specs.Queue.{Queue, has_line, is_sent}
-use Rattle.appender_queue.specs.Runs.{Event, Took as DidTake, after, ends, in_turn, runs, passes_of, WaitsFollow, FlushesFollow, IsEnd}
+use Rattle.appender_worker.specs.Runs.{Event, Took as DidTake, after, ends, in_turn, runs, passes_of, WaitsFollow, FlushesFollow, IsEnd}
 use Rattle.appender_replay.specs.Record.{Answered, Offered, at_end, accepted_lines, written_lines, worker_event, worker_events, worker_after, after_event, queue_after}
 use Rattle.appender_replay.specs.Answers.{WorkAnswers, StepAnswers, Answers}
 use Rattle.appender_replay.specs.Whole.{TextLaw}

@@ -1,7 +1,7 @@
 -- A run of queue, worker and roller keeps to its laws.
 use Rattle.std.proofs.Common.{◌≡◌, ℕ, ℤ, ◌+◌, ◌≤◌, Bool, true, false, if◌then◌else◌, List, [], ◌∷◌, length, None, inl, inr, refl, ap, sym, ◌∙◌, subst}
 use Rattle.std.specs.Prelude.{◌==◌}
-use Rattle.appender_queue.specs.Core.{Core, Taking, Writing, Flushing, Ending, Over}
+use Rattle.appender_worker.specs.Core.{Core, Taking, Writing, Flushing, Ending, Over}
 use Rattle.appender_queue.specs.Queue.{Queue, has_line, is_sent, fresh}
 use Rattle.appender_store.specs.declared.store.Folder.{Ghosts}
 use Rattle.appender_rolling.specs.Config.{Config}

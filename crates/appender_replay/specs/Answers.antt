@@ -3,7 +3,7 @@
 use Rattle.std.specs.Prelude.{◌≡◌, ◌≢◌, ◌⊎◌, ℕ, ℤ, ◌+◌, ◌≤◌, ◌==◌, List, [], ◌∷◌, ◌++◌, Bool, if◌then◌else◌, length, take, Result, Some, None}
 use Rattle.std.specs.declared.io.Error.{Error}
 use Rattle.std.specs.declared.io.ErrorKind.{ErrorKind}
-use Rattle.appender_queue.specs.Core.{Core, Taking, Writing, Flushing, Ending, Over}
+use Rattle.appender_worker.specs.Core.{Core, Taking, Writing, Flushing, Ending, Over}
 use Rattle.appender_queue.specs.Queue.{Queue, is_open, has_room, is_sent, has_line, saturating_next, one_less}
 use Rattle.appender_queue.specs.QueueReplies.{shut_reply}
 use Rattle.appender_store.specs.declared.store.Folder.{Ghosts}

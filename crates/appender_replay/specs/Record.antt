@@ -3,10 +3,10 @@
 -- newest first.
 use Rattle.std.specs.Prelude.{ℕ, ◌+◌, ◌-◌, ◌^◌, List, [], ◌∷◌, ◌++◌, Bool, true, false, ◌&&◌, ◌||◌, ◌==◌, nat_le, if◌then◌else◌, length, map, get_or, take, drop, min, Option, Some, None, Result, Ok, Err}
 use Rattle.std.specs.declared.io.ErrorKind.{ErrorKind}
-use Rattle.appender_queue.specs.Core.{Core, Taking, Answer, Wrote as DidWrite, Interrupted, Failed, Line, Last, Nothing, most_repeats}
-use Rattle.appender_queue.specs.CoreReplies.{is_interruption}
+use Rattle.appender_worker.specs.Core.{Core, Taking, Answer, Wrote as DidWrite, Interrupted, Failed, Line, Last, Nothing, most_repeats}
+use Rattle.appender_worker.specs.CoreReplies.{is_interruption}
 use Rattle.appender_queue.specs.Queue.{Queue, saturating_next, one_less}
-use Rattle.appender_queue.specs.Runs.{Event, Took as DidTake, Write, Flushed as DidFlush, after, is_waiting}
+use Rattle.appender_worker.specs.Runs.{Event, Took as DidTake, Write, Flushed as DidFlush, after, is_waiting}
 use Rattle.appender_queue.specs.declared.queue.Shut.TheVariants.{Sent}
 use Rattle.appender_replay.specs.declared.replay.whole.Step.{Step}
 use Rattle.appender_replay.specs.declared.replay.whole.Step.TheVariants.{Offer, Shut, AddSender, DropSender, Work}

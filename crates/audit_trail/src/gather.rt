@@ -56,8 +56,9 @@ impl Trails for HostRuntime {
 }
 
 /// Writes the lines of each source, which is a file, to the log of the day in a folder, and the account
-/// of all lines to `output`. A source that can't be read to its end keeps no other from it, and the
-/// first such is told on `errors`. The answer is the status of the process, as of `trail::keep`.
+/// of all lines to `output`. A source that can't be read to its end keeps no other from it, and is told
+/// on `errors` with its path. The answer is the status of the process, as of `trail::keep`: the greatest
+/// of those of all faults.
 pub fn keep_all<R: Host, T: Trails, O: Write, E: Write>(
     rt: R,
     trails: &T,
@@ -68,29 +69,40 @@ pub fn keep_all<R: Host, T: Trails, O: Write, E: Write>(
 ) -> u8
     ensures { result ≤ 3 }
 {
-    match gather_files(rt, trails, directory, paths, output) {
-        Ok(()) => 0,
+    match gather_files(rt, trails, directory, paths, output, errors) {
+        Ok(status) => status,
         Err(fault) => tell(&fault, errors),
     }
 }
 
-fn gather_files<R: Host, T: Trails, O: Write>(
+fn gather_files<R: Host, T: Trails, O: Write, E: Write>(
     rt: R,
     trails: &T,
     directory: &str,
     paths: &[String],
     output: &mut O,
-) -> Result<(), Fault> {
+    errors: &mut E,
+) -> Result<u8, Fault>
+    ensures { IfOk result (λ status. status ≤ 3) }
+{
     let log = trails.open_trail(directory).map_err(Fault::Open)?;
-    let mut sources = Vec::new(rt.alloc());
-    let mut first = None;
+    let (mut sources, mut opened) = (Vec::new(rt.alloc()), Vec::new(rt.alloc()));
+    let mut status = 0;
     for path in paths {
         match trails.open_source(path.as_str()) {
-            Ok(source) => sources.push(source).map_err(AllocError::from)?,
-            Err(fault) => first = first.or(Some(Fault::from(fault))),
+            Ok(source) => {
+                sources.push(source).map_err(AllocError::from)?;
+                opened.push(path.as_str()).map_err(AllocError::from)?;
+            }
+            Err(fault) => status = tell_of(path.as_str(), &Fault::from(fault), errors).max(status),
         }
     }
-    let (account, fault) = gather(rt, log, sources)?;
+    let (account, sent) = gather(rt, log, sources)?;
+    for (path, sent) in opened.into_iter().zip(sent) {
+        if let Err(fault) = sent {
+            status = tell_of(path, &fault, errors).max(status);
+        }
+    }
     let Account {
         accepted,
         handed,
@@ -102,19 +114,24 @@ fn gather_files<R: Host, T: Trails, O: Write>(
         "accepted {accepted} handed {handed} left {left} dropped {dropped}"
     )
     .map_err(Fault::Write)?;
-    match first.or(fault) {
-        None => Ok(()),
-        Some(fault) => Err(fault),
-    }
+    Ok(status)
 }
 
-/// The account of the lines of all sources, each read by a thread of its own, and the first fault of a
-/// source. Every line that was queued was handed to the log, and none is left.
+// Tells the fault of a source on `errors`, and answers its status.
+fn tell_of<E: Write>(path: &str, fault: &Fault, errors: &mut E) -> u8
+    ensures { result ≤ 3 }
+{
+    let _ = write!(errors, "{path}: ");
+    tell(fault, errors)
+}
+
+/// The account of the lines of all sources, each read by a thread of its own, and how the sending of
+/// each source ended. Every line that was queued was handed to the log, and none is left.
 pub fn gather<L: Write + Send + Drop + 'static, I: Read + Send + Drop + 'static, R: Host>(
     rt: R,
     log: L,
     sources: Vec<I>,
-) -> Result<(Account, Option<Fault>), Fault>
+) -> Result<(Account, Vec<Result<(), Fault>>), Fault>
     ensures handed { IfOk result (λ told. told.0.handed ≡ told.0.accepted) }
     ensures left { IfOk result (λ told. told.0.left ≡ 0) }
 {
@@ -147,7 +164,7 @@ fn gather_by<
     handed: Blank,
     shutdowns: Blank,
     closings: Blank,
-) -> Result<(Account, Option<Fault>), Fault>
+) -> Result<(Account, Vec<Result<(), Fault>>), Fault>
     requires accepted { (accepted.name ≡ A.name) × (accepted.parts ≡ A.parts) × (accepted.parts ≡ vec_len sources + 1) }
     requires handed { (handed.name ≡ H.name) × (handed.parts ≡ H.parts) × (handed.parts ≡ 1) }
     requires shutdowns { (shutdowns.name ≡ S.name) × (shutdowns.parts ≡ S.parts) × (shutdowns.parts ≡ 1) }
@@ -168,14 +185,14 @@ fn gather_by<
             shutdowns,
             closings,
         )?;
-    let (back, fault) = send_all(rt, senders, sources)?;
+    let (back, sent) = send_all(rt, senders, sources)?;
     match guard.settle(back) {
-        Ok(account) => Ok((account, fault)),
+        Ok(account) => Ok((account, sent)),
         Err(_) => Err(Fault::Unsettled),
     }
 }
 
-// The senders, once each has sent the lines of its source, and the first fault of a source.
+// The senders, once each has sent the lines of its source, and how that ended.
 fn send_all<
     A: Ledger + Send + Sync + 'static,
     H: Ledger + Send + Sync + 'static,
@@ -187,7 +204,7 @@ fn send_all<
     rt: R,
     senders: Vec<CountedSender<A, H, S, C, R>>,
     sources: Vec<I>,
-) -> Result<(Vec<CountedSender<A, H, S, C, R>>, Option<Fault>), Fault> {
+) -> Result<(Vec<CountedSender<A, H, S, C, R>>, Vec<Result<(), Fault>>), Fault> {
     let mut running = Vec::new(rt.alloc());
     for (sender, source) in senders.into_iter().zip(sources) {
         let Ok(thread) = thread::spawn(&rt, move || send_source(rt, sender, source)) else {
@@ -195,16 +212,13 @@ fn send_all<
         };
         running.push(thread).map_err(AllocError::from)?;
     }
-    let mut back = Vec::new(rt.alloc());
-    let mut first = None;
+    let (mut back, mut sent) = (Vec::new(rt.alloc()), Vec::new(rt.alloc()));
     for thread in running {
-        let (sender, sent) = thread.join(&rt);
+        let (sender, ended) = thread.join(&rt);
         back.push(sender).map_err(AllocError::from)?;
-        if let (None, Err(fault)) = (&first, sent) {
-            first = Some(fault);
-        }
+        sent.push(ended).map_err(AllocError::from)?;
     }
-    Ok((back, first))
+    Ok((back, sent))
 }
 
 // What the thread of a source does: it gives its sender back, however far it came.

@@ -117,6 +117,9 @@ fn tells_an_input_that_is_not_read(rt: HostRuntime) -> Result<(), Fail> {
     Ok(())
 }
 
+// What the system says of a file that isn't there.
+const LACKING: &str = "No such file or directory (os error 2)";
+
 // A file of this test's own, with this content.
 fn source(rt: &HostRuntime, name: &str, content: &str) -> io::Result<String> {
     let path = fresh(rt, name)?;
@@ -129,7 +132,11 @@ fn gives_an_account_of_all_sources(rt: HostRuntime) -> Result<(), Fail> {
     let directory = fresh(&rt, "sources")?;
     let first = source(&rt, "source_1", "a 1\na 2\na 3")?;
     let second = source(&rt, "source_2", "b 1\n\n")?;
-    let sources = Vec::from_array(rt.alloc(), [first, fresh(&rt, "nothing")?, second])?;
+    let (lacks, fails) = (fresh(&rt, "nothing")?, fresh(&rt, "no_more")?);
+    let wanted = format!(in rt.alloc();
+        "{lacks}: read failed: {LACKING}\n{fails}: read failed: {LACKING}\n"
+    )?;
+    let sources = Vec::from_array(rt.alloc(), [first, lacks, second, fails])?;
     let (mut output, mut errors) = (Vec::new(rt.alloc()), Vec::new(rt.alloc()));
     let status = keep_all(
         rt,
@@ -143,7 +150,7 @@ fn gives_an_account_of_all_sources(rt: HostRuntime) -> Result<(), Fail> {
         output.as_slice(),
         b"accepted 5 handed 5 left 0 dropped 0\n".as_slice()
     );
-    assert!(rt; errors.as_slice().starts_with(b"read failed: "));
+    assert_eq!(rt; errors.as_slice(), wanted.as_str().as_bytes());
     assert_eq!(rt; status, 1);
     let link = format!(in rt.alloc(); "{directory}/latest.log")?;
     let written = fs::read_to_string(&rt, link.as_str())?;

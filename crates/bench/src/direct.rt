@@ -1,4 +1,6 @@
 // The time of a line that goes straight to a log.
+use crate::row;
+use crate::row::Row;
 use appender_rolling::rolling::{Clock, MakeWriter, RollingFileAppender};
 use appender_store::store::Folder;
 use std::alloc::Global;
@@ -99,16 +101,22 @@ fn write_all<L: Shared, R: Wait>(rt: &R, log: &L, line: &[u8], lines: u32) -> io
     Ok(())
 }
 
-fn tell<R: Print>(rt: &R, name: &str, case: Case, round: u32, nanos: u128) -> io::Result<()> {
+fn tell<R: Print>(rt: &R, variant: &str, case: Case, round: u32, nanos: u128) -> io::Result<()> {
     let Case {
         lines,
         threads,
         bytes,
     } = case;
-    let lines = u64::from(lines).saturating_mul(u64::from(threads.max(1)));
-    let tenths = nanos
-        .saturating_mul(10)
-        .checked_div(u128::from(lines))
-        .unwrap_or(0);
-    println!(rt; "{name},direct,0,{bytes},{threads},{round},{lines},{tenths},0")
+    let row = Row {
+        variant,
+        mode: "direct",
+        limit: 0,
+        bytes,
+        senders: threads,
+        round,
+        lines: u64::from(lines).saturating_mul(u64::from(threads.max(1))),
+        nanos,
+        dropped: 0,
+    };
+    row::print(rt, row)
 }

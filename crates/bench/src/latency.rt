@@ -2,6 +2,8 @@
 use crate::channel::start_channel;
 use crate::plain::start_plain;
 use crate::queue::{Ending, Limit, LineSender, Queue, start_ours};
+use crate::row;
+use crate::row::Row;
 use appender_non_blocking::non_blocking::DEFAULT_BUFFERED_LINES_LIMIT;
 use std::alloc::Global;
 use std::fs::OpenOptions;
@@ -96,8 +98,19 @@ fn measure<S: LineSender, R: Wait + Clock + Print>(
     let times = times_of(rt, alloc, sender, case)?;
     for (mode, percent) in [("p50", 50usize), ("p99", 99)] {
         let place = (times.len() / 100).saturating_mul(percent);
-        let tenths = times.get(place).map_or(0, |nanos| nanos.saturating_mul(10));
-        println!(rt; "{name},{mode},{LIMIT},{bytes},1,{round},{lines},{tenths},0")?;
+        let nanos = times.get(place).copied().unwrap_or(0);
+        let row = Row {
+            variant: name,
+            mode,
+            limit: LIMIT,
+            bytes,
+            senders: 1,
+            round,
+            lines: u64::from(lines),
+            nanos: nanos.saturating_mul(u128::from(lines)),
+            dropped: 0,
+        };
+        row::print(rt, row)?;
     }
     Ok(())
 }

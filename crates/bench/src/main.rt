@@ -7,12 +7,14 @@ mod direct;
 mod latency;
 mod plain;
 mod queue;
+mod row;
 mod sink;
 mod throughput;
 
 use appender_non_blocking::non_blocking::NonBlockingBuilder;
 use appender_rolling::rolling;
 use queue::Limit;
+use row::HEADER;
 use std::alloc::Global;
 use std::fs::OpenOptions;
 use std::io::{ErrorKind, Write};
@@ -32,8 +34,6 @@ waiting, lossy: the time of a line through a queue of LIMIT lines, where each of
 write: the time of one lossy write at 100,000 a second, and of one straight to a file: half and 99 % take no longer
 direct: the time of a line of THREADS threads, or with 0 of one alone, to the log of this hour in the current folder
 idle: a line, and then nothing for so long";
-
-const HEADER: &str = "variant,mode,limit,bytes,senders,round,lines,nanos_per_line_tenths,dropped";
 
 fn main(rt: HostRuntime) -> io::Result<()> {
     let mut numbers = Vec::new(rt.alloc());

@@ -2,6 +2,8 @@
 use crate::channel::start_channel;
 use crate::plain::start_plain;
 use crate::queue::{Ending, Limit, LineSender, Queue, start_ours};
+use crate::row;
+use crate::row::Row;
 use std::alloc::Global;
 use std::io::ErrorKind;
 use std::sync::atomic::Ordering::SeqCst;
@@ -66,13 +68,18 @@ fn measure<
     if told.load(SeqCst) != written {
         return Err(io::Error::from(ErrorKind::InvalidData));
     }
-    let mode = if limit.lossy { "lossy" } else { "waiting" };
-    let limit = limit.lines;
-    let tenths = nanos
-        .saturating_mul(10)
-        .checked_div(u128::from(lines))
-        .unwrap_or(0);
-    println!(rt; "{name},{mode},{limit},{bytes},{senders},{round},{lines},{tenths},{dropped}")
+    let row = Row {
+        variant: name,
+        mode: if limit.lossy { "lossy" } else { "waiting" },
+        limit: limit.lines,
+        bytes,
+        senders,
+        round,
+        lines,
+        nanos,
+        dropped,
+    };
+    row::print(&rt, row)
 }
 
 // Sends the lines of a case from its threads, and tells when they began.

@@ -21,11 +21,11 @@ ghost use Rattle.appender_non_blocking.specs.Account.{
 };
 ghost use Rattle.appender_non_blocking.specs.Told.{after_try};
 
-use super::books::{Done, FourBooks};
 use super::counted::CountedSender;
 use super::guard::end;
 use super::shared::Shared;
 use appender_queue::queue::Shut;
+use appender_state::books::{Done, FourBooks};
 use appender_sync::sync::Patience;
 use std::alloc::Global;
 use std::fmt;
@@ -72,7 +72,7 @@ impl<A: Ledger, H: Ledger, S: Ledger, C: Ledger, R: Wait + Clock + Print + Drop>
     for CountedGuard<A, H, S, C, R> {
     ghost use Rattle.std.specs.Prelude.{◌≡◌};
     ghost use Rattle.appender_non_blocking.specs.Account.{Guard};
-    ghost use Rattle.appender_non_blocking.specs.Tally.{one_if};
+    ghost use Rattle.appender_state.specs.Tally.{one_if};
 
     ghost Value = { Guard };
 

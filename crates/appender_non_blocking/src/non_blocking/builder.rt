@@ -3,12 +3,12 @@ ghost use Rattle.std.specs.Prelude.{◌≡◌, ◌+◌, IfOk, None, true, replic
 ghost use Rattle.appender_non_blocking.specs.Account.{new_sender, new_guard};
 
 use super::account::CountedGuard;
-use super::books::{Done, FourBooks, NoBooks, Pass};
 use super::counted::{CountedSender, make_senders};
 use super::guard::WorkerGuard;
 use super::sender::NonBlocking;
 use super::shared::Shared;
 use super::worker::serve;
+use appender_state::books::{Done, FourBooks, NoBooks, Pass};
 use std::alloc::{AllocError, Global};
 use std::io::Write;
 use std::sync::ledger::{Blank, Ledger};

@@ -5,9 +5,9 @@ ghost use Rattle.appender_non_blocking.specs.Account.{Sums, new_sender};
 ghost use Rattle.appender_non_blocking.specs.Refusal.{IsRefusal};
 ghost use Rattle.appender_non_blocking.specs.Told.{after_line};
 
-use super::books::FourBooks;
 use super::sender::{Sent, copied, send};
 use super::shared::Shared;
+use appender_state::books::FourBooks;
 use appender_sync::sync::Patience;
 use std::alloc::{AllocError, Global};
 use std::fmt::{Debug, Formatter};

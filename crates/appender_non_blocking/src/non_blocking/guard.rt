@@ -1,9 +1,9 @@
 // The guard that ends the worker.
 ghost use Rattle.std.specs.Prelude.{◌≡◌};
 
-use super::books::{Books, NoBooks};
 use super::shared::Shared;
 use appender_queue::queue::Shut;
+use appender_state::books::{Books, NoBooks};
 use appender_sync::sync::Patience;
 use std::alloc::Global;
 use std::fmt;

@@ -16,10 +16,10 @@ ghost use Rattle.std.specs.IoError.{error_kind};
 ghost use Rattle.appender_non_blocking.specs.Refusal.{IsRefusal};
 ghost use Rattle.appender_non_blocking.specs.Told.{AsQueued};
 
-use super::books::{Books, NoBooks};
-use super::pace::{FULL_REST, LOOKS, MOST_BYTES};
 use super::shared::Shared;
 use appender_queue::queue::Refused;
+use appender_state::books::{Books, NoBooks};
+use appender_state::pace::{FULL_REST, LOOKS, MOST_BYTES};
 use appender_sync::sync::{Patience, rest};
 use appender_writers::MakeWriter;
 use std::alloc::{AllocError, Global};

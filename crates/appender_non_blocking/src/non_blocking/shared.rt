@@ -1,8 +1,8 @@
 // What senders, guard and worker share.
-ghost use Rattle.appender_non_blocking.specs.Tally.{no_tally};
+ghost use Rattle.appender_state.specs.Tally.{no_tally};
 
-use super::books::Books;
-use super::state::{Calls, State};
+use appender_state::books::Books;
+use appender_state::state::{Calls, State};
 use appender_sync::sync;
 use appender_sync::sync::Patience;
 use crossbeam_utils::CachePadded;

@@ -1,14 +1,14 @@
 // What the worker's thread does.
 ghost use Rattle.std.specs.Prelude.{◌≡◌, true};
-ghost use Rattle.appender_non_blocking.specs.Told.{AsTaken};
-ghost use Rattle.appender_queue.specs.Core.{after_flushed, is_flushing};
+ghost use Rattle.appender_state.specs.Cases.{AsTaken};
+ghost use Rattle.appender_worker.specs.Core.{after_flushed, is_flushing};
 
-use super::books::Books;
-use super::pace::{EMPTY_REST, LOOKS};
 use super::shared::Shared;
 use appender_queue::queue::Taken;
-use appender_queue::worker::{Want, WorkerCore};
+use appender_state::books::Books;
+use appender_state::pace::{EMPTY_REST, LOOKS};
 use appender_sync::sync::{Patience, rest};
+use appender_worker::worker::{Want, WorkerCore};
 use std::io;
 use std::io::Write;
 use std::sync::Wait;

@@ -1,7 +1,7 @@
 -- What one step does to queue, worker and roller, by the contracts of the three.
 use Rattle.std.specs.Prelude.{◌≡◌, ◌≢◌, ◌⊎◌, ℕ, ℤ, ◌==◌, List, [], if◌then◌else◌, Result, Ok, Err, slice_index_or}
 use Rattle.std.specs.declared.io.Error.{Error}
-use Rattle.appender_queue.specs.Core.{Core, Taking, Writing, Over, Found, Line, Last, Nothing, after_took, after_wrote, after_flushed}
+use Rattle.appender_worker.specs.Core.{Core, Taking, Writing, Over, Found, Line, Last, Nothing, after_took, after_wrote, after_flushed}
 use Rattle.appender_queue.specs.Queue.{Queue, is_sent, has_line, saturating_next, one_less, after_offer, after_shut, after_take}
 use Rattle.appender_queue.specs.QueueReplies.{shut_reply}
 use Rattle.appender_queue.specs.declared.queue.Refused.{Refused}

@@ -10,13 +10,13 @@ ghost use Rattle.appender_replay.specs.Whole.{HandsInOrder, HandsLabelInOrder, T
 
 use crate::replay::{ReplayError, push_reply, tell};
 use appender_names::laws::{names_are_periods, periods_lie_between_boundaries};
-use appender_queue::laws::{runs_end_for_good, takes_are_flushed, takes_wait_unless_lines_come};
 use appender_queue::queue::{LineQueue, Refused, Shut, Taken};
-use appender_queue::worker::{Want, WorkerCore};
 use appender_rolling::laws::openings_keep_files;
 use appender_rolling::rolling::{Builder, Roller, Switch};
 use appender_store::laws::names_change_one_at_a_time;
 use appender_store::store::Folder;
+use appender_worker::laws::{runs_end_for_good, takes_are_flushed, takes_wait_unless_lines_come};
+use appender_worker::worker::{Want, WorkerCore};
 use std::alloc::{AllocError, Global};
 use std::io;
 

@@ -1,8 +1,8 @@
 use Rattle.std.proofs.Common.{◌≡◌, true, rules, subst, sym}
 use Rattle.appender_non_blocking.specs.Told.{AsEnding}
 use Rattle.appender_non_blocking.proofs.Endings.{ends_wrote}
-use Rattle.appender_queue.specs.Core.{is_writing}
-use Rattle.appender_queue.specs.CoreReplies.{answer_of}
+use Rattle.appender_worker.specs.Core.{is_writing}
+use Rattle.appender_worker.specs.CoreReplies.{answer_of}
 use Rattle.appender_non_blocking.proofs.non_blocking.worker.serve.Goals as goal
 
 pub loop-preserved-in-Write : goal.loop-preserved-in-Write

@@ -1,0 +1,4 @@
+pub mod Cases
+pub mod Quiet
+pub mod Steps
+pub mod Tally

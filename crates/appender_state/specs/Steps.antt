@@ -1,0 +1,19 @@
+-- One locked offer, as the sender is told of it.
+use Rattle.std.specs.Prelude.{◌≡◌, ℕ, Result, Ok, Err, Vec}
+use Rattle.std.specs.declared.alloc.Global.{Global}
+use Rattle.appender_state.specs.declared.pace.Pace.{Pace}
+use Rattle.appender_queue.specs.Queue.{Queue, after_offer}
+use Rattle.appender_queue.specs.QueueReplies.{offer_reply}
+use Rattle.appender_queue.specs.declared.queue.Refused.{Refused}
+
+-- a sender is told what the queue answers, and a pace beside a ticket
+abbrev pub Told : Result ℕ Refused → Result (ℕ × Pace) Refused → Type 0
+Told (Ok ticket) (Ok told) = told.0 ≡ ticket
+Told (Err refused) (Err told) = told ≡ refused
+Told (Ok ticket) (Err told) = ⊥
+Told (Err refused) (Ok told) = ⊥
+
+-- the queue answers and is left as by its own offer
+pub record Offers (old : Queue) (line : Vec ℕ Global) (result : Result (ℕ × Pace) Refused) (new : Queue) : Type 0 where
+  pub reply : Told (offer_reply old line) result
+  pub after : new ≡ after_offer old line.items

@@ -1,0 +1,195 @@
+//! What is counted of a queue beside it, and who may count.
+ghost use Rattle.std.specs.Prelude.{◌≡◌, ◌+◌, ◌^◌, ◌<◌};
+ghost use Rattle.appender_state.specs.Tally.{
+  Tally,
+  with_line,
+  with_handed,
+  with_shutdown,
+  with_closing,
+};
+
+use std::sync::ledger::{Book, Ledger, Share};
+
+/// Books of a queue's counts, which lie under its lock, and the shares of them that senders, guard and
+/// worker have. Plain senders keep none: then each type here takes no bytes and each call does nothing.
+pub trait Books: Drop {
+    /// What a sender has.
+    type Mine: Drop;
+    /// What the guard has.
+    type Shutdowns: Drop;
+    /// What the worker has.
+    type Pass: Drop;
+
+    /// What the worker hands back in the end.
+    type Done: Drop;
+
+    /// The books say this of a queue.
+    ghost say: { Self → Tally → Type 0 };
+    /// Who may count a line, a shutdown, what the worker takes.
+    ghost may_accept: { Self.Mine → Type 0 };
+
+    ghost may_shut: { Self.Shutdowns → Type 0 };
+
+    ghost may_take: { Self.Pass → Type 0 };
+    /// One line, one shutdown, one take of a line more.
+    ghost counts_line: { Self.Mine → Self.Mine → Type 0 };
+
+    ghost counts_shutdown: { Self.Shutdowns → Self.Shutdowns → Type 0 };
+
+    ghost counts_take: { Self.Pass → Self.Pass → Type 0 };
+    /// The worker knows that the queue is closed.
+    ghost has_ended: { Self.Pass → Type 0 };
+
+    /// A line was accepted.
+    fn accept(&mut self, mine: &mut Self::Mine)
+        requires { may_accept mine.old }
+        ensures { (t : Tally) → say self.old t → t.accepted + 1 < 2 ^ 64
+            → say self.new (with_line t) × counts_line mine.old mine.new };
+
+    /// The shutdown was sent.
+    fn shut(&mut self, mine: &mut Self::Shutdowns)
+        requires { may_shut mine.old }
+        ensures { (t : Tally) → say self.old t → t.shutdowns ≡ 0
+            → say self.new (with_shutdown t) × counts_shutdown mine.old mine.new };
+
+    /// A line was handed to the worker.
+    fn hand(&mut self, pass: &mut Self::Pass)
+        requires { may_take pass.old }
+        ensures may { may_take pass.new }
+        ensures told { counts_take pass.old pass.new }
+        ensures say { (t : Tally) → say self.old t → say self.new (with_handed t) };
+
+    /// The queue was closed.
+    fn close(&mut self, pass: &mut Self::Pass)
+        requires { may_take pass.old }
+        ensures { (t : Tally) → say self.old t → say self.new (with_closing t) × has_ended pass.new };
+
+    /// What a worker hands back that has ended.
+    fn done(pass: Self::Pass) -> Self::Done
+        requires { has_ended pass };
+}
+
+/// Nothing is counted.
+#[derive(Drop)]
+pub struct NoBooks;
+
+impl Books for NoBooks {
+    type Mine = ();
+
+    type Shutdowns = ();
+
+    type Pass = ();
+
+    type Done = ();
+
+    ghost say = { λ b t. Unit {0} };
+
+    ghost may_accept = { λ m. Unit {0} };
+
+    ghost may_shut = { λ m. Unit {0} };
+
+    ghost may_take = { λ p. Unit {0} };
+
+    ghost counts_line = { λ m n. Unit {0} };
+
+    ghost counts_shutdown = { λ m n. Unit {0} };
+
+    ghost counts_take = { λ p q. Unit {0} };
+
+    ghost has_ended = { λ p. Unit {0} };
+
+    #[inline(always)]
+    fn accept(&mut self, _mine: &mut ()) {}
+
+    #[inline(always)]
+    fn shut(&mut self, _mine: &mut ()) {}
+
+    #[inline(always)]
+    fn hand(&mut self, _pass: &mut ()) {}
+
+    #[inline(always)]
+    fn close(&mut self, _pass: &mut ()) {}
+
+    #[inline(always)]
+    fn done(_pass: ()) {}
+}
+
+/// The books of accepted lines, of handed lines, of shutdowns sent and of closings.
+#[derive(Drop)]
+pub struct FourBooks<A: Ledger, H: Ledger, S: Ledger, C: Ledger> {
+    pub accepted: Book<A>,
+    pub handed: Book<H>,
+    pub shutdowns: Book<S>,
+    pub closings: Book<C>,
+}
+
+/// All of the books of handed lines and of closings.
+#[derive(Drop)]
+pub struct Pass<H: Ledger, C: Ledger> {
+    pub handed: Share<H>,
+    pub closings: Share<C>,
+}
+
+/// What a worker hands back once it has closed the queue.
+#[derive(Drop)]
+pub struct Done<H: Ledger, C: Ledger> {
+    pub handed: Share<H>,
+    pub closings: Share<C>,
+    ghost handed_whole: { handed.parts ≡ 1 },
+    ghost closings_whole: { closings.parts ≡ 1 },
+    ghost closed: { closings.amount ≡ 1 },
+}
+
+impl<A: Ledger, H: Ledger, S: Ledger, C: Ledger> Books for FourBooks<A, H, S, C> {
+    type Mine = Share<A>;
+
+    type Shutdowns = Share<S>;
+
+    type Pass = Pass<H, C>;
+
+    type Done = Done<H, C>;
+
+    ghost say = { λ b t. (b.accepted.total ≡ t.accepted) × (b.handed.total ≡ t.handed)
+        × (b.shutdowns.total ≡ t.shutdowns) × (b.closings.total ≡ t.closings) };
+
+    ghost may_accept = { λ m. 0 < m.parts };
+
+    ghost may_shut = { λ m. 0 < m.parts };
+
+    ghost may_take = { λ p. (p.handed.parts ≡ 1) × (H.parts ≡ 1) × (p.closings.parts ≡ 1) × (C.parts ≡ 1)
+        × (p.closings.amount ≡ 0) };
+
+    ghost counts_line = { λ m n. (n.parts ≡ m.parts) × (n.amount ≡ m.amount + 1) × (n.amount < 2 ^ 64) };
+
+    ghost counts_shutdown = { λ m n. (n.parts ≡ m.parts) × (m.amount ≡ 0) × (n.amount ≡ 1) };
+
+    ghost counts_take = { λ p q. q.handed.amount ≡ p.handed.amount + 1 };
+
+    ghost has_ended = { λ p. (p.handed.parts ≡ 1) × (p.closings.parts ≡ 1) × (p.closings.amount ≡ 1) };
+
+    #[inline(always)]
+    fn accept(&mut self, mine: &mut Share<A>) {
+        self.accepted.add(mine, 1);
+        self.accepted.audit(mine);
+    }
+
+    fn shut(&mut self, mine: &mut Share<S>) {
+        self.shutdowns.audit(mine);
+        self.shutdowns.add(mine, 1);
+    }
+
+    #[inline(always)]
+    fn hand(&mut self, pass: &mut Pass<H, C>) {
+        self.handed.add(&mut pass.handed, 1);
+    }
+
+    fn close(&mut self, pass: &mut Pass<H, C>) {
+        self.closings.audit(&mut pass.closings);
+        self.closings.add(&mut pass.closings, 1);
+    }
+
+    fn done(pass: Pass<H, C>) -> Done<H, C> {
+        let Pass { handed, closings } = pass;
+        Done { handed, closings }
+    }
+}

@@ -1,0 +1,315 @@
+//! What lies under the lock, and who is to be woken once it is let go.
+ghost use Rattle.std.specs.Prelude.{◌≡◌, ◌<◌, ℕ, true, false, not, ◌&&◌, ◌||◌, IfOk};
+ghost use Rattle.appender_queue.specs.Queue.{has_room};
+
+use crate::books::{Books, Done, FourBooks};
+use crate::pace::{MOST_BYTES, MOST_SPARES, Pace};
+use appender_queue::laws::{offers_change_little, shutdowns_change_little, takes_change_little};
+use appender_queue::queue::{Counts, LineQueue, Refused, Shut, Taken};
+use std::alloc::{AllocError, Global};
+use std::marker::Model;
+use std::sync::ledger::{Ledger, Share};
+
+/// Who is to be woken. It can't be dropped: whoever let the lock go has to use it up.
+#[must_use]
+pub struct Calls {
+    /// The worker.
+    pub worker: bool,
+    /// One thread that waits for room. It calls the next one, where there is more.
+    pub sender: bool,
+}
+
+/// The queue and its books, who sleeps, and the buffers that may be used again.
+#[derive(Drop)]
+pub struct State<B: Books> {
+    // Whether the worker sleeps and was not called.
+    asleep: bool,
+    // Whether one of the threads that wait for room was called, and has not come yet.
+    called: bool,
+    // How many threads wait for room.
+    waiting: u32,
+    spares: Vec<Vec<u8>>,
+    queue: LineQueue,
+    books: B,
+}
+
+impl<B: Books> Model for State<B> {
+    ghost use Rattle.std.specs.Prelude.{◌≡◌, ◌<◌, true, false, not, ◌&&◌};
+    ghost use Rattle.appender_state.specs.Quiet.{IsQuiet};
+    ghost use Rattle.appender_state.specs.Tally.{tally_of};
+    ghost use Rattle.appender_queue.specs.Queue.{Queue, IsLawful, has_room};
+
+    ghost Value = { Queue };
+
+    ghost view = { λ s. s.queue };
+
+    // The books say what the queue says. Nobody waits uncalled but at a full queue, which is open and has
+    // no room. The worker is not left asleep where a take would answer anything but that nothing is there.
+    ghost invariant = { λ s. IsLawful s.queue × B.say s.books (tally_of s.queue)
+        × (0 < s.waiting → s.called ≡ false → (not s.queue.closed && not (has_room s.queue)) ≡ true)
+        × (s.asleep ≡ true → IsQuiet s.queue) };
+}
+
+// Whom to wake, now that the queue may have changed. Nobody is called twice.
+#[inline(always)]
+fn call(
+    asleep: &mut bool,
+    called: &mut bool,
+    waiting: u32,
+    queue: &LineQueue,
+    worker: bool,
+) -> Calls
+    ensures work { asleep.new ≡ (asleep.old && not worker) }
+    ensures worker { result.worker ≡ (asleep.old && worker) }
+    ensures room { 0 < waiting → called.new ≡ false
+        → (not queue.now.closed && not (has_room queue.now)) ≡ true }
+    ensures sender { called.new ≡ (called.old || result.sender) }
+{
+    let wakes = *asleep && worker;
+    *asleep = *asleep && !worker;
+    let sender = waiting != 0 && !*called && !queue.is_full();
+    *called = *called || sender;
+    Calls {
+        worker: wakes,
+        sender,
+    }
+}
+
+impl<B: Books> State<B> {
+    ghost use Rattle.std.specs.Prelude.{◌+◌, OnOk, OnErr, IfOk};
+    ghost use Rattle.appender_state.specs.Steps.{Offers};
+    ghost use Rattle.appender_state.specs.Tally.{no_tally};
+    ghost use Rattle.appender_state.specs.Cases.{AsSent, AsTaken};
+    ghost use Rattle.appender_queue.specs.Queue.{fresh, left_of};
+    ghost use Rattle.appender_queue.specs.QueueCalls.{Shuts, Takes, AddsSender, DropsSender};
+
+    /// An empty queue with one sender, beside new books.
+    pub fn new(alloc: Global, limit: usize, lossy: bool, books: B) -> Result<State<B>, AllocError>
+        requires { B.say books no_tally }
+        ensures { IfOk result (λ s. s ≡ fresh limit lossy) }
+    {
+        let queue = LineQueue::new(alloc, limit, lossy)?;
+        let spares = Vec::with_capacity(alloc, limit.min(MOST_SPARES))?;
+        Ok(State {
+            asleep: false,
+            called: false,
+            waiting: 0,
+            spares,
+            queue,
+            books,
+        })
+    }
+
+    /// Offers a line, for a thread that `came` because it was called or woke without a call. Once it
+    /// is queued it says how the sender goes on, and may give it another buffer.
+    #[inline(always)]
+    pub fn offer(
+        &mut self,
+        line: Vec<u8>,
+        came: bool,
+        spare: &mut Vec<u8>,
+        mine: &mut B::Mine,
+    ) -> (Result<(u64, Pace), Refused>, Calls)
+        requires { B.may_accept mine.old }
+        ensures offer { Offers self.old line result.0 self.new }
+        ensures ticket { IfOk result.0 (λ told. told.0 ≡ self.old.accepted + 1) }
+        ensures counted { OnOk result.0 (B.counts_line mine.old mine.new) }
+        ensures refused { OnErr result.0 (mine.new ≡ mine.old) }
+    {
+        let State {
+            asleep,
+            called,
+            waiting,
+            spares,
+            queue,
+            books,
+        } = self;
+        if came {
+            *waiting = waiting.saturating_sub(1);
+            *called = false;
+        }
+        offers_change_little();
+        let reply = queue.offer(line);
+        let calls = call(asleep, called, *waiting, queue, reply.is_ok());
+        match reply {
+            Ok(ticket) => {
+                books.accept(mine);
+                if let Some(buffer) = spares.pop() {
+                    *spare = buffer;
+                }
+                (Ok((ticket, Pace::behind(ticket, queue))), calls)
+            }
+            Err(refused) => (Err(refused), calls),
+        }
+    }
+
+    /// How many lines a lossy queue refused.
+    pub fn dropped(&self) -> usize
+        ensures { result ≡ self.now.dropped }
+    {
+        self.queue.counts().dropped
+    }
+
+    /// How many accepted lines nobody took before the queue was closed.
+    pub fn left(&self) -> u64
+        ensures { result ≡ left_of self.now }
+    {
+        self.queue.counts().left
+    }
+
+    /// Whether a thread that found no room has to wait, and is counted among those that do.
+    pub fn begins_waiting(&mut self) -> bool
+        ensures { self.new ≡ self.old }
+    {
+        if !self.queue.is_full() {
+            return false;
+        }
+        self.waiting = self.waiting.saturating_add(1);
+        true
+    }
+
+    /// Whether a guard that waits has to go on. A call that came to it is used up.
+    pub fn goes_on_waiting(&mut self) -> bool
+        ensures { self.new ≡ self.old }
+    {
+        if !self.queue.is_full() {
+            return false;
+        }
+        self.called = false;
+        true
+    }
+
+    /// Tries to send the shutdown, for a guard that `came` from waiting.
+    pub fn shut(&mut self, came: bool, mine: &mut B::Shutdowns) -> (Shut, Calls)
+        requires { B.may_shut mine.old }
+        ensures shut { Shuts self.old result.0 self.new }
+        ensures counted { AsSent result.0 (B.counts_shutdown mine.old mine.new) (mine.new ≡ mine.old) }
+    {
+        let State {
+            asleep,
+            called,
+            waiting,
+            queue,
+            books,
+            ..
+        } = self;
+        if came {
+            *waiting = waiting.saturating_sub(1);
+            *called = false;
+        }
+        shutdowns_change_little();
+        let reply = queue.shut();
+        let calls = call(asleep, called, *waiting, queue, true);
+        match reply {
+            Shut::Sent => {
+                books.shut(mine);
+                (reply, calls)
+            }
+            Shut::Already | Shut::Full | Shut::Closed => (reply, calls),
+        }
+    }
+
+    /// Takes for the worker, which sleeps then, if it wants to and nothing is there. The buffer of its
+    /// last line is kept for a sender, or comes back where enough are kept.
+    #[inline(always)]
+    pub fn take(
+        &mut self,
+        waits: bool,
+        sleeps: bool,
+        spent: Option<Vec<u8>>,
+        pass: &mut B::Pass,
+    ) -> (Taken, Option<Vec<u8>>, Calls)
+        requires { B.may_take pass.old }
+        ensures take { Takes self.old waits result.0 self.new }
+        ensures counted { AsTaken result.0 (B.counts_take pass.old pass.new) (B.has_ended pass.new) (pass.new ≡ pass.old) }
+        ensures may { AsTaken result.0 (B.may_take pass.new) (B.has_ended pass.new) (B.may_take pass.new) }
+    {
+        let State {
+            asleep,
+            called,
+            waiting,
+            spares,
+            queue,
+            books,
+        } = self;
+        let surplus = keep(spares, spent);
+        takes_change_little();
+        let taken = queue.take(waits);
+        match &taken {
+            Taken::Line(..) => books.hand(pass),
+            Taken::Shutdown | Taken::Gone => books.close(pass),
+            Taken::Empty => {}
+        }
+        *asleep = false;
+        let calls = call(asleep, called, *waiting, queue, false);
+        if let Taken::Empty = &taken {
+            *asleep = sleeps;
+        }
+        (taken, surplus, calls)
+    }
+
+    /// The worker is awake, whatever woke it.
+    pub fn wakes(&mut self)
+        ensures { self.new ≡ self.old }
+    {
+        self.asleep = false;
+    }
+
+    /// One sender more.
+    pub fn add_sender(&mut self)
+        ensures { AddsSender self.old self.new.senders self.new }
+    {
+        self.queue.add_sender();
+    }
+
+    /// One sender less. Where it was the last one, the worker ends.
+    pub fn drop_sender(&mut self) -> Calls
+        ensures { DropsSender self.old self.new.senders self.new }
+    {
+        let State {
+            asleep,
+            called,
+            waiting,
+            queue,
+            ..
+        } = self;
+        queue.drop_sender();
+        call(asleep, called, *waiting, queue, true)
+    }
+}
+
+impl<A: Ledger, H: Ledger, S: Ledger, C: Ledger> State<FourBooks<A, H, S, C>> {
+    ghost use Rattle.std.specs.Prelude.{◌+◌};
+
+    /// What all shares together say of the queue, once the worker has closed it.
+    pub fn settled(&mut self, accepted: Share<A>, shutdowns: Share<S>, done: Done<H, C>) -> Counts
+        requires { (accepted.parts ≡ A.parts) × (H.parts ≡ 1) × (shutdowns.parts ≡ S.parts) × (C.parts ≡ 1) }
+        ensures accepted { result.accepted ≡ accepted.amount }
+        ensures handed { result.handed ≡ done.handed.amount }
+        ensures adds_up { result.accepted ≡ result.handed + result.left }
+        ensures none_left { shutdowns.amount ≡ 0 → result.left ≡ 0 }
+    {
+        let Done { handed, closings } = done;
+        let mut accepted = accepted;
+        let mut handed = handed;
+        let mut shutdowns = shutdowns;
+        let mut closings = closings;
+        let State { queue, books, .. } = self;
+        books.accepted.audit(&mut accepted);
+        books.handed.audit(&mut handed);
+        books.shutdowns.audit(&mut shutdowns);
+        books.closings.audit(&mut closings);
+        queue.counts()
+    }
+}
+
+// Keeps a buffer for a sender, or hands it back where enough are kept.
+fn keep(spares: &mut Vec<Vec<u8>>, spent: Option<Vec<u8>>) -> Option<Vec<u8>> {
+    match spent {
+        Some(buffer) if spares.len() < spares.capacity() && buffer.capacity() <= MOST_BYTES => {
+            spares.push_reserved(buffer);
+            None
+        }
+        other => other,
+    }
+}

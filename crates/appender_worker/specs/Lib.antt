@@ -1,0 +1,4 @@
+pub mod Core
+pub mod CoreReplies
+pub mod Runs
+pub mod Inside

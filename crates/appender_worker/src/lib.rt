@@ -1,0 +1,6 @@
+//! The machine that says what the worker does next between a queue and its writer, and the writing of
+//! one line. No call here waits or starts a thread.
+#![tactic(auto)]
+
+pub mod laws;
+pub mod worker;
