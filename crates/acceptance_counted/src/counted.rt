@@ -2,11 +2,12 @@
 ghost use Rattle.std.specs.Prelude.{◌≡◌, ◌+◌, ◌<◌};
 
 use crate::crowd::crowd;
-use crate::gate::{Host, Seen, new_gate};
 use appender_non_blocking::non_blocking::{
     Account, CountedGuard, CountedSender, NonBlockingBuilder, Sent, Shut, Unsettled,
 };
+use fake_gate::gate::{Host, Seen, new_gate};
 use std::marker::Brand;
+use std::process::Abort;
 use std::sync::ledger::{Blank, Ledger};
 use std::test::Fail;
 
@@ -44,7 +45,7 @@ impl Story {
     }
 }
 
-fn run<R: Host>(rt: R, story: Story) -> Result<(), Fail> {
+fn run<R: Host + Abort>(rt: R, story: Story) -> Result<(), Fail> {
     let senders = story.senders();
     let accepted = Blank::new(u64::from(senders) + 1);
     tell::<Brand, Brand, Brand, Brand, R>(
@@ -63,7 +64,7 @@ fn tell<
     H: Ledger + Send + Sync + 'static,
     S: Ledger + Send + Sync + 'static,
     C: Ledger + Send + Sync + 'static,
-    R: Host,
+    R: Host + Abort,
 >(
     rt: R,
     story: Story,
@@ -78,7 +79,7 @@ fn tell<
     requires shutdowns { (shutdowns.name ≡ S.name) × (shutdowns.parts ≡ S.parts) × (shutdowns.parts ≡ 1) }
     requires closings { (closings.name ≡ C.name) × (closings.parts ≡ C.parts) × (closings.parts ≡ 1) }
 {
-    let (writer, seen) = new_gate(rt)?;
+    let (writer, seen) = new_gate(rt, b"held")?;
     let (senders, guard) = story
         .builder()
         .thread_name(rt.alloc(), "counted")?
@@ -104,7 +105,7 @@ fn tell<
 }
 
 /// Settles, and compares the account.
-pub(crate) fn settles<A: Ledger, H: Ledger, S: Ledger, C: Ledger, R: Host>(
+pub(crate) fn settles<A: Ledger, H: Ledger, S: Ledger, C: Ledger, R: Host + Abort>(
     rt: R,
     senders: Vec<CountedSender<A, H, S, C, R>>,
     guard: CountedGuard<A, H, S, C, R>,
@@ -131,7 +132,7 @@ pub(crate) fn settles<A: Ledger, H: Ledger, S: Ledger, C: Ledger, R: Host>(
 }
 
 // What lies behind the shutdown is left.
-fn leaves_lines<A: Ledger, H: Ledger, S: Ledger, C: Ledger, R: Host>(
+fn leaves_lines<A: Ledger, H: Ledger, S: Ledger, C: Ledger, R: Host + Abort>(
     rt: R,
     senders: Vec<CountedSender<A, H, S, C, R>>,
     guard: CountedGuard<A, H, S, C, R>,
@@ -155,10 +156,11 @@ fn leaves_lines<A: Ledger, H: Ledger, S: Ledger, C: Ledger, R: Host>(
     assert_eq!(rt; sender.queued(), 3);
     seen.opens();
     settles(rt, senders, guard, 3, 2, 1, 0)?;
-    seen.shows(rt, b"held|b|")
+    assert_eq!(rt; seen.text(&rt)?.as_slice(), b"held|b|".as_slice());
+    Ok(())
 }
 
-fn gives_back<A: Ledger, H: Ledger, S: Ledger, C: Ledger, R: Host>(
+fn gives_back<A: Ledger, H: Ledger, S: Ledger, C: Ledger, R: Host + Abort>(
     rt: R,
     senders: Vec<CountedSender<A, H, S, C, R>>,
     guard: CountedGuard<A, H, S, C, R>,
@@ -179,7 +181,7 @@ fn gives_back<A: Ledger, H: Ledger, S: Ledger, C: Ledger, R: Host>(
     settles(rt, senders, guard, 0, 0, 0, 0)
 }
 
-fn drops_lines<A: Ledger, H: Ledger, S: Ledger, C: Ledger, R: Host>(
+fn drops_lines<A: Ledger, H: Ledger, S: Ledger, C: Ledger, R: Host + Abort>(
     rt: R,
     senders: Vec<CountedSender<A, H, S, C, R>>,
     guard: CountedGuard<A, H, S, C, R>,
@@ -198,11 +200,12 @@ fn drops_lines<A: Ledger, H: Ledger, S: Ledger, C: Ledger, R: Host>(
     assert_eq!(rt; sender.dropped(), 1);
     seen.opens();
     settles(rt, senders, guard, 2, 2, 0, 1)?;
-    seen.shows(rt, b"held|a|")
+    assert_eq!(rt; seen.text(&rt)?.as_slice(), b"held|a|".as_slice());
+    Ok(())
 }
 
 // The guard finds no room for its shutdown. The worker ends with its last sender, and leaves no line.
-fn drops_its_guard<A: Ledger, H: Ledger, S: Ledger, C: Ledger, R: Host>(
+fn drops_its_guard<A: Ledger, H: Ledger, S: Ledger, C: Ledger, R: Host + Abort>(
     rt: R,
     senders: Vec<CountedSender<A, H, S, C, R>>,
     guard: CountedGuard<A, H, S, C, R>,
@@ -222,7 +225,7 @@ fn drops_its_guard<A: Ledger, H: Ledger, S: Ledger, C: Ledger, R: Host>(
     Ok(())
 }
 
-fn can_be_shown<A: Ledger, H: Ledger, S: Ledger, C: Ledger, R: Host>(
+fn can_be_shown<A: Ledger, H: Ledger, S: Ledger, C: Ledger, R: Host + Abort>(
     rt: R,
     senders: Vec<CountedSender<A, H, S, C, R>>,
     guard: CountedGuard<A, H, S, C, R>,

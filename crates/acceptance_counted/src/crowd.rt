@@ -2,9 +2,10 @@
 ghost use Rattle.std.specs.Prelude.{◌≡◌, ◌+◌};
 
 use crate::counted::settles;
-use crate::gate::{Host, Seen};
 use appender_non_blocking::non_blocking::{CountedGuard, CountedSender, Sent};
+use fake_gate::gate::{Host, Seen};
 use std::alloc::{AllocError, Global};
+use std::process::Abort;
 use std::sync::ledger::Ledger;
 use std::test::Fail;
 use std::thread;
@@ -43,7 +44,7 @@ pub(crate) fn crowd<
     H: Ledger + Send + Sync + 'static,
     S: Ledger + Send + Sync + 'static,
     C: Ledger + Send + Sync + 'static,
-    R: Host,
+    R: Host + Abort,
 >(
     rt: R,
     senders: Vec<CountedSender<A, H, S, C, R>>,
@@ -71,7 +72,7 @@ pub(crate) fn crowd<
         told.push((9 - joined, tickets))?;
     }
     settles(rt, senders, guard, 1000, 1000, 0, 0)?;
-    assert_eq!(rt; seen.lines.lock(&rt).len(), 1000);
+    assert_eq!(rt; seen.count(), 1000);
     for (number, tickets) in told.iter() {
         stand_in_order(rt, *number, tickets.as_slice(), seen)?;
     }
@@ -80,16 +81,19 @@ pub(crate) fn crowd<
 
 // Each line came at the place of its ticket, behind the sender's line before. The lines all differ, so no
 // ticket was told twice.
-fn stand_in_order<R: Host>(rt: R, number: usize, tickets: &[u64], seen: &Seen) -> Result<(), Fail> {
+fn stand_in_order<R: Host + Abort>(
+    rt: R,
+    number: usize,
+    tickets: &[u64],
+    seen: &Seen,
+) -> Result<(), Fail> {
     assert_eq!(rt; tickets.len(), 100);
-    let lines = seen.lines.lock(&rt);
     let mut last = 0u64;
     for (line, ticket) in tickets.iter().enumerate() {
         assert!(rt; last < *ticket);
         last = *ticket;
         let text = text(rt.alloc(), number, line)?;
-        let came = lines.get((last - 1) as usize);
-        assert!(rt; came.is_some_and(|came| came.as_slice() == text.as_bytes()));
+        assert!(rt; seen.has_at(&rt, (last - 1) as usize, text.as_bytes()));
     }
     Ok(())
 }

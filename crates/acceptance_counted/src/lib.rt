@@ -6,5 +6,3 @@
 mod counted;
 #[cfg(test)]
 mod crowd;
-#[cfg(test)]
-mod gate;

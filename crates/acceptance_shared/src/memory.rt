@@ -4,7 +4,7 @@ use crate::scene::{
     Crowded, ELEVEN, START, TestClock, Turning, expect_lines, hourly, in_memory, opened,
     write_in_threads, writes,
 };
-use std::io::Write;
+use std::io::{ErrorKind, Write};
 use std::sync::Wait;
 use std::sync::atomic::AtomicBool;
 use std::sync::atomic::Ordering::SeqCst;
@@ -78,6 +78,32 @@ fn a_writer_keeps_its_file(rt: HostRuntime) -> Result<(), Fail> {
     let (folder, _clock) = appender.into_parts();
     assert_eq!(rt; folder.bytes("app.2020-02-01-10"), Some(b"ab".as_slice()));
     assert_eq!(rt; folder.bytes("app.2020-02-01-11"), Some(b"c".as_slice()));
+    Ok(())
+}
+
+// Behind the opening, the first and the fourth append take less than the line, and the fifth nothing.
+#[test]
+fn a_line_goes_on_behind_a_short_append(rt: HostRuntime) -> Result<(), Fail> {
+    let mut folder = MemoryFolder::new(rt.alloc());
+    for (call, limit) in [(2, 2), (5, 1), (6, 0)] {
+        folder.short_append(call, limit)?;
+    }
+    let clock = TestClock::new(START, 0);
+    let appender = opened(rt, &hourly(rt.alloc())?, folder, &clock)?;
+    let mut writer = appender.make_writer()?;
+    writer.write_all(b"hello ")?;
+    writer.write_all(b"all ")?;
+    let refused = writer.write_all(b"bye").err();
+    drop(writer);
+    assert_eq!(rt;
+        refused.map(|fault| fault.kind()),
+        Some(ErrorKind::WriteZero)
+    );
+    let (folder, _clock) = appender.into_parts();
+    assert_eq!(rt;
+        folder.bytes("app.2020-02-01-10"),
+        Some(b"hello all b".as_slice())
+    );
     Ok(())
 }
 

@@ -1,8 +1,9 @@
 // Many senders: none is left asleep while there is room, or once the queue is closed.
-use crate::gate::Host;
 use appender_non_blocking::non_blocking::{Closing, NonBlocking, NonBlockingBuilder};
+use fake_gate::gate::Host;
 use std::alloc::Global;
 use std::io::Write;
+use std::process::Abort;
 use std::sync::atomic::AtomicUsize;
 use std::sync::atomic::Ordering::SeqCst;
 use std::sync::{Arc, Wait};
@@ -44,7 +45,7 @@ fn send<R: Wait + Drop>(mut sender: NonBlocking<R>, lines: usize) -> usize {
 
 // One worker and so many senders with so many lines each, while the guard closes, or before it does. A
 // guard that closes early finds the worker busy for so long that it waits for room, and each sender too.
-fn crowd<R: Host>(
+fn crowd<R: Host + Abort>(
     rt: R,
     limit: usize,
     senders: usize,

@@ -5,6 +5,4 @@
 #[cfg(test)]
 mod crowds;
 #[cfg(test)]
-mod gate;
-#[cfg(test)]
 mod lines;

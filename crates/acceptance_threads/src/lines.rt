@@ -1,15 +1,28 @@
 // What becomes of lines.
-use crate::gate::{come, comes, over_gate};
 use appender_non_blocking::non_blocking::{
-    Closing, DEFAULT_BUFFERED_LINES_LIMIT, NonBlocking, NonBlockingBuilder, non_blocking,
+    Closing, DEFAULT_BUFFERED_LINES_LIMIT, NonBlocking, NonBlockingBuilder, WorkerGuard,
+    non_blocking,
 };
 use appender_writers::MakeWriter;
+use fake_gate::gate::{Host, Seen, new_gate};
+use std::alloc::Global;
 use std::io::{ErrorKind, Write};
 use std::process::Abort;
-use std::sync::atomic::Ordering::SeqCst;
+use std::sync::Arc;
 use std::test::Fail;
 use std::time::Duration;
 use std::{io, thread};
+
+// A worker over a gate that holds this line.
+fn over_gate<R: Host>(
+    rt: R,
+    builder: NonBlockingBuilder,
+    held: &'static [u8],
+) -> io::Result<(NonBlocking<R>, WorkerGuard<R>, Arc<Seen, Global>)> {
+    let (gate, seen) = new_gate(rt, held)?;
+    let (sender, guard) = builder.finish(rt, rt.alloc(), gate)?;
+    Ok((sender, guard, seen))
+}
 
 #[test]
 fn a_lossy_queue_drops_what_finds_no_room(rt: HostRuntime) -> Result<(), Fail> {
@@ -17,15 +30,15 @@ fn a_lossy_queue_drops_what_finds_no_room(rt: HostRuntime) -> Result<(), Fail> {
     let (mut sender, guard, seen) = over_gate(rt, builder, b"g")?;
     let counter = sender.error_counter()?;
     sender.write(b"g")?;
-    assert!(rt; comes(rt, &seen.holds));
+    assert!(rt; seen.is_held(rt));
     assert_eq!(rt; sender.write(b"a")?, 1);
     assert_eq!(rt; sender.write(b"b")?, 1);
     assert_eq!(rt; counter.dropped_lines(), 1);
-    seen.open.store(true, SeqCst);
+    seen.opens();
     assert_eq!(rt; guard.close(), Closing::Done { left: 0 });
-    seen.shows(rt, b"g|a|")?;
+    assert_eq!(rt; seen.text(&rt)?.as_slice(), b"g|a|".as_slice());
     // What was offered and never came.
-    assert_eq!(rt; counter.dropped_lines(), 3 - seen.count(rt).min(3));
+    assert_eq!(rt; counter.dropped_lines(), 3 - seen.count().min(3));
     Ok(())
 }
 
@@ -37,12 +50,12 @@ fn a_held_writer_holds_no_sender(rt: HostRuntime) -> Result<(), Fail> {
         .buffered_lines_limit(4);
     let (mut sender, guard, seen) = over_gate(rt, builder, b"1")?;
     sender.write(b"1")?;
-    assert!(rt; comes(rt, &seen.holds));
+    assert!(rt; seen.is_held(rt));
     assert_eq!(rt; sender.write(b"2")?, 1);
-    seen.open.store(true, SeqCst);
+    seen.opens();
     drop(guard);
-    seen.shows(rt, b"1|2|")?;
-    assert!(rt; seen.last_flushes(rt) >= 2);
+    assert_eq!(rt; seen.text(&rt)?.as_slice(), b"1|2|".as_slice());
+    assert!(rt; seen.last_flushes() >= 2);
     Ok(())
 }
 
@@ -54,15 +67,15 @@ fn a_full_queue_keeps_its_sender_waiting(rt: HostRuntime) -> Result<(), Fail> {
     let (mut sender, guard, seen) = over_gate(rt, builder, b"Hello")?;
     let counter = sender.error_counter()?;
     sender.write_all(b"Hello")?;
-    assert!(rt; comes(rt, &seen.holds));
+    assert!(rt; seen.is_held(rt));
     sender.write_all(b", World")?;
     let waits = thread::spawn(&rt, move || sender.write_all(b"!").is_ok())?;
-    assert_eq!(rt; seen.count(rt), 1);
+    assert_eq!(rt; seen.count(), 1);
     assert_eq!(rt; counter.dropped_lines(), 0);
-    seen.open.store(true, SeqCst);
+    seen.opens();
     assert!(rt; waits.join(&rt));
     assert_eq!(rt; guard.close(), Closing::Done { left: 0 });
-    seen.shows(rt, b"Hello|, World|!|")?;
+    assert_eq!(rt; seen.text(&rt)?.as_slice(), b"Hello|, World|!|".as_slice());
     assert_eq!(rt; counter.dropped_lines(), 0);
     Ok(())
 }
@@ -82,11 +95,12 @@ fn every_thread_gets_its_line_through(rt: HostRuntime) -> Result<(), Fail> {
     for thread in running {
         thread.join(&rt);
     }
-    assert!(rt; come(rt, &seen, 10));
+    assert!(rt; seen.come(rt, 10));
     assert_eq!(rt; counter.dropped_lines(), 0);
     drop(guard);
     let lines = b"Hello|Hello|Hello|Hello|Hello|Hello|Hello|Hello|Hello|Hello|";
-    seen.shows(rt, lines.as_slice())
+    assert_eq!(rt; seen.text(&rt)?.as_slice(), lines.as_slice());
+    Ok(())
 }
 
 #[test]
@@ -101,7 +115,8 @@ fn every_byte_comes_as_it_was(rt: HostRuntime) -> Result<(), Fail> {
     sender.flush()?;
     assert_eq!(rt; guard.close(), Closing::Done { left: 0 });
     line.push(b'|')?;
-    seen.shows(rt, line.as_slice())
+    assert_eq!(rt; seen.text(&rt)?.as_slice(), line.as_slice());
+    Ok(())
 }
 
 // The shutdown stands before the lines that come later, though the queue takes them.
@@ -110,11 +125,11 @@ fn lines_behind_the_shutdown_are_not_written(rt: HostRuntime) -> Result<(), Fail
     let (mut sender, guard, seen) = over_gate(rt, NonBlockingBuilder::default(), b"g")?;
     let counter = sender.error_counter()?;
     sender.write(b"g")?;
-    assert!(rt; comes(rt, &seen.holds));
+    assert!(rt; seen.is_held(rt));
     assert_eq!(rt; guard.close(), Closing::Pending);
     sender.write(b"late")?;
     assert_eq!(rt; counter.dropped_lines(), 0);
-    seen.open.store(true, SeqCst);
+    seen.opens();
     // The queue closes once the worker takes the shutdown, and drops what comes then.
     for _ in 0..10_000u32 {
         if counter.dropped_lines() > 0 {
@@ -124,7 +139,8 @@ fn lines_behind_the_shutdown_are_not_written(rt: HostRuntime) -> Result<(), Fail
         thread::sleep(&rt, Duration::from_millis(1));
     }
     assert!(rt; counter.dropped_lines() > 0);
-    seen.shows(rt, b"g|")
+    assert_eq!(rt; seen.text(&rt)?.as_slice(), b"g|".as_slice());
+    Ok(())
 }
 
 #[test]
@@ -139,7 +155,7 @@ fn a_closed_queue_takes_no_line(rt: HostRuntime) -> Result<(), Fail> {
             Err(fault) => assert!(rt; !lossy && fault.kind() == ErrorKind::Other),
         }
         assert_eq!(rt; counter.dropped_lines(), if lossy { 1 } else { 0 });
-        assert_eq!(rt; seen.count(rt), 0);
+        assert_eq!(rt; seen.count(), 0);
     }
     Ok(())
 }
@@ -152,13 +168,13 @@ fn a_guard_tells_that_the_queue_stays_full(rt: HostRuntime) -> Result<(), Fail> 
         .buffered_lines_limit(1);
     let (mut sender, guard, seen) = over_gate(rt, builder, b"g")?;
     sender.write(b"g")?;
-    assert!(rt; comes(rt, &seen.holds));
+    assert!(rt; seen.is_held(rt));
     sender.write(b"a")?;
     assert_eq!(rt; guard.close(), Closing::Full);
-    seen.open.store(true, SeqCst);
+    seen.opens();
     drop(sender);
     // The worker ends with its last sender, and leaves no line behind.
-    assert!(rt; come(rt, &seen, 2));
+    assert!(rt; seen.come(rt, 2));
     Ok(())
 }
 

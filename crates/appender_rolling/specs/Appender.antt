@@ -7,7 +7,7 @@ use Rattle.appender_store.specs.declared.store.Folder.{Ghosts}
 use Rattle.appender_rolling.specs.declared.rolling.clock.Clock.{Ghosts as Readings}
 use Rattle.appender_rolling.specs.declared.rolling.Switch.{Switch}
 use Rattle.appender_rolling.specs.Config.{Config, defaults}
-use Rattle.appender_rolling.specs.Roller.{Rolling, OpensRoller, OpensNoRoller, Sees, Writes, Puts, Flushes, is_due}
+use Rattle.appender_rolling.specs.Roller.{Rolling, OpensRoller, OpensNoRoller, Sees, Writes, WritesAll, Puts, Flushes, is_due}
 
 -- only these are set
 abbrev pub plain_config : Rotation → List ℕ → Config
@@ -101,6 +101,12 @@ pub record WritesSome {S F : Type 0} (kind : Ghosts S F) (bytes : List ℕ) (ans
   pub found : Rolling S F
   pub left : Rolling S F
   pub writes : Writes kind bytes answer found left
+
+-- they were written to it in pieces, all of them where that is told
+pub record WritesAllSome {S F : Type 0} (kind : Ghosts S F) (bytes : List ℕ) (answer : Result (Unit {0}) Error) : Type 0 where
+  pub found : Rolling S F
+  pub left : Rolling S F
+  pub writes : WritesAll kind bytes answer found left
 
 -- the clock was read, and the bytes were put into a roller at the moment that it told
 pub record PutsAtClock {S F C : Type 0} (kind : Ghosts S F) (time : Readings C) (clock : C) (bytes : List ℕ) (answer : Result ℕ Error) : Type 0 where

@@ -1,5 +1,5 @@
 -- An open log file, and what each call of a roller does to it and to the folder. `kind` has what folders of one kind tell.
-use Rattle.std.specs.Prelude.{◌≡◌, ◌⊎◌, ℕ, ◌<◌, ◌≤◌, ℤ, ◌<ℤ◌, int_lt, Bool, true, false, not, ◌&&◌, List, length, take, Option, None, Some, Result, Ok, Err, MatchResult, IsTrue}
+use Rattle.std.specs.Prelude.{◌≡◌, ◌⊎◌, ℕ, zero, suc, ◌<◌, ◌≤◌, ℤ, ◌<ℤ◌, int_lt, Bool, true, false, not, ◌&&◌, List, [], length, take, drop, Option, None, Some, Result, Ok, Err, MatchResult, OnOk, IsTrue}
 use Rattle.std.specs.declared.io.Error.{Error}
 use Rattle.appender_names.specs.declared.error.InitError.{InitError}
 use Rattle.appender_names.specs.declared.error.InitError.TheVariants.{Moment, Name, Memory}
@@ -144,6 +144,20 @@ pub record Writes {S F : Type 0} (kind : Ghosts S F) (bytes : List ℕ) (answer 
   pub content : IsTrue kind.tells → kind.content new.folder ≡ after_append (kind.content old.folder) (kind.body old.file) (take (count_of answer) bytes)
   pub cause : HasCause kind.tells ⊥ (kind.failures old.folder) (kind.failures new.folder) answer
   pub stays : StaysOpen kind old new
+
+-- So many writes, each of what those before it left of the bytes, and this rest is left.
+abbrev pub WritesPieces : {S F : Type 0} → Ghosts S F → ℕ → List ℕ → Rolling S F → List ℕ → Rolling S F → Type 0
+WritesPieces kind zero bytes start rest now = (rest ≡ bytes) × (now ≡ start)
+WritesPieces {S} {F} kind (suc count) bytes start rest now =
+    (left : List ℕ) × (last : Rolling S F) × (answer : Result ℕ Error) × WritesPieces kind count bytes start left last
+    × Writes kind left answer last now × (rest ≡ drop (count_of answer) left)
+
+-- Bytes were written so, and where that is told nothing of them is left.
+pub record WritesAll {S F : Type 0} (kind : Ghosts S F) (bytes : List ℕ) (answer : Result (Unit {0}) Error) (old new : Rolling S F) : Type 0 where
+  pub count : ℕ
+  pub rest : List ℕ
+  pub pieces : WritesPieces kind count bytes old rest new
+  pub whole : OnOk answer (rest ≡ [])
 
 -- A look at the clock, and then a write.
 pub record Puts {S F : Type 0} (kind : Ghosts S F) (m : ℤ) (bytes : List ℕ) (switch : Switch) (answer : Result ℕ Error) (old new : Rolling S F) : Type 0 where

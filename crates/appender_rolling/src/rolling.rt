@@ -24,7 +24,7 @@ pub use file::RollingFile;
 use setup::{Opened, Setup, is_refused_name};
 use std::alloc::Global;
 use std::io;
-use std::io::Write;
+use std::io::{ErrorKind, Write};
 use std::marker::Model;
 pub use writer::RollingWriter;
 
@@ -238,10 +238,10 @@ impl<S: Folder> Roller<S> {
 }
 
 impl<S: Folder> Write for Roller<S> {
-    ghost use Rattle.std.specs.Prelude.{None};
+    ghost use Rattle.std.specs.Prelude.{None, OnOk};
     ghost use Rattle.std.specs.Io.{WritesAtMost};
-    ghost use Rattle.std.specs.Io.KnownBytes.{WriteAppends};
-    ghost use Rattle.appender_rolling.specs.Roller.{Writes, Flushes};
+    ghost use Rattle.std.specs.Io.KnownBytes.{Appends, WriteAppends};
+    ghost use Rattle.appender_rolling.specs.Roller.{Writes, WritesAll, Flushes};
 
     /// One append to the open file. A roller reads no clock.
     fn write(&mut self, bytes: &[u8]) -> io::Result<usize>
@@ -250,6 +250,27 @@ impl<S: Folder> Write for Roller<S> {
         ensures append { Writes S.Folder bytes.now result self.old self.new }
     {
         Roller::write(self, bytes)
+    }
+
+    /// One append after another, each of what those before it left. One that was interrupted is made
+    /// again; `WriteZero` where one takes nothing.
+    fn write_all(&mut self, bytes: &[u8]) -> io::Result<()>
+        ensures bytes { OnOk result (Appends None None bytes.now) }
+        ensures appends { WritesAll S.Folder bytes.now result self.old self.new }
+    {
+        let mut rest = bytes;
+        for _ in 0..u64::MAX {
+            if rest.is_empty() {
+                return Ok(());
+            }
+            match Roller::write(self, rest) {
+                Ok(0) => return Err(io::Error::from(ErrorKind::WriteZero)),
+                Ok(taken) => rest = &rest[taken..],
+                Err(fault) if fault.kind() == ErrorKind::Interrupted => {}
+                Err(fault) => return Err(fault),
+            }
+        }
+        Err(io::Error::other("too many appends"))
     }
 
     fn flush(&mut self) -> io::Result<()>

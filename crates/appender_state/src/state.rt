@@ -1,5 +1,5 @@
 //! What lies under the lock, and who is to be woken once it is let go.
-ghost use Rattle.std.specs.Prelude.{◌≡◌, ◌<◌, ℕ, true, false, not, ◌&&◌, ◌||◌, IfOk};
+ghost use Rattle.std.specs.Prelude.{◌≡◌, ◌<◌, ◌≤◌, ℕ, true, false, not, ◌&&◌, ◌||◌, IfOk};
 ghost use Rattle.appender_queue.specs.Queue.{has_room};
 
 use crate::books::{Books, Done, FourBooks};
@@ -37,11 +37,17 @@ impl<B: Books> Model for State<B> {
     ghost use Rattle.std.specs.Prelude.{◌≡◌, ◌<◌, true, false, not, ◌&&◌};
     ghost use Rattle.appender_state.specs.Quiet.{IsQuiet};
     ghost use Rattle.appender_state.specs.Tally.{tally_of};
-    ghost use Rattle.appender_queue.specs.Queue.{Queue, IsLawful, has_room};
+    ghost use Rattle.appender_state.specs.Held.{Held};
+    ghost use Rattle.appender_queue.specs.Queue.{IsLawful, has_room};
 
-    ghost Value = { Queue };
+    ghost Value = { Held };
 
-    ghost view = { λ s. s.queue };
+    ghost view = { λ s. record {
+      queue = s.queue;
+      asleep = s.asleep;
+      called = s.called;
+      waiting = s.waiting;
+    } };
 
     // The books say what the queue says. Nobody waits uncalled but at a full queue, which is open and has
     // no room. The worker is not left asleep where a take would answer anything but that nothing is there.
@@ -64,6 +70,7 @@ fn call(
     ensures room { 0 < waiting → called.new ≡ false
         → (not queue.now.closed && not (has_room queue.now)) ≡ true }
     ensures sender { called.new ≡ (called.old || result.sender) }
+    ensures waiter { result.sender ≡ true → (called.old ≡ false) × (0 < waiting) }
 {
     let wakes = *asleep && worker;
     *asleep = *asleep && !worker;
@@ -77,16 +84,22 @@ fn call(
 
 impl<B: Books> State<B> {
     ghost use Rattle.std.specs.Prelude.{◌+◌, OnOk, OnErr, IfOk};
+    ghost use Rattle.appender_state.specs.Held.{when_back, Wakes};
     ghost use Rattle.appender_state.specs.Steps.{Offers};
     ghost use Rattle.appender_state.specs.Tally.{no_tally};
     ghost use Rattle.appender_state.specs.Cases.{AsSent, AsTaken};
-    ghost use Rattle.appender_queue.specs.Queue.{fresh, left_of};
+    ghost use Rattle.appender_queue.specs.Queue.{fresh, has_room, left_of};
     ghost use Rattle.appender_queue.specs.QueueCalls.{Shuts, Takes, AddsSender, DropsSender};
 
     /// An empty queue with one sender, beside new books.
     pub fn new(alloc: Global, limit: usize, lossy: bool, books: B) -> Result<State<B>, AllocError>
         requires { B.say books no_tally }
-        ensures { IfOk result (λ s. s ≡ fresh limit lossy) }
+        ensures { IfOk result (λ s. s ≡ record {
+          queue = fresh limit lossy;
+          asleep = false;
+          called = false;
+          waiting = 0;
+        }) }
     {
         let queue = LineQueue::new(alloc, limit, lossy)?;
         let spares = Vec::with_capacity(alloc, limit.min(MOST_SPARES))?;
@@ -111,8 +124,9 @@ impl<B: Books> State<B> {
         mine: &mut B::Mine,
     ) -> (Result<(u64, Pace), Refused>, Calls)
         requires { B.may_accept mine.old }
-        ensures offer { Offers self.old line result.0 self.new }
-        ensures ticket { IfOk result.0 (λ told. told.0 ≡ self.old.accepted + 1) }
+        ensures offer { Offers self.old.queue line result.0 self.new.queue }
+        ensures ticket { IfOk result.0 (λ told. told.0 ≡ self.old.queue.accepted + 1) }
+        ensures wakes { Wakes (when_back came self.old) result.1.worker result.1.sender self.new }
         ensures counted { OnOk result.0 (B.counts_line mine.old mine.new) }
         ensures refused { OnErr result.0 (mine.new ≡ mine.old) }
     {
@@ -145,21 +159,24 @@ impl<B: Books> State<B> {
 
     /// How many lines a lossy queue refused.
     pub fn dropped(&self) -> usize
-        ensures { result ≡ self.now.dropped }
+        ensures { result ≡ self.now.queue.dropped }
     {
         self.queue.counts().dropped
     }
 
     /// How many accepted lines nobody took before the queue was closed.
     pub fn left(&self) -> u64
-        ensures { result ≡ left_of self.now }
+        ensures { result ≡ left_of self.now.queue }
     {
         self.queue.counts().left
     }
 
     /// Whether a thread that found no room has to wait, and is counted among those that do.
     pub fn begins_waiting(&mut self) -> bool
-        ensures { self.new ≡ self.old }
+        ensures full { result ≡ (not self.old.queue.closed && not (has_room self.old.queue)) }
+        ensures same { self.new ≡ record self.old { waiting = self.new.waiting } }
+        ensures waits { result ≡ true → (self.old.waiting ≤ self.new.waiting) × (0 < self.new.waiting) }
+        ensures stays { result ≡ false → self.new ≡ self.old }
     {
         if !self.queue.is_full() {
             return false;
@@ -170,7 +187,10 @@ impl<B: Books> State<B> {
 
     /// Whether a guard that waits has to go on. A call that came to it is used up.
     pub fn goes_on_waiting(&mut self) -> bool
-        ensures { self.new ≡ self.old }
+        ensures full { result ≡ (not self.old.queue.closed && not (has_room self.old.queue)) }
+        ensures same { self.new ≡ record self.old { called = self.new.called } }
+        ensures waits { result ≡ true → self.new.called ≡ false }
+        ensures stays { result ≡ false → self.new ≡ self.old }
     {
         if !self.queue.is_full() {
             return false;
@@ -182,7 +202,8 @@ impl<B: Books> State<B> {
     /// Tries to send the shutdown, for a guard that `came` from waiting.
     pub fn shut(&mut self, came: bool, mine: &mut B::Shutdowns) -> (Shut, Calls)
         requires { B.may_shut mine.old }
-        ensures shut { Shuts self.old result.0 self.new }
+        ensures shut { Shuts self.old.queue result.0 self.new.queue }
+        ensures wakes { Wakes (when_back came self.old) result.1.worker result.1.sender self.new }
         ensures counted { AsSent result.0 (B.counts_shutdown mine.old mine.new) (mine.new ≡ mine.old) }
     {
         let State {
@@ -220,7 +241,10 @@ impl<B: Books> State<B> {
         pass: &mut B::Pass,
     ) -> (Taken, Option<Vec<u8>>, Calls)
         requires { B.may_take pass.old }
-        ensures take { Takes self.old waits result.0 self.new }
+        ensures take { Takes self.old.queue waits result.0 self.new.queue }
+        ensures wakes { Wakes (record self.old { asleep = false }) result.2.worker result.2.sender
+            (record self.new { asleep = false }) }
+        ensures sleeps { AsTaken result.0 (self.new.asleep ≡ false) (self.new.asleep ≡ false) (self.new.asleep ≡ sleeps) }
         ensures counted { AsTaken result.0 (B.counts_take pass.old pass.new) (B.has_ended pass.new) (pass.new ≡ pass.old) }
         ensures may { AsTaken result.0 (B.may_take pass.new) (B.has_ended pass.new) (B.may_take pass.new) }
     {
@@ -250,21 +274,23 @@ impl<B: Books> State<B> {
 
     /// The worker is awake, whatever woke it.
     pub fn wakes(&mut self)
-        ensures { self.new ≡ self.old }
+        ensures { self.new ≡ record self.old { asleep = false } }
     {
         self.asleep = false;
     }
 
     /// One sender more.
     pub fn add_sender(&mut self)
-        ensures { AddsSender self.old self.new.senders self.new }
+        ensures add { AddsSender self.old.queue self.new.queue.senders self.new.queue }
+        ensures same { self.new ≡ record self.old { queue = self.new.queue } }
     {
         self.queue.add_sender();
     }
 
     /// One sender less. Where it was the last one, the worker ends.
     pub fn drop_sender(&mut self) -> Calls
-        ensures { DropsSender self.old self.new.senders self.new }
+        ensures drop { DropsSender self.old.queue self.new.queue.senders self.new.queue }
+        ensures wakes { Wakes self.old result.worker result.sender self.new }
     {
         let State {
             asleep,
@@ -288,6 +314,7 @@ impl<A: Ledger, H: Ledger, S: Ledger, C: Ledger> State<FourBooks<A, H, S, C>> {
         ensures handed { result.handed ≡ done.handed.amount }
         ensures adds_up { result.accepted ≡ result.handed + result.left }
         ensures none_left { shutdowns.amount ≡ 0 → result.left ≡ 0 }
+        ensures same { self.new ≡ self.old }
     {
         let Done { handed, closings } = done;
         let mut accepted = accepted;

@@ -1,7 +1,8 @@
 //! The lines of several sources in one log, and the account of them.
 ghost use Rattle.std.specs.Prelude.{◌≡◌, ◌+◌, ◌≤◌, IfOk, vec_len};
 
-use crate::trail::{Fault, open_log, read_line, tell};
+use crate::trail::{Fault, open_log, tell};
+use program_input::read_line;
 use std::alloc::AllocError;
 use std::fs::File;
 use std::io::{BufReader, Read, Write};

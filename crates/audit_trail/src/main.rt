@@ -9,10 +9,8 @@ mod gather;
 mod tests;
 mod trail;
 
-use std::alloc::AllocError;
+use program_input::arguments;
 use std::process::ExitCode;
-use std::rt::Env;
-use std::{env, io};
 
 fn main(rt: HostRuntime) -> ExitCode {
     let (mut output, mut errors) = (rt.stdout(), rt.stderr());
@@ -25,13 +23,4 @@ fn main(rt: HostRuntime) -> ExitCode {
         Err(fault) => trail::tell(&fault.into(), &mut errors),
     };
     ExitCode::from(status)
-}
-
-// What stands behind the program's name.
-fn arguments(rt: &(impl Env + AllocGlobal)) -> io::Result<Vec<String>> {
-    let mut arguments = Vec::new(rt.alloc());
-    for argument in env::args(rt)?.skip(1) {
-        arguments.push(argument).map_err(AllocError::from)?;
-    }
-    Ok(arguments)
 }

@@ -1,9 +1,8 @@
 //! An audit trail of lines.
-ghost use Rattle.std.specs.Prelude.{◌≡◌, ◌≤◌, ℕ, List, [], false, Some, Ok, OnOk};
-ghost use Rattle.std.specs.Io.BufRead.{take_through, drop_through};
-ghost use Rattle.std.specs.Io.KnownBytes.{IsAtEnd};
+ghost use Rattle.std.specs.Prelude.{◌≡◌, ◌≤◌, ℕ, List, [], Some, OnOk};
 ghost use Rattle.audit_trail.specs.Trail.{PutsLine, PutsLines};
 
+use program_input::read_line;
 use std::alloc::{AllocError, Global};
 use std::io::{BufRead, BufReader, Read, Write};
 use std::rt::Runtime;
@@ -148,21 +147,6 @@ pub fn write_lines<I: BufRead, S: Folder, C: Clock>(
         write_line(line.as_slice(), log)?;
     }
     Err(Fault::Read(io::Error::other("too many lines")))
-}
-
-// Reads the next line, in place of what `line` holds, and tells whether there was one.
-pub fn read_line<I: BufRead>(input: &mut I, line: &mut Vec<u8>) -> Result<bool, Fault>
-    ensures line { OnOk result ((text : List ℕ) → I.remaining input.old ≡ Some text →
-        line.new.items ≡ take_through 10 text) }
-    ensures rest { OnOk result ((text : List ℕ) → I.remaining input.old ≡ Some text →
-        I.remaining input.new ≡ Some (drop_through 10 text)) }
-    ensures end { result ≡ Ok false → IsAtEnd (I.remaining input.old) }
-{
-    line.clear();
-    match input.read_until(b'\n', line) {
-        Ok(length) => Ok(length > 0),
-        Err(fault) => Err(Fault::from(fault)),
-    }
 }
 
 /// Writes a line whole, by one put, to the file of the moment that the clock tells.

@@ -6,10 +6,9 @@ mod tee;
 #[cfg(test)]
 mod tests;
 
-use std::alloc::AllocError;
+use program_input::arguments;
+use std::io;
 use std::process::ExitCode;
-use std::rt::Env;
-use std::{env, io};
 
 fn main(rt: HostRuntime) -> ExitCode {
     let (mut input, mut errors) = (rt.stdin(), rt.stderr());
@@ -22,13 +21,4 @@ fn main(rt: HostRuntime) -> ExitCode {
         Err(_) => tee::tee(rt, &rt, &[], &mut input, &mut errors),
     };
     ExitCode::from(status)
-}
-
-// What stands behind the program's name.
-fn arguments(rt: &(impl Env + AllocGlobal)) -> io::Result<Vec<String>> {
-    let mut arguments = Vec::new(rt.alloc());
-    for argument in env::args(rt)?.skip(1) {
-        arguments.push(argument).map_err(AllocError::from)?;
-    }
-    Ok(arguments)
 }

@@ -1,8 +1,8 @@
 //! Lines from an input to a rolling log, through a non-blocking writer.
-ghost use Rattle.std.specs.Prelude.{◌≡◌, ◌≤◌, ◌++◌, ℕ, List, [], false, Some, Ok, OnOk};
-ghost use Rattle.std.specs.Io.BufRead.{take_through, drop_through};
-ghost use Rattle.std.specs.Io.KnownBytes.{Appends, IsAtEnd};
+ghost use Rattle.std.specs.Prelude.{◌≡◌, ◌≤◌, ℕ, List, Some, OnOk};
+ghost use Rattle.std.specs.Io.KnownBytes.{Appends};
 
+use program_input::read_line;
 use std::alloc::{AllocError, Global};
 use std::io;
 use std::io::{BufRead, BufReader, Read, Write};
@@ -214,21 +214,6 @@ pub fn copy_lines<I: BufRead, W: Write>(
         write_line(line.as_slice(), writer)?;
     }
     Err(Fault::Read)
-}
-
-// Reads the next line, in place of what `line` holds, and tells whether there was one.
-fn read_line<I: BufRead>(input: &mut I, line: &mut Vec<u8>) -> Result<bool, Fault>
-    ensures line { OnOk result ((text : List ℕ) → I.remaining input.old ≡ Some text →
-        line.new.items ≡ take_through 10 text) }
-    ensures rest { OnOk result ((text : List ℕ) → I.remaining input.old ≡ Some text →
-        I.remaining input.new ≡ Some (drop_through 10 text)) }
-    ensures end { result ≡ Ok false → IsAtEnd (I.remaining input.old) }
-{
-    line.clear();
-    match input.read_until(b'\n', line) {
-        Ok(length) => Ok(length > 0),
-        Err(error) => Err(Fault::from(error)),
-    }
 }
 
 fn write_line<W: Write>(line: &[u8], writer: &mut W) -> Result<(), Fault>

@@ -280,7 +280,9 @@ impl<'a, R: Wait + Clone> MakeWriter<'a> for NonBlocking<R> {
     type Writer = NonBlocking<R>;
 
     /// One more sender.
-    fn make_writer(&'a self) -> Result<NonBlocking<R>, AllocError> {
+    fn make_writer(&'a self) -> Result<NonBlocking<R>, AllocError>
+        ensures { IfOk result (λ writer. writer.lossy ≡ self.now.lossy) }
+    {
         self.clone()
     }
 }

@@ -22,7 +22,7 @@ impl<S: Folder> Gated<S> {
     ghost use Rattle.std.specs.Prelude.{◌≡◌, None, OnOk};
     ghost use Rattle.std.specs.Io.KnownBytes.{Appends};
     ghost use Rattle.appender_rolling.specs.Roller.{is_due};
-    ghost use Rattle.appender_rolling.specs.Appender.{SeesSome, PutsSome, WritesSome, FlushesSome};
+    ghost use Rattle.appender_rolling.specs.Appender.{SeesSome, PutsSome, WritesSome, WritesAllSome, FlushesSome};
 
     pub(super) fn new(roller: Roller<S>) -> Gated<S>
         ensures { result.boundary ≡ roller.boundary }
@@ -68,7 +68,8 @@ impl<S: Folder> Gated<S> {
 
     // Repeats it under one lock for what was not taken.
     pub(super) fn write_all<R: Wait>(&self, rt: &R, bytes: &[u8]) -> io::Result<()>
-        ensures { OnOk result (Appends None None bytes.now) }
+        ensures bytes { OnOk result (Appends None None bytes.now) }
+        ensures appends { WritesAllSome S.Folder bytes.now result }
     {
         lock(rt, &self.roller, &mut Patience::NEW).write_all(bytes)
     }

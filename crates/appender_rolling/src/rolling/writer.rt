@@ -34,7 +34,7 @@ impl<S: Folder, R> Drop for RollingWriter<'_, S, R> {
 }
 
 impl<'a, S: Folder, R: Wait> Write for RollingWriter<'a, S, R> {
-    ghost use Rattle.appender_rolling.specs.Appender.{WritesSome, FlushesSome};
+    ghost use Rattle.appender_rolling.specs.Appender.{WritesSome, WritesAllSome, FlushesSome};
 
     /// One append to the open file. It reads no clock.
     fn write(&mut self, bytes: &[u8]) -> io::Result<usize>
@@ -47,7 +47,8 @@ impl<'a, S: Folder, R: Wait> Write for RollingWriter<'a, S, R> {
 
     /// Repeats it under one lock for what was not taken, so that no other piece comes between.
     fn write_all(&mut self, bytes: &[u8]) -> io::Result<()>
-        ensures { OnOk result (Appends None None bytes.now) }
+        ensures bytes { OnOk result (Appends None None bytes.now) }
+        ensures appends { WritesAllSome S.Folder bytes.now result }
     {
         self.gate.write_all(self.rt, bytes)
     }

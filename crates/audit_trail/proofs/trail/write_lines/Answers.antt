@@ -1,5 +1,5 @@
-use Rattle.std.proofs.Common.{◌≡◌, refl, subst, ◌∙◌, ap, suc, Ok}
-use Rattle.std.specs.Io.BufRead.{drop_through}
+use Rattle.std.proofs.Common.{◌≡◌, ℕ, List, [], refl, subst, ◌∙◌, ap, suc, Ok}
+use Rattle.std.specs.Io.BufRead.{take_through, drop_through}
 use Rattle.std.specs.Io.KnownBytes.{IsAtEnd}
 use Rattle.audit_trail.specs.Trail.{PutsLine, PutsLines}
 use Rattle.audit_trail.proofs.trail.write_lines.Goals as goal
@@ -20,4 +20,6 @@ loop-preserved g c = λ text told.
     let read = c.in_ok-read_line.ensures in
     let line = c.as_slice.ensures.value ∙ read.line t.1 t.2 in
     let puts = subst (λ line. PutsLine g.S.Folder g.C.Clock line c.loop.log c.write_line.new.log) line c.in_ok-write_line.ensures in
-    (suc t.0, drop_through 10 t.1, read.rest t.1 t.2, (t.1, c.loop.log, t.3, puts, refl))
+    let found = read.some (ap Ok c.if-not-branch.false) in
+    let some = λ (none : t.1 ≡ []). found (◌∙◌ {A = List ℕ} (read.line t.1 t.2) (ap (take_through 10) none)) in
+    (suc t.0, drop_through 10 t.1, read.rest t.1 t.2, (t.1, c.loop.log, t.3, some, puts, refl))
