@@ -16,7 +16,8 @@ pub record Held : Type 0 where
 abbrev pub when_back : Bool → Held → Held
 when_back came h = if came then record h { called = false; waiting = h.waiting - 1 } else h
 
--- The worker is called or not, and so is one of those who wait. Who sleeps uncalled sleeps on, and nobody is called who need not be.
+-- The worker is called or not, and so is one of those who wait. A worker that isn't called sleeps on, if it slept; nobody is called
+-- who doesn't sleep or wait, nor a second one while the first has not come.
 pub record Wakes (old : Held) (calls_worker calls_sender : Bool) (new : Held) : Type 0 where
   pub worker : new.asleep ≡ (old.asleep && not calls_worker)
   pub sleeper : calls_worker ≡ true → old.asleep ≡ true
