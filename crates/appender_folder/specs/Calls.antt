@@ -5,6 +5,12 @@ use Rattle.std.specs.declared.io.Error.{Error}
 use Rattle.appender_names.specs.Name.{IsEntry}
 use Rattle.appender_store.specs.Content.{Content}
 use Rattle.appender_store.specs.Folder.{wrapping_next}
+use Rattle.appender_store.specs.declared.store.notices.NoticeCounts.{NoticeCounts}
+
+-- What is seen of a folder of the file system: how many calls of it failed, and how often each kind of notice was noted.
+pub record Disk : Type 0 where
+  pub failures : ℕ
+  pub noted : NoticeCounts
 
 -- a call counts a failure where it answers an Err, and there alone
 abbrev pub CountsFailure : {T : Type 0} → ℕ → ℕ → Result T Error → Type 0

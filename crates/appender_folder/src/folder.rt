@@ -9,6 +9,7 @@ use entries::list_entries;
 use files::{make_link, open_plain, remove_link, remove_plain};
 use std::alloc::AllocError;
 use std::io::Write;
+use std::marker::Model;
 use std::rt::Files;
 use std::{fs, io};
 
@@ -24,6 +25,14 @@ pub struct DirFolder<R = HostRuntime> {
     path: String,
     failures: u64,
     noted: NoticeCounts,
+}
+
+impl<R> Model for DirFolder<R> {
+    ghost use Rattle.appender_folder.specs.Calls.{Disk};
+
+    ghost Value = { Disk };
+
+    ghost view = { λ f. record { failures = f.failures; noted = f.noted } };
 }
 
 impl<R: Files + AllocGlobal + Eprint + Clone + Drop> DirFolder<R> {

@@ -27,6 +27,13 @@ abbrev pub anchor_of : RotationKind → ℕ
 anchor_of Weekly = 259200
 anchor_of k = 0
 
+-- the rotation of a kind, and the kind of a rotation
+abbrev pub rotation_of : RotationKind → Rotation
+rotation_of kind = record { kind = kind }
+
+abbrev pub rotation_kind : Rotation → RotationKind
+rotation_kind r = r.kind
+
 -- no boundaries: one file for all time
 abbrev pub IsNever : Rotation → Type 0
 IsNever r = r.kind ≡ Never

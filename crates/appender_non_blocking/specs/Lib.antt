@@ -1,3 +1,4 @@
 pub mod Account
+pub mod Mode
 pub mod Refusal
 pub mod Told

@@ -5,3 +5,4 @@ pub mod Openings
 pub mod Clashes
 pub mod Closings
 pub mod Limits
+pub mod Pieces

@@ -3,6 +3,7 @@ use Rattle.std.specs.Prelude.{ℕ, List, [], Option, None, Some, String, string_
 use Rattle.std.specs.declared.alloc.Global.{Global}
 use Rattle.appender_names.specs.declared.rotation.Rotation.{Rotation}
 use Rattle.appender_names.specs.declared.rotation.RotationKind.TheVariants.{Never}
+use Rattle.appender_names.specs.Rotation.{rotation_of}
 use Rattle.appender_names.specs.Name.{Naming, naming}
 
 -- what a builder has set; an empty text is none, and so is a maximum of 0
@@ -15,7 +16,7 @@ pub record Config : Type 0 where
 
 -- what is set before anything is: one file for all time, with neither prefix nor suffix, no link and no maximum of files
 abbrev pub defaults : Config
-defaults = record { rotation = record { kind = Never }; prefix = []; suffix = []; link = []; max_files = 0 }
+defaults = record { rotation = rotation_of Never; prefix = []; suffix = []; link = []; max_files = 0 }
 
 abbrev pub naming_of : Config → Naming
 naming_of c = naming c.rotation c.prefix c.suffix

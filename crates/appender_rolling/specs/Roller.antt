@@ -1,6 +1,8 @@
 -- An open log file, and what each call of a roller does to it and to the folder. `kind` has what folders of one kind tell.
-use Rattle.std.specs.Prelude.{◌≡◌, ◌⊎◌, ℕ, zero, suc, ◌<◌, ◌≤◌, ℤ, ◌<ℤ◌, int_lt, Bool, true, false, not, ◌&&◌, List, [], length, take, drop, Option, None, Some, Result, Ok, Err, MatchResult, OnOk, IsTrue}
+use Rattle.std.specs.Prelude.{◌≡◌, ◌⊎◌, ℕ, ◌<◌, ◌≤◌, ℤ, ◌<ℤ◌, int_lt, Bool, true, false, not, ◌&&◌, List, [], length, take, drop, Option, None, Some, Result, Ok, Err, MatchResult, OnOk, IfErr, IsTrue, ◌++◌, ◌∷◌, ◌≢◌}
+use Rattle.std.specs.IoError.{error_kind}
 use Rattle.std.specs.declared.io.Error.{Error}
+use Rattle.std.specs.declared.io.ErrorKind.TheVariants.{Interrupted, WriteZero}
 use Rattle.appender_names.specs.declared.error.InitError.{InitError}
 use Rattle.appender_names.specs.declared.error.InitError.TheVariants.{Moment, Name, Memory}
 use Rattle.appender_store.specs.declared.store.Folder.{Ghosts}
@@ -145,19 +147,46 @@ pub record Writes {S F : Type 0} (kind : Ghosts S F) (bytes : List ℕ) (answer 
   pub cause : HasCause kind.tells ⊥ (kind.failures old.folder) (kind.failures new.folder) answer
   pub stays : StaysOpen kind old new
 
--- So many writes, each of what those before it left of the bytes, and this rest is left.
-abbrev pub WritesPieces : {S F : Type 0} → Ghosts S F → ℕ → List ℕ → Rolling S F → List ℕ → Rolling S F → Type 0
-WritesPieces kind zero bytes start rest now = (rest ≡ bytes) × (now ≡ start)
-WritesPieces {S} {F} kind (suc count) bytes start rest now =
-    (left : List ℕ) × (last : Rolling S F) × (answer : Result ℕ Error) × WritesPieces kind count bytes start left last
+-- more is written behind a write that took some of its bytes, and behind one that was interrupted
+abbrev pub GoesOn : Result ℕ Error → Type 0
+GoesOn (Ok n) = n ≢ 0
+GoesOn (Err e) = error_kind e ≡ Interrupted
+
+-- so do all of them
+abbrev pub AllGoOn : List (Result ℕ Error) → Type 0
+AllGoOn [] = Unit {0}
+AllGoOn (answer ∷ answers) = GoesOn answer × AllGoOn answers
+
+-- Writes with these answers, the newest first, each of what those before it left of the bytes. All but the newest go on, and this
+-- rest is left.
+abbrev pub WritesPieces : {S F : Type 0} → Ghosts S F → List (Result ℕ Error) → List ℕ → Rolling S F → List ℕ → Rolling S F → Type 0
+WritesPieces kind [] bytes start rest now = (rest ≡ bytes) × (now ≡ start)
+WritesPieces {S} {F} kind (answer ∷ before) bytes start rest now =
+    (left : List ℕ) × (last : Rolling S F) × WritesPieces kind before bytes start left last × (left ≢ []) × AllGoOn before
     × Writes kind left answer last now × (rest ≡ drop (count_of answer) left)
 
--- Bytes were written so, and where that is told nothing of them is left.
+-- Why none follows the writes with these answers: the newest has this very fault and wasn't interrupted, or it took nothing, or they
+-- are 2^64 - 1, behind which a loop ends.
+abbrev pub Stops : List (Result ℕ Error) → Error → Type 0
+Stops [] fault = ⊥
+Stops (Ok n ∷ before) fault = ((n ≡ 0) × (error_kind fault ≡ WriteZero)) ⊎ (length before ≡ 18446744073709551614)
+Stops (Err e ∷ before) fault = ((e ≡ fault) × (error_kind e ≢ Interrupted)) ⊎ (length before ≡ 18446744073709551614)
+
+-- They leave this rest of the bytes; what they took stands behind what the open file held, and nothing else has changed.
+pub record WritesSoFar {S F : Type 0} (kind : Ghosts S F) (answers : List (Result ℕ Error)) (bytes rest : List ℕ) (old new : Rolling S F) : Type 0 where
+  pub pieces : WritesPieces kind answers bytes old rest new
+  pub taken : List ℕ
+  pub split : bytes ≡ taken ++ rest
+  pub content : IsTrue kind.tells → kind.content new.folder ≡ after_append (kind.content old.folder) (kind.body old.file) taken
+  pub stays : StaysOpen kind old new
+
+-- Bytes were written so. Where that is told nothing of them is left, and a fault has its reason.
 pub record WritesAll {S F : Type 0} (kind : Ghosts S F) (bytes : List ℕ) (answer : Result (Unit {0}) Error) (old new : Rolling S F) : Type 0 where
-  pub count : ℕ
+  pub answers : List (Result ℕ Error)
   pub rest : List ℕ
-  pub pieces : WritesPieces kind count bytes old rest new
+  pub so_far : WritesSoFar kind answers bytes rest old new
   pub whole : OnOk answer (rest ≡ [])
+  pub stops : IfErr answer (λ fault. Stops answers fault)
 
 -- A look at the clock, and then a write.
 pub record Puts {S F : Type 0} (kind : Ghosts S F) (m : ℤ) (bytes : List ℕ) (switch : Switch) (answer : Result ℕ Error) (old new : Rolling S F) : Type 0 where

@@ -259,14 +259,14 @@ impl<S: Folder> Write for Roller<S> {
         ensures appends { WritesAll S.Folder bytes.now result self.old self.new }
     {
         let mut rest = bytes;
-        for _ in 0..u64::MAX {
+        for _made in 0..u64::MAX {
             if rest.is_empty() {
                 return Ok(());
             }
             match Roller::write(self, rest) {
                 Ok(0) => return Err(io::Error::from(ErrorKind::WriteZero)),
                 Ok(taken) => rest = &rest[taken..],
-                Err(fault) if fault.kind() == ErrorKind::Interrupted => {}
+                Err(fault) if matches!(fault.kind(), ErrorKind::Interrupted) => {}
                 Err(fault) => return Err(fault),
             }
         }

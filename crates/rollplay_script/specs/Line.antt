@@ -4,6 +4,7 @@ use Rattle.std.specs.declared.alloc.Global.{Global}
 use Rattle.appender_names.specs.declared.rotation.Rotation.{Rotation}
 use Rattle.appender_names.specs.declared.rotation.RotationKind.{RotationKind}
 use Rattle.appender_names.specs.declared.rotation.RotationKind.TheVariants.{Minutely, Hourly, Daily, Weekly, Never}
+use Rattle.appender_names.specs.Rotation.{rotation_kind}
 use Rattle.appender_replay.specs.declared.replay.RollStep.TheVariants.{See, Put, Write, Flush}
 use Rattle.appender_replay.specs.declared.replay.whole.Step.TheVariants.{Offer, Shut, AddSender, DropSender, Work}
 use Rattle.rollplay_script.specs.declared.line.ScriptLine.{ScriptLine}
@@ -21,7 +22,7 @@ kind_word Weekly = codes "weekly"
 kind_word Never = codes "never"
 
 abbrev pub rotation_word : Rotation → List ℕ
-rotation_word r = kind_word r.kind
+rotation_word r = kind_word (rotation_kind r)
 
 -- what a queue does with a line that finds no room: it drops and counts it, or has its sender try again
 abbrev pub mode_word : Bool → List ℕ

@@ -1,5 +1,5 @@
 // How a worker and its first sender are made.
-ghost use Rattle.std.specs.Prelude.{◌≡◌, ◌+◌, IfOk, None, true, replicate};
+ghost use Rattle.std.specs.Prelude.{◌≡◌, ◌+◌, IfOk, Some, None, true, replicate};
 ghost use Rattle.appender_non_blocking.specs.Account.{new_sender, new_guard};
 
 use super::account::CountedGuard;
@@ -11,6 +11,7 @@ use super::worker::serve;
 use appender_state::books::{Done, FourBooks, NoBooks, Pass};
 use std::alloc::{AllocError, Global};
 use std::io::Write;
+use std::marker::Model;
 use std::sync::ledger::{Blank, Ledger};
 use std::sync::{Arc, Wait};
 use std::thread::{JoinHandle, Threads};
@@ -29,6 +30,16 @@ pub struct NonBlockingBuilder {
     limit: usize,
     lossy: bool,
     name: Option<String>,
+}
+
+impl Model for NonBlockingBuilder {
+    ghost use Rattle.std.specs.Prelude.{string_bytes};
+    ghost use Rattle.std.specs.Option.{option_map};
+    ghost use Rattle.appender_non_blocking.specs.Mode.{Asked};
+
+    ghost Value = { Asked };
+
+    ghost view = { λ b. record { limit = b.limit; lossy = b.lossy; name = option_map string_bytes b.name } };
 }
 
 impl Default for NonBlockingBuilder {
@@ -76,13 +87,14 @@ impl NonBlockingBuilder {
     pub fn thread_name(self, alloc: Global, name: &str) -> Result<NonBlockingBuilder, AllocError>
         ensures limit { IfOk result (λ builder. builder.limit ≡ self.limit) }
         ensures lossy { IfOk result (λ builder. builder.lossy ≡ self.lossy) }
+        ensures name { IfOk result (λ builder. builder.name ≡ Some name.now) }
     {
         let NonBlockingBuilder {
             limit,
             lossy,
             name: _,
         } = self;
-        let name = Some(name.to_string(alloc)?);
+        let name = Some(String::from_str(alloc, name)?);
         Ok(NonBlockingBuilder { limit, lossy, name })
     }
 

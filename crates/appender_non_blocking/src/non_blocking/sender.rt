@@ -25,6 +25,7 @@ use appender_writers::MakeWriter;
 use std::alloc::{AllocError, Global};
 use std::fmt::{Debug, Formatter};
 use std::io::{ErrorKind, Write};
+use std::marker::Model;
 use std::sync::atomic::Ordering::SeqCst;
 use std::sync::{Arc, Wait};
 use std::{fmt, io, mem};
@@ -50,6 +51,14 @@ pub struct NonBlocking<R: Wait + Drop> {
     // The buffer for the next line.
     spare: Vec<u8>,
     patience: Patience,
+}
+
+impl<R: Wait + Drop> Model for NonBlocking<R> {
+    ghost use Rattle.appender_non_blocking.specs.Mode.{Mode};
+
+    ghost Value = { Mode };
+
+    ghost view = { λ s. record { lossy = s.lossy } };
 }
 
 impl<R: Wait + Drop> NonBlocking<R> {
@@ -312,6 +321,14 @@ impl<R: Wait + Drop> Debug for NonBlocking<R> {
 pub struct ErrorCounter {
     shared: Arc<Shared<NoBooks>, Global>,
     lossy: bool,
+}
+
+impl Model for ErrorCounter {
+    ghost use Rattle.appender_non_blocking.specs.Mode.{Mode};
+
+    ghost Value = { Mode };
+
+    ghost view = { λ c. record { lossy = c.lossy } };
 }
 
 impl ErrorCounter {

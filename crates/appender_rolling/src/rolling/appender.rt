@@ -1,6 +1,7 @@
 // A roller that threads share, and the clock that it is asked by.
 ghost use Rattle.std.specs.Prelude.{◌≡◌, IfOk, IfErr};
 ghost use Rattle.appender_names.specs.declared.rotation.RotationKind.TheVariants.{Minutely, Hourly, Daily, Weekly, Never};
+ghost use Rattle.appender_names.specs.Rotation.{rotation_of};
 ghost use Rattle.appender_rolling.specs.Config.{defaults};
 ghost use Rattle.appender_rolling.specs.Appender.{plain_config, SharesSome};
 
@@ -226,7 +227,7 @@ pub fn minutely<R: Files + AllocGlobal + Eprint + time::Clock + Clone + Drop>(
     prefix: &str,
 ) -> Result<FileAppender<R>, InitError>
     ensures { IfOk result (SharesSome ⟦<DirFolder<R> as Folder>⟧ ⟦<SystemClock<R> as Clock>⟧
-        (plain_config (record { kind = Minutely }) prefix.now)) }
+        (plain_config (rotation_of Minutely) prefix.now)) }
 {
     RollingFileAppender::new(rt, Rotation::MINUTELY, directory, prefix)
 }
@@ -239,7 +240,7 @@ pub fn hourly<R: Files + AllocGlobal + Eprint + time::Clock + Clone + Drop>(
     prefix: &str,
 ) -> Result<FileAppender<R>, InitError>
     ensures { IfOk result (SharesSome ⟦<DirFolder<R> as Folder>⟧ ⟦<SystemClock<R> as Clock>⟧
-        (plain_config (record { kind = Hourly }) prefix.now)) }
+        (plain_config (rotation_of Hourly) prefix.now)) }
 {
     RollingFileAppender::new(rt, Rotation::HOURLY, directory, prefix)
 }
@@ -252,7 +253,7 @@ pub fn daily<R: Files + AllocGlobal + Eprint + time::Clock + Clone + Drop>(
     prefix: &str,
 ) -> Result<FileAppender<R>, InitError>
     ensures { IfOk result (SharesSome ⟦<DirFolder<R> as Folder>⟧ ⟦<SystemClock<R> as Clock>⟧
-        (plain_config (record { kind = Daily }) prefix.now)) }
+        (plain_config (rotation_of Daily) prefix.now)) }
 {
     RollingFileAppender::new(rt, Rotation::DAILY, directory, prefix)
 }
@@ -265,7 +266,7 @@ pub fn weekly<R: Files + AllocGlobal + Eprint + time::Clock + Clone + Drop>(
     prefix: &str,
 ) -> Result<FileAppender<R>, InitError>
     ensures { IfOk result (SharesSome ⟦<DirFolder<R> as Folder>⟧ ⟦<SystemClock<R> as Clock>⟧
-        (plain_config (record { kind = Weekly }) prefix.now)) }
+        (plain_config (rotation_of Weekly) prefix.now)) }
 {
     RollingFileAppender::new(rt, Rotation::WEEKLY, directory, prefix)
 }
@@ -278,7 +279,7 @@ pub fn never<R: Files + AllocGlobal + Eprint + time::Clock + Clone + Drop>(
     prefix: &str,
 ) -> Result<FileAppender<R>, InitError>
     ensures { IfOk result (SharesSome ⟦<DirFolder<R> as Folder>⟧ ⟦<SystemClock<R> as Clock>⟧
-        (plain_config (record { kind = Never }) prefix.now)) }
+        (plain_config (rotation_of Never) prefix.now)) }
 {
     RollingFileAppender::new(rt, Rotation::NEVER, directory, prefix)
 }

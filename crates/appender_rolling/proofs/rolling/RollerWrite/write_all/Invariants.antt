@@ -1,7 +1,10 @@
-use Rattle.std.proofs.Common.{ℕ}
-use Rattle.appender_rolling.specs.Roller.{WritesPieces}
+use Rattle.std.proofs.Common.{◌≡◌, List, length}
+use Rattle.std.specs.Prelude.{ℕ, Result}
+use Rattle.std.specs.declared.io.Error.{Error}
+use Rattle.appender_rolling.specs.Roller.{WritesSoFar, AllGoOn}
 use Rattle.appender_rolling.proofs.rolling.RollerWrite.write_all.Given as goal
 
--- what is left was not written yet, and all before it was
-abbrev pub invariant-loop : goal.invariant-loop
-invariant-loop g l = (count : ℕ) × WritesPieces g.S.Folder count l.fn.bytes l.fn.self l.rest l.self
+-- what is left was not written yet, all before it was, and each write goes on
+abbrev pub invariant-loop-made : goal.invariant-loop-made
+invariant-loop-made g l =
+    (answers : List (Result ℕ Error)) × WritesSoFar g.S.Folder answers l.fn.bytes l.rest l.fn.self l.self × AllGoOn answers × (length answers ≡ l._made)
