@@ -8,10 +8,11 @@ use fake_gate::gate::{Host, Seen, new_gate};
 use std::alloc::Global;
 use std::io::{ErrorKind, Write};
 use std::process::Abort;
+use std::rt::Files;
 use std::sync::Arc;
 use std::test::Fail;
 use std::time::Duration;
-use std::{io, thread};
+use std::{fs, io, thread};
 
 // A worker over a gate that holds this line.
 fn over_gate<R: Host>(
@@ -219,5 +220,42 @@ fn all_types_can_be_shown(rt: HostRuntime) -> Result<(), Fail> {
         shown.as_str(),
         "NonBlocking { .. } WorkerGuard { .. } ErrorCounter { .. }"
     );
+    Ok(())
+}
+
+// Whether a thread of this process is called so. The system keeps the first fifteen bytes of a name.
+fn has_thread<R: Files + AllocGlobal + Clone + Drop>(rt: &R, name: &[u8]) -> io::Result<bool> {
+    for task in fs::read_dir(rt, "/proc/self/task")? {
+        let path = format!(in rt.alloc(); "/proc/self/task/{}/comm", task?.file_name())?;
+        // One that has ended since has no file.
+        if let Ok(called) = fs::read(rt, path.as_str())
+            && called.trim_ascii_end() == name
+        {
+            return Ok(true);
+        }
+    }
+    Ok(false)
+}
+
+// Whether the worker that this makes is called so.
+fn calls_its_worker<R: Host + Files + Drop>(
+    rt: R,
+    builder: NonBlockingBuilder,
+    name: &[u8],
+) -> io::Result<bool> {
+    let (mut sender, guard, seen) = over_gate(rt, builder, b"1")?;
+    sender.write(b"1")?;
+    let is_called = seen.is_held(rt) && has_thread(&rt, name)?;
+    seen.opens();
+    drop(guard);
+    Ok(is_called)
+}
+
+#[test]
+fn the_worker_has_its_name(rt: HostRuntime) -> Result<(), Fail> {
+    let builder = NonBlockingBuilder::default();
+    assert!(rt; calls_its_worker(rt, builder, b"tracing-appende")?);
+    let builder = NonBlockingBuilder::default().thread_name(rt.alloc(), "auditor")?;
+    assert!(rt; calls_its_worker(rt, builder, b"auditor")?);
     Ok(())
 }

@@ -86,7 +86,7 @@ fn gather_files<R: Host, T: Trails, O: Write, E: Write>(
 ) -> Result<u8, Fault>
     ensures { IfOk result (λ status. status ≤ 3) }
 {
-    let log = trails.open_trail(directory).map_err(Fault::Open)?;
+    let log = trails.open_trail(directory)?;
     let (mut sources, mut opened) = (Vec::new(rt.alloc()), Vec::new(rt.alloc()));
     let mut status = 0;
     for path in paths {

@@ -1,6 +1,7 @@
 //! An audit trail of lines.
-ghost use Rattle.std.specs.Prelude.{◌≡◌, ◌≤◌, ℕ, List, [], Some, OnOk};
-ghost use Rattle.audit_trail.specs.Trail.{PutsLine, PutsLines};
+ghost use Rattle.std.specs.Prelude.{◌≡◌, ◌≢◌, ◌≤◌, ℕ, List, [], length, Some, Err, OnOk, IfOk};
+ghost use Rattle.audit_trail.specs.Trail.{PutsLine, PutsLines, KeepsLines, trail_config, status_of};
+ghost use Rattle.appender_rolling.specs.Appender.{OpensSome};
 
 use program_input::read_line;
 use std::alloc::{AllocError, Global};
@@ -23,7 +24,7 @@ pub enum Fault {
     Usage,
     /// No log was opened.
     #[error("{0}")]
-    Open(InitError),
+    Open(#[from] InitError),
     /// Standard input was not read.
     #[error("read failed: {0}")]
     Read(io::Error),
@@ -47,7 +48,7 @@ pub enum Fault {
 impl Fault {
     // The status that the program ends with.
     fn status(&self) -> u8
-        ensures { result ≤ 3 }
+        ensures { result ≡ status_of self.now }
     {
         match self {
             Fault::Usage => 2,
@@ -83,7 +84,10 @@ pub fn keep<R: Runtime + AllocGlobal, I: Read, E: Write>(
     input: &mut I,
     errors: &mut E,
 ) -> u8
-    ensures { result ≤ 3 }
+    ensures status { result ≤ 3 }
+    ensures usage { length arguments.now ≢ 1 → result ≡ 2 }
+    ensures lines { result ≡ 0 → (text : List ℕ) → I.remaining input.old ≡ Some text →
+        KeepsLines ⟦<DirFolder<R> as Folder>⟧ ⟦<SystemClock<R> as Clock>⟧ text }
 {
     match copy_lines(rt, arguments, input) {
         Ok(()) => 0,
@@ -93,7 +97,7 @@ pub fn keep<R: Runtime + AllocGlobal, I: Read, E: Write>(
 
 /// Tells a fault on `errors`, and answers its status.
 pub fn tell<E: Write>(fault: &Fault, errors: &mut E) -> u8
-    ensures { result ≤ 3 }
+    ensures { result ≡ status_of fault.now }
 {
     let _ = writeln!(errors, "{fault}");
     fault.status()
@@ -103,13 +107,17 @@ fn copy_lines<R: Runtime + AllocGlobal, I: Read>(
     rt: &R,
     arguments: &[String],
     input: &mut I,
-) -> Result<(), Fault> {
+) -> Result<(), Fault>
+    ensures usage { length arguments.now ≢ 1 → result ≡ Err Fault.Usage }
+    ensures lines { OnOk result ((text : List ℕ) → I.remaining input.old ≡ Some text →
+        KeepsLines ⟦<DirFolder<R> as Folder>⟧ ⟦<SystemClock<R> as Clock>⟧ text) }
+{
     let [directory] = arguments else {
         return Err(Fault::Usage);
     };
     let alloc = rt.alloc();
     let mut input = BufReader::new(alloc, input)?;
-    let mut log = open_log(rt, directory.as_str()).map_err(Fault::Open)?;
+    let mut log = open_log(rt, directory.as_str())?;
     write_lines(alloc, &mut input, &mut log)?;
     log.flush().map_err(Fault::Write)
 }
@@ -118,16 +126,23 @@ fn copy_lines<R: Runtime + AllocGlobal, I: Read>(
 pub fn open_log<R: Runtime + AllocGlobal>(
     rt: &R,
     directory: &str,
-) -> Result<RollingFile<DirFolder<R>, SystemClock<R>>, InitError> {
-    let alloc = rt.alloc();
+) -> Result<RollingFile<DirFolder<R>, SystemClock<R>>, InitError>
+    ensures { IfOk result (OpensSome ⟦<DirFolder<R> as Folder>⟧ ⟦<SystemClock<R> as Clock>⟧
+        trail_config) }
+{
     fs::create_dir_all(rt, directory).map_err(InitError::Directory)?;
-    Builder::new()
+    settings(rt.alloc())?.open(rt.clone()?, directory)
+}
+
+fn settings(alloc: Global) -> Result<Builder, AllocError>
+    ensures { IfOk result (λ builder. builder ≡ trail_config) }
+{
+    let named = Builder::new()
         .rotation(Rotation::DAILY)
         .filename_prefix(alloc, "audit")?
-        .filename_suffix(alloc, "log")?
-        .latest_symlink(alloc, "latest.log")?
-        .max_log_files(KEPT_DAYS)
-        .open(rt.clone()?, directory)
+        .filename_suffix(alloc, "log")?;
+    let linked = named.latest_symlink(alloc, "latest.log")?;
+    Ok(linked.max_log_files(KEPT_DAYS))
 }
 
 /// Writes each line of `input`, with its newline, if it has one.

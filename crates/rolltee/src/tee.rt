@@ -1,6 +1,7 @@
 //! Lines from an input to a rolling log, through a non-blocking writer.
-ghost use Rattle.std.specs.Prelude.{◌≡◌, ◌≤◌, ℕ, List, Some, OnOk};
+ghost use Rattle.std.specs.Prelude.{◌≡◌, ◌≢◌, ◌≤◌, ℕ, List, length, Some, Err, OnOk};
 ghost use Rattle.std.specs.Io.KnownBytes.{Appends};
+ghost use Rattle.rolltee.specs.Status.{status_of};
 
 use program_input::read_line;
 use std::alloc::{AllocError, Global};
@@ -80,7 +81,7 @@ pub enum Fault {
 impl Fault {
     // The status that the program ends with.
     fn status(&self) -> u8
-        ensures { result ≤ 3 }
+        ensures { result ≡ status_of self.now }
     {
         match self {
             Fault::Usage => 2,
@@ -123,7 +124,8 @@ pub fn tee<R: Host, L: Logs, I: Read, E: Write>(
     input: &mut I,
     errors: &mut E,
 ) -> u8
-    ensures { result ≤ 3 }
+    ensures status { result ≤ 3 }
+    ensures usage { length arguments.now ≢ 3 → result ≡ 2 }
 {
     match copy_through(rt, logs, arguments, input) {
         Ok(()) => 0,
@@ -133,7 +135,7 @@ pub fn tee<R: Host, L: Logs, I: Read, E: Write>(
 
 /// Tells a fault on `errors`, and answers its status.
 pub fn tell<E: Write>(fault: &Fault, errors: &mut E) -> u8
-    ensures { result ≤ 3 }
+    ensures { result ≡ status_of fault.now }
 {
     let _ = writeln!(errors, "{fault}");
     fault.status()
@@ -144,7 +146,9 @@ fn copy_through<R: Host, L: Logs, I: Read>(
     logs: &L,
     arguments: &[String],
     input: &mut I,
-) -> Result<(), Fault> {
+) -> Result<(), Fault>
+    ensures { length arguments.now ≢ 3 → result ≡ Err Fault.Usage }
+{
     let [rotation, directory, prefix] = arguments else {
         return Err(Fault::Usage);
     };

@@ -1,4 +1,4 @@
-use Rattle.std.proofs.Common.{◌≡◌, [], refl, subst, sym, ◌∙◌, ap, Ok, ◌++◌, append-nil, append_assoc}
+use Rattle.std.proofs.Common.{[], refl, subst, sym, ◌∙◌, ap, Ok, ◌++◌, append-nil, append_assoc}
 use Rattle.std.specs.Io.BufRead.{take_through, drop_through}
 use Rattle.std.specs.Io.KnownBytes.{Appends, IsAtEnd}
 use Rattle.rolltee.proofs.Copied.{appends_nothing, appends_both, joined}

@@ -1,0 +1,29 @@
+-- What the answers about a run have in common.
+use Rattle.std.proofs.Common.{◌≡◌, ℕ, ◌==◌, List, [], Option, None, Some, Result, Ok, Err, IfOk, OnOk, if◌then◌else◌, MutBor, subst, sym, ◌∙◌, ap}
+use Rattle.std.specs.Io.KnownBytes.{prepend_known}
+use Rattle.std.specs.Io.Buffered.{reader_buffer, reader_capacity, reader_inner, reader_remaining}
+use Rattle.std.specs.declared.io.buffered.BufReader.{BufReader}
+use Rattle.appender_store.specs.declared.store.Folder.{Ghosts}
+use Rattle.appender_rolling.specs.declared.rolling.clock.Clock.{Ghosts as Readings}
+use Rattle.appender_rolling.specs.Appender.{Appending, OpensSome}
+use Rattle.appender_rolling.specs.Config.{Config}
+
+-- one configuration in place of another that equals it
+pub opens_with : {S F C E : Type 0} (kind : Ghosts S F) (time : Readings C) (result : Result (Appending S F C) E) {a b : Config} → a ≡ b
+    → IfOk result (OpensSome kind time a) → IfOk result (OpensSome kind time b)
+opens_with kind time result same = subst (λ config. IfOk result (OpensSome kind time config)) same
+
+-- what holds anyhow holds where there is a value
+pub on_ok : {T E P : Type 0} (result : Result T E) → P → OnOk result P
+on_ok (Ok value) p = p
+on_ok (Err error) p = tt
+
+-- a new buffer has the bytes of the reader that it borrows
+pub buffers_all : {I A : Type 0} (remaining : I → Option (List ℕ)) (buffered : BufReader (MutBor I) A) (input : MutBor I) (text : List ℕ)
+    → reader_inner buffered ≡ input → reader_buffer buffered ≡ [] → reader_capacity buffered ≡ 8192 → remaining input.now ≡ Some text
+    → reader_remaining (λ lent. remaining lent.now) buffered ≡ Some text
+buffers_all remaining buffered input text inner empty capacity told =
+    let behind = ap (λ (lent : MutBor _). remaining lent.now) inner ∙ told in
+    let ahead = subst (λ bytes. prepend_known bytes (remaining buffered.inner.now) ≡ Some text) (sym empty) (ap (prepend_known []) behind) in
+    subst (λ room. (if room == 0 then None else prepend_known (reader_buffer buffered) (remaining buffered.inner.now)) ≡ Some text)
+    (sym capacity) ahead
