@@ -55,21 +55,42 @@ fn a_put_makes_an_absent_folder(rt: HostRuntime) -> Result<(), Fail> {
     Ok(())
 }
 
-// Makes each call of a folder once, and answers how many bytes were taken and what was listed.
-fn walk<S: Folder>(folder: &mut S) -> io::Result<(usize, Vec<Listed>)> {
-    folder.make_folder()?;
+// Removes the old file and the link to it.
+fn remove_old<S: Folder>(folder: &mut S) -> io::Result<()> {
     folder.remove("old")?;
-    folder.remove_link("latest")?;
-    folder.make_link("latest", "new")?;
+    folder.remove_link("latest")
+}
+
+// Makes the link lead to the new file in place of the old one, which goes.
+fn move_link<S: Folder>(folder: &mut S) -> io::Result<()> {
+    folder.make_folder()?;
+    remove_old(folder)?;
+    folder.make_link("latest", "new")
+}
+
+// Writes the new file, and answers how many bytes were taken.
+fn write_hello<S: Folder>(folder: &mut S) -> io::Result<usize> {
     let mut file = folder.open("new")?;
     let taken = folder.append(&mut file, b"hello")?;
     folder.flush(&mut file)?;
+    Ok(taken)
+}
+
+// Notes one thing of each kind, and an opening twice.
+fn note_all<S: Folder>(folder: &mut S) {
     let fault = io::Error::from(io::ErrorKind::Other);
     folder.note(Notice::List(&fault));
     folder.note(Notice::Remove("old", &fault));
     folder.note(Notice::Flush(&fault));
     folder.note(Notice::Open(&InitError::Memory));
     folder.note(Notice::Open(&InitError::Memory));
+}
+
+// Makes each call of a folder, and answers how many bytes were taken and what was listed.
+fn walk<S: Folder>(folder: &mut S) -> io::Result<(usize, Vec<Listed>)> {
+    move_link(folder)?;
+    let taken = write_hello(folder)?;
+    note_all(folder);
     Ok((taken, folder.list()?))
 }
 

@@ -1,8 +1,8 @@
 // Appenders that are written to by std's `Write`, over real folders and over one in memory.
 
 use crate::scene::{
-    ELEVEN, Host, START, TWELVE, TestClock, at, clear, expect_bytes, expect_files, folder_at,
-    fresh, hourly_log, names_in, opened, target_of, text_of,
+    ELEVEN, Host, START, TWELVE, TestClock, at, clear, expect_bytes, expect_files, expect_target,
+    expect_text, folder_at, fresh, hourly_log, names_in, opened,
 };
 use std::io::Write;
 use std::process::Abort;
@@ -70,7 +70,7 @@ fn expect_hello(rt: &impl Host, directory: &str) -> String {
     let mut names = names_in(rt, directory);
     assert_eq!(rt; names.len(), 1, "{directory}");
     let name = names.pop().expect(rt, "a name");
-    assert_eq!(rt; text_of(rt, directory, name.as_str()).as_str(), "Hello");
+    expect_text(rt, directory, name.as_str(), "Hello");
     name
 }
 
@@ -188,9 +188,11 @@ fn the_link_leads_to_the_newest_file(rt: HostRuntime) {
         assert_eq!(rt; write_with_link(rt, given), 2, "{given}");
         let directory = at(&rt, parent.as_str(), place);
         let directory = directory.as_str();
-        assert_eq!(rt;
-            target_of(&rt, directory, "latest.log").as_str(),
-            "test_latest_symlink.2020-02-01-11"
+        expect_target(
+            &rt,
+            directory,
+            "latest.log",
+            "test_latest_symlink.2020-02-01-11",
         );
         let files = [
             ("latest.log", "file 2\n"),

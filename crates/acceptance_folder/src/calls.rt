@@ -1,8 +1,8 @@
 // Each call of a folder of the file system, once by itself.
 
 use crate::scene::{
-    at, clear, expect_files, folder_at, fresh, kind_of_error, names_in, put, put_folder, put_link,
-    target_of, text_of,
+    at, clear, expect_count, expect_files, expect_target, expect_text, folder_at, fresh,
+    kind_of_error, put, put_folder, put_link,
 };
 use crate::swapping::Swapping;
 use std::cell::Cell;
@@ -12,26 +12,43 @@ use std::{env, fs};
 use tracing_appender::folder::DirFolder;
 use tracing_appender::store::{Folder, Kind, Listed};
 
-const INVALID: Option<ErrorKind> = Some(ErrorKind::InvalidInput);
+// A call of a folder by a name.
+#[derive(Clone, Copy, Debug)]
+enum Call {
+    Open,
+    Remove,
+    RemoveLink,
+    MakeLink,
+}
 
-const IN_USE: Option<ErrorKind> = Some(ErrorKind::AlreadyExists);
+// Why a call with this name is refused, if it is.
+fn refusal_of<S: Folder>(folder: &mut S, call: Call, name: &str) -> Option<ErrorKind> {
+    match call {
+        Call::Open => kind_of_error(folder.open(name)),
+        Call::Remove => kind_of_error(folder.remove(name)),
+        Call::RemoveLink => kind_of_error(folder.remove_link(name)),
+        Call::MakeLink => kind_of_error(folder.make_link(name, "a")),
+    }
+}
 
-const ABSENT: Option<ErrorKind> = Some(ErrorKind::NotFound);
+// Checks that each of these calls with this name is refused so.
+fn expect_refusals<S: Folder>(
+    rt: &impl Abort,
+    folder: &mut S,
+    calls: &[Call],
+    name: &str,
+    wanted: ErrorKind,
+) {
+    for call in calls {
+        let refusal = refusal_of(folder, *call, name);
+        assert_eq!(rt; refusal, Some(wanted), "{call:?} {name:?}");
+    }
+}
 
-// What each call with a name answers to this one.
-fn expect_refusal<S: Folder>(rt: &impl Abort, folder: &mut S, name: &str) {
-    assert_eq!(rt; kind_of_error(folder.open(name)), INVALID, "{name:?}");
-    assert_eq!(rt; kind_of_error(folder.remove(name)), INVALID, "{name:?}");
-    assert_eq!(rt;
-        kind_of_error(folder.remove_link(name)),
-        INVALID,
-        "{name:?}"
-    );
-    assert_eq!(rt;
-        kind_of_error(folder.make_link(name, "a")),
-        INVALID,
-        "{name:?}"
-    );
+// Checks how many entries a folder lists.
+fn expect_listed<S: Folder>(rt: &impl Abort, folder: &mut S, wanted: usize) {
+    let listed = folder.list().expect(rt, "a listing");
+    assert_eq!(rt; listed.len(), wanted);
 }
 
 #[test]
@@ -53,13 +70,14 @@ fn a_name_that_leaves_the_folder_is_refused(rt: HostRuntime) {
         "a/b",
         "a\0",
     ] {
-        expect_refusal(&rt, &mut folder, name);
+        let calls = [Call::Open, Call::Remove, Call::RemoveLink, Call::MakeLink];
+        expect_refusals(&rt, &mut folder, &calls, name, ErrorKind::InvalidInput);
     }
     assert_eq!(rt; folder.failures(), 36);
-    assert!(rt; folder.list().expect(&rt, "a listing").is_empty());
-    assert_eq!(rt; names_in(&rt, parent).len(), 3);
-    assert_eq!(rt; text_of(&rt, parent, "outside").as_str(), "kept");
-    assert_eq!(rt; target_of(&rt, parent, "link").as_str(), "outside");
+    expect_listed(&rt, &mut folder, 0);
+    expect_count(&rt, parent, 3);
+    expect_text(&rt, parent, "outside", "kept");
+    expect_target(&rt, parent, "link", "outside");
     clear(&rt, parent);
 }
 
@@ -73,17 +91,23 @@ fn plain_files_alone_are_opened_and_removed(rt: HostRuntime) {
     let mut folder = folder_at(rt, directory);
     put_folder(&rt, directory, "sub");
     for name in ["link", "dangling", "sub"] {
-        assert_eq!(rt; kind_of_error(folder.open(name)), IN_USE, "{name}");
-        assert_eq!(rt; kind_of_error(folder.remove(name)), IN_USE, "{name}");
+        let calls = [Call::Open, Call::Remove];
+        expect_refusals(&rt, &mut folder, &calls, name, ErrorKind::AlreadyExists);
     }
-    assert_eq!(rt; kind_of_error(folder.remove("absent")), ABSENT);
+    expect_refusals(
+        &rt,
+        &mut folder,
+        &[Call::Remove],
+        "absent",
+        ErrorKind::NotFound,
+    );
     assert_eq!(rt; folder.failures(), 7);
-    assert_eq!(rt; names_in(&rt, directory).len(), 4);
-    assert_eq!(rt; target_of(&rt, directory, "link").as_str(), "file");
-    assert_eq!(rt; target_of(&rt, directory, "dangling").as_str(), "nothing");
-    assert_eq!(rt; text_of(&rt, directory, "file").as_str(), "text");
+    expect_count(&rt, directory, 4);
+    expect_target(&rt, directory, "link", "file");
+    expect_target(&rt, directory, "dangling", "nothing");
+    expect_text(&rt, directory, "file", "text");
     folder.remove("file").expect(&rt, "a file");
-    assert_eq!(rt; names_in(&rt, directory).len(), 3);
+    expect_count(&rt, directory, 3);
     clear(&rt, directory);
 }
 
@@ -95,22 +119,24 @@ fn links_alone_are_removed_as_links(rt: HostRuntime) {
     put_folder(&rt, directory, "sub");
     let mut folder = folder_at(rt, directory);
     for name in ["file", "sub"] {
-        assert_eq!(rt; kind_of_error(folder.remove_link(name)), IN_USE, "{name}");
-        assert_eq!(rt;
-            kind_of_error(folder.make_link(name, "a")),
-            IN_USE,
-            "{name}"
-        );
+        let calls = [Call::RemoveLink, Call::MakeLink];
+        expect_refusals(&rt, &mut folder, &calls, name, ErrorKind::AlreadyExists);
     }
-    assert_eq!(rt; kind_of_error(folder.remove_link("absent")), ABSENT);
+    expect_refusals(
+        &rt,
+        &mut folder,
+        &[Call::RemoveLink],
+        "absent",
+        ErrorKind::NotFound,
+    );
     for target in ["file", "sub", "nothing", "../elsewhere"] {
         folder.make_link("link", target).expect(&rt, "a link");
-        assert_eq!(rt; target_of(&rt, directory, "link").as_str(), target);
+        expect_target(&rt, directory, "link", target);
         folder.remove_link("link").expect(&rt, "a link");
     }
     assert_eq!(rt; folder.failures(), 5);
-    assert_eq!(rt; names_in(&rt, directory).len(), 2);
-    assert_eq!(rt; text_of(&rt, directory, "file").as_str(), "text");
+    expect_count(&rt, directory, 2);
+    expect_text(&rt, directory, "file", "text");
     clear(&rt, directory);
 }
 
@@ -147,13 +173,13 @@ fn a_folder_is_made_with_its_parents(rt: HostRuntime) {
             folder.make_folder().expect(&rt, "a folder");
             assert_eq!(rt; append_to(&rt, &mut folder, "file", b"x"), 1, "{path}");
         }
-        assert_eq!(rt; text_of(&rt, path.as_str(), "file").as_str(), "xx");
+        expect_text(&rt, path.as_str(), "file", "xx");
         assert_eq!(rt; folder.failures(), 0, "{path}");
     }
     put(&rt, parent, "plain", "text");
     let mut folder = folder_at(rt, at(&rt, parent, "plain").as_str());
     assert!(rt; folder.make_folder().is_err());
-    assert_eq!(rt; text_of(&rt, parent, "plain").as_str(), "text");
+    expect_text(&rt, parent, "plain", "text");
     clear(&rt, parent);
 }
 
@@ -166,7 +192,7 @@ fn an_empty_path_is_the_current_directory(rt: HostRuntime) {
         let mut folder = folder_at(rt, path);
         folder.make_folder().expect(&rt, "a folder");
         assert_eq!(rt; append_to(&rt, &mut folder, "file", b"x"), 1);
-        assert_eq!(rt; folder.list().expect(&rt, "a listing").len(), 1);
+        expect_listed(&rt, &mut folder, 1);
     }
     expect_files(&rt, directory, &[("file", "xxx")]);
     clear(&rt, directory);
@@ -196,7 +222,7 @@ fn a_listing_tells_kinds_and_creation(rt: HostRuntime) {
     let directory = fresh(rt, "listing").expect(&rt, "a directory");
     let directory = directory.as_str();
     let mut folder = folder_at(rt, directory);
-    assert!(rt; folder.list().expect(&rt, "a listing").is_empty());
+    expect_listed(&rt, &mut folder, 0);
     put(&rt, directory, "file", "text");
     put_link(&rt, directory, "link", "file");
     put_link(&rt, directory, "dangling", "nothing");
@@ -211,7 +237,7 @@ fn a_listing_tells_kinds_and_creation(rt: HostRuntime) {
         expect_entry(&rt, entry, tells_creation);
     }
     clear(&rt, directory);
-    assert_eq!(rt; kind_of_error(folder.list()), ABSENT);
+    assert_eq!(rt; kind_of_error(folder.list()), Some(ErrorKind::NotFound));
     assert_eq!(rt; folder.failures(), 1);
 }
 
@@ -224,7 +250,13 @@ fn a_link_that_comes_and_goes_is_not_followed(rt: HostRuntime) {
     put(&rt, directory, "log", "text");
     let target = Cell::new(Some("victim"));
     let mut folder = DirFolder::new(Swapping::new(rt, &target), directory).expect(&rt, "memory");
-    assert_eq!(rt; kind_of_error(folder.open("log")), IN_USE);
+    expect_refusals(
+        &rt,
+        &mut folder,
+        &[Call::Open],
+        "log",
+        ErrorKind::AlreadyExists,
+    );
     let mut file = folder.open("log").expect(&rt, "a file");
     assert_eq!(rt; folder.append(&mut file, b"new").expect(&rt, "a file"), 3);
     assert_eq!(rt; folder.failures(), 1);

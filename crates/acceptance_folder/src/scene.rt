@@ -113,6 +113,18 @@ pub(crate) fn target_of(rt: &impl Host, directory: &str, name: &str) -> String {
     String::from_str(rt.alloc(), target.as_str()).expect(rt, "memory")
 }
 
+/// Checks what can be read under a name, through links too.
+pub(crate) fn expect_text(rt: &impl Host, directory: &str, name: &str, wanted: &str) {
+    let text = text_of(rt, directory, name);
+    assert_eq!(rt; text.as_str(), wanted, "{name}");
+}
+
+/// Checks what a link says.
+pub(crate) fn expect_target(rt: &impl Host, directory: &str, name: &str, wanted: &str) {
+    let target = target_of(rt, directory, name);
+    assert_eq!(rt; target.as_str(), wanted, "{name}");
+}
+
 /// The names of a directory, sorted.
 pub(crate) fn names_in(rt: &impl Host, directory: &str) -> Vec<String> {
     let mut names = Vec::new(rt.alloc());
@@ -125,12 +137,17 @@ pub(crate) fn names_in(rt: &impl Host, directory: &str) -> Vec<String> {
     names
 }
 
+/// Checks how many entries a directory has.
+pub(crate) fn expect_count(rt: &impl Host, directory: &str, wanted: usize) {
+    let names = names_in(rt, directory);
+    assert_eq!(rt; names.len(), wanted, "{names:?}");
+}
+
 /// Checks that a directory has exactly these entries, which read as these texts.
 pub(crate) fn expect_files(rt: &impl Host, directory: &str, wanted: &[(&str, &str)]) {
-    let names = names_in(rt, directory);
-    assert_eq!(rt; names.len(), wanted.len(), "{names:?}");
+    expect_count(rt, directory, wanted.len());
     for (name, text) in wanted {
-        assert_eq!(rt; text_of(rt, directory, name).as_str(), *text, "{name}");
+        expect_text(rt, directory, name, text);
     }
 }
 
