@@ -2,8 +2,9 @@
 
 use appender_core::error::InitError;
 use appender_core::store::{Folder, Kind, Listed, MemoryFolder, Notice, NoticeKind, PutError};
+use std::alloc::Global;
 use std::io;
-use std::test::Fail;
+use std::process::Abort;
 
 // A name, and what a put under it answers.
 static PUTS: [(&str, Result<(), PutError>); 11] = [
@@ -20,8 +21,17 @@ static PUTS: [(&str, Result<(), PutError>); 11] = [
     ("a.2020-02-01", Ok(())),
 ];
 
+// Checks which names a folder has, in byte order.
+fn expect_names(rt: &impl Abort, folder: &MemoryFolder, wanted: &[&str]) {
+    let names = folder.names().expect(rt, "memory");
+    assert_eq!(rt; names.len(), wanted.len());
+    for (name, want) in names.iter().zip(wanted) {
+        assert_eq!(rt; name.as_str(), *want);
+    }
+}
+
 #[test]
-fn puts_only_what_names_one_entry(rt: HostRuntime) -> Result<(), Fail> {
+fn puts_only_what_names_one_entry(rt: HostRuntime) {
     let mut files = MemoryFolder::new(rt.alloc());
     let mut folders = MemoryFolder::new(rt.alloc());
     let mut links = MemoryFolder::new(rt.alloc());
@@ -31,18 +41,12 @@ fn puts_only_what_names_one_entry(rt: HostRuntime) -> Result<(), Fail> {
         assert_eq!(rt; links.put_link(name, "a"), *want, "link {name:?}");
     }
     for folder in [&files, &folders, &links] {
-        let names = folder.names()?;
-        let names: Vec<&str> = names.iter().map(|name| name.as_str()).collect(rt.alloc())?;
-        assert_eq!(rt;
-            names.as_slice(),
-            ["...", ".a", "a", "a.2020-02-01"].as_slice()
-        );
+        expect_names(&rt, folder, &["...", ".a", "a", "a.2020-02-01"]);
     }
-    Ok(())
 }
 
 #[test]
-fn a_put_makes_an_absent_folder(rt: HostRuntime) -> Result<(), Fail> {
+fn a_put_makes_an_absent_folder(rt: HostRuntime) {
     let mut files = MemoryFolder::absent(rt.alloc());
     let mut folders = MemoryFolder::absent(rt.alloc());
     let mut links = MemoryFolder::absent(rt.alloc());
@@ -52,7 +56,6 @@ fn a_put_makes_an_absent_folder(rt: HostRuntime) -> Result<(), Fail> {
     assert_eq!(rt; files.bytes("a"), Some(b"x".as_slice()));
     assert_eq!(rt; folders.kind("a"), Some(Kind::Folder));
     assert_eq!(rt; links.target("a"), Some("b"));
-    Ok(())
 }
 
 // Removes the old file and the link to it.
@@ -94,18 +97,28 @@ fn walk<S: Folder>(folder: &mut S) -> io::Result<(usize, Vec<Listed>)> {
     Ok((taken, folder.list()?))
 }
 
-#[test]
-fn makes_each_call(rt: HostRuntime) -> Result<(), Fail> {
-    let mut folder = MemoryFolder::new(rt.alloc());
-    folder.set_created(Some(-5));
+// A file, a folder and a link.
+fn put_each(folder: &mut MemoryFolder) -> Result<(), PutError> {
     folder.put_file("old", b"o")?;
     folder.put_folder("sub")?;
-    folder.put_link("latest", "old")?;
+    folder.put_link("latest", "old")
+}
+
+// A folder that was walked, and what it listed then.
+fn walked(rt: &impl Abort, alloc: Global) -> (MemoryFolder, Vec<Listed>) {
+    let mut folder = MemoryFolder::new(alloc);
+    folder.set_created(Some(-5));
+    put_each(&mut folder).expect(rt, "room");
     folder.set_created(Some(7));
-    let (taken, listed) = walk(&mut folder)?;
+    let (taken, listed) = walk(&mut folder).expect(rt, "a walk");
     assert_eq!(rt; taken, 5);
+    (folder, listed)
+}
+
+// Checks the listing of a folder that was walked.
+fn expect_listed(rt: &impl Abort, listed: &[Listed]) {
     assert_eq!(rt; listed.len(), 3);
-    for entry in &listed {
+    for entry in listed {
         let name = entry.name.as_deref();
         let (kind, created) = match name {
             Some("latest") => (Kind::Link, None),
@@ -114,17 +127,24 @@ fn makes_each_call(rt: HostRuntime) -> Result<(), Fail> {
         };
         assert_eq!(rt; (entry.kind, entry.created), (kind, created), "of {name:?}");
     }
-    let names = folder.names()?;
-    let names: Vec<&str> = names.iter().map(|name| name.as_str()).collect(rt.alloc())?;
-    assert_eq!(rt; names.as_slice(), ["latest", "new", "sub"].as_slice());
-    for (name, want) in [
-        ("latest", None),
-        ("new", Some(b"hello".as_slice())),
-        ("old", None),
-        ("sub", None),
+}
+
+// Checks what stands under each name of a folder that was walked.
+fn expect_found(rt: &impl Abort, folder: &MemoryFolder) {
+    for (name, bytes, kind) in [
+        ("latest", None, Some(Kind::Link)),
+        ("new", Some(b"hello".as_slice()), Some(Kind::File)),
+        ("old", None, None),
+        ("sub", None, Some(Kind::Folder)),
     ] {
-        assert_eq!(rt; folder.bytes(name), want, "of {name:?}");
+        assert_eq!(rt; folder.bytes(name), bytes, "of {name:?}");
+        assert_eq!(rt; folder.kind(name), kind, "of {name:?}");
     }
+    assert_eq!(rt; folder.target("latest"), Some("new"));
+}
+
+// Checks the bodies of a folder that was walked, those without a name too.
+fn expect_bodies(rt: &impl Abort, folder: &MemoryFolder) {
     for (number, want) in [
         (0, Some(b"o".as_slice())),
         (1, Some(b"hello".as_slice())),
@@ -132,15 +152,10 @@ fn makes_each_call(rt: HostRuntime) -> Result<(), Fail> {
     ] {
         assert_eq!(rt; folder.body(number), want, "of body {number}");
     }
-    assert_eq!(rt; folder.target("latest"), Some("new"));
-    for (name, want) in [
-        ("latest", Some(Kind::Link)),
-        ("new", Some(Kind::File)),
-        ("old", None),
-        ("sub", Some(Kind::Folder)),
-    ] {
-        assert_eq!(rt; folder.kind(name), want, "of {name:?}");
-    }
+}
+
+// Checks what was noted in a folder that was walked, and that no call failed.
+fn expect_notices(rt: &impl Abort, folder: &MemoryFolder) {
     for (kind, want) in [
         (NoticeKind::List, 1),
         (NoticeKind::Remove, 1),
@@ -150,5 +165,14 @@ fn makes_each_call(rt: HostRuntime) -> Result<(), Fail> {
         assert_eq!(rt; folder.notices(kind), want, "of {kind:?}");
     }
     assert_eq!(rt; folder.failures(), 0);
-    Ok(())
+}
+
+#[test]
+fn makes_each_call(rt: HostRuntime) {
+    let (folder, listed) = walked(&rt, rt.alloc());
+    expect_listed(&rt, &listed);
+    expect_names(&rt, &folder, &["latest", "new", "sub"]);
+    expect_found(&rt, &folder);
+    expect_bodies(&rt, &folder);
+    expect_notices(&rt, &folder);
 }

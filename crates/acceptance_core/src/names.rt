@@ -3,8 +3,9 @@
 use appender_core::error::InitError;
 use appender_core::names::Names;
 use appender_core::rotation::{Rotation, in_range};
+use std::alloc::Global;
 use std::io;
-use std::test::Fail;
+use std::process::Abort;
 
 const FIRST: i64 = -62_135_596_800;
 
@@ -152,13 +153,13 @@ static NAMES: [Name; 30] = [
 ];
 
 #[test]
-fn names_of_moments(rt: HostRuntime) -> Result<(), Fail> {
+fn names_of_moments(rt: HostRuntime) {
     for (rotation, prefix, suffix, moment, name) in &NAMES {
-        let names = Names::new(rt.alloc(), *rotation, prefix, suffix)?;
         assert!(rt; in_range(*moment));
-        assert_eq!(rt; names.file_name(*moment)?.as_str(), *name);
+        let names = Names::new(rt.alloc(), *rotation, prefix, suffix).expect(&rt, "names");
+        let named = names.file_name(*moment).expect(&rt, "memory");
+        assert_eq!(rt; named.as_str(), *name);
     }
-    Ok(())
 }
 
 // A rotation, a prefix, a suffix, a name and the second that it reads as.
@@ -207,12 +208,11 @@ static READINGS: [Reading; 15] = [
 ];
 
 #[test]
-fn readings_of_names(rt: HostRuntime) -> Result<(), Fail> {
+fn readings_of_names(rt: HostRuntime) {
     for (rotation, prefix, suffix, name, second) in &READINGS {
-        let names = Names::new(rt.alloc(), *rotation, prefix, suffix)?;
+        let names = Names::new(rt.alloc(), *rotation, prefix, suffix).expect(&rt, "names");
         assert_eq!(rt; names.read(name), Some(*second), "{name}");
     }
-    Ok(())
 }
 
 // A rotation and a text that is no name of it with the prefix `app` and the suffix `log`.
@@ -248,16 +248,19 @@ static NO_DAYS: [&str; 12] = [
 ];
 
 #[test]
-fn texts_that_are_no_names(rt: HostRuntime) -> Result<(), Fail> {
+fn texts_that_are_no_names(rt: HostRuntime) {
     for (rotation, name) in &NO_NAMES {
-        let names = Names::new(rt.alloc(), *rotation, "app", "log")?;
+        let names = Names::new(rt.alloc(), *rotation, "app", "log").expect(&rt, "names");
         assert_eq!(rt; names.read(name), None, "{name}");
     }
-    let days = Names::new(rt.alloc(), Rotation::DAILY, "", "")?;
+}
+
+#[test]
+fn texts_that_are_no_days(rt: HostRuntime) {
+    let days = Names::new(rt.alloc(), Rotation::DAILY, "", "").expect(&rt, "names");
     for name in &NO_DAYS {
         assert_eq!(rt; days.read(name), None, "{name}");
     }
-    Ok(())
 }
 
 // A rotation, a prefix, a suffix and whether names may have them.
@@ -291,42 +294,48 @@ fn parts_of_names(rt: HostRuntime) {
     }
 }
 
+// Checks the number of an error and its text, of which a part may be another's.
+fn expect_text(
+    rt: &impl Abort,
+    alloc: Global,
+    error: InitError,
+    code: u8,
+    begin: &str,
+    rest: &str,
+) {
+    assert_eq!(rt; error.code(), code);
+    let text = error.to_string(alloc).expect(rt, "memory");
+    assert_eq!(rt; text.strip_prefix(begin), Some(rest));
+}
+
 #[test]
-fn texts_of_errors(rt: HostRuntime) -> Result<(), Fail> {
-    let errors = [
-        (InitError::Moment, 4, "moment out of range"),
-        (InitError::Name, 5, "name not allowed"),
-        (InitError::Memory, 6, "out of memory"),
-    ];
-    for (error, code, text) in &errors {
-        assert_eq!(rt; error.code(), *code);
-        assert_eq!(rt; error.to_string(rt.alloc())?.as_str(), *text);
-    }
+fn texts_of_errors(rt: HostRuntime) {
+    let alloc = rt.alloc();
+    expect_text(&rt, alloc, InitError::Moment, 4, "moment out of range", "");
+    expect_text(&rt, alloc, InitError::Name, 5, "name not allowed", "");
+    expect_text(&rt, alloc, InitError::Memory, 6, "out of memory", "");
+}
+
+#[test]
+fn texts_of_errors_with_a_fault(rt: HostRuntime) {
+    let alloc = rt.alloc();
     // The fault's own text stands behind that of its case.
     let fault = io::ErrorKind::PermissionDenied;
-    let fault_text = io::Error::from(fault).to_string(rt.alloc())?;
-    let fault_text = fault_text.as_str();
-    let cases = [
-        (
-            InitError::Directory(fault.into()),
-            1,
-            "failed to create log directory: ",
-        ),
-        (
-            InitError::File(fault.into()),
-            2,
-            "failed to create log file: ",
-        ),
-        (
-            InitError::Symlink(fault.into()),
-            3,
-            "failed to create symlink to latest log file: ",
-        ),
-    ];
-    for (error, code, begin) in &cases {
-        let text = error.to_string(rt.alloc())?;
-        assert_eq!(rt; error.code(), *code);
-        assert_eq!(rt; text.strip_prefix(*begin), Some(fault_text));
-    }
-    Ok(())
+    let rest = io::Error::from(fault)
+        .to_string(alloc)
+        .expect(&rt, "memory");
+    let rest = rest.as_str();
+    let begin = "failed to create log directory: ";
+    expect_text(
+        &rt,
+        alloc,
+        InitError::Directory(fault.into()),
+        1,
+        begin,
+        rest,
+    );
+    let begin = "failed to create log file: ";
+    expect_text(&rt, alloc, InitError::File(fault.into()), 2, begin, rest);
+    let begin = "failed to create symlink to latest log file: ";
+    expect_text(&rt, alloc, InitError::Symlink(fault.into()), 3, begin, rest);
 }

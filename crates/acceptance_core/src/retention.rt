@@ -3,9 +3,9 @@
 use appender_core::names::Names;
 use appender_core::retain::{plan, prune_old_logs};
 use appender_core::rotation::Rotation;
-use appender_core::store::{Folder, Kind, Listed, MemoryFolder, NoticeKind};
+use appender_core::store::{Folder, Kind, Listed, MemoryFolder, NoticeKind, PutError};
 use std::alloc::{AllocError, Global};
-use std::test::Fail;
+use std::process::Abort;
 
 // What is listed of one name.
 type Entry = (&'static str, Kind, Option<i128>);
@@ -22,15 +22,27 @@ fn listing(alloc: Global, entries: &[Entry]) -> Result<Vec<Listed>, AllocError> 
     Ok(listed)
 }
 
+// Checks which entries of a listing go, in this order.
+fn expect_plan(
+    rt: &impl Abort,
+    alloc: Global,
+    names: &Names,
+    max: usize,
+    listed: &[Listed],
+    wanted: &[usize],
+) {
+    let gone = plan(alloc, names, max, listed).expect(rt, "memory");
+    assert_eq!(rt; gone.as_slice(), wanted, "{max}");
+}
+
 #[test]
-fn prefix_and_suffix_may_overlap(rt: HostRuntime) -> Result<(), Fail> {
+fn prefix_and_suffix_may_overlap(rt: HostRuntime) {
     let alloc = rt.alloc();
-    let names = Names::new(alloc, Rotation::DAILY, "ab", "bc")?;
-    let known = listing(alloc, &[("abc", Kind::File, Some(7))])?;
-    assert_eq!(rt; plan(alloc, &names, 1, &known)?.as_slice(), [0].as_slice());
-    let unknown = listing(alloc, &[("abc", Kind::File, None)])?;
-    assert!(rt; plan(alloc, &names, 1, &unknown)?.is_empty());
-    Ok(())
+    let names = Names::new(alloc, Rotation::DAILY, "ab", "bc").expect(&rt, "names");
+    let known = listing(alloc, &[("abc", Kind::File, Some(7))]).expect(&rt, "memory");
+    expect_plan(&rt, alloc, &names, 1, &known, &[0]);
+    let unknown = listing(alloc, &[("abc", Kind::File, None)]).expect(&rt, "memory");
+    expect_plan(&rt, alloc, &names, 1, &unknown, &[]);
 }
 
 // Hours of one log, the newest first, among what is no log file of it.
@@ -51,64 +63,75 @@ static MIXED: [Entry; 9] = [
     ),
 ];
 
-#[test]
-fn the_lowest_candidates_go_in_rank_order(rt: HostRuntime) -> Result<(), Fail> {
-    let alloc = rt.alloc();
-    let names = Names::new(alloc, Rotation::HOURLY, "app", "")?;
+// The mixed entries, and behind them one whose name is not readable.
+fn mixed_listing(alloc: Global) -> Result<Vec<Listed>, AllocError> {
     let mut listed = listing(alloc, &MIXED)?;
     listed.push(Listed {
         name: None,
         kind: Kind::File,
         created: Some(0),
     })?;
-    // Four candidates: those of one key go by their names.
-    let gone: [(usize, &[usize]); 6] = [
-        (0, &[]),
-        (5, &[]),
-        (4, &[8]),
-        (3, &[8, 1]),
-        (2, &[8, 1, 7]),
-        (1, &[8, 1, 7, 0]),
-    ];
-    for (max, wanted) in gone {
-        assert_eq!(rt;
-            plan(alloc, &names, max, &listed)?.as_slice(),
-            wanted,
-            "{max}"
-        );
+    Ok(listed)
+}
+
+// How many files are kept, and which entries go then. Four are candidates: those of one key go by
+// their names.
+static GONE: [(usize, &[usize]); 7] = [
+    (0, &[]),
+    (5, &[]),
+    (4, &[8]),
+    (3, &[8, 1]),
+    (2, &[8, 1, 7]),
+    (1, &[8, 1, 7, 0]),
+    (usize::MAX, &[]),
+];
+
+#[test]
+fn the_lowest_candidates_go_in_rank_order(rt: HostRuntime) {
+    let alloc = rt.alloc();
+    let names = Names::new(alloc, Rotation::HOURLY, "app", "").expect(&rt, "names");
+    let listed = mixed_listing(alloc).expect(&rt, "memory");
+    for (max, wanted) in &GONE {
+        expect_plan(&rt, alloc, &names, *max, &listed, wanted);
     }
-    assert!(rt; plan(alloc, &names, usize::MAX, &listed)?.is_empty());
-    Ok(())
 }
 
 #[test]
-fn without_prefix_and_suffix_only_dates_go(rt: HostRuntime) -> Result<(), Fail> {
+fn without_prefix_and_suffix_only_dates_go(rt: HostRuntime) {
     let alloc = rt.alloc();
-    let names = Names::new(alloc, Rotation::NEVER, "", "")?;
+    let names = Names::new(alloc, Rotation::NEVER, "", "").expect(&rt, "names");
     let entries = [
         ("2020-02-30", Kind::File, Some(1)),
         ("2020-02-29", Kind::File, Some(2)),
         ("notes", Kind::File, Some(0)),
     ];
-    let listed = listing(alloc, &entries)?;
-    assert_eq!(rt; plan(alloc, &names, 1, &listed)?.as_slice(), [1].as_slice());
-    Ok(())
+    let listed = listing(alloc, &entries).expect(&rt, "memory");
+    expect_plan(&rt, alloc, &names, 1, &listed, &[1]);
+}
+
+// Two files of a log, and one with a name of none.
+fn put_logs(folder: &mut MemoryFolder) -> Result<(), PutError> {
+    folder.put_file("app.2020-01-30.log", b"x")?;
+    folder.put_file("app.2020-01-31.log", b"y")?;
+    folder.put_file("app.log", b"z")
+}
+
+fn expect_count(rt: &impl Abort, folder: &MemoryFolder, wanted: usize) {
+    let names = folder.names().expect(rt, "memory");
+    assert_eq!(rt; names.len(), wanted);
 }
 
 #[test]
-fn old_logs_are_pruned_by_a_call_of_its_own(rt: HostRuntime) -> Result<(), Fail> {
+fn old_logs_are_pruned_by_a_call_of_its_own(rt: HostRuntime) {
     let alloc = rt.alloc();
-    let names = Names::new(alloc, Rotation::DAILY, "app", "log")?;
+    let names = Names::new(alloc, Rotation::DAILY, "app", "log").expect(&rt, "names");
     let mut folder = MemoryFolder::new(alloc);
-    folder.put_file("app.2020-01-30.log", b"x")?;
-    folder.put_file("app.2020-01-31.log", b"y")?;
-    folder.put_file("app.log", b"z")?;
+    put_logs(&mut folder).expect(&rt, "room");
     prune_old_logs(alloc, &mut folder, &names, 0);
-    assert_eq!(rt; folder.names()?.len(), 3);
+    expect_count(&rt, &folder, 3);
     prune_old_logs(alloc, &mut folder, &names, 2);
     assert_eq!(rt; folder.bytes("app.2020-01-30.log"), None);
     assert_eq!(rt; folder.bytes("app.2020-01-31.log"), Some(b"y".as_slice()));
     assert_eq!(rt; folder.bytes("app.log"), Some(b"z".as_slice()));
     assert_eq!(rt; folder.notices(NoticeKind::Remove), 0);
-    Ok(())
 }

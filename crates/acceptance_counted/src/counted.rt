@@ -131,6 +131,23 @@ pub(crate) fn settles<A: Ledger, H: Ledger, S: Ledger, C: Ledger, R: Host + Abor
     Ok(())
 }
 
+// Writes a line, and compares what its sender is told.
+fn expect_told<A: Ledger, H: Ledger, S: Ledger, C: Ledger, R: Host + Abort>(
+    rt: R,
+    sender: &mut CountedSender<A, H, S, C, R>,
+    line: &[u8],
+    wanted: Sent,
+) {
+    let told = sender.write_line(line).expect(&rt, "the queue is open");
+    assert_eq!(rt; told, wanted);
+}
+
+// Compares all lines that came.
+fn expect_text<R: Host + Abort>(rt: R, seen: &Seen, wanted: &[u8]) {
+    let text = seen.text(&rt).expect(&rt, "memory");
+    assert_eq!(rt; text.as_slice(), wanted);
+}
+
 // What lies behind the shutdown is left.
 fn leaves_lines<A: Ledger, H: Ledger, S: Ledger, C: Ledger, R: Host + Abort>(
     rt: R,
@@ -145,18 +162,18 @@ fn leaves_lines<A: Ledger, H: Ledger, S: Ledger, C: Ledger, R: Host + Abort>(
     let Some(sender) = senders.first_mut() else {
         return Err(Fail::from("no sender was made"));
     };
-    assert_eq!(rt; sender.write_line(b"held")?, Sent::Queued(1));
+    expect_told(rt, sender, b"held", Sent::Queued(1));
     assert!(rt; seen.is_held(rt));
-    assert_eq!(rt; sender.write_line(b"b")?, Sent::Queued(2));
+    expect_told(rt, sender, b"b", Sent::Queued(2));
     assert!(rt; !guard.sent());
     assert_eq!(rt; guard.shut(), Shut::Sent);
     assert!(rt; guard.sent());
     assert_eq!(rt; guard.shut(), Shut::Already);
-    assert_eq!(rt; sender.write_line(b"c")?, Sent::Queued(3));
+    expect_told(rt, sender, b"c", Sent::Queued(3));
     assert_eq!(rt; sender.queued(), 3);
     seen.opens();
     settles(rt, senders, guard, 3, 2, 1, 0)?;
-    assert_eq!(rt; seen.text(&rt)?.as_slice(), b"held|b|".as_slice());
+    expect_text(rt, seen, b"held|b|");
     Ok(())
 }
 
@@ -193,14 +210,14 @@ fn drops_lines<A: Ledger, H: Ledger, S: Ledger, C: Ledger, R: Host + Abort>(
     let Some(sender) = senders.first_mut() else {
         return Err(Fail::from("no sender was made"));
     };
-    assert_eq!(rt; sender.write_line(b"held")?, Sent::Queued(1));
+    expect_told(rt, sender, b"held", Sent::Queued(1));
     assert!(rt; seen.is_held(rt));
-    assert_eq!(rt; sender.write_line(b"a")?, Sent::Queued(2));
-    assert_eq!(rt; sender.write_line(b"b")?, Sent::Dropped);
+    expect_told(rt, sender, b"a", Sent::Queued(2));
+    expect_told(rt, sender, b"b", Sent::Dropped);
     assert_eq!(rt; sender.dropped(), 1);
     seen.opens();
     settles(rt, senders, guard, 2, 2, 0, 1)?;
-    assert_eq!(rt; seen.text(&rt)?.as_slice(), b"held|a|".as_slice());
+    expect_text(rt, seen, b"held|a|");
     Ok(())
 }
 
@@ -233,14 +250,24 @@ fn can_be_shown<A: Ledger, H: Ledger, S: Ledger, C: Ledger, R: Host + Abort>(
     let Some(sender) = senders.first() else {
         return Err(Fail::from("no sender was made"));
     };
+    expect_shown(rt, sender, &guard)?;
+    let unsettled = Unsettled { guard, senders };
+    let shown = format!(in rt.alloc(); "{unsettled:?}")?;
+    assert_eq!(rt; shown.as_str(), "Unsettled { .. }");
+    Ok(())
+}
+
+// Compares how a sender, a guard and an answer are shown.
+fn expect_shown<A: Ledger, H: Ledger, S: Ledger, C: Ledger, R: Host + Abort>(
+    rt: R,
+    sender: &CountedSender<A, H, S, C, R>,
+    guard: &CountedGuard<A, H, S, C, R>,
+) -> Result<(), Fail> {
     let shown = format!(in rt.alloc(); "{sender:?} {guard:?} {:?}", Sent::Dropped)?;
     assert_eq!(rt;
         shown.as_str(),
         "CountedSender { .. } CountedGuard { .. } Dropped"
     );
-    let unsettled = Unsettled { guard, senders };
-    let shown = format!(in rt.alloc(); "{unsettled:?}")?;
-    assert_eq!(rt; shown.as_str(), "Unsettled { .. }");
     Ok(())
 }
 

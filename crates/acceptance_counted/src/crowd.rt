@@ -9,6 +9,7 @@ use std::process::Abort;
 use std::sync::ledger::Ledger;
 use std::test::Fail;
 use std::thread;
+use std::thread::JoinHandle;
 
 // Line k of sender s.
 fn text(alloc: Global, sender: usize, line: usize) -> Result<String, AllocError> {
@@ -37,6 +38,52 @@ fn hundred<A: Ledger, H: Ledger, S: Ledger, C: Ledger, R: Host>(
     (sender, tickets)
 }
 
+// Starts ten senders, the last one first.
+fn start<
+    A: Ledger + Send + Sync + 'static,
+    H: Ledger + Send + Sync + 'static,
+    S: Ledger + Send + Sync + 'static,
+    C: Ledger + Send + Sync + 'static,
+    R: Host,
+>(
+    rt: R,
+    senders: &mut Vec<CountedSender<A, H, S, C, R>>,
+) -> Result<Vec<JoinHandle<(CountedSender<A, H, S, C, R>, Vec<u64>)>>, Fail> {
+    let mut running = Vec::new(rt.alloc());
+    for number in 0..10usize {
+        let Some(sender) = senders.pop() else {
+            return Err(Fail::from("a sender is missing"));
+        };
+        running.push(thread::spawn(&rt, move || hundred(rt, number, sender))?)?;
+    }
+    Ok(running)
+}
+
+// Joins the ten threads, gives their senders back, and answers what tickets each was told.
+fn join_all<
+    A: Ledger + Send + Sync + 'static,
+    H: Ledger + Send + Sync + 'static,
+    S: Ledger + Send + Sync + 'static,
+    C: Ledger + Send + Sync + 'static,
+    R: Host + Abort,
+>(
+    rt: R,
+    mut running: Vec<JoinHandle<(CountedSender<A, H, S, C, R>, Vec<u64>)>>,
+    senders: &mut Vec<CountedSender<A, H, S, C, R>>,
+) -> Result<Vec<(usize, Vec<u64>)>, Fail> {
+    let mut told = Vec::new(rt.alloc());
+    for joined in 0..10usize {
+        let Some(thread) = running.pop() else {
+            return Err(Fail::from("a thread is missing"));
+        };
+        let (sender, tickets) = thread.join(&rt);
+        assert_eq!(rt; sender.queued(), 100);
+        senders.push(sender)?;
+        told.push((9 - joined, tickets))?;
+    }
+    Ok(told)
+}
+
 /// All tickets are told once, each for the line that came at its place, and the lines of one sender come
 /// in their order.
 pub(crate) fn crowd<
@@ -54,23 +101,8 @@ pub(crate) fn crowd<
     requires { (A.parts ≡ guard.made + 1) × (H.parts ≡ 1) × (S.parts ≡ 1) × (C.parts ≡ 1) }
 {
     let mut senders = senders;
-    let mut running = Vec::new(rt.alloc());
-    for number in 0..10usize {
-        let Some(sender) = senders.pop() else {
-            return Err(Fail::from("a sender is missing"));
-        };
-        running.push(thread::spawn(&rt, move || hundred(rt, number, sender))?)?;
-    }
-    let mut told = Vec::new(rt.alloc());
-    for joined in 0..10usize {
-        let Some(thread) = running.pop() else {
-            return Err(Fail::from("a thread is missing"));
-        };
-        let (sender, tickets) = thread.join(&rt);
-        assert_eq!(rt; sender.queued(), 100);
-        senders.push(sender)?;
-        told.push((9 - joined, tickets))?;
-    }
+    let running = start(rt, &mut senders)?;
+    let told = join_all(rt, running, &mut senders)?;
     settles(rt, senders, guard, 1000, 1000, 0, 0)?;
     assert_eq!(rt; seen.count(), 1000);
     for (number, tickets) in told.iter() {

@@ -1,16 +1,22 @@
 // Full disks, short writes, links that come in between, and a folder that goes.
 
-use crate::scene::{ELEVEN, START, TWELVE, hourly_log};
+use crate::scene::{ELEVEN, START, TWELVE, disk_of, expect_texts, write_log};
 use fake_files::disk::{Call, Disk};
-use fake_logs::runs::{Outcome, Step, run_log};
+use fake_logs::runs::{Outcome, Step};
 use std::alloc::Global;
+use std::io;
+use std::process::Abort;
 use std::test::Fail;
 
-// Writes a log without a link on a disk that holds `other.txt` alone, and answers what came of it.
-fn write_log(alloc: Global, steps: &[Step]) -> Result<Outcome, Fail> {
-    let disk = Disk::new(alloc);
-    disk.put_file(b"other.txt", b"kept")?;
-    Ok(run_log(&disk, &hourly_log(alloc, 0, "")?, START, steps)?)
+// A disk that holds `other.txt` alone.
+fn kept_disk(alloc: Global) -> io::Result<Disk> {
+    disk_of(alloc, &[("other.txt", "kept")])
+}
+
+// Writes a log without a link on such a disk, and answers what came of it.
+fn write_unlinked(alloc: Global, steps: &[Step]) -> Result<Outcome, Fail> {
+    let disk = kept_disk(alloc)?;
+    write_log(alloc, &disk, 0, "", steps)
 }
 
 // Steps with what they answer, the files at the end, and what is told.
@@ -88,14 +94,19 @@ static WRITES: [(&[Step], &str, &str, &str); 5] = [
     ),
 ];
 
+// Behind what the disk held at first stands what puts counted.
+fn expect_counted(rt: &(impl AllocGlobal + Abort), outcome: &Outcome) -> Result<(), Fail> {
+    let counted = format!(in rt.alloc(); "kept{}", outcome.counted)?;
+    assert_eq!(rt; outcome.appended, counted);
+    Ok(())
+}
+
 #[test]
 fn what_is_counted_stands(rt: HostRuntime) -> Result<(), Fail> {
-    let alloc = rt.alloc();
     for (steps, answers, files, printed) in &WRITES {
-        let outcome = write_log(alloc, steps)?;
-        assert_eq!(rt; outcome.texts(), (*answers, *files, *printed));
-        let counted = format!(in alloc; "kept{}", outcome.counted)?;
-        assert_eq!(rt; outcome.appended, counted);
+        let outcome = write_unlinked(rt.alloc(), steps)?;
+        expect_texts(&rt, &outcome, (*answers, *files, *printed), steps);
+        expect_counted(&rt, &outcome)?;
     }
     Ok(())
 }
@@ -137,22 +148,32 @@ static LINKS: [(bool, usize, &str, &str, &str, &str); 6] = [
     ),
 ];
 
+static TWO_LINES: [Step; 2] = [Step::Put(START, "one"), Step::Put(ELEVEN, "two")];
+
+// Writes two lines where this name becomes a link before this call.
+fn write_linked(
+    alloc: Global,
+    stands: bool,
+    call: usize,
+    name: &'static str,
+) -> Result<Outcome, Fail> {
+    let disk = kept_disk(alloc)?;
+    if stands {
+        disk.put_file(LOG.as_bytes(), b"x")?;
+    }
+    disk.link_comes.set(Some((call, name)));
+    write_log(alloc, &disk, 0, "", &TWO_LINES)
+}
+
 #[test]
 fn a_link_that_comes_in_between_is_not_followed(rt: HostRuntime) -> Result<(), Fail> {
-    let alloc = rt.alloc();
     for (stands, call, name, answers, files, printed) in &LINKS {
-        let disk = Disk::new(alloc);
-        disk.put_file(b"other.txt", b"kept")?;
-        if *stands {
-            disk.put_file(LOG.as_bytes(), b"x")?;
-        }
-        disk.link_comes.set(Some((*call, *name)));
-        let steps = [Step::Put(START, "one"), Step::Put(ELEVEN, "two")];
-        let outcome = run_log(&disk, &hourly_log(alloc, 0, "")?, START, &steps)?;
-        assert_eq!(rt;
-            outcome.texts(),
+        let outcome = write_linked(rt.alloc(), *stands, *call, *name)?;
+        expect_texts(
+            &rt,
+            &outcome,
             (*answers, *files, *printed),
-            "{call} {stands}"
+            &(*call, *stands),
         );
     }
     Ok(())

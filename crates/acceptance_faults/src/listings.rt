@@ -1,25 +1,28 @@
 // What retention does with a folder that tells less than it should.
 
-use crate::scene::{START, hourly_log};
+use crate::scene::{disk_of, write_log};
 use fake_files::disk::{Disk, Fault};
-use fake_logs::runs::{list_folder, run_log};
+use fake_logs::runs::list_folder;
 use std::alloc::Global;
 use std::io;
 use std::io::ErrorKind;
+use std::process::Abort;
 use std::test::Fail;
 
 // Logs of three hours, put there in this order.
+static LOGS: [(&str, &str); 3] = [
+    ("app.2020-02-01-09", "c"),
+    ("app.2020-02-01-07", "a"),
+    ("app.2020-02-01-08", "b"),
+];
+
 fn three_logs(alloc: Global) -> io::Result<Disk> {
-    let disk = Disk::new(alloc);
-    disk.put_file(b"app.2020-02-01-09", b"c")?;
-    disk.put_file(b"app.2020-02-01-07", b"a")?;
-    disk.put_file(b"app.2020-02-01-08", b"b")?;
-    Ok(disk)
+    disk_of(alloc, &LOGS)
 }
 
 // Opens a log of which so many files are kept, and answers the files and what is told.
 fn open_log(disk: &Disk, alloc: Global, max: usize) -> Result<String, Fail> {
-    let outcome = run_log(disk, &hourly_log(alloc, max, "")?, START, &[])?;
+    let outcome = write_log(alloc, disk, max, "", &[])?;
     Ok(format!(in alloc; "{}{}", outcome.files, outcome.printed)?)
 }
 
@@ -30,31 +33,51 @@ static FAULTS: [(Fault, &str); 3] = [
     (Fault::Number(36), "File name too long (os error 36)"),
 ];
 
-#[test]
-fn a_listing_that_breaks_off_removes_nothing(rt: HostRuntime) -> Result<(), Fail> {
-    let alloc = rt.alloc();
-    for (fault, text) in &FAULTS {
-        let wanted = format!(in alloc;
-            "app.2020-02-01-07 a\napp.2020-02-01-08 b\napp.2020-02-01-09 c\napp.2020-02-01-10 \n\
-             Error reading the log directory/files: {text}\nfailures 1\n"
-        )?;
-        // The opening of the folder, then each reading, between which an entry is looked at.
-        for number in [1, 2, 4, 6, 8] {
-            let disk = three_logs(alloc)?;
-            disk.fault.set(*fault);
-            disk.fails_at.set(Some(number));
-            assert_eq!(rt; open_log(&disk, alloc, 1)?, wanted, "{number}");
-        }
+// Opens a log that keeps one file where this call fails so, and answers the files and what is told.
+fn break_off(alloc: Global, fault: Fault, number: usize) -> Result<String, Fail> {
+    let disk = three_logs(alloc)?;
+    disk.fault.set(fault);
+    disk.fails_at.set(Some(number));
+    open_log(&disk, alloc, 1)
+}
+
+fn expect_all_logs(
+    rt: &(impl AllocGlobal + Abort),
+    fault: Fault,
+    wanted: &str,
+) -> Result<(), Fail> {
+    // The opening of the folder, then each reading, between which an entry is looked at.
+    for number in [1, 2, 4, 6, 8] {
+        let found = break_off(rt.alloc(), fault, number)?;
+        assert_eq!(rt; found.as_str(), wanted, "{number}");
     }
     Ok(())
 }
 
 #[test]
-fn what_cannot_be_told_stays(rt: HostRuntime) -> Result<(), Fail> {
-    let alloc = rt.alloc();
+fn a_listing_that_breaks_off_removes_nothing(rt: HostRuntime) -> Result<(), Fail> {
+    for (fault, text) in &FAULTS {
+        let wanted = format!(in rt.alloc();
+            "app.2020-02-01-07 a\napp.2020-02-01-08 b\napp.2020-02-01-09 c\napp.2020-02-01-10 \n\
+             Error reading the log directory/files: {text}\nfailures 1\n"
+        )?;
+        expect_all_logs(&rt, *fault, wanted.as_str())?;
+    }
+    Ok(())
+}
+
+// The same logs, one of them hidden, and one whose name is no text.
+fn hidden_logs(alloc: Global) -> io::Result<Disk> {
     let disk = three_logs(alloc)?;
     disk.put_file(b"app.2020-02-01-05\xff", b"x")?;
     disk.hides.set(Some("/app.2020-02-01-07"));
+    Ok(disk)
+}
+
+#[test]
+fn what_cannot_be_told_stays(rt: HostRuntime) -> Result<(), Fail> {
+    let alloc = rt.alloc();
+    let disk = hidden_logs(alloc)?;
     assert_eq!(rt;
         list_folder(&disk)?.as_str(),
         "Listed { name: Some(\"app.2020-02-01-09\"), kind: File, created: None }\n\

@@ -1,8 +1,10 @@
 // What is printed on standard error where a boundary meets a fault.
 
-use crate::scene::{ELEVEN, START, hourly_log, old_logs};
+use crate::scene::{ELEVEN, START, old_logs, write_log};
 use fake_files::disk::Call;
-use fake_logs::runs::{Step, run_log};
+use fake_logs::runs::{Outcome, Step};
+use std::alloc::Global;
+use std::process::Abort;
 use std::test::Fail;
 
 // The calls that fail at the boundary, the link if there is one, and what is told.
@@ -36,20 +38,28 @@ static NOTICES: [(Call, &str, &str); 5] = [
     ),
 ];
 
+// Writes a log whose boundary meets calls that fail.
+fn write_failing(alloc: Global, call: Call, link: &str) -> Result<Outcome, Fail> {
+    let disk = old_logs(alloc)?;
+    let steps = [
+        Step::Put(START, "one"),
+        Step::Fail(Some(call)),
+        Step::Put(ELEVEN, "two"),
+        Step::Put(ELEVEN, "three"),
+    ];
+    write_log(alloc, &disk, 2, link, &steps)
+}
+
+fn expect_told(rt: &impl Abort, outcome: &Outcome, call: Call, printed: &str) {
+    assert_eq!(rt; outcome.printed.as_str(), printed);
+    assert_eq!(rt; outcome.counted.as_str(), "onetwothree", "{call:?}");
+}
+
 #[test]
 fn each_fault_of_a_boundary_is_told_once(rt: HostRuntime) -> Result<(), Fail> {
-    let alloc = rt.alloc();
     for (call, link, printed) in &NOTICES {
-        let disk = old_logs(alloc)?;
-        let steps = [
-            Step::Put(START, "one"),
-            Step::Fail(Some(*call)),
-            Step::Put(ELEVEN, "two"),
-            Step::Put(ELEVEN, "three"),
-        ];
-        let outcome = run_log(&disk, &hourly_log(alloc, 2, link)?, START, &steps)?;
-        assert_eq!(rt; outcome.printed.as_str(), *printed);
-        assert_eq!(rt; outcome.counted.as_str(), "onetwothree", "{call:?}");
+        let outcome = write_failing(rt.alloc(), *call, *link)?;
+        expect_told(&rt, &outcome, *call, *printed);
     }
     Ok(())
 }

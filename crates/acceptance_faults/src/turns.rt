@@ -1,7 +1,7 @@
 // A run in which each call of the system fails in its turn.
 
-use crate::scene::{ELEVEN, START, TWELVE, hourly_log, old_logs};
-use fake_logs::runs::{Outcome, Step, run_log};
+use crate::scene::{ELEVEN, START, TWELVE, expect_texts, old_logs, write_log};
+use fake_logs::runs::{Outcome, Step};
 use std::alloc::{AllocError, Global};
 use std::process::Abort;
 use std::test::Fail;
@@ -109,8 +109,7 @@ static TURNS: [(&[usize], &str, &str, &str); 18] = [
 fn turn(alloc: Global, number: usize, steps: &[Step]) -> Result<(Outcome, usize), Fail> {
     let disk = old_logs(alloc)?;
     disk.fails_at.set(Some(number));
-    let builder = hourly_log(alloc, 2, "latest.log")?;
-    let outcome = run_log(&disk, &builder, START, steps)?;
+    let outcome = write_log(alloc, &disk, 2, "latest.log", steps)?;
     Ok((outcome, disk.calls()))
 }
 
@@ -122,7 +121,7 @@ fn expect_turns(
 ) -> Result<(), Fail> {
     for number in numbers {
         let (outcome, _) = turn(rt.alloc(), *number, &STEPS)?;
-        assert_eq!(rt; outcome.texts(), wanted, "{number}");
+        expect_texts(rt, &outcome, wanted, number);
     }
     Ok(())
 }
@@ -151,17 +150,31 @@ fn wanted(alloc: Global, outcome: &Outcome) -> Result<String, AllocError> {
     format!(in alloc; "opkept{}", outcome.counted)
 }
 
+fn expect_whole(
+    rt: &(impl AllocGlobal + Abort),
+    outcome: &Outcome,
+    number: usize,
+) -> Result<(), Fail> {
+    assert_eq!(rt; outcome.appended, wanted(rt.alloc(), outcome)?, "{number}");
+    let files = outcome.files.as_str();
+    assert!(rt;
+        files.contains("app.d/\n") && files.ends_with("other.txt kept\n"),
+        "{number}"
+    );
+    Ok(())
+}
+
+// Checks that no byte is lost where the call of this number fails, and answers how many calls there were.
+fn count_calls(rt: &(impl AllocGlobal + Abort), number: usize) -> Result<usize, Fail> {
+    let (outcome, calls) = turn(rt.alloc(), number, &LONG_STEPS)?;
+    expect_whole(rt, &outcome, number)?;
+    Ok(calls)
+}
+
 #[test]
 fn no_counted_byte_is_lost_whichever_call_fails(rt: HostRuntime) -> Result<(), Fail> {
     for number in 1..100usize {
-        let (outcome, calls) = turn(rt.alloc(), number, &LONG_STEPS)?;
-        assert_eq!(rt; outcome.appended, wanted(rt.alloc(), &outcome)?, "{number}");
-        let files = outcome.files.as_str();
-        assert!(rt;
-            files.contains("app.d/\n") && files.ends_with("other.txt kept\n"),
-            "{number}"
-        );
-        if calls < number {
+        if count_calls(&rt, number)? < number {
             return Ok(());
         }
     }

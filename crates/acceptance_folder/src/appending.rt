@@ -4,14 +4,14 @@ use crate::scene::{
     ELEVEN, Host, START, TWELVE, TestClock, at, clear, expect_bytes, expect_files, expect_target,
     expect_text, folder_at, fresh, hourly_log, names_in, opened,
 };
+use appender_rolling::rolling::{
+    Clock, FileAppender, InitError, SystemClock, daily, hourly, minutely, never, weekly,
+};
+use appender_store::store::{Folder, MemoryFolder};
 use std::io::Write;
 use std::process::Abort;
 use std::time::Duration;
 use std::{env, io, time};
-use tracing_appender::rolling::{
-    Clock, FileAppender, InitError, SystemClock, daily, hourly, minutely, never, weekly,
-};
-use tracing_appender::store::{Folder, MemoryFolder};
 
 #[test]
 fn each_write_reads_the_clock_once(rt: HostRuntime) {

@@ -5,12 +5,12 @@ use crate::scene::{
     kind_of_error, put, put_folder, put_link,
 };
 use crate::swapping::Swapping;
+use appender_folder::folder::DirFolder;
+use appender_store::store::{Folder, Kind, Listed};
 use std::cell::Cell;
 use std::io::ErrorKind;
 use std::process::Abort;
 use std::{env, fs};
-use tracing_appender::folder::DirFolder;
-use tracing_appender::store::{Folder, Kind, Listed};
 
 // A call of a folder by a name.
 #[derive(Clone, Copy, Debug)]

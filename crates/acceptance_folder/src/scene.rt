@@ -1,14 +1,14 @@
 // Directories of the tests, a clock that they set, and what they compare.
 
+use appender_folder::folder::DirFolder;
+use appender_rolling::rolling::{Builder, Clock, RollingFileAppender, Rotation};
+use appender_store::store::{Folder, MemoryFolder};
 use std::cell::Cell;
 use std::io::ErrorKind;
 use std::os::unix::fs::symlink;
 use std::process::Abort;
 use std::rt::Files;
 use std::{env, fs, io, process};
-use tracing_appender::folder::DirFolder;
-use tracing_appender::rolling::{Builder, Clock, RollingFileAppender, Rotation};
-use tracing_appender::store::{Folder, MemoryFolder};
 
 /// 2020-02-01 10:01:00.
 pub(crate) const START: i64 = 1_580_551_260;

@@ -1,6 +1,10 @@
 // Eight threads, and a folder of the file system.
 
 use crate::scene::{START, TestClock, hourly, opened};
+use appender_folder::folder::DirFolder;
+use appender_names::names::Names;
+use appender_rolling::rolling::{MakeWriter, RollingFileAppender};
+use appender_store::store::Folder;
 use std::alloc::{AllocError, Global};
 use std::io::{ErrorKind, Write};
 use std::process::Abort;
@@ -9,10 +13,6 @@ use std::sync::Wait;
 use std::test::Fail;
 use std::thread::Threads;
 use std::{env, fs, io, process, thread};
-use tracing_appender::folder::DirFolder;
-use tracing_appender::names::Names;
-use tracing_appender::rolling::{MakeWriter, RollingFileAppender};
-use tracing_appender::store::Folder;
 
 const THREADS: usize = 8;
 

@@ -4,6 +4,10 @@ use crate::scene::{
     Crowded, ELEVEN, START, TestClock, Turning, expect_lines, hourly, in_memory, opened,
     write_in_threads, writes,
 };
+use appender_rolling::rolling::{
+    Builder, Clock, InitError, MakeWriter, RollingFileAppender, RollingWriter,
+};
+use appender_store::store::{Folder, MemoryFolder};
 use std::io::{ErrorKind, Write};
 use std::sync::Wait;
 use std::sync::atomic::AtomicBool;
@@ -12,10 +16,6 @@ use std::test::Fail;
 use std::thread::Threads;
 use std::time::Duration;
 use std::{thread, time};
-use tracing_appender::rolling::{
-    Builder, Clock, InitError, MakeWriter, RollingFileAppender, RollingWriter,
-};
-use tracing_appender::store::{Folder, MemoryFolder};
 
 #[test]
 fn ten_threads_begin_one_file(rt: HostRuntime) -> Result<(), Fail> {

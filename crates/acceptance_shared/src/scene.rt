@@ -1,5 +1,7 @@
 // What the tests share: a log in memory, clocks that many threads read, and lines.
 
+use appender_rolling::rolling::{Builder, Clock, MakeWriter, RollingFileAppender, Rotation};
+use appender_store::store::{Folder, MemoryFolder};
 use std::alloc::{AllocError, Global};
 use std::io::Write;
 use std::process::Abort;
@@ -9,8 +11,6 @@ use std::sync::atomic::{AtomicI64, AtomicU64};
 use std::test::Fail;
 use std::thread;
 use std::thread::Threads;
-use tracing_appender::rolling::{Builder, Clock, MakeWriter, RollingFileAppender, Rotation};
-use tracing_appender::store::{Folder, MemoryFolder};
 
 /// 2020-02-01 10:01:00.
 pub(crate) const START: i64 = 1_580_551_260;

@@ -72,7 +72,9 @@ fn keeps_all_lines_of_all_runs(rt: HostRuntime) -> Result<(), Fail> {
         fs::read_to_string(&rt, link.as_str())?.as_str(),
         "first\n\nlast\nagain\n"
     );
-    assert!(rt; fs::symlink_metadata(&rt, link.as_str())?.is_symlink());
+    // The link leads to the log of a day.
+    let target = fs::read_link(&rt, link.as_str())?;
+    assert_eq!(rt; target.as_str().len(), "audit.2020-02-01.log".len());
     fs::remove_dir_all(&rt, directory)?;
     Ok(())
 }

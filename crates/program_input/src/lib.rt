@@ -1,12 +1,12 @@
-//! What programs are given: their arguments, and an input of lines.
+//! What programs are given: their arguments, and an input of lines, which may go to a writer.
 #![tactic(auto)]
 
 ghost use Rattle.std.specs.Prelude.{◌≡◌, ◌≢◌, ℕ, List, [], Some, Ok, OnOk, true, false};
 ghost use Rattle.std.specs.Io.BufRead.{take_through, drop_through};
-ghost use Rattle.std.specs.Io.KnownBytes.{IsAtEnd};
+ghost use Rattle.std.specs.Io.KnownBytes.{Appends, IsAtEnd};
 
-use std::alloc::AllocError;
-use std::io::BufRead;
+use std::alloc::{AllocError, Global};
+use std::io::{BufRead, Write};
 use std::rt::Env;
 use std::{env, io};
 
@@ -33,4 +33,52 @@ pub fn read_line<I: BufRead>(input: &mut I, line: &mut Vec<u8>) -> io::Result<bo
     line.clear();
     let length = input.read_until(b'\n', line)?;
     Ok(length > 0)
+}
+
+/// Why lines were not copied to the end.
+#[derive(Debug, Drop)]
+pub enum CopyFault {
+    /// The input was not read.
+    Read(io::Error),
+    /// A line was not taken.
+    Write(io::Error),
+    /// The beginning of a line was taken, and the rest was not.
+    Cut,
+}
+
+/// A fault of reading.
+impl From<io::Error> for CopyFault {
+    fn from(fault: io::Error) -> CopyFault {
+        CopyFault::Read(fault)
+    }
+}
+
+/// Writes each line of `input` by one write, with its newline, if it has one. Lines before a fault are
+/// written.
+pub fn copy_lines<I: BufRead, W: Write>(
+    alloc: Global,
+    input: &mut I,
+    writer: &mut W,
+) -> Result<(), CopyFault>
+    ensures { OnOk result ((text : List ℕ) → I.remaining input.old ≡ Some text →
+        Appends (W.contents writer.old) (W.contents writer.new) text) }
+{
+    let mut line = Vec::new(alloc);
+    for _ in 0..u64::MAX {
+        if !read_line(input, &mut line)? {
+            return Ok(());
+        }
+        write_line(line.as_slice(), writer)?;
+    }
+    Err(CopyFault::Read(io::Error::other("too many lines")))
+}
+
+fn write_line<W: Write>(line: &[u8], writer: &mut W) -> Result<(), CopyFault>
+    ensures { OnOk result (Appends (W.contents writer.old) (W.contents writer.new) line.now) }
+{
+    match writer.write(line) {
+        Ok(taken) if taken < line.len() => Err(CopyFault::Cut),
+        Ok(_) => Ok(()),
+        Err(fault) => Err(CopyFault::Write(fault)),
+    }
 }

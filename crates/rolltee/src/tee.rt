@@ -1,12 +1,11 @@
 //! Lines from an input to a rolling log, through a non-blocking writer.
-ghost use Rattle.std.specs.Prelude.{◌≡◌, ◌≢◌, ◌≤◌, ℕ, List, length, Some, Err, OnOk};
-ghost use Rattle.std.specs.Io.KnownBytes.{Appends};
+ghost use Rattle.std.specs.Prelude.{◌≡◌, ◌≢◌, ◌≤◌, length, Err};
 ghost use Rattle.rolltee.specs.Status.{status_of};
 
-use program_input::read_line;
+use program_input::{CopyFault, copy_lines};
 use std::alloc::{AllocError, Global};
 use std::io;
-use std::io::{BufRead, BufReader, Read, Write};
+use std::io::{BufReader, Read, Write};
 use std::sync::Wait;
 use std::thread::Threads;
 use std::time::Clock;
@@ -112,6 +111,16 @@ impl From<io::Error> for Fault {
     }
 }
 
+impl From<CopyFault> for Fault {
+    fn from(fault: CopyFault) -> Fault {
+        match fault {
+            CopyFault::Read(error) => Fault::Read.of(&error),
+            CopyFault::Write(error) => Fault::Write.of(&error),
+            CopyFault::Cut => Fault::Write,
+        }
+    }
+}
+
 /// Writes each line of `input` to the log that the three arguments name, which `logs` opens: a
 /// rotation, a folder and the beginning of the files' names. The first fault goes to `errors`, whose
 /// own faults are ignored; the lines read before it are written. The answer is the status of the
@@ -198,34 +207,5 @@ fn end<R: Wait + Clock + Print + Drop>(guard: WorkerGuard<R>) -> Result<(), Faul
 
 fn copy_all<I: Read, W: Write>(alloc: Global, input: &mut I, writer: &mut W) -> Result<(), Fault> {
     let mut input = BufReader::new(alloc, input)?;
-    copy_lines(alloc, &mut input, writer)
-}
-
-/// Writes each line of `input` by one write, with its newline, if it has one.
-pub fn copy_lines<I: BufRead, W: Write>(
-    alloc: Global,
-    input: &mut I,
-    writer: &mut W,
-) -> Result<(), Fault>
-    ensures { OnOk result ((text : List ℕ) → I.remaining input.old ≡ Some text →
-        Appends (W.contents writer.old) (W.contents writer.new) text) }
-{
-    let mut line = Vec::new(alloc);
-    for _ in 0..u64::MAX {
-        if !read_line(input, &mut line)? {
-            return Ok(());
-        }
-        write_line(line.as_slice(), writer)?;
-    }
-    Err(Fault::Read)
-}
-
-fn write_line<W: Write>(line: &[u8], writer: &mut W) -> Result<(), Fault>
-    ensures { OnOk result (Appends (W.contents writer.old) (W.contents writer.new) line.now) }
-{
-    match writer.write(line) {
-        Ok(taken) if taken < line.len() => Err(Fault::Write),
-        Ok(_) => Ok(()),
-        Err(error) => Err(Fault::Write.of(&error)),
-    }
+    Ok(copy_lines(alloc, &mut input, writer)?)
 }

@@ -2,10 +2,13 @@
 use crate::queue::ring::Ring;
 use crate::queue::slots::Slots;
 use crate::queue::store::Store;
-use crate::queue::{Refused, Rules, Shut, Taken};
+use crate::queue::{Counts, Refused, Rules, Shut, Taken};
 use std::alloc::{AllocError, Global};
 use std::process::Abort;
 use std::test::*;
+
+// How many calls a round has.
+const TURNS: u32 = 41;
 
 #[derive(Clone, Copy, Debug)]
 enum Call {
@@ -21,9 +24,16 @@ enum Reply {
     Taken(Taken),
 }
 
-// A shutdown at every 40th turn. Else half of the calls are offers, and half of the takes wait.
+// What a call answered, and the counts behind it.
+#[derive(Debug, PartialEq, Eq, Drop)]
+struct Told {
+    reply: Reply,
+    counts: Counts,
+}
+
+// A shutdown in the middle. Else half of the calls are offers, and half of the takes wait.
 fn call_at(turn: u32, seed: u32) -> Call {
-    if turn % 40 == 39 {
+    if turn == TURNS / 2 {
         return Call::Shut;
     }
     match seed >> 30 {
@@ -59,43 +69,49 @@ fn over_slots(alloc: Global, limit: usize, lossy: bool) -> Result<Rules<Slots>, 
     Ok(Rules::over(slots, limit, lossy))
 }
 
-// Makes the same calls of both, which begin anew once an offer found them closed, and answers how
-// many lines were handed. Of 1,025 turns 1,000 are offers and takes.
-fn drive(rt: &impl Abort, alloc: Global, limit: usize, lossy: bool) -> Result<u32, Fail> {
-    let mut ring = over_ring(alloc, limit, lossy)?;
-    let mut slots = over_slots(alloc, limit, lossy)?;
-    let (mut seed, mut handed) = (1u32, 0u32);
-    for turn in 0..1025u32 {
+// Makes a round of calls of a new queue, and answers what each of them told.
+fn play<S: Store>(alloc: Global, queue: Rules<S>, seed: u32) -> Result<Vec<Told>, AllocError> {
+    let mut queue = queue;
+    let mut seed = seed;
+    let mut told = Vec::new(alloc);
+    for turn in 0..TURNS {
         seed = seed.wrapping_mul(1_664_525).wrapping_add(1_013_904_223);
-        let call = call_at(turn, seed);
-        let got = answer(alloc, &mut ring, call)?;
-        let want = answer(alloc, &mut slots, call)?;
-        assert_eq!(rt; got, want, "limit {limit}, turn {turn}, {call:?}");
-        assert_eq!(rt;
-            ring.counts(),
-            slots.counts(),
-            "limit {limit}, turn {turn}, {call:?}"
-        );
-        match got {
-            Reply::Taken(Taken::Line(_, _)) => handed = handed.saturating_add(1),
-            Reply::Offered(Err(Refused::Closed(_))) => {
-                ring = over_ring(alloc, limit, lossy)?;
-                slots = over_slots(alloc, limit, lossy)?;
-            }
-            _ => {}
-        }
+        let reply = answer(alloc, &mut queue, call_at(turn, seed))?;
+        let counts = queue.counts();
+        told.push(Told { reply, counts })?;
     }
-    Ok(handed)
+    Ok(told)
 }
 
+// Plays a round over a ring and over slots, and answers how many lines were handed.
+fn compare(
+    rt: &impl Abort,
+    alloc: Global,
+    limit: usize,
+    lossy: bool,
+    seed: u32,
+) -> Result<u64, Fail> {
+    let ring = play(alloc, over_ring(alloc, limit, lossy)?, seed)?;
+    let slots = play(alloc, over_slots(alloc, limit, lossy)?, seed)?;
+    assert_eq!(rt;
+        ring.as_slice(),
+        slots.as_slice(),
+        "limit {limit}, lossy {lossy}, seed {seed}"
+    );
+    Ok(ring.last().map_or(0, |told| told.counts.handed))
+}
+
+// Of 1,025 calls at each limit in each mode 1,000 are offers and takes.
 #[test]
 fn ring_and_slots_answer_alike(rt: HostRuntime) -> Result<(), Fail> {
     let alloc = rt.alloc();
     for limit in [0usize, 1, 3] {
-        let waiting = drive(&rt, alloc, limit, false)?;
-        let lossy = drive(&rt, alloc, limit, true)?;
-        assert_eq!(rt; waiting, lossy, "limit {limit}");
-        assert!(rt; waiting >= 100, "limit {limit}: {waiting} lines");
+        let mut handed = 0u64;
+        for seed in 0..25u32 {
+            handed = handed.saturating_add(compare(&rt, alloc, limit, false, seed)?);
+            handed = handed.saturating_add(compare(&rt, alloc, limit, true, seed)?);
+        }
+        assert!(rt; handed >= 100, "limit {limit}: {handed} lines");
     }
     Ok(())
 }
