@@ -1,6 +1,7 @@
 // One run in which each call of the folder fails in turn: what is noted, and that no byte that was told
 // as written is lost. What the run prints and leaves then stands among the scripts of `rollplay_rows`.
 
+use crate::expect::{expect_eq, expect_eq_of};
 use std::alloc::{AllocError, Global};
 use std::process::Abort;
 use std::test::Fail;
@@ -147,9 +148,9 @@ fn each_call_that_fails_is_noted(rt: HostRuntime) -> Result<(), Fail> {
             folder.notices(NoticeKind::Open),
             folder.notices(NoticeKind::Flush),
         ];
-        assert_eq!(rt; counts, *noted, "{call}");
-        assert_eq!(rt; folder.failures(), u64::from(*call < 16), "{call}");
-        assert_eq!(rt; (told, held(&folder)), (*bytes, *bytes), "{call}");
+        expect_eq_of(&rt, call, counts, *noted);
+        expect_eq_of(&rt, call, folder.failures(), u64::from(*call < 16));
+        expect_eq_of(&rt, call, (told, held(&folder)), (*bytes, *bytes));
     }
     Ok(())
 }
@@ -161,11 +162,11 @@ fn no_byte_is_lost_from_whichever_call_on_all_fail(rt: HostRuntime) -> Result<()
     let queued = queued_steps(alloc)?;
     for last in 0..=15 {
         let (left, told) = play(alloc, folder(alloc, last + 1, LAST)?, &steps)?;
-        assert_eq!(rt; held(&left), told, "{last}");
+        expect_eq_of(&rt, last, held(&left), told);
         let (left, told) = play_queued(alloc, folder(alloc, last + 1, LAST)?, &queued)?;
-        assert_eq!(rt; held(&left), told, "queued, {last}");
+        expect_eq_of(&rt, last, held(&left), told);
     }
     let (left, told) = play_queued(alloc, folder(alloc, LAST, LAST)?, &queued)?;
-    assert_eq!(rt; (held(&left), told), (3, 3));
+    expect_eq(&rt, (held(&left), told), (3, 3));
     Ok(())
 }

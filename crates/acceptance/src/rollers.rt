@@ -1,5 +1,6 @@
 // What a roller and a builder tell, and bodies that names don't lead to any more.
 
+use crate::expect::{expect_eq, expect_eq_of, shown};
 use std::alloc::{AllocError, Global};
 use std::process::Abort;
 use std::test::Fail;
@@ -35,17 +36,18 @@ fn opened(
 fn a_roller_tells_what_is_open(rt: HostRuntime) -> Result<(), Fail> {
     let alloc = rt.alloc();
     let mut roller = opened(alloc, &hourly(alloc, "log")?, MemoryFolder::new(alloc))?;
-    assert_eq!(rt; roller.open_name(), "app.2020-02-01-10.log");
-    assert_eq!(rt; roller.boundary(), Some(ELEVEN));
+    expect_eq(&rt, roller.open_name(), "app.2020-02-01-10.log");
+    expect_eq(&rt, roller.boundary(), Some(ELEVEN));
     assert!(rt; roller.due(ELEVEN) && !roller.due(ELEVEN - 1) && !roller.due(i64::MAX));
-    assert_eq!(rt; roller.see(TWELVE), Switch::Opened);
-    assert_eq!(rt; roller.open_name(), "app.2020-02-01-12.log");
-    assert_eq!(rt; roller.write(b"line\n")?, 5);
+    expect_eq(&rt, roller.see(TWELVE), Switch::Opened);
+    expect_eq(&rt, roller.open_name(), "app.2020-02-01-12.log");
+    expect_eq(&rt, roller.write(b"line\n")?, 5);
     roller.flush()?;
     let folder = roller.into_folder();
-    assert_eq!(rt;
+    expect_eq(
+        &rt,
         folder.bytes("app.2020-02-01-12.log"),
-        Some(b"line\n".as_slice())
+        Some(b"line\n".as_slice()),
     );
     Ok(())
 }
@@ -54,10 +56,13 @@ fn a_roller_tells_what_is_open(rt: HostRuntime) -> Result<(), Fail> {
 fn a_builder_gives_its_names(rt: HostRuntime) -> Result<(), Fail> {
     let alloc = rt.alloc();
     let names = hourly(alloc, "log")?.names(alloc)?;
-    assert_eq!(rt; names.file_name(START)?.as_str(), "app.2020-02-01-10.log");
+    expect_eq(
+        &rt,
+        names.file_name(START)?.as_str(),
+        "app.2020-02-01-10.log",
+    );
     assert!(rt; matches!(hourly(alloc, "a/b")?.names(alloc), Err(InitError::Name)));
-    let shown = format!(in alloc; "{:?}", Builder::default())?;
-    assert!(rt; !shown.is_empty());
+    assert!(rt; !shown(&rt, &Builder::default()).is_empty());
     Ok(())
 }
 
@@ -65,10 +70,10 @@ fn a_builder_gives_its_names(rt: HostRuntime) -> Result<(), Fail> {
 fn expect_bodies(rt: &impl Abort, folder: &MemoryFolder, wanted: &[&[u8]]) {
     let mut number = 0usize;
     for body in wanted {
-        assert_eq!(rt; folder.body(number), Some(*body), "{number}");
+        expect_eq_of(rt, number, folder.body(number), Some(*body));
         number = number.saturating_add(1);
     }
-    assert_eq!(rt; folder.body(number), None);
+    expect_eq(rt, folder.body(number), None);
 }
 
 #[test]
@@ -84,8 +89,8 @@ fn bodies_stay_without_a_name(rt: HostRuntime) -> Result<(), Fail> {
     // The restart that keeps one file began anew.
     expect_bodies(&rt, roller.folder(), &[b"x", b""]);
     let (switch, taken) = roller.put(ELEVEN, b"y");
-    assert_eq!(rt; switch, Switch::Failed);
-    assert_eq!(rt; taken?, 1);
+    expect_eq(&rt, switch, Switch::Failed);
+    expect_eq(&rt, taken?, 1);
     let folder = roller.into_folder();
     assert!(rt; folder.names()?.is_empty());
     expect_bodies(&rt, &folder, &[b"x", b"y"]);

@@ -1,5 +1,6 @@
 // Folders in memory: what may be put into them, and each call with ample memory.
 
+use crate::expect::{expect_eq, expect_eq_of};
 use appender_core::error::InitError;
 use appender_core::store::{Folder, Kind, Listed, MemoryFolder, Notice, NoticeKind, PutError};
 use std::alloc::Global;
@@ -24,9 +25,9 @@ static PUTS: [(&str, Result<(), PutError>); 11] = [
 // Checks which names a folder has, in byte order.
 fn expect_names(rt: &impl Abort, folder: &MemoryFolder, wanted: &[&str]) {
     let names = folder.names().expect(rt, "memory");
-    assert_eq!(rt; names.len(), wanted.len());
+    expect_eq(rt, names.len(), wanted.len());
     for (name, want) in names.iter().zip(wanted) {
-        assert_eq!(rt; name.as_str(), *want);
+        expect_eq(rt, name.as_str(), *want);
     }
 }
 
@@ -36,9 +37,9 @@ fn puts_only_what_names_one_entry(rt: HostRuntime) {
     let mut folders = MemoryFolder::new(rt.alloc());
     let mut links = MemoryFolder::new(rt.alloc());
     for (name, want) in &PUTS {
-        assert_eq!(rt; files.put_file(name, b"x"), *want, "file {name:?}");
-        assert_eq!(rt; folders.put_folder(name), *want, "folder {name:?}");
-        assert_eq!(rt; links.put_link(name, "a"), *want, "link {name:?}");
+        expect_eq_of(&rt, name, files.put_file(name, b"x"), *want);
+        expect_eq_of(&rt, name, folders.put_folder(name), *want);
+        expect_eq_of(&rt, name, links.put_link(name, "a"), *want);
     }
     for folder in [&files, &folders, &links] {
         expect_names(&rt, folder, &["...", ".a", "a", "a.2020-02-01"]);
@@ -50,12 +51,12 @@ fn a_put_makes_an_absent_folder(rt: HostRuntime) {
     let mut files = MemoryFolder::absent(rt.alloc());
     let mut folders = MemoryFolder::absent(rt.alloc());
     let mut links = MemoryFolder::absent(rt.alloc());
-    assert_eq!(rt; files.put_file("a", b"x"), Ok(()));
-    assert_eq!(rt; folders.put_folder("a"), Ok(()));
-    assert_eq!(rt; links.put_link("a", "b"), Ok(()));
-    assert_eq!(rt; files.bytes("a"), Some(b"x".as_slice()));
-    assert_eq!(rt; folders.kind("a"), Some(Kind::Folder));
-    assert_eq!(rt; links.target("a"), Some("b"));
+    expect_eq(&rt, files.put_file("a", b"x"), Ok(()));
+    expect_eq(&rt, folders.put_folder("a"), Ok(()));
+    expect_eq(&rt, links.put_link("a", "b"), Ok(()));
+    expect_eq(&rt, files.bytes("a"), Some(b"x".as_slice()));
+    expect_eq(&rt, folders.kind("a"), Some(Kind::Folder));
+    expect_eq(&rt, links.target("a"), Some("b"));
 }
 
 // Removes the old file and the link to it.
@@ -111,13 +112,13 @@ fn walked(rt: &impl Abort, alloc: Global) -> (MemoryFolder, Vec<Listed>) {
     put_each(&mut folder).expect(rt, "room");
     folder.set_created(Some(7));
     let (taken, listed) = walk(&mut folder).expect(rt, "a walk");
-    assert_eq!(rt; taken, 5);
+    expect_eq(rt, taken, 5);
     (folder, listed)
 }
 
 // Checks the listing of a folder that was walked.
 fn expect_listed(rt: &impl Abort, listed: &[Listed]) {
-    assert_eq!(rt; listed.len(), 3);
+    expect_eq(rt, listed.len(), 3);
     for entry in listed {
         let name = entry.name.as_deref();
         let (kind, created) = match name {
@@ -125,7 +126,7 @@ fn expect_listed(rt: &impl Abort, listed: &[Listed]) {
             Some("new") => (Kind::File, Some(7)),
             _ => (Kind::Folder, None),
         };
-        assert_eq!(rt; (entry.kind, entry.created), (kind, created), "of {name:?}");
+        expect_eq_of(rt, name, (entry.kind, entry.created), (kind, created));
     }
 }
 
@@ -137,10 +138,10 @@ fn expect_found(rt: &impl Abort, folder: &MemoryFolder) {
         ("old", None, None),
         ("sub", None, Some(Kind::Folder)),
     ] {
-        assert_eq!(rt; folder.bytes(name), bytes, "of {name:?}");
-        assert_eq!(rt; folder.kind(name), kind, "of {name:?}");
+        expect_eq_of(rt, name, folder.bytes(name), bytes);
+        expect_eq_of(rt, name, folder.kind(name), kind);
     }
-    assert_eq!(rt; folder.target("latest"), Some("new"));
+    expect_eq(rt, folder.target("latest"), Some("new"));
 }
 
 // Checks the bodies of a folder that was walked, those without a name too.
@@ -150,7 +151,7 @@ fn expect_bodies(rt: &impl Abort, folder: &MemoryFolder) {
         (1, Some(b"hello".as_slice())),
         (2, None),
     ] {
-        assert_eq!(rt; folder.body(number), want, "of body {number}");
+        expect_eq_of(rt, number, folder.body(number), want);
     }
 }
 
@@ -162,9 +163,9 @@ fn expect_notices(rt: &impl Abort, folder: &MemoryFolder) {
         (NoticeKind::Flush, 1),
         (NoticeKind::Open, 2),
     ] {
-        assert_eq!(rt; folder.notices(kind), want, "of {kind:?}");
+        expect_eq_of(rt, kind, folder.notices(kind), want);
     }
-    assert_eq!(rt; folder.failures(), 0);
+    expect_eq(rt, folder.failures(), 0);
 }
 
 #[test]

@@ -1,5 +1,6 @@
 // Periods, names and readings, with the cases of the Rust crate's own tests, and the texts of errors.
 
+use crate::expect::{expect_eq, expect_eq_of};
 use appender_core::error::InitError;
 use appender_core::names::Names;
 use appender_core::rotation::{Rotation, in_range};
@@ -47,10 +48,10 @@ static PERIODS: [(Rotation, i64, i64, i64); 12] = [
 fn starts_of_periods(rt: HostRuntime) {
     for (rotation, moment, start, next) in &PERIODS {
         assert!(rt; in_range(*moment));
-        assert_eq!(rt; rotation.round_date(*moment), *start);
-        assert_eq!(rt; rotation.next_date(*moment), Some(*next));
+        expect_eq(&rt, rotation.round_date(*moment), *start);
+        expect_eq(&rt, rotation.next_date(*moment), Some(*next));
     }
-    assert_eq!(rt; Rotation::NEVER.next_date(MONDAY), None);
+    expect_eq(&rt, Rotation::NEVER.next_date(MONDAY), None);
     assert!(rt; Rotation::NEVER.is_never() && !Rotation::WEEKLY.is_never());
     assert!(rt; !in_range(FIRST - 1) && !in_range(LAST + 1));
     assert!(rt; !in_range(i64::MIN) && !in_range(i64::MAX));
@@ -158,7 +159,7 @@ fn names_of_moments(rt: HostRuntime) {
         assert!(rt; in_range(*moment));
         let names = Names::new(rt.alloc(), *rotation, prefix, suffix).expect(&rt, "names");
         let named = names.file_name(*moment).expect(&rt, "memory");
-        assert_eq!(rt; named.as_str(), *name);
+        expect_eq(&rt, named.as_str(), *name);
     }
 }
 
@@ -211,7 +212,7 @@ static READINGS: [Reading; 15] = [
 fn readings_of_names(rt: HostRuntime) {
     for (rotation, prefix, suffix, name, second) in &READINGS {
         let names = Names::new(rt.alloc(), *rotation, prefix, suffix).expect(&rt, "names");
-        assert_eq!(rt; names.read(name), Some(*second), "{name}");
+        expect_eq_of(&rt, name, names.read(name), Some(*second));
     }
 }
 
@@ -251,7 +252,7 @@ static NO_DAYS: [&str; 12] = [
 fn texts_that_are_no_names(rt: HostRuntime) {
     for (rotation, name) in &NO_NAMES {
         let names = Names::new(rt.alloc(), *rotation, "app", "log").expect(&rt, "names");
-        assert_eq!(rt; names.read(name), None, "{name}");
+        expect_eq_of(&rt, name, names.read(name), None);
     }
 }
 
@@ -259,7 +260,7 @@ fn texts_that_are_no_names(rt: HostRuntime) {
 fn texts_that_are_no_days(rt: HostRuntime) {
     let days = Names::new(rt.alloc(), Rotation::DAILY, "", "").expect(&rt, "names");
     for name in &NO_DAYS {
-        assert_eq!(rt; days.read(name), None, "{name}");
+        expect_eq_of(&rt, name, days.read(name), None);
     }
 }
 
@@ -283,14 +284,10 @@ static PARTS: [(Rotation, &'static str, &'static str, bool); 13] = [
 #[test]
 fn parts_of_names(rt: HostRuntime) {
     for (rotation, prefix, suffix, allowed) in &PARTS {
-        assert_eq!(rt; Names::is_allowed(*rotation, prefix, suffix), *allowed);
+        expect_eq(&rt, Names::is_allowed(*rotation, prefix, suffix), *allowed);
         let made = Names::new(rt.alloc(), *rotation, prefix, suffix);
-        assert_eq!(rt; made.is_ok(), *allowed, "{prefix} {suffix}");
-        assert_eq!(rt;
-            matches!(made, Err(InitError::Name)),
-            !*allowed,
-            "{prefix} {suffix}"
-        );
+        expect_eq_of(&rt, prefix, made.is_ok(), *allowed);
+        expect_eq_of(&rt, prefix, matches!(made, Err(InitError::Name)), !*allowed);
     }
 }
 
@@ -303,9 +300,9 @@ fn expect_text(
     begin: &str,
     rest: &str,
 ) {
-    assert_eq!(rt; error.code(), code);
+    expect_eq(rt, error.code(), code);
     let text = error.to_string(alloc).expect(rt, "memory");
-    assert_eq!(rt; text.strip_prefix(begin), Some(rest));
+    expect_eq(rt, text.strip_prefix(begin), Some(rest));
 }
 
 #[test]

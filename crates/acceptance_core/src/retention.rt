@@ -1,5 +1,6 @@
 // Which log files go, over listings and over a folder in memory.
 
+use crate::expect::{expect_eq, expect_eq_of};
 use appender_core::names::Names;
 use appender_core::retain::{plan, prune_old_logs};
 use appender_core::rotation::Rotation;
@@ -32,7 +33,7 @@ fn expect_plan(
     wanted: &[usize],
 ) {
     let gone = plan(alloc, names, max, listed).expect(rt, "memory");
-    assert_eq!(rt; gone.as_slice(), wanted, "{max}");
+    expect_eq_of(rt, max, gone.as_slice(), wanted);
 }
 
 #[test]
@@ -118,7 +119,7 @@ fn put_logs(folder: &mut MemoryFolder) -> Result<(), PutError> {
 
 fn expect_count(rt: &impl Abort, folder: &MemoryFolder, wanted: usize) {
     let names = folder.names().expect(rt, "memory");
-    assert_eq!(rt; names.len(), wanted);
+    expect_eq(rt, names.len(), wanted);
 }
 
 #[test]
@@ -130,8 +131,12 @@ fn old_logs_are_pruned_by_a_call_of_its_own(rt: HostRuntime) {
     prune_old_logs(alloc, &mut folder, &names, 0);
     expect_count(&rt, &folder, 3);
     prune_old_logs(alloc, &mut folder, &names, 2);
-    assert_eq!(rt; folder.bytes("app.2020-01-30.log"), None);
-    assert_eq!(rt; folder.bytes("app.2020-01-31.log"), Some(b"y".as_slice()));
-    assert_eq!(rt; folder.bytes("app.log"), Some(b"z".as_slice()));
-    assert_eq!(rt; folder.notices(NoticeKind::Remove), 0);
+    expect_eq(&rt, folder.bytes("app.2020-01-30.log"), None);
+    expect_eq(
+        &rt,
+        folder.bytes("app.2020-01-31.log"),
+        Some(b"y".as_slice()),
+    );
+    expect_eq(&rt, folder.bytes("app.log"), Some(b"z".as_slice()));
+    expect_eq(&rt, folder.notices(NoticeKind::Remove), 0);
 }

@@ -1,5 +1,6 @@
 // Full disks, short writes, links that come in between, and a folder that goes.
 
+use crate::expect::expect_eq;
 use crate::scene::{ELEVEN, START, TWELVE, disk_of, expect_texts, write_log};
 use fake_files::disk::{Call, Disk};
 use fake_logs::runs::{Outcome, Step};
@@ -97,7 +98,7 @@ static WRITES: [(&[Step], &str, &str, &str); 5] = [
 // Behind what the disk held at first stands what puts counted.
 fn expect_counted(rt: &(impl AllocGlobal + Abort), outcome: &Outcome) -> Result<(), Fail> {
     let counted = format!(in rt.alloc(); "kept{}", outcome.counted)?;
-    assert_eq!(rt; outcome.appended, counted);
+    expect_eq(rt, outcome.appended.as_str(), counted.as_str());
     Ok(())
 }
 

@@ -1,5 +1,6 @@
 // What retention does with a folder that tells less than it should.
 
+use crate::expect::{expect_eq, expect_eq_of};
 use crate::scene::{disk_of, write_log};
 use fake_files::disk::{Disk, Fault};
 use fake_logs::runs::list_folder;
@@ -49,7 +50,7 @@ fn expect_all_logs(
     // The opening of the folder, then each reading, between which an entry is looked at.
     for number in [1, 2, 4, 6, 8] {
         let found = break_off(rt.alloc(), fault, number)?;
-        assert_eq!(rt; found.as_str(), wanted, "{number}");
+        expect_eq_of(rt, number, found.as_str(), wanted);
     }
     Ok(())
 }
@@ -78,16 +79,18 @@ fn hidden_logs(alloc: Global) -> io::Result<Disk> {
 fn what_cannot_be_told_stays(rt: HostRuntime) -> Result<(), Fail> {
     let alloc = rt.alloc();
     let disk = hidden_logs(alloc)?;
-    assert_eq!(rt;
+    expect_eq(
+        &rt,
         list_folder(&disk)?.as_str(),
         "Listed { name: Some(\"app.2020-02-01-09\"), kind: File, created: None }\n\
          Listed { name: None, kind: Other, created: None }\n\
          Listed { name: Some(\"app.2020-02-01-08\"), kind: File, created: None }\n\
-         Listed { name: None, kind: Other, created: None }\n"
+         Listed { name: None, kind: Other, created: None }\n",
     );
-    assert_eq!(rt;
+    expect_eq(
+        &rt,
         open_log(&disk, alloc, 1)?.as_str(),
-        "(no text) x\napp.2020-02-01-07 a\napp.2020-02-01-10 \nfailures 0\n"
+        "(no text) x\napp.2020-02-01-07 a\napp.2020-02-01-10 \nfailures 0\n",
     );
     Ok(())
 }
@@ -98,10 +101,11 @@ fn a_link_is_not_removed_as_a_file(rt: HostRuntime) -> Result<(), Fail> {
     let disk = three_logs(alloc)?;
     // The listing is eight calls; then the oldest log is looked at and removed.
     disk.link_comes.set(Some((9, "app.2020-02-01-07")));
-    assert_eq!(rt;
+    expect_eq(
+        &rt,
         open_log(&disk, alloc, 1)?.as_str(),
         "app.2020-02-01-07 -> other.txt\napp.2020-02-01-10 \n\
-         Failed to remove old log file log/app.2020-02-01-07: not a plain file\nfailures 1\n"
+         Failed to remove old log file log/app.2020-02-01-07: not a plain file\nfailures 1\n",
     );
     Ok(())
 }
@@ -112,9 +116,10 @@ fn without_creation_moments_the_dates_decide(rt: HostRuntime) -> Result<(), Fail
     let disk = three_logs(alloc)?;
     // No date stands in it, so that it is no log.
     disk.put_file(b"app.notes", b"x")?;
-    assert_eq!(rt;
+    expect_eq(
+        &rt,
         open_log(&disk, alloc, 2)?.as_str(),
-        "app.2020-02-01-09 c\napp.2020-02-01-10 \napp.notes x\nfailures 0\n"
+        "app.2020-02-01-09 c\napp.2020-02-01-10 \napp.notes x\nfailures 0\n",
     );
     Ok(())
 }

@@ -1,5 +1,6 @@
 // What is printed on standard error where a boundary meets a fault.
 
+use crate::expect::{expect_eq, expect_eq_of};
 use crate::scene::{ELEVEN, START, old_logs, write_log};
 use fake_files::disk::Call;
 use fake_logs::runs::{Outcome, Step};
@@ -51,8 +52,8 @@ fn write_failing(alloc: Global, call: Call, link: &str) -> Result<Outcome, Fail>
 }
 
 fn expect_told(rt: &impl Abort, outcome: &Outcome, call: Call, printed: &str) {
-    assert_eq!(rt; outcome.printed.as_str(), printed);
-    assert_eq!(rt; outcome.counted.as_str(), "onetwothree", "{call:?}");
+    expect_eq(rt, outcome.printed.as_str(), printed);
+    expect_eq_of(rt, call, outcome.counted.as_str(), "onetwothree");
 }
 
 #[test]

@@ -1,5 +1,6 @@
 // The logs that the tests write, and what their disks hold at first.
 
+use crate::expect::expect_eq_of;
 use appender_rolling::rolling::{Builder, Rotation};
 use fake_files::disk::Disk;
 use fake_logs::runs::{Outcome, Step, run_log};
@@ -46,7 +47,7 @@ pub(crate) fn expect_texts(
     wanted: (&str, &str, &str),
     of: &impl Debug,
 ) {
-    assert_eq!(rt; outcome.texts(), wanted, "{of:?}");
+    expect_eq_of(rt, of, outcome.texts(), wanted);
 }
 
 /// A disk with these files, put there in this order.

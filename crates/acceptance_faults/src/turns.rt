@@ -1,5 +1,6 @@
 // A run in which each call of the system fails in its turn.
 
+use crate::expect::expect_eq_of;
 use crate::scene::{ELEVEN, START, TWELVE, expect_texts, old_logs, write_log};
 use fake_logs::runs::{Outcome, Step};
 use std::alloc::{AllocError, Global};
@@ -155,7 +156,8 @@ fn expect_whole(
     outcome: &Outcome,
     number: usize,
 ) -> Result<(), Fail> {
-    assert_eq!(rt; outcome.appended, wanted(rt.alloc(), outcome)?, "{number}");
+    let wanted = wanted(rt.alloc(), outcome)?;
+    expect_eq_of(rt, number, outcome.appended.as_str(), wanted.as_str());
     let files = outcome.files.as_str();
     assert!(rt;
         files.contains("app.d/\n") && files.ends_with("other.txt kept\n"),

@@ -1,5 +1,6 @@
 // Appenders that are written to by std's `Write`, over real folders and over one in memory.
 
+use crate::expect::{expect_eq, expect_eq_of, expect_shown, shown};
 use crate::scene::{
     ELEVEN, Host, START, TWELVE, TestClock, at, clear, expect_bytes, expect_files, expect_target,
     expect_text, folder_at, fresh, hourly_log, names_in, opened,
@@ -20,11 +21,11 @@ fn each_write_reads_the_clock_once(rt: HostRuntime) {
     let clock = TestClock::new(START);
     let mut appender = opened(rt, &builder, MemoryFolder::new(alloc), &clock);
     clock.set(ELEVEN);
-    assert_eq!(rt; appender.write(b"a").expect(&rt, "a write"), 1);
+    expect_eq(&rt, appender.write(b"a").expect(&rt, "a write"), 1);
     clock.set(ELEVEN - 1);
-    assert_eq!(rt; appender.write(b"b").expect(&rt, "a write"), 1);
+    expect_eq(&rt, appender.write(b"b").expect(&rt, "a write"), 1);
     appender.flush().expect(&rt, "a flush");
-    assert_eq!(rt; clock.reads(), 3);
+    expect_eq(&rt, clock.reads(), 3);
     let (folder, _clock) = appender.into_parts();
     expect_bytes(
         &rt,
@@ -68,7 +69,7 @@ fn say_hello_to_each(rt: HostRuntime, host: &impl Host, directory: &str) {
 // Checks that one file alone is there, which reads as `Hello`, and answers its name.
 fn expect_hello(rt: &impl Host, directory: &str) -> String {
     let mut names = names_in(rt, directory);
-    assert_eq!(rt; names.len(), 1, "{directory}");
+    expect_eq_of(rt, directory, names.len(), 1);
     let name = names.pop().expect(rt, "a name");
     expect_text(rt, directory, name.as_str(), "Hello");
     name
@@ -86,7 +87,7 @@ fn a_log_of_each_rotation_is_one_file(rt: HostRuntime) {
                 let inner = at(&rt, directory.as_str(), rotation);
                 let name = expect_hello(&rt, inner.as_str());
                 assert!(rt; name.starts_with("app"), "{name}");
-                assert_eq!(rt; name.as_str() == "app", rotation == "never", "{name}");
+                expect_eq_of(&rt, &name, name.as_str() == "app", rotation == "never");
             }
             clear(&rt, directory.as_str());
             return;
@@ -117,7 +118,7 @@ fn the_next_hour_goes_to_the_next_file(rt: HostRuntime) {
     let directory = fresh(rt, "hours").expect(&rt, "a directory");
     let folder = folder_at(rt, directory.as_str());
     let folder = write_two_hours(rt, folder, "test_make_writer");
-    assert_eq!(rt; folder.failures(), 0);
+    expect_eq(&rt, folder.failures(), 0);
     let files = [
         ("test_make_writer.2020-02-01-10", "file 1\nfile 1\n"),
         ("test_make_writer.2020-02-01-11", "file 2\nfile 2\n"),
@@ -155,7 +156,7 @@ fn two_files_are_kept(rt: HostRuntime) {
     expect_bytes(&rt, &folder, &KEPT);
     let directory = fresh(rt, "kept").expect(&rt, "a directory");
     let folder = write_three_hours(rt, folder_at(rt, directory.as_str()));
-    assert_eq!(rt; folder.failures(), 0);
+    expect_eq(&rt, folder.failures(), 0);
     expect_files(&rt, directory.as_str(), &KEPT);
     clear(&rt, directory.as_str());
 }
@@ -185,7 +186,7 @@ fn the_link_leads_to_the_newest_file(rt: HostRuntime) {
         ("./deep/logs", "deep/logs"),
     ] {
         // At first there is neither the directory nor a link to remove.
-        assert_eq!(rt; write_with_link(rt, given), 2, "{given}");
+        expect_eq_of(&rt, given, write_with_link(rt, given), 2);
         let directory = at(&rt, parent.as_str(), place);
         let directory = directory.as_str();
         expect_target(
@@ -210,13 +211,16 @@ fn an_appender_shows_its_file_and_boundary(rt: HostRuntime) {
     let builder = hourly_log(&rt, "app");
     let clock = TestClock::new(START);
     let appender = opened(rt, &builder, MemoryFolder::new(alloc), &clock);
-    let shown = format!(in alloc; "{appender:?}").expect(&rt, "memory");
-    assert_eq!(rt;
-        shown.as_str(),
-        "RollingFileAppender { open_name: \"app.2020-02-01-10\", boundary: Some(1580554800) }"
+    expect_shown(
+        &rt,
+        &appender,
+        "RollingFileAppender { open_name: \"app.2020-02-01-10\", boundary: Some(1580554800) }",
     );
-    let shown = format!(in alloc; "{:?}", SystemClock::new(rt)).expect(&rt, "memory");
-    assert!(rt; shown.as_str().starts_with("SystemClock"), "{shown}");
+    assert!(rt;
+        shown(&rt, &SystemClock::new(rt))
+            .as_str()
+            .starts_with("SystemClock")
+    );
 }
 
 // A system whose clock tells so many seconds since 1970, if it can be read.
@@ -244,6 +248,6 @@ fn the_system_clock_tells_whole_seconds(rt: HostRuntime) {
         (Some(1_580_551_260), START),
         (Some(u64::MAX), i64::MIN),
     ] {
-        assert_eq!(rt; SystemClock::new(Stopped { seconds }).now(), moment);
+        expect_eq(&rt, SystemClock::new(Stopped { seconds }).now(), moment);
     }
 }

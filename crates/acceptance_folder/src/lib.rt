@@ -1,4 +1,5 @@
-//! Tests of the log writers over real folders.
+//! Tests of the log writers over real folders, and of an appender that threads share: these end by
+//! themselves, and pass however its threads are scheduled.
 #![tactic(auto)]
 
 #[cfg(test)]
@@ -6,6 +7,14 @@ mod appending;
 #[cfg(test)]
 mod calls;
 #[cfg(test)]
+mod expect;
+#[cfg(test)]
+mod hundred_hours;
+#[cfg(test)]
 mod scene;
 #[cfg(test)]
+mod shared;
+#[cfg(test)]
 mod swapping;
+#[cfg(test)]
+mod threads;

@@ -1,5 +1,6 @@
 // Directories of the tests, a clock that they set, and what they compare.
 
+use crate::expect::{expect_eq, expect_eq_of};
 use appender_folder::folder::DirFolder;
 use appender_rolling::rolling::{Builder, Clock, RollingFileAppender, Rotation};
 use appender_store::store::{Folder, MemoryFolder};
@@ -92,14 +93,41 @@ pub(crate) fn put(rt: &impl Host, directory: &str, name: &str, text: &str) {
     fs::write(rt, at(rt, directory, name), text).expect(rt, "a file");
 }
 
-/// Makes a link.
-pub(crate) fn put_link(rt: &impl Host, directory: &str, name: &str, target: &str) {
-    symlink(rt, target, at(rt, directory, name)).expect(rt, "a link");
+/// What stands in a directory: its name, and what a file reads as or a link says.
+#[derive(Clone, Copy)]
+pub(crate) enum Entry {
+    File(&'static str, &'static str),
+    Link(&'static str, &'static str),
+    Folder(&'static str),
 }
 
-/// Makes a directory.
-pub(crate) fn put_folder(rt: &impl Host, directory: &str, name: &str) {
-    fs::create_dir(rt, at(rt, directory, name)).expect(rt, "a directory");
+/// Makes these entries.
+pub(crate) fn fill(rt: &impl Host, directory: &str, entries: &[Entry]) {
+    for entry in entries {
+        match *entry {
+            Entry::File(name, text) => put(rt, directory, name, text),
+            Entry::Link(name, target) => {
+                symlink(rt, target, at(rt, directory, name)).expect(rt, "a link");
+            }
+            Entry::Folder(name) => {
+                fs::create_dir(rt, at(rt, directory, name)).expect(rt, "a directory");
+            }
+        }
+    }
+}
+
+/// Checks that a directory has exactly these entries.
+pub(crate) fn expect_entries(rt: &impl Host, directory: &str, wanted: &[Entry]) {
+    expect_count(rt, directory, wanted.len());
+    for entry in wanted {
+        match *entry {
+            Entry::File(name, text) => expect_text(rt, directory, name, text),
+            Entry::Link(name, target) => expect_target(rt, directory, name, target),
+            Entry::Folder(name) => {
+                expect_count(rt, at(rt, directory, name).as_str(), 0);
+            }
+        }
+    }
 }
 
 /// What can be read under a name, through links too.
@@ -116,13 +144,13 @@ pub(crate) fn target_of(rt: &impl Host, directory: &str, name: &str) -> String {
 /// Checks what can be read under a name, through links too.
 pub(crate) fn expect_text(rt: &impl Host, directory: &str, name: &str, wanted: &str) {
     let text = text_of(rt, directory, name);
-    assert_eq!(rt; text.as_str(), wanted, "{name}");
+    expect_eq_of(rt, name, text.as_str(), wanted);
 }
 
 /// Checks what a link says.
 pub(crate) fn expect_target(rt: &impl Host, directory: &str, name: &str, wanted: &str) {
     let target = target_of(rt, directory, name);
-    assert_eq!(rt; target.as_str(), wanted, "{name}");
+    expect_eq_of(rt, name, target.as_str(), wanted);
 }
 
 /// The names of a directory, sorted.
@@ -140,7 +168,7 @@ pub(crate) fn names_in(rt: &impl Host, directory: &str) -> Vec<String> {
 /// Checks how many entries a directory has.
 pub(crate) fn expect_count(rt: &impl Host, directory: &str, wanted: usize) {
     let names = names_in(rt, directory);
-    assert_eq!(rt; names.len(), wanted, "{names:?}");
+    expect_eq_of(rt, &names, names.len(), wanted);
 }
 
 /// Checks that a directory has exactly these entries, which read as these texts.
@@ -153,10 +181,14 @@ pub(crate) fn expect_files(rt: &impl Host, directory: &str, wanted: &[(&str, &st
 
 /// Checks that a folder in memory has exactly these files, which hold these texts.
 pub(crate) fn expect_bytes(rt: &impl Abort, folder: &MemoryFolder, wanted: &[(&str, &str)]) {
-    assert_eq!(rt; folder.names().map_or(0, |names| names.len()), wanted.len());
+    expect_eq(
+        rt,
+        folder.names().map_or(0, |names| names.len()),
+        wanted.len(),
+    );
     for (name, text) in wanted {
         match folder.bytes(name) {
-            Some(bytes) => assert_eq!(rt; bytes, text.as_bytes(), "{name}"),
+            Some(bytes) => expect_eq_of(rt, name, bytes, text.as_bytes()),
             None => rt.panic(name),
         }
     }

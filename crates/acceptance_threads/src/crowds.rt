@@ -1,4 +1,5 @@
 // Many senders: none is left asleep while there is room, or once the queue is closed.
+use crate::expect::expect_eq;
 use appender_non_blocking::non_blocking::{Closing, NonBlocking, NonBlockingBuilder};
 use fake_gate::gate::Host;
 use std::alloc::Global;
@@ -8,6 +9,7 @@ use std::sync::atomic::AtomicUsize;
 use std::sync::atomic::Ordering::SeqCst;
 use std::sync::{Arc, Wait};
 use std::test::Fail;
+use std::thread::JoinHandle;
 use std::time::Duration;
 use std::{io, thread};
 
@@ -43,6 +45,30 @@ fn send<R: Wait + Drop>(mut sender: NonBlocking<R>, lines: usize) -> usize {
     queued
 }
 
+// Starts so many threads, each with a sender and lines of its own.
+fn start<R: Host>(
+    rt: R,
+    sender: &NonBlocking<R>,
+    senders: usize,
+    lines: usize,
+) -> Result<Vec<JoinHandle<usize>>, Fail> {
+    let mut running = Vec::new(rt.alloc());
+    for _ in 0..senders {
+        let mine = sender.clone()?;
+        running.push(thread::spawn(&rt, move || send(mine, lines))?)?;
+    }
+    Ok(running)
+}
+
+// How many lines all threads queued.
+fn join_all<R: Host>(rt: R, running: Vec<JoinHandle<usize>>) -> usize {
+    let mut queued = 0usize;
+    for thread in running {
+        queued = queued.saturating_add(thread.join(&rt));
+    }
+    queued
+}
+
 // One worker and so many senders with so many lines each, while the guard closes, or before it does. A
 // guard that closes early finds the worker busy for so long that it waits for room, and each sender too.
 fn crowd<R: Host + Abort>(
@@ -64,24 +90,16 @@ fn crowd<R: Host + Abort>(
         .finish(rt, rt.alloc(), writer)?;
     let counter = sender.error_counter()?;
     sender.write(b"Hello")?;
-    let mut queued = 1usize;
-    let mut running = Vec::new(rt.alloc());
-    for _ in 0..senders {
-        let mine = sender.clone()?;
-        running.push(thread::spawn(&rt, move || send(mine, lines))?)?;
-    }
+    let running = start(rt, &sender, senders, lines)?;
     drop(sender);
-    let mut guard = Some(guard);
-    let mut closing = Closing::Ended;
-    if closes_early && let Some(guard) = guard.take() {
-        closing = guard.close();
-    }
-    for thread in running {
-        queued = queued.saturating_add(thread.join(&rt));
-    }
-    if let Some(guard) = guard.take() {
-        closing = guard.close();
-    }
+    let (closing, queued) = if closes_early {
+        let closing = guard.close();
+        (closing, join_all(rt, running))
+    } else {
+        let queued = join_all(rt, running);
+        (guard.close(), queued)
+    };
+    let queued = queued.saturating_add(1);
     let left = match closing {
         Closing::Done { left } => left,
         // On a machine that is busy otherwise the worker may not get on within the guard's time. No thread
@@ -89,11 +107,11 @@ fn crowd<R: Host + Abort>(
         Closing::Full | Closing::Pending if closes_early => return Ok(()),
         _ => return Err(Fail::from(io::ErrorKind::TimedOut)),
     };
-    assert_eq!(rt; came.load(SeqCst).saturating_add(left as usize), queued);
+    expect_eq(&rt, came.load(SeqCst).saturating_add(left as usize), queued);
     assert!(rt;
         closes_early || (left == 0 && queued == senders.saturating_mul(lines).saturating_add(1))
     );
-    assert_eq!(rt; counter.dropped_lines(), 0);
+    expect_eq(&rt, counter.dropped_lines(), 0);
     Ok(())
 }
 

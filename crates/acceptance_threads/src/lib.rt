@@ -1,8 +1,14 @@
-//! Tests of the non-blocking writer: they end by themselves, and pass however its threads are
-//! scheduled.
+//! Tests of the non-blocking writer, of counted senders and their account: they end by themselves, and
+//! pass however the threads are scheduled.
 #![tactic(auto)]
 
 #[cfg(test)]
+mod counted;
+#[cfg(test)]
+mod counted_crowd;
+#[cfg(test)]
 mod crowds;
+#[cfg(test)]
+mod expect;
 #[cfg(test)]
 mod lines;

@@ -1,4 +1,5 @@
 // What becomes of lines.
+use crate::expect::{expect_eq, expect_shown, shown};
 use appender_non_blocking::non_blocking::{
     Closing, DEFAULT_BUFFERED_LINES_LIMIT, NonBlocking, NonBlockingBuilder, WorkerGuard,
     non_blocking,
@@ -32,14 +33,14 @@ fn a_lossy_queue_drops_what_finds_no_room(rt: HostRuntime) -> Result<(), Fail> {
     let counter = sender.error_counter()?;
     sender.write(b"g")?;
     assert!(rt; seen.is_held(rt));
-    assert_eq!(rt; sender.write(b"a")?, 1);
-    assert_eq!(rt; sender.write(b"b")?, 1);
-    assert_eq!(rt; counter.dropped_lines(), 1);
+    expect_eq(&rt, sender.write(b"a")?, 1);
+    expect_eq(&rt, sender.write(b"b")?, 1);
+    expect_eq(&rt, counter.dropped_lines(), 1);
     seen.opens();
-    assert_eq!(rt; guard.close(), Closing::Done { left: 0 });
-    assert_eq!(rt; seen.text(&rt)?.as_slice(), b"g|a|".as_slice());
+    expect_eq(&rt, guard.close(), Closing::Done { left: 0 });
+    expect_eq(&rt, seen.text(&rt)?.as_slice(), b"g|a|".as_slice());
     // What was offered and never came.
-    assert_eq!(rt; counter.dropped_lines(), 3 - seen.count().min(3));
+    expect_eq(&rt, counter.dropped_lines(), 3 - seen.count().min(3));
     Ok(())
 }
 
@@ -52,10 +53,10 @@ fn a_held_writer_holds_no_sender(rt: HostRuntime) -> Result<(), Fail> {
     let (mut sender, guard, seen) = over_gate(rt, builder, b"1")?;
     sender.write(b"1")?;
     assert!(rt; seen.is_held(rt));
-    assert_eq!(rt; sender.write(b"2")?, 1);
+    expect_eq(&rt, sender.write(b"2")?, 1);
     seen.opens();
     drop(guard);
-    assert_eq!(rt; seen.text(&rt)?.as_slice(), b"1|2|".as_slice());
+    expect_eq(&rt, seen.text(&rt)?.as_slice(), b"1|2|".as_slice());
     assert!(rt; seen.last_flushes() >= 2);
     Ok(())
 }
@@ -71,13 +72,17 @@ fn a_full_queue_keeps_its_sender_waiting(rt: HostRuntime) -> Result<(), Fail> {
     assert!(rt; seen.is_held(rt));
     sender.write_all(b", World")?;
     let waits = thread::spawn(&rt, move || sender.write_all(b"!").is_ok())?;
-    assert_eq!(rt; seen.count(), 1);
-    assert_eq!(rt; counter.dropped_lines(), 0);
+    expect_eq(&rt, seen.count(), 1);
+    expect_eq(&rt, counter.dropped_lines(), 0);
     seen.opens();
     assert!(rt; waits.join(&rt));
-    assert_eq!(rt; guard.close(), Closing::Done { left: 0 });
-    assert_eq!(rt; seen.text(&rt)?.as_slice(), b"Hello|, World|!|".as_slice());
-    assert_eq!(rt; counter.dropped_lines(), 0);
+    expect_eq(&rt, guard.close(), Closing::Done { left: 0 });
+    expect_eq(
+        &rt,
+        seen.text(&rt)?.as_slice(),
+        b"Hello|, World|!|".as_slice(),
+    );
+    expect_eq(&rt, counter.dropped_lines(), 0);
     Ok(())
 }
 
@@ -97,10 +102,10 @@ fn every_thread_gets_its_line_through(rt: HostRuntime) -> Result<(), Fail> {
         thread.join(&rt);
     }
     assert!(rt; seen.come(rt, 10));
-    assert_eq!(rt; counter.dropped_lines(), 0);
+    expect_eq(&rt, counter.dropped_lines(), 0);
     drop(guard);
     let lines = b"Hello|Hello|Hello|Hello|Hello|Hello|Hello|Hello|Hello|Hello|";
-    assert_eq!(rt; seen.text(&rt)?.as_slice(), lines.as_slice());
+    expect_eq(&rt, seen.text(&rt)?.as_slice(), lines.as_slice());
     Ok(())
 }
 
@@ -112,11 +117,11 @@ fn every_byte_comes_as_it_was(rt: HostRuntime) -> Result<(), Fail> {
     for byte in 0..=255u8 {
         line.push(byte)?;
     }
-    assert_eq!(rt; sender.write(line.as_slice())?, 256);
+    expect_eq(&rt, sender.write(line.as_slice())?, 256);
     sender.flush()?;
-    assert_eq!(rt; guard.close(), Closing::Done { left: 0 });
+    expect_eq(&rt, guard.close(), Closing::Done { left: 0 });
     line.push(b'|')?;
-    assert_eq!(rt; seen.text(&rt)?.as_slice(), line.as_slice());
+    expect_eq(&rt, seen.text(&rt)?.as_slice(), line.as_slice());
     Ok(())
 }
 
@@ -127,9 +132,9 @@ fn lines_behind_the_shutdown_are_not_written(rt: HostRuntime) -> Result<(), Fail
     let counter = sender.error_counter()?;
     sender.write(b"g")?;
     assert!(rt; seen.is_held(rt));
-    assert_eq!(rt; guard.close(), Closing::Pending);
+    expect_eq(&rt, guard.close(), Closing::Pending);
     sender.write(b"late")?;
-    assert_eq!(rt; counter.dropped_lines(), 0);
+    expect_eq(&rt, counter.dropped_lines(), 0);
     seen.opens();
     // The queue closes once the worker takes the shutdown, and drops what comes then.
     for _ in 0..10_000u32 {
@@ -140,7 +145,7 @@ fn lines_behind_the_shutdown_are_not_written(rt: HostRuntime) -> Result<(), Fail
         thread::sleep(&rt, Duration::from_millis(1));
     }
     assert!(rt; counter.dropped_lines() > 0);
-    assert_eq!(rt; seen.text(&rt)?.as_slice(), b"g|".as_slice());
+    expect_eq(&rt, seen.text(&rt)?.as_slice(), b"g|".as_slice());
     Ok(())
 }
 
@@ -150,13 +155,13 @@ fn a_closed_queue_takes_no_line(rt: HostRuntime) -> Result<(), Fail> {
         let builder = NonBlockingBuilder::default().lossy(lossy);
         let (mut sender, guard, seen) = over_gate(rt, builder, b"")?;
         let counter = sender.error_counter()?.clone()?;
-        assert_eq!(rt; guard.close(), Closing::Done { left: 0 });
+        expect_eq(&rt, guard.close(), Closing::Done { left: 0 });
         match sender.write(b"late") {
             Ok(taken) => assert!(rt; lossy && taken == 4),
             Err(fault) => assert!(rt; !lossy && fault.kind() == ErrorKind::Other),
         }
-        assert_eq!(rt; counter.dropped_lines(), if lossy { 1 } else { 0 });
-        assert_eq!(rt; seen.count(), 0);
+        expect_eq(&rt, counter.dropped_lines(), if lossy { 1 } else { 0 });
+        expect_eq(&rt, seen.count(), 0);
     }
     Ok(())
 }
@@ -171,7 +176,7 @@ fn a_guard_tells_that_the_queue_stays_full(rt: HostRuntime) -> Result<(), Fail> 
     sender.write(b"g")?;
     assert!(rt; seen.is_held(rt));
     sender.write(b"a")?;
-    assert_eq!(rt; guard.close(), Closing::Full);
+    expect_eq(&rt, guard.close(), Closing::Full);
     seen.opens();
     drop(sender);
     // The worker ends with its last sender, and leaves no line behind.
@@ -199,27 +204,24 @@ fn a_writer_that_fails_ends_too(rt: HostRuntime) -> Result<(), Fail> {
     let (mut sender, guard) = non_blocking(rt, rt.alloc(), Failing)?;
     sender.write(b"a")?;
     sender.write(b"b")?;
-    assert_eq!(rt; guard.close(), Closing::Done { left: 0 });
+    expect_eq(&rt, guard.close(), Closing::Done { left: 0 });
     let (mut sender, guard) = NonBlocking::new(rt, rt.alloc(), Failing)?;
     sender.write(b"a")?;
     drop(sender);
-    assert_eq!(rt; guard.close(), Closing::Done { left: 0 });
+    expect_eq(&rt, guard.close(), Closing::Done { left: 0 });
     Ok(())
 }
 
 #[test]
 fn all_types_can_be_shown(rt: HostRuntime) -> Result<(), Fail> {
     let builder = NonBlockingBuilder::default();
-    let shown = format!(in rt.alloc(); "{builder:?}")?;
-    assert!(rt; shown.as_str().contains("128000"), "{shown}");
-    assert_eq!(rt; DEFAULT_BUFFERED_LINES_LIMIT, 128_000);
+    assert!(rt; shown(&rt, &builder).as_str().contains("128000"));
+    expect_eq(&rt, DEFAULT_BUFFERED_LINES_LIMIT, 128_000);
     let (sender, guard, _seen) = over_gate(rt, builder, b"")?;
     let counter = sender.error_counter()?;
-    let shown = format!(in rt.alloc(); "{sender:?} {guard:?} {counter:?}")?;
-    assert_eq!(rt;
-        shown.as_str(),
-        "NonBlocking { .. } WorkerGuard { .. } ErrorCounter { .. }"
-    );
+    expect_shown(&rt, &sender, "NonBlocking { .. }");
+    expect_shown(&rt, &guard, "WorkerGuard { .. }");
+    expect_shown(&rt, &counter, "ErrorCounter { .. }");
     Ok(())
 }
 

@@ -9,7 +9,7 @@ use std::io::{BufReader, Read, Write};
 use std::marker::Brand;
 use std::sync::Wait;
 use std::sync::ledger::{Blank, Ledger};
-use std::thread::Threads;
+use std::thread::{JoinHandle, Threads};
 use std::time::Clock;
 use std::{io, thread};
 use tracing_appender::folder::DirFolder;
@@ -213,6 +213,14 @@ fn send_all<
         };
         running.push(thread).map_err(AllocError::from)?;
     }
+    join_all(rt, running)
+}
+
+// The same of threads that run.
+fn join_all<A: Ledger, H: Ledger, S: Ledger, C: Ledger, R: Host>(
+    rt: R,
+    running: Vec<JoinHandle<(CountedSender<A, H, S, C, R>, Result<(), Fault>)>>,
+) -> Result<(Vec<CountedSender<A, H, S, C, R>>, Vec<Result<(), Fault>>), Fault> {
     let (mut back, mut sent) = (Vec::new(rt.alloc()), Vec::new(rt.alloc()));
     for thread in running {
         let (sender, ended) = thread.join(&rt);

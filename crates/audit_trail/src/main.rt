@@ -4,6 +4,8 @@
 //! account says what became of their lines.
 #![tactic(auto)]
 
+#[cfg(test)]
+mod expect;
 mod gather;
 #[cfg(test)]
 mod tests;

@@ -1,7 +1,8 @@
 // The whole program over a real folder, and its lines over a folder in memory.
-use crate::gather::keep_all;
+use crate::expect::{expect_eq, expect_eq_of};
+use crate::gather::{Host, Trails, keep_all};
 use crate::trail::{Fault, keep, write_lines};
-use std::alloc::Global;
+use std::alloc::{AllocError, Global};
 use std::cell::Cell;
 use std::io::Read;
 use std::process::Abort;
@@ -57,8 +58,8 @@ fn check<R: Runtime + AllocGlobal + Abort>(
     let mut input = input;
     let mut errors = Vec::new(rt.alloc());
     let answer = keep(rt, arguments, &mut input, &mut errors);
-    assert_eq!(rt; errors.as_slice(), told.as_bytes());
-    assert_eq!(rt; answer, status);
+    expect_eq(rt, errors.as_slice(), told.as_bytes());
+    expect_eq(rt, answer, status);
 }
 
 #[test]
@@ -68,13 +69,14 @@ fn keeps_all_lines_of_all_runs(rt: HostRuntime) -> Result<(), Fail> {
     check(&rt, arguments.as_slice(), b"\nagain\n", 0, "");
     let directory = arguments[0].as_str();
     let link = format!(in rt.alloc(); "{directory}/latest.log")?;
-    assert_eq!(rt;
+    expect_eq(
+        &rt,
         fs::read_to_string(&rt, link.as_str())?.as_str(),
-        "first\n\nlast\nagain\n"
+        "first\n\nlast\nagain\n",
     );
     // The link leads to the log of a day.
     let target = fs::read_link(&rt, link.as_str())?;
-    assert_eq!(rt; target.as_str().len(), "audit.2020-02-01.log".len());
+    expect_eq(&rt, target.as_str().len(), "audit.2020-02-01.log".len());
     fs::remove_dir_all(&rt, directory)?;
     Ok(())
 }
@@ -98,7 +100,7 @@ fn tells_a_folder_that_is_none(rt: HostRuntime) -> Result<(), Fail> {
     fs::write(&rt, path, "here")?;
     let told = "failed to create log directory: File exists (os error 17)\n";
     check(&rt, arguments.as_slice(), b"a\n", 1, told);
-    assert_eq!(rt; fs::read_to_string(&rt, path)?.as_str(), "here");
+    expect_eq(&rt, fs::read_to_string(&rt, path)?.as_str(), "here");
     fs::remove_file(&rt, path)?;
     Ok(())
 }
@@ -107,13 +109,15 @@ fn tells_a_folder_that_is_none(rt: HostRuntime) -> Result<(), Fail> {
 fn tells_an_input_that_is_not_read(rt: HostRuntime) -> Result<(), Fail> {
     let arguments = Vec::from_array(rt.alloc(), [fresh(&rt, "read")?])?;
     let mut errors = Vec::new(rt.alloc());
-    assert_eq!(rt;
+    expect_eq(
+        &rt,
         keep(&rt, arguments.as_slice(), &mut Broken, &mut errors),
-        1
+        1,
     );
-    assert_eq!(rt;
+    expect_eq(
+        &rt,
         errors.as_slice(),
-        b"read failed: permission denied\n".as_slice()
+        b"read failed: permission denied\n".as_slice(),
     );
     fs::remove_dir_all(&rt, arguments[0].as_str())?;
     Ok(())
@@ -129,49 +133,66 @@ fn source(rt: &HostRuntime, name: &str, content: &str) -> io::Result<String> {
     Ok(path)
 }
 
+// Two sources that can be read, and after each of them one that can't.
+fn sources(rt: &HostRuntime) -> io::Result<[String; 4]> {
+    let first = source(rt, "source_1", "a 1\na 2\na 3")?;
+    let second = source(rt, "source_2", "b 1\n\n")?;
+    let (lacks, fails) = (fresh(rt, "nothing")?, fresh(rt, "no_more")?);
+    Ok([first, lacks, second, fails])
+}
+
+// What the program tells of the two that can't be read.
+fn faults_of(alloc: Global, sources: &[String; 4]) -> Result<String, AllocError> {
+    let [_, lacks, _, fails] = sources;
+    format!(in alloc; "{lacks}: read failed: {LACKING}\n{fails}: read failed: {LACKING}\n")
+}
+
+// Runs the program over these sources, and checks what it tells.
+fn check_account<R: Host + Trails + Abort>(
+    rt: R,
+    directory: &str,
+    sources: &[String],
+    faults: &str,
+) {
+    let (mut output, mut errors) = (Vec::new(rt.alloc()), Vec::new(rt.alloc()));
+    let status = keep_all(rt, &rt, directory, sources, &mut output, &mut errors);
+    expect_eq(
+        &rt,
+        output.as_slice(),
+        b"accepted 5 handed 5 left 0 dropped 0\n".as_slice(),
+    );
+    expect_eq(&rt, errors.as_slice(), faults.as_bytes());
+    expect_eq(&rt, status, 1);
+}
+
+// The lines that begin so, in their order, with a bar behind each.
+fn lines_of(alloc: Global, text: &str, begin: &str) -> Result<String, AllocError> {
+    let mut found = String::new(alloc);
+    for line in text.lines() {
+        if line.starts_with(begin) {
+            found.push_str(line)?;
+            found.push('|')?;
+        }
+    }
+    Ok(found)
+}
+
 #[test]
 fn gives_an_account_of_all_sources(rt: HostRuntime) -> Result<(), Fail> {
     let directory = fresh(&rt, "sources")?;
-    let first = source(&rt, "source_1", "a 1\na 2\na 3")?;
-    let second = source(&rt, "source_2", "b 1\n\n")?;
-    let (lacks, fails) = (fresh(&rt, "nothing")?, fresh(&rt, "no_more")?);
-    let wanted = format!(in rt.alloc();
-        "{lacks}: read failed: {LACKING}\n{fails}: read failed: {LACKING}\n"
-    )?;
-    let sources = Vec::from_array(rt.alloc(), [first, lacks, second, fails])?;
-    let (mut output, mut errors) = (Vec::new(rt.alloc()), Vec::new(rt.alloc()));
-    let status = keep_all(
-        rt,
-        &rt,
-        directory.as_str(),
-        sources.as_slice(),
-        &mut output,
-        &mut errors,
-    );
-    assert_eq!(rt;
-        output.as_slice(),
-        b"accepted 5 handed 5 left 0 dropped 0\n".as_slice()
-    );
-    assert_eq!(rt; errors.as_slice(), wanted.as_str().as_bytes());
-    assert_eq!(rt; status, 1);
+    let sources = sources(&rt)?;
+    let faults = faults_of(rt.alloc(), &sources)?;
+    check_account(rt, directory.as_str(), sources.as_slice(), faults.as_str());
     let link = format!(in rt.alloc(); "{directory}/latest.log")?;
     let written = fs::read_to_string(&rt, link.as_str())?;
-    assert_eq!(rt; written.as_str().len(), 17);
+    expect_eq(&rt, written.as_str().len(), 17);
     // Those of one source stand in their order.
-    for (begin, wanted) in [
-        ("a", "a 1|a 2|a 3|"),
-        ("b", "b 1|"),
-        ("", "a 1|a 2|a 3|b 1||"),
-    ] {
-        let mut found = String::new(rt.alloc());
-        for line in written.as_str().lines() {
-            if line.starts_with(begin) {
-                found.push_str(line)?;
-                found.push('|')?;
-            }
-        }
-        assert!(rt; found.as_str() == wanted || begin.is_empty() && found.len() == wanted.len());
+    for (begin, wanted) in [("a", "a 1|a 2|a 3|"), ("b", "b 1|")] {
+        let found = lines_of(rt.alloc(), written.as_str(), begin)?;
+        expect_eq(&rt, found.as_str(), wanted);
     }
+    let all = lines_of(rt.alloc(), written.as_str(), "")?;
+    expect_eq(&rt, all.len(), "a 1|a 2|a 3|b 1||".len());
     fs::remove_dir_all(&rt, directory.as_str())?;
     Ok(())
 }
@@ -193,7 +214,7 @@ fn hourly(alloc: Global, folder: MemoryFolder) -> Result<RollingFile<MemoryFolde
 // Checks what a file of a folder in memory holds.
 fn expect_file(rt: &impl Abort, folder: &MemoryFolder, name: &str, text: &str) {
     match folder.bytes(name) {
-        Some(bytes) => assert_eq!(rt; bytes, text.as_bytes(), "{name}"),
+        Some(bytes) => expect_eq_of(rt, name, bytes, text.as_bytes()),
         None => assert!(rt; false, "no {name}"),
     }
 }

@@ -2,6 +2,8 @@
 //! and prints what each step answered and what the folder holds at the end.
 #![tactic(auto)]
 
+#[cfg(test)]
+mod expect;
 mod page;
 mod play;
 #[cfg(test)]

@@ -1,6 +1,7 @@
 // Whole scripts, played through memory.
 mod queued;
 
+use crate::expect::{expect_eq, expect_eq_of};
 use crate::play::play;
 use rollplay_rows::{AROUND_FAULTS, FAULTS, PLAYED};
 use std::alloc::Global;
@@ -9,19 +10,27 @@ use std::io::{Read, Write};
 use std::process::Abort;
 use std::test::Fail;
 
-// Plays a script, and compares the status and both streams.
-fn check(rt: &impl Abort, alloc: Global, script: &[u8], status: u8, output: &str, errors: &str) {
-    let mut input = script;
+// Plays what an input gives, and compares the status and both streams.
+fn check_input<I: Read>(
+    rt: &impl Abort,
+    alloc: Global,
+    input: &mut I,
+    status: u8,
+    output: &str,
+    errors: &str,
+) {
     let mut printed = Vec::new(alloc);
     let mut told = Vec::new(alloc);
-    let answer = play(alloc, &mut input, &mut printed, &mut told);
-    assert_eq!(rt; told.as_slice(), errors.as_bytes(), "errors of {script:?}");
-    assert_eq!(rt;
-        printed.as_slice(),
-        output.as_bytes(),
-        "output of {script:?}"
-    );
-    assert_eq!(rt; answer, status, "status of {script:?}");
+    let answer = play(alloc, input, &mut printed, &mut told);
+    expect_eq(rt, told.as_slice(), errors.as_bytes());
+    expect_eq_of(rt, errors, printed.as_slice(), output.as_bytes());
+    expect_eq_of(rt, (output, errors), answer, status);
+}
+
+// The same with a script.
+fn check(rt: &impl Abort, alloc: Global, script: &[u8], status: u8, output: &str, errors: &str) {
+    let mut input = script;
+    check_input(rt, alloc, &mut input, status, output, errors);
 }
 
 #[test]
@@ -334,7 +343,7 @@ fn long_script(rt: &impl Abort, alloc: Global, length: usize) -> Result<Vec<u8>,
     assert!(rt; length >= 27);
     script.resize(length - end.len(), b'a')?;
     script.extend_from_slice(end)?;
-    assert_eq!(rt; script.len(), length);
+    expect_eq(rt, script.len(), length);
     Ok(script)
 }
 
@@ -377,30 +386,27 @@ impl Read for Stumbling<'_> {
     }
 }
 
+// Faults of reading, with the status and what is printed and told.
+static STUMBLES: [(io::ErrorKind, u8, &str, &str); 3] = [
+    (
+        io::ErrorKind::Interrupted,
+        0,
+        "open app\nok 1\nfile app 1 a\n",
+        "",
+    ),
+    (io::ErrorKind::Other, 2, "", "read failed\n"),
+    (io::ErrorKind::OutOfMemory, 3, "", "no memory\n"),
+];
+
 #[test]
 fn tells_a_read_that_fails(rt: HostRuntime) {
-    let alloc = rt.alloc();
-    for (fault, status, output, errors) in [
-        (
-            io::ErrorKind::Interrupted,
-            0,
-            "open app\nok 1\nfile app 1 a\n",
-            "",
-        ),
-        (io::ErrorKind::Other, 2, "", "read failed\n"),
-        (io::ErrorKind::OutOfMemory, 3, "", "no memory\n"),
-    ] {
+    for (fault, status, output, errors) in &STUMBLES {
         let mut input = Stumbling {
             before: b"prefix app\nsta",
-            fault: Some(fault),
+            fault: Some(*fault),
             after: b"rt 0\nwrite a\n",
         };
-        let mut printed = Vec::new(alloc);
-        let mut told = Vec::new(alloc);
-        let answer = play(alloc, &mut input, &mut printed, &mut told);
-        assert_eq!(rt; told.as_slice(), errors.as_bytes());
-        assert_eq!(rt; printed.as_slice(), output.as_bytes());
-        assert_eq!(rt; answer, status);
+        check_input(&rt, rt.alloc(), &mut input, *status, output, errors);
     }
 }
 
@@ -420,14 +426,9 @@ impl Read for Endless {
 
 #[test]
 fn reads_one_byte_behind_the_longest_script(rt: HostRuntime) {
-    let alloc = rt.alloc();
     let mut input = Endless { given: 0 };
-    let mut printed = Vec::new(alloc);
-    let mut told = Vec::new(alloc);
-    let answer = play(alloc, &mut input, &mut printed, &mut told);
-    assert_eq!(rt; answer, 2);
-    assert_eq!(rt; told.as_slice(), b"bad script\n".as_slice());
-    assert_eq!(rt; input.given, LONGEST + 1);
+    check_input(&rt, rt.alloc(), &mut input, 2, "", "bad script\n");
+    expect_eq(&rt, input.given, LONGEST + 1);
 }
 
 // A writer that takes a number of bytes, and then no more.
@@ -456,34 +457,41 @@ impl Write for Narrow {
     }
 }
 
+// Scripts, what room the output has, whether it can be flushed, and the status. What is printed of a
+// log has 20 bytes.
+static NARROW: [(&str, usize, bool, u8); 4] = [
+    ("prefix app\nstart 0\n", 20, true, 0),
+    ("prefix app\nstart 0\n", 19, true, 2),
+    ("prefix app\nstart 0\n", 20, false, 2),
+    ("prefix /\nstart 0\n", 0, true, 2),
+];
+
 #[test]
-fn answers_where_a_stream_takes_no_more(rt: HostRuntime) {
-    let alloc = rt.alloc();
-    // What is printed has 20 bytes.
-    for (script, room, flushes, status) in [
-        ("prefix app\nstart 0\n", 20, true, 0),
-        ("prefix app\nstart 0\n", 19, true, 2),
-        ("prefix app\nstart 0\n", 20, false, 2),
-        ("prefix /\nstart 0\n", 0, true, 2),
-    ] {
-        let mut output = Narrow { room, flushes };
-        let mut told = Vec::new(alloc);
+fn answers_where_the_output_takes_no_more(rt: HostRuntime) {
+    for (script, room, flushes, status) in &NARROW {
+        let mut output = Narrow {
+            room: *room,
+            flushes: *flushes,
+        };
+        let mut told = Vec::new(rt.alloc());
         let mut input = script.as_bytes();
-        assert_eq!(rt;
-            play(alloc, &mut input, &mut output, &mut told),
-            status,
-            "{room} of {script}"
-        );
-        assert!(rt; told.is_empty(), "{room} of {script}");
+        let answer = play(rt.alloc(), &mut input, &mut output, &mut told);
+        expect_eq_of(&rt, room, answer, *status);
+        expect_eq_of(&rt, room, told.len(), 0);
     }
+}
+
+#[test]
+fn answers_where_errors_take_no_more(rt: HostRuntime) {
     for room in [0, 5, 14] {
         let mut errors = Narrow {
             room,
             flushes: false,
         };
-        let mut printed = Vec::new(alloc);
+        let mut printed = Vec::new(rt.alloc());
         let mut input = b"nonsense\n".as_slice();
-        assert_eq!(rt; play(alloc, &mut input, &mut printed, &mut errors), 2);
-        assert!(rt; printed.is_empty());
+        let answer = play(rt.alloc(), &mut input, &mut printed, &mut errors);
+        expect_eq_of(&rt, room, answer, 2);
+        expect_eq_of(&rt, room, printed.len(), 0);
     }
 }

@@ -1,8 +1,10 @@
 // Whole scripts with a queue, played through memory.
 use super::check;
+use crate::expect::{expect_eq, expect_eq_of};
 use crate::play::play;
 use rollplay_rows::QUEUED;
 use std::alloc::Global;
+use std::process::Abort;
 use std::test::Fail;
 
 #[test]
@@ -74,34 +76,37 @@ fn play_failing(alloc: Global, call: usize) -> Result<(u8, Vec<u8>), Fail> {
     Ok((status, printed))
 }
 
+// Plays that script where a call fails, checks what stands in files and how it ends, and answers whether
+// no log was opened.
+fn check_failing(rt: &(impl AllocGlobal + Abort), call: usize) -> Result<bool, Fail> {
+    let (status, printed) = play_failing(rt.alloc(), call)?;
+    let output = String::from_utf8(printed)?;
+    let output = output.as_str();
+    let sums = sums_of(output);
+    expect_eq_of(rt, call, sums.written, sums.stored);
+    let refused = output.starts_with("init error ");
+    expect_eq_of(rt, call, status, u8::from(refused));
+    let ends = sums.ended && output.ends_with("\ncounts 3 3 0 0 0\n");
+    expect_eq_of(rt, call, ends, !refused);
+    Ok(refused)
+}
+
 #[test]
 fn loses_no_written_byte_where_a_call_fails(rt: HostRuntime) -> Result<(), Fail> {
-    let alloc = rt.alloc();
     let mut refused = 0usize;
     for call in 1..30usize {
-        let (status, printed) = play_failing(alloc, call)?;
-        let output = String::from_utf8(printed)?;
-        let sums = sums_of(output.as_str());
-        assert_eq!(rt; sums.written, sums.stored, "call {call}: {output}");
-        if status == 1 {
-            assert!(rt;
-                output.as_str().starts_with("init error "),
-                "call {call}: {output}"
-            );
+        if check_failing(&rt, call)? {
             refused = refused.saturating_add(1);
-            continue;
         }
-        assert_eq!(rt; status, 0, "call {call}");
-        assert!(rt; sums.ended, "call {call}: {output}");
-        assert!(rt;
-            output.as_str().ends_with("\ncounts 3 3 0 0 0\n"),
-            "call {call}: {output}"
-        );
     }
     // The folder could not be made, the file not opened, the link not made.
-    assert_eq!(rt; refused, 3);
+    expect_eq(&rt, refused, 3);
     // No call has the last of these numbers.
-    let (_, printed) = play_failing(alloc, 29)?;
-    assert_eq!(rt; sums_of(String::from_utf8(printed)?.as_str()).written, 6);
+    let (_, printed) = play_failing(rt.alloc(), 29)?;
+    expect_eq(
+        &rt,
+        sums_of(String::from_utf8(printed)?.as_str()).written,
+        6,
+    );
     Ok(())
 }

@@ -1,6 +1,7 @@
 // The writing of one line.
+use crate::expect::{expect_eq, expect_eq_of};
 use crate::script::{Act, Script};
-use appender_worker::worker::run_line;
+use appender_core::worker::run_line;
 use std::io::ErrorKind;
 use std::test::*;
 
@@ -74,10 +75,10 @@ fn lines_are_written_as_told(rt: HostRuntime) -> Result<(), Fail> {
             Ok(()) => None,
             Err(fault) => Some((fault.taken, fault.error.kind())),
         };
-        assert_eq!(rt; fault, run.fault, "row {row}");
-        assert_eq!(rt; writer.text.as_slice(), run.text.as_bytes(), "row {row}");
-        assert_eq!(rt; writer.writes, run.writes, "row {row}");
-        assert_eq!(rt; writer.flushes, 0, "row {row}");
+        expect_eq_of(&rt, row, fault, run.fault);
+        expect_eq_of(&rt, row, writer.text.as_slice(), run.text.as_bytes());
+        expect_eq_of(&rt, row, writer.writes, run.writes);
+        expect_eq_of(&rt, row, writer.flushes, 0);
     }
     Ok(())
 }
@@ -86,6 +87,6 @@ fn lines_are_written_as_told(rt: HostRuntime) -> Result<(), Fail> {
 fn a_line_is_added_to_known_bytes(rt: HostRuntime) -> Result<(), Fail> {
     let mut text: Vec<u8> = b"one\n".to_vec(rt.alloc())?;
     assert!(rt; run_line(&mut text, b"two\n").is_ok());
-    assert_eq!(rt; text.as_slice(), b"one\ntwo\n".as_slice());
+    expect_eq(&rt, text.as_slice(), b"one\ntwo\n".as_slice());
     Ok(())
 }

@@ -1,4 +1,4 @@
-use Rattle.acceptance_counted.proofs.counted.run.Given as goal
+use Rattle.acceptance_threads.proofs.counted.run.Given as goal
 
 abbrev pub ghosts-tell-A-Ledger : goal.ghosts-tell-A-Ledger
 ghosts-tell-A-Ledger g a = record { name = a.accepted.name; parts = a.accepted.parts }

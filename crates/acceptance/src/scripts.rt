@@ -1,9 +1,6 @@
 // Scripts of `rollplay` without a queue, carried out over a folder in memory and over a fake disk.
 
-use appender_folder::folder::DirFolder;
-use appender_replay::replay::replay_rolling;
-use appender_rolling::rolling::Builder;
-use appender_store::store::{Folder, Kind, MemoryFolder};
+use crate::expect::{expect_eq, expect_eq_of};
 use fake_files::disk::{Disk, FOLDER};
 use fake_files::fake::Fake;
 use rollplay_rows::PLAYED;
@@ -12,6 +9,10 @@ use std::alloc::Global;
 use std::io;
 use std::io::Error;
 use std::test::Fail;
+use tracing_appender::folder::DirFolder;
+use tracing_appender::replay::replay_rolling;
+use tracing_appender::rolling::Builder;
+use tracing_appender::store::{Folder, Kind, MemoryFolder};
 
 // Whether a disk can't do what a script says: fail at a call by its number among those of a folder,
 // or give a creation moment.
@@ -101,10 +102,11 @@ fn a_disk_comes_to_hold_what_memory_does(rt: HostRuntime) -> Result<(), Fail> {
     for (script, _) in PLAYED {
         if !needs_memory(script) {
             let on_disk = play_on_disk(alloc, script)?;
-            assert_eq!(rt; on_disk, play_in_memory(alloc, script)?, "{script:?}");
+            let in_memory = play_in_memory(alloc, script)?;
+            expect_eq_of(&rt, script, &on_disk, &in_memory);
             compared = compared.saturating_add(1);
         }
     }
-    assert_eq!(rt; compared, 37);
+    expect_eq(&rt, compared, 37);
     Ok(())
 }

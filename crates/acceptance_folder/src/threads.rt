@@ -1,36 +1,28 @@
-// What the tests share: a log in memory, clocks that many threads read, and lines.
+// What tests with many threads share: a log in memory, clocks that many threads read, and lines.
 
-use appender_rolling::rolling::{Builder, Clock, MakeWriter, RollingFileAppender, Rotation};
+use crate::expect::{expect_eq, expect_eq_of};
+use crate::scene::{ELEVEN, Host, START, TWELVE, hourly_log, opened};
+use appender_rolling::rolling::{Clock, MakeWriter, RollingFileAppender};
 use appender_store::store::{Folder, MemoryFolder};
-use std::alloc::{AllocError, Global};
+use std::alloc::AllocError;
 use std::io::Write;
 use std::process::Abort;
 use std::sync::Wait;
 use std::sync::atomic::Ordering::SeqCst;
 use std::sync::atomic::{AtomicI64, AtomicU64};
-use std::test::Fail;
 use std::thread;
 use std::thread::Threads;
 
-/// 2020-02-01 10:01:00.
-pub(crate) const START: i64 = 1_580_551_260;
-
-/// 2020-02-01 11:00:00.
-pub(crate) const ELEVEN: i64 = 1_580_554_800;
-
-/// 2020-02-01 12:00:00.
-pub(crate) const TWELVE: i64 = 1_580_558_400;
-
 /// A clock that goes on by so many seconds at each reading.
 #[derive(Drop)]
-pub(crate) struct TestClock {
+pub(crate) struct SteppingClock {
     next: AtomicI64,
     step: i64,
 }
 
-impl TestClock {
-    pub(crate) fn new(moment: i64, step: i64) -> TestClock {
-        TestClock {
+impl SteppingClock {
+    pub(crate) fn new(moment: i64, step: i64) -> SteppingClock {
+        SteppingClock {
             next: AtomicI64::new(moment),
             step,
         }
@@ -46,7 +38,7 @@ impl TestClock {
     }
 }
 
-impl Clock for TestClock {
+impl Clock for SteppingClock {
     ghost now_gives = { λ clock m. Unit {0} };
 
     fn now(&self) -> i64 {
@@ -112,34 +104,17 @@ impl Clock for Turning {
     }
 }
 
-/// A builder of an hourly log.
-pub(crate) fn hourly(alloc: Global) -> Result<Builder, AllocError> {
-    Builder::new()
-        .rotation(Rotation::HOURLY)
-        .filename_prefix(alloc, "app")
-}
-
-/// An appender that has to be opened.
-pub(crate) fn opened<S: Folder, C: Clock, R: AllocGlobal + Drop>(
-    rt: R,
-    builder: &Builder,
-    folder: S,
-    clock: C,
-) -> Result<RollingFileAppender<S, C, R>, Fail> {
-    let alloc = rt.alloc();
-    match builder.build_in(rt, alloc, folder, clock) {
-        Ok(appender) => Ok(appender),
-        Err((error, _folder, _clock)) => Err(Fail::from(error)),
-    }
-}
-
 /// An hourly log in memory.
-pub(crate) fn in_memory<C: Clock, R: AllocGlobal + Drop>(
+pub(crate) fn in_memory<C: Clock, R: Host>(
     rt: R,
     clock: C,
-) -> Result<RollingFileAppender<MemoryFolder, C, R>, Fail> {
-    let alloc = rt.alloc();
-    opened(rt, &hourly(alloc)?, MemoryFolder::new(alloc), clock)
+) -> RollingFileAppender<MemoryFolder, C, R> {
+    opened(
+        rt,
+        &hourly_log(&rt, "app"),
+        MemoryFolder::new(rt.alloc()),
+        clock,
+    )
 }
 
 /// Writes a line by a writer of its own, and answers whether all of it was taken.
@@ -183,13 +158,13 @@ pub(crate) fn expect_lines(rt: &impl Abort, files: &[&[u8]]) {
         for file in files {
             count = count.saturating_add(count_in(file, line.as_bytes()));
         }
-        assert_eq!(rt; count, 1, "{line}");
+        expect_eq_of(rt, line, count, 1);
     }
     let mut length = 0usize;
     for file in files {
         length = length.saturating_add(file.len());
     }
-    assert_eq!(rt; length, 70);
+    expect_eq(rt, length, 70);
 }
 
 // How often a file has this line, in a file of lines as long.

@@ -1,7 +1,8 @@
 // What counted senders are told, and what their guard answers.
 ghost use Rattle.std.specs.Prelude.{◌≡◌, ◌+◌, ◌<◌};
 
-use crate::crowd::crowd;
+use crate::counted_crowd::crowd;
+use crate::expect::{expect_eq, expect_shown};
 use appender_non_blocking::non_blocking::{
     Account, CountedGuard, CountedSender, NonBlockingBuilder, Sent, Shut, Unsettled,
 };
@@ -119,14 +120,15 @@ pub(crate) fn settles<A: Ledger, H: Ledger, S: Ledger, C: Ledger, R: Host + Abor
     let Ok(account) = guard.settle(senders) else {
         return Err(Fail::from("senders are missing"));
     };
-    assert_eq!(rt;
+    expect_eq(
+        &rt,
         account,
         Account {
             accepted,
             handed,
             left,
-            dropped
-        }
+            dropped,
+        },
     );
     Ok(())
 }
@@ -139,13 +141,13 @@ fn expect_told<A: Ledger, H: Ledger, S: Ledger, C: Ledger, R: Host + Abort>(
     wanted: Sent,
 ) {
     let told = sender.write_line(line).expect(&rt, "the queue is open");
-    assert_eq!(rt; told, wanted);
+    expect_eq(&rt, told, wanted);
 }
 
 // Compares all lines that came.
 fn expect_text<R: Host + Abort>(rt: R, seen: &Seen, wanted: &[u8]) {
     let text = seen.text(&rt).expect(&rt, "memory");
-    assert_eq!(rt; text.as_slice(), wanted);
+    expect_eq(&rt, text.as_slice(), wanted);
 }
 
 // What lies behind the shutdown is left.
@@ -166,11 +168,11 @@ fn leaves_lines<A: Ledger, H: Ledger, S: Ledger, C: Ledger, R: Host + Abort>(
     assert!(rt; seen.is_held(rt));
     expect_told(rt, sender, b"b", Sent::Queued(2));
     assert!(rt; !guard.sent());
-    assert_eq!(rt; guard.shut(), Shut::Sent);
+    expect_eq(&rt, guard.shut(), Shut::Sent);
     assert!(rt; guard.sent());
-    assert_eq!(rt; guard.shut(), Shut::Already);
+    expect_eq(&rt, guard.shut(), Shut::Already);
     expect_told(rt, sender, b"c", Sent::Queued(3));
-    assert_eq!(rt; sender.queued(), 3);
+    expect_eq(&rt, sender.queued(), 3);
     seen.opens();
     settles(rt, senders, guard, 3, 2, 1, 0)?;
     expect_text(rt, seen, b"held|b|");
@@ -190,7 +192,7 @@ fn gives_back<A: Ledger, H: Ledger, S: Ledger, C: Ledger, R: Host + Abort>(
         return Err(Fail::from("a sender was missing"));
     };
     let Unsettled { guard, senders } = unsettled;
-    assert_eq!(rt; senders.len(), 1);
+    expect_eq(&rt, senders.len(), 1);
     let mut senders = senders;
     if let Some(sender) = missing {
         senders.push(sender)?;
@@ -214,7 +216,7 @@ fn drops_lines<A: Ledger, H: Ledger, S: Ledger, C: Ledger, R: Host + Abort>(
     assert!(rt; seen.is_held(rt));
     expect_told(rt, sender, b"a", Sent::Queued(2));
     expect_told(rt, sender, b"b", Sent::Dropped);
-    assert_eq!(rt; sender.dropped(), 1);
+    expect_eq(&rt, sender.dropped(), 1);
     seen.opens();
     settles(rt, senders, guard, 2, 2, 0, 1)?;
     expect_text(rt, seen, b"held|a|");
@@ -250,24 +252,10 @@ fn can_be_shown<A: Ledger, H: Ledger, S: Ledger, C: Ledger, R: Host + Abort>(
     let Some(sender) = senders.first() else {
         return Err(Fail::from("no sender was made"));
     };
-    expect_shown(rt, sender, &guard)?;
-    let unsettled = Unsettled { guard, senders };
-    let shown = format!(in rt.alloc(); "{unsettled:?}")?;
-    assert_eq!(rt; shown.as_str(), "Unsettled { .. }");
-    Ok(())
-}
-
-// Compares how a sender, a guard and an answer are shown.
-fn expect_shown<A: Ledger, H: Ledger, S: Ledger, C: Ledger, R: Host + Abort>(
-    rt: R,
-    sender: &CountedSender<A, H, S, C, R>,
-    guard: &CountedGuard<A, H, S, C, R>,
-) -> Result<(), Fail> {
-    let shown = format!(in rt.alloc(); "{sender:?} {guard:?} {:?}", Sent::Dropped)?;
-    assert_eq!(rt;
-        shown.as_str(),
-        "CountedSender { .. } CountedGuard { .. } Dropped"
-    );
+    expect_shown(&rt, sender, "CountedSender { .. }");
+    expect_shown(&rt, &guard, "CountedGuard { .. }");
+    expect_shown(&rt, &Sent::Dropped, "Dropped");
+    expect_shown(&rt, &Unsettled { guard, senders }, "Unsettled { .. }");
     Ok(())
 }
 

@@ -1,18 +1,20 @@
 // Eight threads, and a folder of the file system.
 
-use crate::scene::{START, TestClock, hourly, opened};
-use appender_folder::folder::DirFolder;
+use crate::expect::expect_eq;
+use crate::scene::{
+    Host, START, clear, expect_target, folder_at, fresh, hourly_log, names_in, opened, text_of,
+};
+use crate::threads::SteppingClock;
 use appender_names::names::Names;
 use appender_rolling::rolling::{MakeWriter, RollingFileAppender};
 use appender_store::store::Folder;
-use std::alloc::{AllocError, Global};
-use std::io::{ErrorKind, Write};
+use std::alloc::AllocError;
+use std::io::Write;
 use std::process::Abort;
-use std::rt::Files;
 use std::sync::Wait;
 use std::test::Fail;
 use std::thread::Threads;
-use std::{env, fs, io, process, thread};
+use std::{io, thread};
 
 const THREADS: usize = 8;
 
@@ -32,8 +34,8 @@ struct Line {
 // Writes these lines of one thread.
 fn write_lines<S: Folder, R: Wait + AllocGlobal + Drop>(
     rt: &R,
-    appender: &RollingFileAppender<S, &TestClock, R>,
-    clock: &TestClock,
+    appender: &RollingFileAppender<S, &SteppingClock, R>,
+    clock: &SteppingClock,
     thread: usize,
     numbers: (i64, i64),
 ) -> io::Result<()> {
@@ -50,8 +52,8 @@ fn write_lines<S: Folder, R: Wait + AllocGlobal + Drop>(
 // Writes these lines of each thread, and answers whether all of them were taken.
 fn write_in_threads<S: Folder + Send, R: Threads + Wait + AllocGlobal + Sync + Drop>(
     rt: &R,
-    appender: &RollingFileAppender<S, &TestClock, R>,
-    clock: &TestClock,
+    appender: &RollingFileAppender<S, &SteppingClock, R>,
+    clock: &SteppingClock,
     numbers: (i64, i64),
 ) -> Result<bool, AllocError>
 where
@@ -99,77 +101,41 @@ fn check_file(rt: &impl Abort, hour: i64, text: &str, last: &mut [i64; THREADS])
     Some(())
 }
 
-// The names of a directory but the link's, sorted.
-fn log_names<R: Files + AllocGlobal + Clone + Drop>(
-    rt: &R,
-    directory: &str,
-) -> io::Result<Vec<String>> {
-    let mut names = Vec::new(rt.alloc());
-    for entry in fs::read_dir(rt, directory)? {
-        let entry = entry?;
-        if entry.file_name() != "latest.log" {
-            names.push(String::from_str(rt.alloc(), entry.file_name())?)?;
-        }
-    }
-    names.sort_unstable();
-    Ok(names)
-}
-
-fn at(alloc: Global, directory: &str, name: &str) -> Result<String, AllocError> {
-    format!(in alloc; "{directory}/{name}")
-}
-
-// Checks the five files that stand, and the link.
-fn check_files<R: Files + AllocGlobal + Abort + Clone + Drop>(
-    rt: &R,
-    directory: &str,
-    names: &Names,
-) -> Result<(), Fail> {
-    let found = log_names(rt, directory)?;
-    assert_eq!(rt; found.len(), 5);
+// Checks the five files that stand, and the link, whose name comes last.
+fn check_files(rt: &impl Host, directory: &str, names: &Names) -> Result<(), Fail> {
+    let mut found = names_in(rt, directory);
+    let link = found.pop().ok_or("no link")?;
+    expect_eq(rt, link.as_str(), "latest.log");
+    expect_eq(rt, found.len(), 5);
     let mut last = [-1i64; THREADS];
     for name in &found {
         let hour = names.read(name.as_str()).ok_or("a name that is no date")?;
-        let text = fs::read_to_string(rt, at(rt.alloc(), directory, name.as_str())?)?;
+        let text = text_of(rt, directory, name.as_str());
         check_file(rt, hour, text.as_str(), &mut last).ok_or("a line that is torn")?;
     }
-    assert_eq!(rt; last, [LINES - 1; THREADS]);
-    let target = fs::read_link(rt, at(rt.alloc(), directory, "latest.log")?)?;
+    expect_eq(rt, last, [LINES - 1; THREADS]);
     let newest = found.last().ok_or("no file")?;
-    assert_eq!(rt; target.as_str(), newest.as_str());
+    expect_target(rt, directory, link.as_str(), newest.as_str());
     Ok(())
-}
-
-// An empty directory of this test's own.
-fn fresh(rt: &HostRuntime) -> io::Result<String> {
-    let parent = env::temp_dir(rt)?;
-    let id = process::id(rt.process());
-    let path = format!(in rt.alloc(); "{}/acceptance_shared_{id}", parent.as_str())?;
-    match fs::remove_dir_all(rt, path.as_str()) {
-        Err(fault) if fault.kind() != ErrorKind::NotFound => return Err(fault),
-        _ => (),
-    }
-    fs::create_dir(rt, path.as_str())?;
-    Ok(path)
 }
 
 // A hundred hours go by, and five files are kept.
 #[test]
 fn no_line_of_a_hundred_hours_is_lost(rt: HostRuntime) -> Result<(), Fail> {
     let alloc = rt.alloc();
-    let directory = fresh(&rt)?;
-    let builder = hourly(alloc)?
+    let directory = fresh(rt, "hundred_hours")?;
+    let builder = hourly_log(&rt, "app")
         .latest_symlink(alloc, "latest.log")?
         .max_log_files(5);
-    let clock = TestClock::new(START, 900);
-    let folder = DirFolder::new(rt, directory.as_str())?;
-    let appender = opened(rt, &builder, folder, &clock)?;
+    let clock = SteppingClock::new(START, 900);
+    let folder = folder_at(rt, directory.as_str());
+    let appender = opened(rt, &builder, folder, &clock);
     for numbers in [(0, LINES - 1), (LINES - 1, LINES)] {
         assert!(rt; write_in_threads(&rt, &appender, &clock, numbers)?);
     }
     // Before the first file there was no link to remove.
-    assert_eq!(rt; appender.into_parts().0.failures(), 1);
+    expect_eq(&rt, appender.into_parts().0.failures(), 1);
     check_files(&rt, directory.as_str(), &builder.names(alloc)?)?;
-    fs::remove_dir_all(&rt, directory.as_str())?;
+    clear(&rt, directory.as_str());
     Ok(())
 }

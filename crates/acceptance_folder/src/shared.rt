@@ -1,14 +1,16 @@
 // Ten threads, and a folder in memory.
 
-use crate::scene::{
-    Crowded, ELEVEN, START, TestClock, Turning, expect_lines, hourly, in_memory, opened,
-    write_in_threads, writes,
+use crate::expect::{expect_eq, expect_shown, shown};
+use crate::scene::{ELEVEN, Host, START, hourly_log, opened};
+use crate::threads::{
+    Crowded, SteppingClock, Turning, expect_lines, in_memory, write_in_threads, writes,
 };
 use appender_rolling::rolling::{
     Builder, Clock, InitError, MakeWriter, RollingFileAppender, RollingWriter,
 };
 use appender_store::store::{Folder, MemoryFolder};
 use std::io::{ErrorKind, Write};
+use std::process::Abort;
 use std::sync::Wait;
 use std::sync::atomic::AtomicBool;
 use std::sync::atomic::Ordering::SeqCst;
@@ -22,13 +24,13 @@ fn ten_threads_begin_one_file(rt: HostRuntime) -> Result<(), Fail> {
     let mut folder = MemoryFolder::new(rt.alloc());
     // Behind the opening, a switch of two calls, and ten lines.
     folder.fail_call(14)?;
-    let appender = opened(rt, &hourly(rt.alloc())?, folder, Crowded::new())?;
+    let appender = opened(rt, &hourly_log(&rt, "app"), folder, Crowded::new());
     assert!(rt; write_in_threads(&rt, &appender)?);
     let (folder, _clock) = appender.into_parts();
-    assert_eq!(rt; folder.failures(), 0);
-    assert_eq!(rt; folder.bytes("app.2020-02-01-10"), Some(b"".as_slice()));
+    expect_eq(&rt, folder.failures(), 0);
+    expect_eq(&rt, folder.bytes("app.2020-02-01-10"), Some(b"".as_slice()));
     expect_lines(&rt, &[folder.bytes("app.2020-02-01-11").unwrap_or(b"")]);
-    assert_eq!(rt; folder.body(2), None);
+    expect_eq(&rt, folder.body(2), None);
     Ok(())
 }
 
@@ -69,15 +71,23 @@ fn write_beside<C: Clock + Sync, R: Threads + Wait + time::Clock + Sync + Drop>(
 
 #[test]
 fn a_writer_keeps_its_file(rt: HostRuntime) -> Result<(), Fail> {
-    let clock = TestClock::new(START, 0);
-    let appender = in_memory(rt, &clock)?;
+    let clock = SteppingClock::new(START, 0);
+    let appender = in_memory(rt, &clock);
     let mut writer = appender.make_writer()?;
-    assert_eq!(rt; writer.write(b"a")?, 1);
+    expect_eq(&rt, writer.write(b"a")?, 1);
     clock.set(ELEVEN);
     assert!(rt; write_beside(&rt, &appender, writer));
     let (folder, _clock) = appender.into_parts();
-    assert_eq!(rt; folder.bytes("app.2020-02-01-10"), Some(b"ab".as_slice()));
-    assert_eq!(rt; folder.bytes("app.2020-02-01-11"), Some(b"c".as_slice()));
+    expect_eq(
+        &rt,
+        folder.bytes("app.2020-02-01-10"),
+        Some(b"ab".as_slice()),
+    );
+    expect_eq(
+        &rt,
+        folder.bytes("app.2020-02-01-11"),
+        Some(b"c".as_slice()),
+    );
     Ok(())
 }
 
@@ -88,36 +98,38 @@ fn a_line_goes_on_behind_a_short_append(rt: HostRuntime) -> Result<(), Fail> {
     for (call, limit) in [(2, 2), (5, 1), (6, 0)] {
         folder.short_append(call, limit)?;
     }
-    let clock = TestClock::new(START, 0);
-    let appender = opened(rt, &hourly(rt.alloc())?, folder, &clock)?;
+    let clock = SteppingClock::new(START, 0);
+    let appender = opened(rt, &hourly_log(&rt, "app"), folder, &clock);
     let mut writer = appender.make_writer()?;
     writer.write_all(b"hello ")?;
     writer.write_all(b"all ")?;
     let refused = writer.write_all(b"bye").err();
     drop(writer);
-    assert_eq!(rt;
+    expect_eq(
+        &rt,
         refused.map(|fault| fault.kind()),
-        Some(ErrorKind::WriteZero)
+        Some(ErrorKind::WriteZero),
     );
     let (folder, _clock) = appender.into_parts();
-    assert_eq!(rt;
+    expect_eq(
+        &rt,
         folder.bytes("app.2020-02-01-10"),
-        Some(b"hello all b".as_slice())
+        Some(b"hello all b".as_slice()),
     );
     Ok(())
 }
 
 #[test]
 fn the_latest_moment_decides(rt: HostRuntime) -> Result<(), Fail> {
-    let appender = in_memory(rt, Turning::new())?;
+    let appender = in_memory(rt, Turning::new());
     assert!(rt; write_in_threads(&rt, &appender)?);
-    let shown = format!(in rt.alloc(); "{appender:?}")?;
-    assert_eq!(rt;
-        shown.as_str(),
-        "RollingFileAppender { open_name: \"app.2020-02-01-12\", boundary: Some(1580562000) }"
+    expect_shown(
+        &rt,
+        &appender,
+        "RollingFileAppender { open_name: \"app.2020-02-01-12\", boundary: Some(1580562000) }",
     );
     let (folder, _clock) = appender.into_parts();
-    assert_eq!(rt; folder.bytes("app.2020-02-01-10"), Some(b"".as_slice()));
+    expect_eq(&rt, folder.bytes("app.2020-02-01-10"), Some(b"".as_slice()));
     // Where the first look was at 12:00, no file begins at 11:00.
     let eleven = folder.bytes("app.2020-02-01-11").unwrap_or(b"");
     let twelve = folder.bytes("app.2020-02-01-12").unwrap_or(b"");
@@ -125,29 +137,40 @@ fn the_latest_moment_decides(rt: HostRuntime) -> Result<(), Fail> {
     Ok(())
 }
 
-#[test]
-fn all_types_can_be_shown(rt: HostRuntime) -> Result<(), Fail> {
-    let alloc = rt.alloc();
-    let clock = TestClock::new(START, 0);
-    for builder in [
-        Builder::default(),
-        Builder::new(),
-        RollingFileAppender::builder(),
-    ] {
-        let appender = opened(rt, &builder, MemoryFolder::new(alloc), &clock)?;
-        let writer = appender.make_writer()?;
-        let shown = format!(in alloc; "{appender:?} {writer:?} {builder:?}")?;
-        let wanted =
-            "RollingFileAppender { open_name: \"2020-02-01\", boundary: None } RollingWriter { .. } Builder {";
-        assert!(rt; shown.as_str().starts_with(wanted), "{shown}");
-    }
-    let Ok(log) = Builder::new().open_in(alloc, MemoryFolder::new(alloc), &clock) else {
-        return Err(Fail::from("not opened"));
-    };
-    let shown = format!(in alloc; "{log:?} {:?}", InitError::Moment)?;
-    assert_eq!(rt;
-        shown.as_str(),
-        "RollingFile { open_name: \"2020-02-01\", boundary: None } Moment"
+// Shows what a builder makes, and checks what can be said of it.
+fn expect_default<R: Host + Wait>(rt: R, builder: &Builder) {
+    assert!(rt; shown(&rt, builder).as_str().starts_with("Builder {"));
+    let clock = SteppingClock::new(START, 0);
+    let appender = opened(rt, builder, MemoryFolder::new(rt.alloc()), &clock);
+    expect_shown(
+        &rt,
+        &appender,
+        "RollingFileAppender { open_name: \"2020-02-01\", boundary: None }",
     );
-    Ok(())
+    match appender.make_writer() {
+        Ok(writer) => expect_shown(&rt, &writer, "RollingWriter { .. }"),
+        Err(fault) => rt.panic(fault),
+    }
+}
+
+#[test]
+fn all_types_can_be_shown(rt: HostRuntime) {
+    expect_default(rt, &Builder::default());
+    expect_default(rt, &Builder::new());
+    expect_default(rt, &RollingFileAppender::builder());
+    expect_shown(&rt, &InitError::Moment, "Moment");
+}
+
+#[test]
+fn a_log_of_one_thread_can_be_shown(rt: HostRuntime) {
+    let alloc = rt.alloc();
+    let clock = SteppingClock::new(START, 0);
+    match Builder::new().open_in(alloc, MemoryFolder::new(alloc), &clock) {
+        Ok(log) => expect_shown(
+            &rt,
+            &log,
+            "RollingFile { open_name: \"2020-02-01\", boundary: None }",
+        ),
+        Err(_) => rt.panic("not opened"),
+    }
 }

@@ -1,5 +1,6 @@
 // Runs of a queue's calls.
-use appender_queue::queue::{Counts, LineQueue, Refused, Shut, Taken};
+use crate::expect::{expect_eq, expect_eq_of, shown};
+use appender_core::queue::{Counts, LineQueue, Refused, Shut, Taken};
 use std::alloc::Global;
 use std::test::*;
 
@@ -178,7 +179,7 @@ fn queues_answer_as_told(rt: HostRuntime) -> Result<(), Fail> {
         let mut queue = LineQueue::new(alloc, run.limit, run.lossy)?;
         for (call, want) in run.calls.iter() {
             let got = answer(alloc, &mut queue, *call)?;
-            assert_eq!(rt; got.as_str(), *want, "row {row}, {call:?}");
+            expect_eq_of(&rt, row, got.as_str(), *want);
         }
         let (accepted, handed, queued, left, dropped) = run.counts;
         let want = Counts {
@@ -188,7 +189,7 @@ fn queues_answer_as_told(rt: HostRuntime) -> Result<(), Fail> {
             left,
             dropped,
         };
-        assert_eq!(rt; queue.counts(), want, "row {row}");
+        expect_eq_of(&rt, row, queue.counts(), want);
     }
     Ok(())
 }
@@ -196,7 +197,7 @@ fn queues_answer_as_told(rt: HostRuntime) -> Result<(), Fail> {
 #[test]
 fn queues_show_themselves(rt: HostRuntime) -> Result<(), Fail> {
     let queue = LineQueue::new(rt.alloc(), 1, true)?;
-    assert!(rt; !format!(in rt.alloc(); "{queue:?}")?.is_empty());
+    assert!(rt; !shown(&rt, &queue).is_empty());
     Ok(())
 }
 
@@ -205,9 +206,10 @@ fn room_that_cannot_be_had_is_refused(rt: HostRuntime) -> Result<(), Fail> {
     let alloc = rt.alloc();
     assert!(rt; LineQueue::new(alloc, usize::MAX, true).is_err());
     let mut queue = LineQueue::new(alloc, 1, true)?;
-    assert_eq!(rt;
+    expect_eq(
+        &rt,
         answer(alloc, &mut queue, Call::Offer("a"))?.as_str(),
-        "accepted 1"
+        "accepted 1",
     );
     Ok(())
 }
@@ -221,16 +223,17 @@ fn every_place_of_a_long_queue_serves(rt: HostRuntime) -> Result<(), Fail> {
         if ticket > 128_000 {
             let first = ticket - 128_000;
             let line = first.to_le_bytes().to_vec(alloc)?;
-            assert_eq!(rt; queue.take(false), Taken::Line(first, line));
+            expect_eq(&rt, &queue.take(false), &Taken::Line(first, line));
         }
         let line = ticket.to_le_bytes().to_vec(alloc)?;
-        assert_eq!(rt; queue.offer(line), Ok(ticket));
+        expect_eq(&rt, &queue.offer(line), &Ok(ticket));
     }
     let line = b"none".to_vec(alloc)?;
-    assert_eq!(rt;
-        queue.offer(line),
-        Err(Refused::Full(b"none".to_vec(alloc)?))
+    expect_eq(
+        &rt,
+        &queue.offer(line),
+        &Err(Refused::Full(b"none".to_vec(alloc)?)),
     );
-    assert_eq!(rt; queue.counts().queued, 128_000);
+    expect_eq(&rt, queue.counts().queued, 128_000);
     Ok(())
 }

@@ -2,6 +2,7 @@
 ghost use Rattle.std.specs.Prelude.{◌≡◌, ◌+◌};
 
 use crate::counted::settles;
+use crate::expect::expect_eq;
 use appender_non_blocking::non_blocking::{CountedGuard, CountedSender, Sent};
 use fake_gate::gate::{Host, Seen};
 use std::alloc::{AllocError, Global};
@@ -77,7 +78,7 @@ fn join_all<
             return Err(Fail::from("a thread is missing"));
         };
         let (sender, tickets) = thread.join(&rt);
-        assert_eq!(rt; sender.queued(), 100);
+        expect_eq(&rt, sender.queued(), 100);
         senders.push(sender)?;
         told.push((9 - joined, tickets))?;
     }
@@ -104,7 +105,7 @@ pub(crate) fn crowd<
     let running = start(rt, &mut senders)?;
     let told = join_all(rt, running, &mut senders)?;
     settles(rt, senders, guard, 1000, 1000, 0, 0)?;
-    assert_eq!(rt; seen.count(), 1000);
+    expect_eq(&rt, seen.count(), 1000);
     for (number, tickets) in told.iter() {
         stand_in_order(rt, *number, tickets.as_slice(), seen)?;
     }
@@ -119,7 +120,7 @@ fn stand_in_order<R: Host + Abort>(
     tickets: &[u64],
     seen: &Seen,
 ) -> Result<(), Fail> {
-    assert_eq!(rt; tickets.len(), 100);
+    expect_eq(&rt, tickets.len(), 100);
     let mut last = 0u64;
     for (line, ticket) in tickets.iter().enumerate() {
         assert!(rt; last < *ticket);

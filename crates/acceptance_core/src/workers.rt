@@ -1,7 +1,8 @@
 // Runs of a worker between a queue and a writer.
+use crate::expect::{expect_eq_of, shown};
 use crate::script::{Act, Script};
-use appender_queue::queue::{LineQueue, Shut, Taken};
-use appender_worker::worker::{Want, WorkerCore};
+use appender_core::queue::{LineQueue, Shut, Taken};
+use appender_core::worker::{Want, WorkerCore};
 use std::alloc::Global;
 use std::io;
 use std::io::{ErrorKind, Write};
@@ -119,24 +120,23 @@ fn workers_do_as_told(rt: HostRuntime) -> Result<(), Fail> {
         let mut queue = LineQueue::new(alloc, 8, false)?;
         for (n, line) in run.lines.iter().enumerate() {
             let ticket = queue.offer(line.as_bytes().to_vec(alloc)?);
-            assert_eq!(rt; ticket, Ok(n as u64 + 1), "row {row}");
+            expect_eq_of(&rt, row, &ticket, &Ok(n as u64 + 1));
         }
         if run.shuts {
-            assert_eq!(rt; queue.shut(), Shut::Sent, "row {row}");
+            expect_eq_of(&rt, row, queue.shut(), Shut::Sent);
         }
         let mut writer = Script::new(alloc, run.interruptions, run.acts);
         writer.flushes_fail = run.flushes_fail;
         let wants = work(alloc, &mut queue, &mut writer)?;
-        assert_eq!(rt; wants.as_str(), run.wants, "row {row}");
-        assert_eq!(rt; writer.text.as_slice(), run.text.as_bytes(), "row {row}");
-        assert_eq!(rt; queue.counts().handed, run.lines.len() as u64, "row {row}");
+        expect_eq_of(&rt, row, wants.as_str(), run.wants);
+        expect_eq_of(&rt, row, writer.text.as_slice(), run.text.as_bytes());
+        expect_eq_of(&rt, row, queue.counts().handed, run.lines.len() as u64);
     }
     Ok(())
 }
 
 #[test]
-fn workers_show_themselves(rt: HostRuntime) -> Result<(), Fail> {
+fn workers_show_themselves(rt: HostRuntime) {
     let core = WorkerCore::new();
-    assert!(rt; !format!(in rt.alloc(); "{core:?}")?.is_empty());
-    Ok(())
+    assert!(rt; !shown(&rt, &core).is_empty());
 }
