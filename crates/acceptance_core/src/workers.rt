@@ -77,37 +77,48 @@ static WORKER_RUNS: [WorkerRun; 6] = [
     },
 ];
 
+// What is wanted, in words.
+fn said(alloc: Global, want: Want) -> Result<String, Fail> {
+    Ok(match want {
+        Want::Take { waits: true } => String::from_str(alloc, "wait, ")?,
+        Want::Take { waits: false } => String::from_str(alloc, "take, ")?,
+        Want::Write(rest) => format!(in alloc; "write {}, ", str::from_utf8(rest)?)?,
+        Want::Flush => String::from_str(alloc, "flush, ")?,
+        Want::Ended => String::from_str(alloc, "ended, ")?,
+    })
+}
+
+// Does what the worker wants, and tells whether it would do more.
+fn step(core: &mut WorkerCore, queue: &mut LineQueue, writer: &mut Script) -> bool {
+    match core.want() {
+        Want::Take { waits } => {
+            let taken = queue.take(waits);
+            let goes_on = !waits || !matches!(taken, Taken::Empty);
+            core.took(taken);
+            goes_on
+        }
+        Want::Write(rest) => {
+            let answer = writer.write(rest);
+            core.wrote(answer);
+            true
+        }
+        Want::Flush => {
+            core.flushed(writer.flush());
+            true
+        }
+        Want::Ended => false,
+    }
+}
+
 // Does what the worker wants, until a take that waits finds nothing or the worker has ended, and
 // tells what that was.
 fn work(alloc: Global, queue: &mut LineQueue, writer: &mut Script) -> Result<String, Fail> {
     let mut wants = String::new(alloc);
     let mut core = WorkerCore::new();
     for _ in 0..1000 {
-        match core.want() {
-            Want::Take { waits } => {
-                wants.push_str(if waits { "wait, " } else { "take, " })?;
-                let taken = queue.take(waits);
-                let waits_on = waits && matches!(taken, Taken::Empty);
-                core.took(taken);
-                if waits_on {
-                    break;
-                }
-            }
-            Want::Write(rest) => {
-                wants.push_str("write ")?;
-                wants.push_str(str::from_utf8(rest)?)?;
-                wants.push_str(", ")?;
-                let answer = writer.write(rest);
-                core.wrote(answer);
-            }
-            Want::Flush => {
-                wants.push_str("flush, ")?;
-                core.flushed(writer.flush());
-            }
-            Want::Ended => {
-                wants.push_str("ended, ")?;
-                break;
-            }
+        wants.push_str(said(alloc, core.want())?.as_str())?;
+        if !step(&mut core, queue, writer) {
+            break;
         }
     }
     Ok(wants)

@@ -6,7 +6,8 @@ use crate::scene::{
     expect_text, folder_at, fresh, hourly_log, names_in, opened,
 };
 use appender_rolling::rolling::{
-    Clock, FileAppender, InitError, SystemClock, daily, hourly, minutely, never, weekly,
+    Builder, Clock, FileAppender, InitError, RollingFileAppender, SystemClock, daily, hourly,
+    minutely, never, weekly,
 };
 use appender_store::store::{Folder, MemoryFolder};
 use std::io::Write;
@@ -97,53 +98,96 @@ fn a_log_of_each_rotation_is_one_file(rt: HostRuntime) {
     rt.panic("the clock runs on");
 }
 
-// Two lines, and an hour later two more.
-fn write_two_hours<S: Folder>(rt: impl Host, folder: S, prefix: &str) -> S {
-    let builder = hourly_log(&rt, prefix);
+// What is done with an appender.
+enum Step {
+    // A line is written when the clock tells this.
+    Put(i64, &'static str),
+    Flush,
+}
+
+// Takes a step.
+fn take<S: Folder, R: Host>(
+    appender: &mut RollingFileAppender<S, &TestClock, R>,
+    clock: &TestClock,
+    step: &Step,
+) -> io::Result<()> {
+    match *step {
+        Step::Put(moment, line) => {
+            clock.set(moment);
+            appender.write_all(line.as_bytes())
+        }
+        Step::Flush => appender.flush(),
+    }
+}
+
+// Takes these steps with an appender that is opened at 10:01, and answers its folder.
+fn write_log<S: Folder>(rt: impl Host, builder: &Builder, folder: S, steps: &[Step]) -> S {
     let clock = TestClock::new(START);
-    let mut appender = opened(rt, &builder, folder, &clock);
-    for _ in 0..2 {
-        appender.write_all(b"file 1\n").expect(&rt, "a write");
+    let mut appender = opened(rt, builder, folder, &clock);
+    for step in steps {
+        take(&mut appender, &clock, step).expect(&rt, "a step");
     }
-    clock.set(START + 3_600);
-    for _ in 0..2 {
-        appender.write_all(b"file 2\n").expect(&rt, "a write");
-    }
-    appender.flush().expect(&rt, "a flush");
     appender.into_parts().0
 }
 
+// Takes these steps with an appender at a path, and checks how many calls of its folder fail.
+fn write_at(rt: &impl Host, builder: &Builder, path: &str, steps: &[Step], failures: u64) {
+    let folder = write_log(*rt, builder, folder_at(*rt, path), steps);
+    expect_eq_of(rt, path, folder.failures(), failures);
+}
+
+// Takes these steps in memory, and checks which files come of them.
+fn write_in_memory(rt: &impl Host, builder: &Builder, steps: &[Step], files: &[(&str, &str)]) {
+    let folder = write_log(*rt, builder, MemoryFolder::new(rt.alloc()), steps);
+    expect_bytes(rt, &folder, files);
+}
+
+// Takes these steps in a fresh directory, where no call fails, and checks which files come of them.
+fn write_in(
+    rt: &impl Host,
+    directory: io::Result<String>,
+    builder: &Builder,
+    steps: &[Step],
+    files: &[(&str, &str)],
+) {
+    let directory = directory.expect(rt, "a directory");
+    let directory = directory.as_str();
+    write_at(rt, builder, directory, steps, 0);
+    expect_files(rt, directory, files);
+    clear(rt, directory);
+}
+
+// Two lines, and an hour later two more.
+static TWO_HOURS: [Step; 5] = [
+    Step::Put(START, "file 1\n"),
+    Step::Put(START, "file 1\n"),
+    Step::Put(START + 3_600, "file 2\n"),
+    Step::Put(START + 3_600, "file 2\n"),
+    Step::Flush,
+];
+
 #[test]
 fn the_next_hour_goes_to_the_next_file(rt: HostRuntime) {
-    let directory = fresh(rt, "hours").expect(&rt, "a directory");
-    let folder = folder_at(rt, directory.as_str());
-    let folder = write_two_hours(rt, folder, "test_make_writer");
-    expect_eq(&rt, folder.failures(), 0);
+    let builder = hourly_log(&rt, "test_make_writer");
     let files = [
         ("test_make_writer.2020-02-01-10", "file 1\nfile 1\n"),
         ("test_make_writer.2020-02-01-11", "file 2\nfile 2\n"),
     ];
-    expect_files(&rt, directory.as_str(), &files);
-    clear(&rt, directory.as_str());
+    write_in(&rt, fresh(rt, "hours"), &builder, &TWO_HOURS, &files);
 }
 
-// Two lines in each of three hours, of which two files are kept.
-fn write_three_hours<S: Folder>(rt: impl Host, folder: S) -> S {
-    let builder = hourly_log(&rt, "test_max_log_files").max_log_files(2);
-    let clock = TestClock::new(START);
-    let mut appender = opened(rt, &builder, folder, &clock);
-    for (moment, line) in [
-        (START, b"file 1\n"),
-        (ELEVEN, b"file 2\n"),
-        (TWELVE, b"file 3\n"),
-    ] {
-        clock.set(moment);
-        appender.write_all(line).expect(&rt, "a write");
-        appender.write_all(line).expect(&rt, "a write");
-        appender.flush().expect(&rt, "a flush");
-    }
-    appender.into_parts().0
-}
+// Two lines in each of three hours.
+static THREE_HOURS: [Step; 9] = [
+    Step::Put(START, "file 1\n"),
+    Step::Put(START, "file 1\n"),
+    Step::Flush,
+    Step::Put(ELEVEN, "file 2\n"),
+    Step::Put(ELEVEN, "file 2\n"),
+    Step::Flush,
+    Step::Put(TWELVE, "file 3\n"),
+    Step::Put(TWELVE, "file 3\n"),
+    Step::Flush,
+];
 
 const KEPT: [(&str, &str); 2] = [
     ("test_max_log_files.2020-02-01-11", "file 2\nfile 2\n"),
@@ -152,57 +196,47 @@ const KEPT: [(&str, &str); 2] = [
 
 #[test]
 fn two_files_are_kept(rt: HostRuntime) {
-    let folder = write_three_hours(rt, MemoryFolder::new(rt.alloc()));
-    expect_bytes(&rt, &folder, &KEPT);
-    let directory = fresh(rt, "kept").expect(&rt, "a directory");
-    let folder = write_three_hours(rt, folder_at(rt, directory.as_str()));
-    expect_eq(&rt, folder.failures(), 0);
-    expect_files(&rt, directory.as_str(), &KEPT);
-    clear(&rt, directory.as_str());
+    let builder = hourly_log(&rt, "test_max_log_files").max_log_files(2);
+    write_in_memory(&rt, &builder, &THREE_HOURS, &KEPT);
+    write_in(&rt, fresh(rt, "kept"), &builder, &THREE_HOURS, &KEPT);
 }
 
-// A line in each of two hours, and a link that follows.
-fn write_with_link(rt: impl Host, directory: &str) -> u64 {
-    let builder = hourly_log(&rt, "test_latest_symlink")
+// A line in each of two hours.
+static LINE_AN_HOUR: [Step; 3] = [
+    Step::Put(START, "file 1\n"),
+    Step::Put(ELEVEN, "file 2\n"),
+    Step::Flush,
+];
+
+// Writes a log with a link at a path, and checks what then stands in a directory.
+fn expect_linked(rt: &impl Host, path: &str, directory: &str) {
+    let builder = hourly_log(rt, "test_latest_symlink")
         .latest_symlink(rt.alloc(), "latest.log")
-        .expect(&rt, "memory");
-    let clock = TestClock::new(START);
-    let mut appender = opened(rt, &builder, folder_at(rt, directory), &clock);
-    appender.write_all(b"file 1\n").expect(&rt, "a write");
-    clock.set(ELEVEN);
-    appender.write_all(b"file 2\n").expect(&rt, "a write");
-    appender.flush().expect(&rt, "a flush");
-    appender.into_parts().0.failures()
+        .expect(rt, "memory");
+    // At first there is neither the directory nor a link to remove.
+    write_at(rt, &builder, path, &LINE_AN_HOUR, 2);
+    let newest = "test_latest_symlink.2020-02-01-11";
+    expect_target(rt, directory, "latest.log", newest);
+    let files = [
+        ("latest.log", "file 2\n"),
+        ("test_latest_symlink.2020-02-01-10", "file 1\n"),
+        (newest, "file 2\n"),
+    ];
+    expect_files(rt, directory, &files);
 }
 
 #[test]
 fn the_link_leads_to_the_newest_file(rt: HostRuntime) {
     let parent = fresh(rt, "link").expect(&rt, "a directory");
-    env::set_current_dir(&rt, parent.as_str()).expect(&rt, "a directory");
-    let whole = at(&rt, parent.as_str(), "whole");
-    for (given, place) in [
-        (whole.as_str(), "whole"),
-        ("relative", "relative"),
-        ("./deep/logs", "deep/logs"),
-    ] {
-        // At first there is neither the directory nor a link to remove.
-        expect_eq_of(&rt, given, write_with_link(rt, given), 2);
-        let directory = at(&rt, parent.as_str(), place);
-        let directory = directory.as_str();
-        expect_target(
-            &rt,
-            directory,
-            "latest.log",
-            "test_latest_symlink.2020-02-01-11",
-        );
-        let files = [
-            ("latest.log", "file 2\n"),
-            ("test_latest_symlink.2020-02-01-10", "file 1\n"),
-            ("test_latest_symlink.2020-02-01-11", "file 2\n"),
-        ];
-        expect_files(&rt, directory, &files);
+    let parent = parent.as_str();
+    env::set_current_dir(&rt, parent).expect(&rt, "a directory");
+    let whole = at(&rt, parent, "whole");
+    let whole = whole.as_str();
+    expect_linked(&rt, whole, whole);
+    for (path, place) in [("relative", "relative"), ("./deep/logs", "deep/logs")] {
+        expect_linked(&rt, path, at(&rt, parent, place).as_str());
     }
-    clear(&rt, parent.as_str());
+    clear(&rt, parent);
 }
 
 #[test]

@@ -2,8 +2,8 @@
 
 use crate::expect::{expect_eq, expect_eq_of};
 use crate::scene::{
-    Entry, Host, at, clear, expect_entries, expect_files, expect_target, expect_text, fill,
-    folder_at, fresh, kind_of_error, put,
+    Entry, Host, at, clear, expect_entries, expect_target, expect_text, fill, folder_at, fresh,
+    kind_of_error,
 };
 use crate::swapping::Swapping;
 use appender_folder::folder::DirFolder;
@@ -11,7 +11,7 @@ use appender_store::store::{Folder, Kind, Listed};
 use std::cell::Cell;
 use std::io::ErrorKind;
 use std::process::Abort;
-use std::{env, fs};
+use std::{env, fs, io};
 
 // A call of a folder by a name.
 #[derive(Clone, Copy, Debug)]
@@ -54,93 +54,11 @@ fn expect_listed<S: Folder>(rt: &impl Abort, folder: &mut S, wanted: usize) {
     expect_eq(rt, listed.len(), wanted);
 }
 
-#[test]
-fn a_name_that_leaves_the_folder_is_refused(rt: HostRuntime) {
-    let parent = fresh(rt, "leaves").expect(&rt, "a directory");
-    let parent = parent.as_str();
-    let entries = [
-        Entry::File("outside", "kept"),
-        Entry::Link("link", "outside"),
-        Entry::Folder("inside"),
-    ];
-    fill(&rt, parent, &entries);
-    let mut folder = folder_at(rt, at(&rt, parent, "inside").as_str());
-    let names = [
-        "",
-        ".",
-        "..",
-        "/",
-        "../outside",
-        "../link",
-        "../new",
-        "a/b",
-        "a\0",
-    ];
-    let calls = [Call::Open, Call::Remove, Call::RemoveLink, Call::MakeLink];
-    expect_refusals(&rt, &mut folder, &calls, &names, ErrorKind::InvalidInput);
-    expect_eq(&rt, folder.failures(), 36);
-    expect_listed(&rt, &mut folder, 0);
-    expect_entries(&rt, parent, &entries);
-    clear(&rt, parent);
-}
-
-#[test]
-fn plain_files_alone_are_opened_and_removed(rt: HostRuntime) {
-    let directory = fresh(rt, "plain").expect(&rt, "a directory");
-    let directory = directory.as_str();
-    let entries = [
-        Entry::Link("link", "file"),
-        Entry::Link("dangling", "nothing"),
-        Entry::Folder("sub"),
-        Entry::File("file", "text"),
-    ];
-    fill(&rt, directory, &entries);
-    let mut folder = folder_at(rt, directory);
-    let (calls, others) = ([Call::Open, Call::Remove], ["link", "dangling", "sub"]);
-    expect_refusals(&rt, &mut folder, &calls, &others, ErrorKind::AlreadyExists);
-    expect_refusals(
-        &rt,
-        &mut folder,
-        &[Call::Remove],
-        &["absent"],
-        ErrorKind::NotFound,
-    );
-    expect_eq(&rt, folder.failures(), 7);
-    expect_entries(&rt, directory, &entries);
-    folder.remove("file").expect(&rt, "a file");
-    expect_entries(&rt, directory, &entries[..3]);
-    clear(&rt, directory);
-}
-
 // Makes a link and removes it again.
 fn link_to<S: Folder>(rt: &impl Host, folder: &mut S, directory: &str, target: &str) {
     folder.make_link("link", target).expect(rt, "a link");
     expect_target(rt, directory, "link", target);
     folder.remove_link("link").expect(rt, "a link");
-}
-
-#[test]
-fn links_alone_are_removed_as_links(rt: HostRuntime) {
-    let directory = fresh(rt, "links").expect(&rt, "a directory");
-    let directory = directory.as_str();
-    let entries = [Entry::File("file", "text"), Entry::Folder("sub")];
-    fill(&rt, directory, &entries);
-    let mut folder = folder_at(rt, directory);
-    let (calls, others) = ([Call::RemoveLink, Call::MakeLink], ["file", "sub"]);
-    expect_refusals(&rt, &mut folder, &calls, &others, ErrorKind::AlreadyExists);
-    expect_refusals(
-        &rt,
-        &mut folder,
-        &[Call::RemoveLink],
-        &["absent"],
-        ErrorKind::NotFound,
-    );
-    for target in ["file", "sub", "nothing", "../elsewhere"] {
-        link_to(&rt, &mut folder, directory, target);
-    }
-    expect_eq(&rt, folder.failures(), 5);
-    expect_entries(&rt, directory, &entries);
-    clear(&rt, directory);
 }
 
 // Opens a file and appends to it, and tells how much it took.
@@ -149,65 +67,6 @@ fn append_to<S: Folder>(rt: &impl Abort, folder: &mut S, name: &str, bytes: &[u8
     let taken = folder.append(&mut file, bytes).expect(rt, "bytes taken");
     folder.flush(&mut file).expect(rt, "a flush");
     taken
-}
-
-#[test]
-fn appends_go_behind_what_stands(rt: HostRuntime) {
-    let directory = fresh(rt, "appends").expect(&rt, "a directory");
-    let directory = directory.as_str();
-    put(&rt, directory, "standing", "one");
-    let mut folder = folder_at(rt, directory);
-    expect_eq(&rt, append_to(&rt, &mut folder, "standing", b"two"), 3);
-    expect_eq(&rt, append_to(&rt, &mut folder, "made", b"three"), 5);
-    expect_eq(&rt, append_to(&rt, &mut folder, "made", b""), 0);
-    expect_eq(&rt, folder.failures(), 0);
-    expect_files(&rt, directory, &[("standing", "onetwo"), ("made", "three")]);
-    clear(&rt, directory);
-}
-
-// Makes the folder at a path and appends a byte to a file in it, and once more.
-fn make_twice(rt: &impl Host, path: &str) {
-    let mut folder = folder_at(*rt, path);
-    for _ in 0..2 {
-        folder.make_folder().expect(rt, "a folder");
-        expect_eq(rt, append_to(rt, &mut folder, "file", b"x"), 1);
-    }
-    expect_text(rt, path, "file", "xx");
-    expect_eq_of(rt, path, folder.failures(), 0);
-}
-
-#[test]
-fn a_folder_is_made_with_its_parents(rt: HostRuntime) {
-    let parent = fresh(rt, "parents").expect(&rt, "a directory");
-    let parent = parent.as_str();
-    for path in ["a/b/c", "a/b/d/", "a", "e//f"] {
-        make_twice(&rt, at(&rt, parent, path).as_str());
-    }
-    put(&rt, parent, "plain", "text");
-    let mut folder = folder_at(rt, at(&rt, parent, "plain").as_str());
-    assert!(rt; folder.make_folder().is_err());
-    expect_text(&rt, parent, "plain", "text");
-    clear(&rt, parent);
-}
-
-// Makes the folder at a path, and appends a byte to the one file in it.
-fn append_at(rt: &impl Host, path: &str) {
-    let mut folder = folder_at(*rt, path);
-    folder.make_folder().expect(rt, "a folder");
-    expect_eq(rt, append_to(rt, &mut folder, "file", b"x"), 1);
-    expect_listed(rt, &mut folder, 1);
-}
-
-#[test]
-fn an_empty_path_is_the_current_directory(rt: HostRuntime) {
-    let directory = fresh(rt, "current").expect(&rt, "a directory");
-    let directory = directory.as_str();
-    env::set_current_dir(&rt, directory).expect(&rt, "a directory");
-    for path in ["", ".", "./"] {
-        append_at(&rt, path);
-    }
-    expect_files(&rt, directory, &[("file", "xxx")]);
-    clear(&rt, directory);
 }
 
 // Checks one entry of a listing.
@@ -242,51 +101,273 @@ fn expect_kinds<S: Folder>(rt: &impl Host, folder: &mut S, directory: &str) {
     }
 }
 
-#[test]
-fn a_listing_tells_kinds_and_creation(rt: HostRuntime) {
-    let directory = fresh(rt, "listing").expect(&rt, "a directory");
+// A step of a test with a folder, which is a directory or stands in it, and what it must come to.
+enum Step {
+    // These entries are made in the directory.
+    Fill(&'static [Entry]),
+    // The directory is removed.
+    Clear,
+    // The folder is made.
+    MakeFolder,
+    // The folder can't be made.
+    NoFolder,
+    // Each of these calls with each of these names is refused so.
+    Refused(&'static [Call], &'static [&'static str], ErrorKind),
+    // A file of this name is opened and takes so many of these bytes.
+    Append(&'static str, &'static [u8], usize),
+    // A file is removed.
+    Remove(&'static str),
+    // A link to this target is made, says so, and is removed again.
+    Link(&'static str),
+    // So many entries are listed.
+    Lists(usize),
+    // Four entries are listed, each with its kind.
+    Kinds,
+    // The listing is refused so.
+    NoList(ErrorKind),
+    // So many calls have failed.
+    Failed(u64),
+    // A name of the directory reads as this text.
+    Reads(&'static str, &'static str),
+    // The directory has exactly these entries.
+    Holds(&'static [Entry]),
+}
+
+// Takes a step.
+fn take<S: Folder>(rt: &impl Host, folder: &mut S, directory: &str, step: &Step) {
+    match *step {
+        Step::Fill(entries) => fill(rt, directory, entries),
+        Step::Clear => clear(rt, directory),
+        Step::MakeFolder => expect_eq(rt, kind_of_error(folder.make_folder()), None),
+        Step::NoFolder => expect_eq(rt, folder.make_folder().is_err(), true),
+        Step::Refused(calls, names, wanted) => expect_refusals(rt, folder, calls, names, wanted),
+        Step::Append(name, bytes, wanted) => {
+            expect_eq_of(rt, name, append_to(rt, folder, name, bytes), wanted);
+        }
+        Step::Remove(name) => expect_eq(rt, refusal_of(folder, Call::Remove, name), None),
+        Step::Link(target) => link_to(rt, folder, directory, target),
+        Step::Lists(wanted) => expect_listed(rt, folder, wanted),
+        Step::Kinds => expect_kinds(rt, folder, directory),
+        Step::NoList(wanted) => expect_eq(rt, kind_of_error(folder.list()), Some(wanted)),
+        Step::Failed(wanted) => expect_eq_of(rt, directory, folder.failures(), wanted),
+        Step::Reads(name, text) => expect_text(rt, directory, name, text),
+        Step::Holds(entries) => expect_entries(rt, directory, entries),
+    }
+}
+
+// Takes these steps with a folder.
+fn take_all<S: Folder>(rt: &impl Host, mut folder: S, directory: &str, steps: &[Step]) {
+    for step in steps {
+        take(rt, &mut folder, directory, step);
+    }
+}
+
+// Takes these steps with the folder at a place in a fresh directory.
+fn take_in(rt: &impl Host, directory: io::Result<String>, place: &str, steps: &[Step]) {
+    let directory = directory.expect(rt, "a directory");
     let directory = directory.as_str();
-    let mut folder = folder_at(rt, directory);
-    expect_listed(&rt, &mut folder, 0);
-    let entries = [
+    let path = at(rt, directory, place);
+    take_all(rt, folder_at(*rt, path.as_str()), directory, steps);
+    clear(rt, directory);
+}
+
+// Names that are not those of entries of `inside`.
+static LEAVING: [Step; 5] = [
+    Step::Fill(&[
+        Entry::File("outside", "kept"),
+        Entry::Link("link", "outside"),
+        Entry::Folder("inside"),
+    ]),
+    Step::Refused(
+        &[Call::Open, Call::Remove, Call::RemoveLink, Call::MakeLink],
+        &[
+            "",
+            ".",
+            "..",
+            "/",
+            "../outside",
+            "../link",
+            "../new",
+            "a/b",
+            "a\0",
+        ],
+        ErrorKind::InvalidInput,
+    ),
+    Step::Failed(36),
+    Step::Lists(0),
+    Step::Holds(&[
+        Entry::File("outside", "kept"),
+        Entry::Link("link", "outside"),
+        Entry::Folder("inside"),
+    ]),
+];
+
+#[test]
+fn a_name_that_leaves_the_folder_is_refused(rt: HostRuntime) {
+    take_in(&rt, fresh(rt, "leaves"), "inside", &LEAVING);
+}
+
+// Links, also one that leads to a file, and a folder are neither opened nor removed.
+static PLAIN_FILES: [Step; 7] = [
+    Step::Fill(&[
+        Entry::Link("link", "file"),
+        Entry::Link("dangling", "nothing"),
+        Entry::Folder("sub"),
+        Entry::File("file", "text"),
+    ]),
+    Step::Refused(
+        &[Call::Open, Call::Remove],
+        &["link", "dangling", "sub"],
+        ErrorKind::AlreadyExists,
+    ),
+    Step::Refused(&[Call::Remove], &["absent"], ErrorKind::NotFound),
+    Step::Failed(7),
+    Step::Holds(&[
+        Entry::Link("link", "file"),
+        Entry::Link("dangling", "nothing"),
+        Entry::Folder("sub"),
+        Entry::File("file", "text"),
+    ]),
+    Step::Remove("file"),
+    Step::Holds(&[
+        Entry::Link("link", "file"),
+        Entry::Link("dangling", "nothing"),
+        Entry::Folder("sub"),
+    ]),
+];
+
+#[test]
+fn plain_files_alone_are_opened_and_removed(rt: HostRuntime) {
+    take_in(&rt, fresh(rt, "plain"), "", &PLAIN_FILES);
+}
+
+// A file and a folder are not removed as links, and no link takes their place.
+static LINKS: [Step; 9] = [
+    Step::Fill(&[Entry::File("file", "text"), Entry::Folder("sub")]),
+    Step::Refused(
+        &[Call::RemoveLink, Call::MakeLink],
+        &["file", "sub"],
+        ErrorKind::AlreadyExists,
+    ),
+    Step::Refused(&[Call::RemoveLink], &["absent"], ErrorKind::NotFound),
+    Step::Link("file"),
+    Step::Link("sub"),
+    Step::Link("nothing"),
+    Step::Link("../elsewhere"),
+    Step::Failed(5),
+    Step::Holds(&[Entry::File("file", "text"), Entry::Folder("sub")]),
+];
+
+#[test]
+fn links_alone_are_removed_as_links(rt: HostRuntime) {
+    take_in(&rt, fresh(rt, "links"), "", &LINKS);
+}
+
+// A file that stands, and one that the first append to it makes.
+static APPENDS: [Step; 6] = [
+    Step::Fill(&[Entry::File("standing", "one")]),
+    Step::Append("standing", b"two", 3),
+    Step::Append("made", b"three", 5),
+    Step::Append("made", b"", 0),
+    Step::Failed(0),
+    Step::Holds(&[
+        Entry::File("standing", "onetwo"),
+        Entry::File("made", "three"),
+    ]),
+];
+
+#[test]
+fn appends_go_behind_what_stands(rt: HostRuntime) {
+    take_in(&rt, fresh(rt, "appends"), "", &APPENDS);
+}
+
+// The second time the folder is there already.
+static MADE_TWICE: [Step; 6] = [
+    Step::MakeFolder,
+    Step::Append("file", b"x", 1),
+    Step::MakeFolder,
+    Step::Append("file", b"x", 1),
+    Step::Reads("file", "xx"),
+    Step::Failed(0),
+];
+
+// A file has the folder's name.
+static NOT_MADE: [Step; 3] = [
+    Step::Fill(&[Entry::File("plain", "text")]),
+    Step::NoFolder,
+    Step::Reads("plain", "text"),
+];
+
+// Takes these steps with the folder at a path.
+fn take_at(rt: &impl Host, path: &str, steps: &[Step]) {
+    take_all(rt, folder_at(*rt, path), path, steps);
+}
+
+#[test]
+fn a_folder_is_made_with_its_parents(rt: HostRuntime) {
+    let parent = fresh(rt, "parents").expect(&rt, "a directory");
+    for path in ["a/b/c", "a/b/d/", "a", "e//f"] {
+        take_at(&rt, at(&rt, parent.as_str(), path).as_str(), &MADE_TWICE);
+    }
+    clear(&rt, parent.as_str());
+    take_in(&rt, fresh(rt, "parents"), "plain", &NOT_MADE);
+}
+
+// A byte more in the only file.
+static ONE_MORE: [Step; 3] = [
+    Step::MakeFolder,
+    Step::Append("file", b"x", 1),
+    Step::Lists(1),
+];
+
+#[test]
+fn an_empty_path_is_the_current_directory(rt: HostRuntime) {
+    let directory = fresh(rt, "current").expect(&rt, "a directory");
+    let directory = directory.as_str();
+    env::set_current_dir(&rt, directory).expect(&rt, "a directory");
+    for path in ["", ".", "./"] {
+        take_at(&rt, path, &ONE_MORE);
+    }
+    expect_entries(&rt, directory, &[Entry::File("file", "xxx")]);
+    clear(&rt, directory);
+}
+
+// An empty folder, one of every kind of entry, and one that is gone.
+static LISTING: [Step; 6] = [
+    Step::Lists(0),
+    Step::Fill(&[
         Entry::File("file", "text"),
         Entry::Link("link", "file"),
         Entry::Link("dangling", "nothing"),
         Entry::Folder("sub"),
-    ];
-    fill(&rt, directory, &entries);
-    expect_kinds(&rt, &mut folder, directory);
-    clear(&rt, directory);
-    expect_eq(&rt, kind_of_error(folder.list()), Some(ErrorKind::NotFound));
-    expect_eq(&rt, folder.failures(), 1);
+    ]),
+    Step::Kinds,
+    Step::Clear,
+    Step::NoList(ErrorKind::NotFound),
+    Step::Failed(1),
+];
+
+#[test]
+fn a_listing_tells_kinds_and_creation(rt: HostRuntime) {
+    take_in(&rt, fresh(rt, "listing"), "", &LISTING);
 }
+
+// The link is in place of `log` at the first opening alone.
+static SWAPPED: [Step; 5] = [
+    Step::Fill(&[Entry::File("victim", "kept"), Entry::File("log", "text")]),
+    Step::Refused(&[Call::Open], &["log"], ErrorKind::AlreadyExists),
+    Step::Append("log", b"new", 3),
+    Step::Failed(1),
+    Step::Holds(&[Entry::File("victim", "kept"), Entry::File("log", "new")]),
+];
 
 // The name leads to a plain file before and after, but not to the one that was opened.
 #[test]
 fn a_link_that_comes_and_goes_is_not_followed(rt: HostRuntime) {
     let directory = fresh(rt, "comes_and_goes").expect(&rt, "a directory");
     let directory = directory.as_str();
-    fill(
-        &rt,
-        directory,
-        &[Entry::File("victim", "kept"), Entry::File("log", "text")],
-    );
     let target = Cell::new(Some("victim"));
-    let mut folder = DirFolder::new(Swapping::new(rt, &target), directory).expect(&rt, "memory");
-    expect_refusals(
-        &rt,
-        &mut folder,
-        &[Call::Open],
-        &["log"],
-        ErrorKind::AlreadyExists,
-    );
-    let mut file = folder.open("log").expect(&rt, "a file");
-    expect_eq(
-        &rt,
-        folder.append(&mut file, b"new").expect(&rt, "a file"),
-        3,
-    );
-    expect_eq(&rt, folder.failures(), 1);
-    expect_files(&rt, directory, &[("victim", "kept"), ("log", "new")]);
+    let folder = DirFolder::new(Swapping::new(rt, &target), directory).expect(&rt, "memory");
+    take_all(&rt, folder, directory, &SWAPPED);
     clear(&rt, directory);
 }

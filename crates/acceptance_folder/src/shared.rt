@@ -1,7 +1,7 @@
 // Ten threads, and a folder in memory.
 
 use crate::expect::{expect_eq, expect_shown, shown};
-use crate::scene::{ELEVEN, Host, START, hourly_log, opened};
+use crate::scene::{ELEVEN, Host, START, expect_bytes, hourly_log, kind_of_error, opened};
 use crate::threads::{
     Crowded, SteppingClock, Turning, expect_lines, in_memory, write_in_threads, writes,
 };
@@ -9,6 +9,7 @@ use appender_rolling::rolling::{
     Builder, Clock, InitError, MakeWriter, RollingFileAppender, RollingWriter,
 };
 use appender_store::store::{Folder, MemoryFolder};
+use std::alloc::{AllocError, Global};
 use std::io::{ErrorKind, Write};
 use std::process::Abort;
 use std::sync::Wait;
@@ -17,7 +18,7 @@ use std::sync::atomic::Ordering::SeqCst;
 use std::test::Fail;
 use std::thread::Threads;
 use std::time::Duration;
-use std::{thread, time};
+use std::{io, thread, time};
 
 #[test]
 fn ten_threads_begin_one_file(rt: HostRuntime) -> Result<(), Fail> {
@@ -78,44 +79,39 @@ fn a_writer_keeps_its_file(rt: HostRuntime) -> Result<(), Fail> {
     clock.set(ELEVEN);
     assert!(rt; write_beside(&rt, &appender, writer));
     let (folder, _clock) = appender.into_parts();
-    expect_eq(
-        &rt,
-        folder.bytes("app.2020-02-01-10"),
-        Some(b"ab".as_slice()),
-    );
-    expect_eq(
-        &rt,
-        folder.bytes("app.2020-02-01-11"),
-        Some(b"c".as_slice()),
-    );
+    let files = [("app.2020-02-01-10", "ab"), ("app.2020-02-01-11", "c")];
+    expect_bytes(&rt, &folder, &files);
     Ok(())
 }
 
-// Behind the opening, the first and the fourth append take less than the line, and the fifth nothing.
-#[test]
-fn a_line_goes_on_behind_a_short_append(rt: HostRuntime) -> Result<(), Fail> {
-    let mut folder = MemoryFolder::new(rt.alloc());
+// A folder in which, behind the opening, the first and the fourth append take less than the line,
+// and the fifth nothing.
+fn short_folder(alloc: Global) -> Result<MemoryFolder, AllocError> {
+    let mut folder = MemoryFolder::new(alloc);
     for (call, limit) in [(2, 2), (5, 1), (6, 0)] {
         folder.short_append(call, limit)?;
     }
-    let clock = SteppingClock::new(START, 0);
-    let appender = opened(rt, &hourly_log(&rt, "app"), folder, &clock);
+    Ok(folder)
+}
+
+// Writes three lines by one writer, and answers why the third is refused.
+fn write_three<C: Clock, R: Wait + Drop>(
+    appender: &RollingFileAppender<MemoryFolder, C, R>,
+) -> io::Result<Option<ErrorKind>> {
     let mut writer = appender.make_writer()?;
     writer.write_all(b"hello ")?;
     writer.write_all(b"all ")?;
-    let refused = writer.write_all(b"bye").err();
-    drop(writer);
-    expect_eq(
-        &rt,
-        refused.map(|fault| fault.kind()),
-        Some(ErrorKind::WriteZero),
-    );
+    Ok(kind_of_error(writer.write_all(b"bye")))
+}
+
+#[test]
+fn a_line_goes_on_behind_a_short_append(rt: HostRuntime) -> Result<(), Fail> {
+    let folder = short_folder(rt.alloc())?;
+    let clock = SteppingClock::new(START, 0);
+    let appender = opened(rt, &hourly_log(&rt, "app"), folder, &clock);
+    expect_eq(&rt, write_three(&appender)?, Some(ErrorKind::WriteZero));
     let (folder, _clock) = appender.into_parts();
-    expect_eq(
-        &rt,
-        folder.bytes("app.2020-02-01-10"),
-        Some(b"hello all b".as_slice()),
-    );
+    expect_bytes(&rt, &folder, &[("app.2020-02-01-10", "hello all b")]);
     Ok(())
 }
 

@@ -2,7 +2,7 @@
 ghost use Rattle.std.specs.Prelude.{◌≡◌, ◌+◌, ◌<◌};
 
 use crate::counted_crowd::crowd;
-use crate::expect::{expect_eq, expect_shown};
+use crate::expect::{expect_eq, expect_shown, expect_text};
 use appender_non_blocking::non_blocking::{
     Account, CountedGuard, CountedSender, NonBlockingBuilder, Sent, Shut, Unsettled,
 };
@@ -142,12 +142,6 @@ fn expect_told<A: Ledger, H: Ledger, S: Ledger, C: Ledger, R: Host + Abort>(
 ) {
     let told = sender.write_line(line).expect(&rt, "the queue is open");
     expect_eq(&rt, told, wanted);
-}
-
-// Compares all lines that came.
-fn expect_text<R: Host + Abort>(rt: R, seen: &Seen, wanted: &[u8]) {
-    let text = seen.text(&rt).expect(&rt, "memory");
-    expect_eq(&rt, text.as_slice(), wanted);
 }
 
 // What lies behind the shutdown is left.

@@ -1,4 +1,5 @@
 // What these tests compare: a call of these makes a proof shorter than `assert_eq!` or `format!` does.
+use fake_gate::gate::{Host, Seen};
 use std::fmt::Debug;
 use std::process::Abort;
 
@@ -19,4 +20,10 @@ pub(crate) fn expect_shown<T: Copy + Debug>(
 /// The `Debug` text of a value.
 pub(crate) fn shown<T: Copy + Debug>(rt: &(impl AllocGlobal + Abort), value: T) -> String {
     format!(in rt.alloc(); "{value:?}").expect(rt, "memory")
+}
+
+/// Ends the test where other lines came.
+pub(crate) fn expect_text<R: Host + Abort>(rt: R, seen: &Seen, wanted: &[u8]) {
+    let text = seen.text(&rt).expect(&rt, "memory");
+    expect_eq(&rt, text.as_slice(), wanted);
 }

@@ -1,8 +1,8 @@
 // What becomes of lines.
-use crate::expect::{expect_eq, expect_shown, shown};
+use crate::expect::{expect_eq, expect_shown, expect_text, shown};
 use appender_non_blocking::non_blocking::{
-    Closing, DEFAULT_BUFFERED_LINES_LIMIT, NonBlocking, NonBlockingBuilder, WorkerGuard,
-    non_blocking,
+    Closing, DEFAULT_BUFFERED_LINES_LIMIT, ErrorCounter, NonBlocking, NonBlockingBuilder,
+    WorkerGuard, non_blocking,
 };
 use appender_writers::MakeWriter;
 use fake_gate::gate::{Host, Seen, new_gate};
@@ -26,19 +26,38 @@ fn over_gate<R: Host>(
     Ok((sender, guard, seen))
 }
 
+// Writes a line, which is taken whole.
+fn expect_taken<R: Host + Abort>(rt: R, sender: &mut NonBlocking<R>, line: &[u8]) {
+    let taken = sender.write(line).expect(&rt, "the line is taken");
+    expect_eq(&rt, taken, line.len());
+}
+
+// Waits until the writer is in the line that the gate holds.
+fn expect_held<R: Host + Abort>(rt: R, seen: &Seen) {
+    assert!(rt; seen.is_held(rt));
+}
+
+fn expect_closing<R: Host + Abort>(rt: R, guard: WorkerGuard<R>, wanted: Closing) {
+    expect_eq(&rt, guard.close(), wanted);
+}
+
+fn expect_dropped<R: Abort>(rt: &R, counter: &ErrorCounter, wanted: usize) {
+    expect_eq(rt, counter.dropped_lines(), wanted);
+}
+
 #[test]
 fn a_lossy_queue_drops_what_finds_no_room(rt: HostRuntime) -> Result<(), Fail> {
     let builder = NonBlockingBuilder::default().buffered_lines_limit(1);
     let (mut sender, guard, seen) = over_gate(rt, builder, b"g")?;
     let counter = sender.error_counter()?;
-    sender.write(b"g")?;
-    assert!(rt; seen.is_held(rt));
-    expect_eq(&rt, sender.write(b"a")?, 1);
-    expect_eq(&rt, sender.write(b"b")?, 1);
-    expect_eq(&rt, counter.dropped_lines(), 1);
+    expect_taken(rt, &mut sender, b"g");
+    expect_held(rt, &seen);
+    expect_taken(rt, &mut sender, b"a");
+    expect_taken(rt, &mut sender, b"b");
+    expect_dropped(&rt, &counter, 1);
     seen.opens();
-    expect_eq(&rt, guard.close(), Closing::Done { left: 0 });
-    expect_eq(&rt, seen.text(&rt)?.as_slice(), b"g|a|".as_slice());
+    expect_closing(rt, guard, Closing::Done { left: 0 });
+    expect_text(rt, &seen, b"g|a|");
     // What was offered and never came.
     expect_eq(&rt, counter.dropped_lines(), 3 - seen.count().min(3));
     Ok(())
@@ -51,12 +70,12 @@ fn a_held_writer_holds_no_sender(rt: HostRuntime) -> Result<(), Fail> {
         .lossy(false)
         .buffered_lines_limit(4);
     let (mut sender, guard, seen) = over_gate(rt, builder, b"1")?;
-    sender.write(b"1")?;
-    assert!(rt; seen.is_held(rt));
-    expect_eq(&rt, sender.write(b"2")?, 1);
+    expect_taken(rt, &mut sender, b"1");
+    expect_held(rt, &seen);
+    expect_taken(rt, &mut sender, b"2");
     seen.opens();
     drop(guard);
-    expect_eq(&rt, seen.text(&rt)?.as_slice(), b"1|2|".as_slice());
+    expect_text(rt, &seen, b"1|2|");
     assert!(rt; seen.last_flushes() >= 2);
     Ok(())
 }
@@ -68,21 +87,17 @@ fn a_full_queue_keeps_its_sender_waiting(rt: HostRuntime) -> Result<(), Fail> {
         .buffered_lines_limit(1);
     let (mut sender, guard, seen) = over_gate(rt, builder, b"Hello")?;
     let counter = sender.error_counter()?;
-    sender.write_all(b"Hello")?;
-    assert!(rt; seen.is_held(rt));
-    sender.write_all(b", World")?;
+    expect_taken(rt, &mut sender, b"Hello");
+    expect_held(rt, &seen);
+    expect_taken(rt, &mut sender, b", World");
     let waits = thread::spawn(&rt, move || sender.write_all(b"!").is_ok())?;
     expect_eq(&rt, seen.count(), 1);
-    expect_eq(&rt, counter.dropped_lines(), 0);
+    expect_dropped(&rt, &counter, 0);
     seen.opens();
     assert!(rt; waits.join(&rt));
-    expect_eq(&rt, guard.close(), Closing::Done { left: 0 });
-    expect_eq(
-        &rt,
-        seen.text(&rt)?.as_slice(),
-        b"Hello|, World|!|".as_slice(),
-    );
-    expect_eq(&rt, counter.dropped_lines(), 0);
+    expect_closing(rt, guard, Closing::Done { left: 0 });
+    expect_text(rt, &seen, b"Hello|, World|!|");
+    expect_dropped(&rt, &counter, 0);
     Ok(())
 }
 
@@ -102,10 +117,10 @@ fn every_thread_gets_its_line_through(rt: HostRuntime) -> Result<(), Fail> {
         thread.join(&rt);
     }
     assert!(rt; seen.come(rt, 10));
-    expect_eq(&rt, counter.dropped_lines(), 0);
+    expect_dropped(&rt, &counter, 0);
     drop(guard);
     let lines = b"Hello|Hello|Hello|Hello|Hello|Hello|Hello|Hello|Hello|Hello|";
-    expect_eq(&rt, seen.text(&rt)?.as_slice(), lines.as_slice());
+    expect_text(rt, &seen, lines.as_slice());
     Ok(())
 }
 
@@ -117,11 +132,11 @@ fn every_byte_comes_as_it_was(rt: HostRuntime) -> Result<(), Fail> {
     for byte in 0..=255u8 {
         line.push(byte)?;
     }
-    expect_eq(&rt, sender.write(line.as_slice())?, 256);
+    expect_taken(rt, &mut sender, line.as_slice());
     sender.flush()?;
-    expect_eq(&rt, guard.close(), Closing::Done { left: 0 });
+    expect_closing(rt, guard, Closing::Done { left: 0 });
     line.push(b'|')?;
-    expect_eq(&rt, seen.text(&rt)?.as_slice(), line.as_slice());
+    expect_text(rt, &seen, line.as_slice());
     Ok(())
 }
 
@@ -130,22 +145,22 @@ fn every_byte_comes_as_it_was(rt: HostRuntime) -> Result<(), Fail> {
 fn lines_behind_the_shutdown_are_not_written(rt: HostRuntime) -> Result<(), Fail> {
     let (mut sender, guard, seen) = over_gate(rt, NonBlockingBuilder::default(), b"g")?;
     let counter = sender.error_counter()?;
-    sender.write(b"g")?;
-    assert!(rt; seen.is_held(rt));
-    expect_eq(&rt, guard.close(), Closing::Pending);
-    sender.write(b"late")?;
-    expect_eq(&rt, counter.dropped_lines(), 0);
+    expect_taken(rt, &mut sender, b"g");
+    expect_held(rt, &seen);
+    expect_closing(rt, guard, Closing::Pending);
+    expect_taken(rt, &mut sender, b"late");
+    expect_dropped(&rt, &counter, 0);
     seen.opens();
     // The queue closes once the worker takes the shutdown, and drops what comes then.
     for _ in 0..10_000u32 {
         if counter.dropped_lines() > 0 {
             break;
         }
-        sender.write(b"later")?;
+        expect_taken(rt, &mut sender, b"later");
         thread::sleep(&rt, Duration::from_millis(1));
     }
     assert!(rt; counter.dropped_lines() > 0);
-    expect_eq(&rt, seen.text(&rt)?.as_slice(), b"g|".as_slice());
+    expect_text(rt, &seen, b"g|");
     Ok(())
 }
 
@@ -155,7 +170,7 @@ fn a_closed_queue_takes_no_line(rt: HostRuntime) -> Result<(), Fail> {
         let builder = NonBlockingBuilder::default().lossy(lossy);
         let (mut sender, guard, seen) = over_gate(rt, builder, b"")?;
         let counter = sender.error_counter()?.clone()?;
-        expect_eq(&rt, guard.close(), Closing::Done { left: 0 });
+        expect_closing(rt, guard, Closing::Done { left: 0 });
         match sender.write(b"late") {
             Ok(taken) => assert!(rt; lossy && taken == 4),
             Err(fault) => assert!(rt; !lossy && fault.kind() == ErrorKind::Other),
@@ -173,10 +188,10 @@ fn a_guard_tells_that_the_queue_stays_full(rt: HostRuntime) -> Result<(), Fail> 
         .lossy(false)
         .buffered_lines_limit(1);
     let (mut sender, guard, seen) = over_gate(rt, builder, b"g")?;
-    sender.write(b"g")?;
-    assert!(rt; seen.is_held(rt));
-    sender.write(b"a")?;
-    expect_eq(&rt, guard.close(), Closing::Full);
+    expect_taken(rt, &mut sender, b"g");
+    expect_held(rt, &seen);
+    expect_taken(rt, &mut sender, b"a");
+    expect_closing(rt, guard, Closing::Full);
     seen.opens();
     drop(sender);
     // The worker ends with its last sender, and leaves no line behind.
@@ -202,13 +217,13 @@ impl Write for Failing {
 #[test]
 fn a_writer_that_fails_ends_too(rt: HostRuntime) -> Result<(), Fail> {
     let (mut sender, guard) = non_blocking(rt, rt.alloc(), Failing)?;
-    sender.write(b"a")?;
-    sender.write(b"b")?;
-    expect_eq(&rt, guard.close(), Closing::Done { left: 0 });
+    expect_taken(rt, &mut sender, b"a");
+    expect_taken(rt, &mut sender, b"b");
+    expect_closing(rt, guard, Closing::Done { left: 0 });
     let (mut sender, guard) = NonBlocking::new(rt, rt.alloc(), Failing)?;
-    sender.write(b"a")?;
+    expect_taken(rt, &mut sender, b"a");
     drop(sender);
-    expect_eq(&rt, guard.close(), Closing::Done { left: 0 });
+    expect_closing(rt, guard, Closing::Done { left: 0 });
     Ok(())
 }
 
@@ -240,13 +255,13 @@ fn has_thread<R: Files + AllocGlobal + Clone + Drop>(rt: &R, name: &[u8]) -> io:
 }
 
 // Whether the worker that this makes is called so.
-fn calls_its_worker<R: Host + Files + Drop>(
+fn calls_its_worker<R: Host + Files + Abort>(
     rt: R,
     builder: NonBlockingBuilder,
     name: &[u8],
 ) -> io::Result<bool> {
     let (mut sender, guard, seen) = over_gate(rt, builder, b"1")?;
-    sender.write(b"1")?;
+    expect_taken(rt, &mut sender, b"1");
     let is_called = seen.is_held(rt) && has_thread(&rt, name)?;
     seen.opens();
     drop(guard);

@@ -2,6 +2,8 @@
 //! of UTC: `rolltee ROTATION DIR PREFIX`. One thread reads the lines, and another writes them.
 #![tactic(auto)]
 
+#[cfg(test)]
+mod expect;
 mod tee;
 #[cfg(test)]
 mod tests;

@@ -1,5 +1,7 @@
 // The whole program over a real folder.
+use crate::expect::expect_eq;
 use crate::tee::{Host, Logs, tee};
+use std::alloc::{AllocError, Global};
 use std::io::{Read, Write};
 use std::process::Abort;
 use std::rt::Files;
@@ -72,10 +74,23 @@ impl Logs for NoLogs {
 // A path of this test's own, where nothing stands.
 fn fresh(rt: &HostRuntime, name: &str) -> io::Result<String> {
     let parent = env::temp_dir(rt)?;
-    let id = process::id(rt.process());
-    let path = format!(in rt.alloc(); "{}/rolltee_{id}_{name}", parent.as_str())?;
+    let path = path_in(rt, parent.as_str(), name)?;
     let _ = fs::remove_dir_all(rt, path.as_str());
     Ok(path)
+}
+
+// A path in this folder that no other process takes.
+fn path_in(rt: &HostRuntime, parent: &str, name: &str) -> Result<String, AllocError> {
+    let id = process::id(rt.process());
+    format!(in rt.alloc(); "{parent}/rolltee_{id}_{name}")
+}
+
+fn texts_of(alloc: Global, words: &[&str]) -> Result<Vec<String>, AllocError> {
+    let mut texts = Vec::new(alloc);
+    for word in words {
+        texts.push(word.to_string(alloc)?)?;
+    }
+    Ok(texts)
 }
 
 // Runs the program over these logs, and compares its status and what it tells.
@@ -87,27 +102,47 @@ fn check<R: Host + Abort, L: Logs, I: Read>(
     status: u8,
     told: &str,
 ) -> Result<(), Fail> {
-    let mut texts = Vec::new(rt.alloc());
-    for argument in arguments {
-        texts.push(argument.to_string(rt.alloc())?)?;
-    }
+    let texts = texts_of(rt.alloc(), arguments)?;
     let mut errors = Vec::new(rt.alloc());
     let answer = tee(rt, logs, texts.as_slice(), input, &mut errors);
-    assert_eq!(rt; errors.as_slice(), told.as_bytes());
-    assert_eq!(rt; answer, status);
+    expect_eq(&rt, errors.as_slice(), told.as_bytes());
+    expect_eq(&rt, answer, status);
     Ok(())
 }
 
-// Compares the bytes of a file of a folder.
-fn holds<R: Files + AllocGlobal + Abort + Copy>(
+// The same over logs of the file system. All tests open them here, since a function that does is dear to prove.
+fn check_files<R: Host + Abort, I: Read>(
     rt: R,
+    files: &HostRuntime,
+    arguments: &[&str],
+    input: &mut I,
+    status: u8,
+    told: &str,
+) -> Result<(), Fail> {
+    check(rt, files, arguments, input, status, told)
+}
+
+// Compares the bytes of a file.
+fn holds<R: Files + AllocGlobal + Abort>(rt: &R, path: &str, bytes: &[u8]) -> Result<(), Fail> {
+    let content = fs::read(rt, path)?;
+    expect_eq(rt, content.as_slice(), bytes);
+    Ok(())
+}
+
+// Runs the program over the log `app` of a folder, which holds these bytes then.
+fn check_log<R: Host + Files + Abort, I: Read>(
+    rt: R,
+    files: &HostRuntime,
     directory: &str,
-    name: &str,
+    input: &mut I,
+    told: (u8, &str),
     bytes: &[u8],
 ) -> Result<(), Fail> {
-    let path = format!(in rt.alloc(); "{directory}/{name}")?;
-    assert_eq!(rt; fs::read(&rt, path.as_str())?.as_slice(), bytes);
-    Ok(())
+    let (status, told) = told;
+    let arguments = ["never", directory, "app"];
+    check_files(rt, files, &arguments, input, status, told)?;
+    let path = format!(in rt.alloc(); "{directory}/app")?;
+    holds(&rt, path.as_str(), bytes)
 }
 
 // How many bytes the files of a folder have.
@@ -126,13 +161,12 @@ fn length_in(rt: &HostRuntime, directory: &str) -> io::Result<u64> {
 #[test]
 fn writes_every_line_of_every_run(rt: HostRuntime) -> Result<(), Fail> {
     let directory = fresh(&rt, "runs")?;
-    let arguments = ["never", directory.as_str(), "app"];
+    let directory = directory.as_str();
     for text in ["a\nb", "a\nba\nb"] {
-        check(rt, &rt, &arguments, &mut b"a\nb".as_slice(), 0, "")?;
-        holds(rt, directory.as_str(), "app", text.as_bytes())?;
+        let mut input = b"a\nb".as_slice();
+        check_log(rt, &rt, directory, &mut input, (0, ""), text.as_bytes())?;
     }
-    fs::remove_dir_all(&rt, directory.as_str())?;
-    Ok(())
+    Ok(fs::remove_dir_all(&rt, directory)?)
 }
 
 // Writes these lines to a log of this rotation, and finds as many bytes in its folder.
@@ -143,12 +177,11 @@ fn fills<R: Host + Abort>(
     lines: &[u8],
 ) -> Result<(), Fail> {
     let directory = fresh(files, rotation)?;
-    let arguments = [rotation, directory.as_str(), "app"];
+    let directory = directory.as_str();
     let mut input = lines;
-    check(rt, files, &arguments, &mut input, 0, "")?;
-    assert_eq!(rt; length_in(files, directory.as_str())?, lines.len() as u64);
-    fs::remove_dir_all(files, directory.as_str())?;
-    Ok(())
+    check_files(rt, files, &[rotation, directory, "app"], &mut input, 0, "")?;
+    expect_eq(&rt, length_in(files, directory)?, lines.len() as u64);
+    Ok(fs::remove_dir_all(files, directory)?)
 }
 
 // More lines than may wait, to the log of each rotation.
@@ -184,23 +217,24 @@ fn tells_its_usage(rt: HostRuntime) -> Result<(), Fail> {
 #[test]
 fn tells_a_name_that_is_not_allowed(rt: HostRuntime) -> Result<(), Fail> {
     let directory = fresh(&rt, "name")?;
-    let arguments = ["hourly", directory.as_str(), "a/b"];
-    let told = "name not allowed\n";
-    check(rt, &rt, &arguments, &mut b"a\n".as_slice(), 1, told)?;
-    assert!(rt; !fs::exists(&rt, directory.as_str())?);
+    let directory = directory.as_str();
+    let arguments = ["hourly", directory, "a/b"];
+    let mut input = b"a\n".as_slice();
+    check_files(rt, &rt, &arguments, &mut input, 1, "name not allowed\n")?;
+    expect_eq(&rt, fs::exists(&rt, directory)?, false);
     Ok(())
 }
 
 #[test]
 fn tells_a_folder_that_is_none(rt: HostRuntime) -> Result<(), Fail> {
     let path = fresh(&rt, "file")?;
-    fs::write(&rt, path.as_str(), "here")?;
-    let arguments = ["never", path.as_str(), "app"];
+    let path = path.as_str();
+    fs::write(&rt, path, "here")?;
     let told = "failed to create log directory: File exists (os error 17)\n";
-    check(rt, &rt, &arguments, &mut b"a\n".as_slice(), 1, told)?;
-    assert_eq!(rt; fs::read_to_string(&rt, path.as_str())?.as_str(), "here");
-    fs::remove_file(&rt, path.as_str())?;
-    Ok(())
+    let mut input = b"a\n".as_slice();
+    check_files(rt, &rt, &["never", path, "app"], &mut input, 1, told)?;
+    holds(&rt, path, b"here")?;
+    Ok(fs::remove_file(&rt, path)?)
 }
 
 // Also where there is no memory for an opening.
@@ -219,14 +253,13 @@ fn tells_an_input_that_is_not_read(rt: HostRuntime) -> Result<(), Fail> {
         (io::ErrorKind::OutOfMemory, 3, "no memory\n"),
     ] {
         let directory = fresh(&rt, "read")?;
+        let directory = directory.as_str();
         let mut input = Broken {
             left: b"a\nb".as_slice(),
             kind,
         };
-        let arguments = ["never", directory.as_str(), "app"];
-        check(rt, &rt, &arguments, &mut input, status, told)?;
-        holds(rt, directory.as_str(), "app", b"a\n")?;
-        fs::remove_dir_all(&rt, directory.as_str())?;
+        check_log(rt, &rt, directory, &mut input, (status, told), b"a\n")?;
+        fs::remove_dir_all(&rt, directory)?;
     }
     Ok(())
 }
