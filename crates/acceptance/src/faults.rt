@@ -54,15 +54,21 @@ fn steps(alloc: Global) -> Result<Vec<RollStep>, AllocError> {
 // A folder as a run left it, and how many bytes the run's answers count.
 type Played = (MemoryFolder, usize);
 
+// How many bytes these answers count.
+fn bytes_told(replies: &[RollReply]) -> usize {
+    let mut told = 0usize;
+    for reply in replies {
+        if let RollReply::Put(_, Ok(taken)) = reply {
+            told = told.saturating_add(*taken);
+        }
+    }
+    told
+}
+
 fn play(alloc: Global, folder: MemoryFolder, steps: &[RollStep]) -> Result<Played, Fail> {
     match replay_rolling(alloc, &builder(alloc)?, folder, START, steps) {
         Ok(run) => {
-            let mut told = 0usize;
-            for reply in &run.replies {
-                if let RollReply::Put(_, Ok(taken)) = reply {
-                    told = told.saturating_add(*taken);
-                }
-            }
+            let told = bytes_told(&run.replies);
             Ok((run.roller.into_folder(), told))
         }
         Err(ReplayError::Init(_, folder)) => Ok((folder, 0)),
@@ -70,35 +76,55 @@ fn play(alloc: Global, folder: MemoryFolder, steps: &[RollStep]) -> Result<Playe
     }
 }
 
+// The same of a run behind a queue.
+fn queued_bytes_told(replies: &[Reply]) -> usize {
+    let mut told = 0usize;
+    for reply in replies {
+        if let Reply::Wrote(_, Ok(taken)) = reply {
+            told = told.saturating_add(*taken);
+        }
+    }
+    told
+}
+
 fn play_queued(alloc: Global, folder: MemoryFolder, steps: &[Step]) -> Result<Played, Fail> {
     match replay(alloc, &builder(alloc)?, 4, false, folder, START, steps) {
         Ok(run) => {
-            let mut told = 0usize;
-            for reply in &run.replies {
-                if let Reply::Wrote(_, Ok(taken)) = reply {
-                    told = told.saturating_add(*taken);
-                }
-            }
+            let told = queued_bytes_told(&run.replies);
             Ok((run.roller.into_folder(), told))
         }
         Err(ReplayError::Init(_, folder)) => Ok((folder, 0)),
         Err(ReplayError::Memory(_)) => Err(Fail::from("no memory")),
     }
+}
+
+fn push_works(steps: &mut Vec<Step>, moment: i64, count: usize) -> Result<(), AllocError> {
+    for _ in 0..count {
+        steps.push(Step::Work(moment))?;
+    }
+    Ok(())
+}
+
+// A line that is offered, taken and written.
+fn push_line(
+    alloc: Global,
+    steps: &mut Vec<Step>,
+    moment: i64,
+    text: &str,
+) -> Result<(), AllocError> {
+    let line = Vec::from_slice(alloc, text.as_bytes())?;
+    steps.push(Step::Offer(1, line))?;
+    push_works(steps, moment, 2)
 }
 
 // The lines of `steps`, each offered, taken and written before the next one, and then the shutdown.
 fn queued_steps(alloc: Global) -> Result<Vec<Step>, AllocError> {
     let mut steps = Vec::new(alloc);
     for (moment, text) in [(START, "a"), (ELEVEN, "b"), (ELEVEN - 1, "c")] {
-        let line = Vec::from_slice(alloc, text.as_bytes())?;
-        steps.push(Step::Offer(1, line))?;
-        steps.push(Step::Work(moment))?;
-        steps.push(Step::Work(moment))?;
+        push_line(alloc, &mut steps, moment, text)?;
     }
     steps.push(Step::Shut)?;
-    for _ in 0..4 {
-        steps.push(Step::Work(ELEVEN))?;
-    }
+    push_works(&mut steps, ELEVEN, 4)?;
     Ok(steps)
 }
 
@@ -155,18 +181,35 @@ fn each_call_that_fails_is_noted(rt: HostRuntime) -> Result<(), Fail> {
     Ok(())
 }
 
+// Plays while this call and all behind it fail, and checks that the folder holds what is told as written.
+fn check_kept(rt: &(impl AllocGlobal + Abort), first: u64, steps: &[RollStep]) -> Result<(), Fail> {
+    let folder = folder(rt.alloc(), first, LAST)?;
+    let (left, told) = play(rt.alloc(), folder, steps)?;
+    expect_eq_of(rt, first, held(&left), told);
+    Ok(())
+}
+
+// The same of a run behind a queue; answers how many bytes are told.
+fn check_queued_kept(
+    rt: &(impl AllocGlobal + Abort),
+    first: u64,
+    steps: &[Step],
+) -> Result<usize, Fail> {
+    let folder = folder(rt.alloc(), first, LAST)?;
+    let (left, told) = play_queued(rt.alloc(), folder, steps)?;
+    expect_eq_of(rt, first, held(&left), told);
+    Ok(told)
+}
+
 #[test]
 fn no_byte_is_lost_from_whichever_call_on_all_fail(rt: HostRuntime) -> Result<(), Fail> {
-    let alloc = rt.alloc();
-    let steps = steps(alloc)?;
-    let queued = queued_steps(alloc)?;
-    for last in 0..=15 {
-        let (left, told) = play(alloc, folder(alloc, last + 1, LAST)?, &steps)?;
-        expect_eq_of(&rt, last, held(&left), told);
-        let (left, told) = play_queued(alloc, folder(alloc, last + 1, LAST)?, &queued)?;
-        expect_eq_of(&rt, last, held(&left), told);
+    let steps = steps(rt.alloc()).expect(&rt, "memory");
+    let queued = queued_steps(rt.alloc()).expect(&rt, "memory");
+    for first in 1..=16 {
+        check_kept(&rt, first, &steps)?;
+        check_queued_kept(&rt, first, &queued)?;
     }
-    let (left, told) = play_queued(alloc, folder(alloc, LAST, LAST)?, &queued)?;
-    expect_eq(&rt, (held(&left), told), (3, 3));
+    let told = check_queued_kept(&rt, LAST, &queued)?;
+    expect_eq(&rt, told, 3);
     Ok(())
 }

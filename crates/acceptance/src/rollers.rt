@@ -32,17 +32,29 @@ fn opened(
     }
 }
 
+// Checks what is open at first, and when the next file is due.
+fn expect_first(rt: &impl Abort, roller: &Roller<MemoryFolder>) {
+    expect_eq(rt, roller.open_name(), "app.2020-02-01-10.log");
+    expect_eq(rt, roller.boundary(), Some(ELEVEN));
+    for (moment, due) in [(ELEVEN, true), (ELEVEN - 1, false), (i64::MAX, false)] {
+        expect_eq_of(rt, moment, roller.due(moment), due);
+    }
+}
+
+// Opens the next file, and writes a line to it.
+fn write_at_twelve(rt: &impl Abort, roller: &mut Roller<MemoryFolder>) {
+    expect_eq(rt, roller.see(TWELVE), Switch::Opened);
+    expect_eq(rt, roller.open_name(), "app.2020-02-01-12.log");
+    expect_eq(rt, roller.write(b"line\n").expect(rt, "a write"), 5);
+    roller.flush().expect(rt, "a flush");
+}
+
 #[test]
 fn a_roller_tells_what_is_open(rt: HostRuntime) -> Result<(), Fail> {
     let alloc = rt.alloc();
     let mut roller = opened(alloc, &hourly(alloc, "log")?, MemoryFolder::new(alloc))?;
-    expect_eq(&rt, roller.open_name(), "app.2020-02-01-10.log");
-    expect_eq(&rt, roller.boundary(), Some(ELEVEN));
-    assert!(rt; roller.due(ELEVEN) && !roller.due(ELEVEN - 1) && !roller.due(i64::MAX));
-    expect_eq(&rt, roller.see(TWELVE), Switch::Opened);
-    expect_eq(&rt, roller.open_name(), "app.2020-02-01-12.log");
-    expect_eq(&rt, roller.write(b"line\n")?, 5);
-    roller.flush()?;
+    expect_first(&rt, &roller);
+    write_at_twelve(&rt, &mut roller);
     let folder = roller.into_folder();
     expect_eq(
         &rt,
@@ -52,18 +64,26 @@ fn a_roller_tells_what_is_open(rt: HostRuntime) -> Result<(), Fail> {
     Ok(())
 }
 
+// Checks the name that an hourly log begins with.
+fn expect_first_name(rt: &(impl AllocGlobal + Abort)) {
+    let builder = hourly(rt.alloc(), "log").expect(rt, "memory");
+    let names = builder.names(rt.alloc()).expect(rt, "names");
+    let name = names.file_name(START).expect(rt, "memory");
+    expect_eq(rt, name.as_str(), "app.2020-02-01-10.log");
+}
+
+// Checks that no names have this suffix.
+fn expect_refused(rt: &(impl AllocGlobal + Abort), suffix: &str) {
+    let builder = hourly(rt.alloc(), suffix).expect(rt, "memory");
+    let is_refused = matches!(builder.names(rt.alloc()), Err(InitError::Name));
+    expect_eq(rt, is_refused, true);
+}
+
 #[test]
-fn a_builder_gives_its_names(rt: HostRuntime) -> Result<(), Fail> {
-    let alloc = rt.alloc();
-    let names = hourly(alloc, "log")?.names(alloc)?;
-    expect_eq(
-        &rt,
-        names.file_name(START)?.as_str(),
-        "app.2020-02-01-10.log",
-    );
-    assert!(rt; matches!(hourly(alloc, "a/b")?.names(alloc), Err(InitError::Name)));
+fn a_builder_gives_its_names(rt: HostRuntime) {
+    expect_first_name(&rt);
+    expect_refused(&rt, "a/b");
     assert!(rt; !shown(&rt, &Builder::default()).is_empty());
-    Ok(())
 }
 
 // The bodies of a folder, from the first one on.
@@ -76,23 +96,38 @@ fn expect_bodies(rt: &impl Abort, folder: &MemoryFolder, wanted: &[&[u8]]) {
     expect_eq(rt, folder.body(number), None);
 }
 
-#[test]
-fn bodies_stay_without_a_name(rt: HostRuntime) -> Result<(), Fail> {
-    let alloc = rt.alloc();
-    let builder = hourly(alloc, "")?.max_log_files(1);
+// A folder with a log file, in which two calls fail.
+fn failing_folder(alloc: Global) -> Result<MemoryFolder, Fail> {
     let mut folder = MemoryFolder::new(alloc);
     folder.put_file("app.2020-02-01-10", b"x")?;
     // Calls 1 to 3 list, remove and open; calls 4 to 8 list, remove, open, make and open.
     folder.fail_call(6)?;
     folder.fail_call(8)?;
-    let mut roller = opened(alloc, &builder, folder)?;
+    Ok(folder)
+}
+
+// Writes a line for which no file can be opened.
+fn write_at_eleven(rt: &impl Abort, roller: &mut Roller<MemoryFolder>) {
+    let (switch, taken) = roller.put(ELEVEN, b"y");
+    expect_eq(rt, switch, Switch::Failed);
+    expect_eq(rt, taken.expect(rt, "a write"), 1);
+}
+
+fn expect_no_names(rt: &impl Abort, folder: &MemoryFolder) {
+    let names = folder.names().expect(rt, "memory");
+    expect_eq(rt, names.len(), 0);
+}
+
+#[test]
+fn bodies_stay_without_a_name(rt: HostRuntime) -> Result<(), Fail> {
+    let alloc = rt.alloc();
+    let builder = hourly(alloc, "")?.max_log_files(1);
+    let mut roller = opened(alloc, &builder, failing_folder(alloc)?)?;
     // The restart that keeps one file began anew.
     expect_bodies(&rt, roller.folder(), &[b"x", b""]);
-    let (switch, taken) = roller.put(ELEVEN, b"y");
-    expect_eq(&rt, switch, Switch::Failed);
-    expect_eq(&rt, taken?, 1);
+    write_at_eleven(&rt, &mut roller);
     let folder = roller.into_folder();
-    assert!(rt; folder.names()?.is_empty());
+    expect_no_names(&rt, &folder);
     expect_bodies(&rt, &folder, &[b"x", b"y"]);
     Ok(())
 }

@@ -8,7 +8,7 @@ use rollplay_script::script::{LONGEST, Plan, Script};
 use std::alloc::Global;
 use std::io;
 use std::io::Error;
-use std::test::Fail;
+use std::process::Abort;
 use tracing_appender::folder::DirFolder;
 use tracing_appender::replay::replay_rolling;
 use tracing_appender::rolling::Builder;
@@ -65,16 +65,26 @@ fn play_in_memory(alloc: Global, script: &str) -> io::Result<String> {
     copy.shown()
 }
 
-// What a fake disk holds after a script.
-fn play_on_disk(alloc: Global, script: &str) -> io::Result<String> {
-    let is_absent = script.starts_with("absent\n");
-    let script = read(alloc, script)?;
-    let disk = copied(alloc, &script.folder)?;
-    if is_absent {
+// A disk as a script finds it, which holds what this folder does or has no folder.
+fn disk_before(alloc: Global, script: &str, folder: &MemoryFolder) -> io::Result<Disk> {
+    let disk = copied(alloc, folder)?;
+    if script.starts_with("absent\n") {
         disk.remove_folder()?;
     }
-    let folder = DirFolder::new(Fake::new(&disk), FOLDER)?;
+    Ok(disk)
+}
+
+fn carry_out_on_disk(alloc: Global, disk: &Disk, script: &Script) -> io::Result<()> {
+    let folder = DirFolder::new(Fake::new(disk), FOLDER)?;
     carry_out(alloc, &script.builder, folder, script.start, &script.plan)?;
+    Ok(())
+}
+
+// What a fake disk holds after a script.
+fn play_on_disk(alloc: Global, text: &str) -> io::Result<String> {
+    let script = read(alloc, text)?;
+    let disk = disk_before(alloc, text, &script.folder)?;
+    carry_out_on_disk(alloc, &disk, &script)?;
     disk.shown()
 }
 
@@ -95,18 +105,20 @@ fn copy_entry(disk: &Disk, folder: &MemoryFolder, name: &str) -> io::Result<()> 
     }
 }
 
+fn check_script(rt: &impl Abort, alloc: Global, script: &str) {
+    let on_disk = play_on_disk(alloc, script).expect(rt, "a play");
+    let in_memory = play_in_memory(alloc, script).expect(rt, "a play");
+    expect_eq_of(rt, script, &on_disk, &in_memory);
+}
+
 #[test]
-fn a_disk_comes_to_hold_what_memory_does(rt: HostRuntime) -> Result<(), Fail> {
-    let alloc = rt.alloc();
+fn a_disk_comes_to_hold_what_memory_does(rt: HostRuntime) {
     let mut compared = 0usize;
-    for (script, _) in PLAYED {
+    for (script, _) in &PLAYED {
         if !needs_memory(script) {
-            let on_disk = play_on_disk(alloc, script)?;
-            let in_memory = play_in_memory(alloc, script)?;
-            expect_eq_of(&rt, script, &on_disk, &in_memory);
+            check_script(&rt, rt.alloc(), script);
             compared = compared.saturating_add(1);
         }
     }
     expect_eq(&rt, compared, 37);
-    Ok(())
 }

@@ -6,33 +6,52 @@ use crate::scene::{
     expect_text, folder_at, fresh, hourly_log, names_in, opened,
 };
 use appender_rolling::rolling::{
-    Builder, Clock, FileAppender, InitError, RollingFileAppender, SystemClock, daily, hourly,
-    minutely, never, weekly,
+    Builder, Clock, RollingFileAppender, SystemClock, daily, hourly, minutely, never, weekly,
 };
 use appender_store::store::{Folder, MemoryFolder};
 use std::io::Write;
 use std::process::Abort;
+use std::rt::Env;
+use std::sync::Wait;
 use std::time::Duration;
 use std::{env, io, time};
 
+// Writes a byte, and sees that it is taken.
+fn put_byte<S: Folder, R: Host>(
+    rt: &R,
+    appender: &mut RollingFileAppender<S, &TestClock, R>,
+    byte: &[u8],
+) {
+    expect_eq(rt, appender.write(byte).expect(rt, "a write"), 1);
+}
+
+// Writes a byte at 11:00 and one a second before, and flushes.
+fn write_across_eleven<R: Host>(
+    rt: &R,
+    appender: &mut RollingFileAppender<MemoryFolder, &TestClock, R>,
+    clock: &TestClock,
+) {
+    clock.set(ELEVEN);
+    put_byte(rt, appender, b"a");
+    clock.set(ELEVEN - 1);
+    put_byte(rt, appender, b"b");
+    appender.flush().expect(rt, "a flush");
+    expect_eq(rt, clock.reads(), 3);
+}
+
+// Writes a log across 11:00, and answers its folder.
+fn folder_across_eleven<R: Host>(rt: R) -> MemoryFolder {
+    let clock = TestClock::new(START);
+    let builder = hourly_log(&rt, "app");
+    let mut appender = opened(rt, &builder, MemoryFolder::new(rt.alloc()), &clock);
+    write_across_eleven(&rt, &mut appender, &clock);
+    appender.into_parts().0
+}
+
 #[test]
 fn each_write_reads_the_clock_once(rt: HostRuntime) {
-    let alloc = rt.alloc();
-    let builder = hourly_log(&rt, "app");
-    let clock = TestClock::new(START);
-    let mut appender = opened(rt, &builder, MemoryFolder::new(alloc), &clock);
-    clock.set(ELEVEN);
-    expect_eq(&rt, appender.write(b"a").expect(&rt, "a write"), 1);
-    clock.set(ELEVEN - 1);
-    expect_eq(&rt, appender.write(b"b").expect(&rt, "a write"), 1);
-    appender.flush().expect(&rt, "a flush");
-    expect_eq(&rt, clock.reads(), 3);
-    let (folder, _clock) = appender.into_parts();
-    expect_bytes(
-        &rt,
-        &folder,
-        &[("app.2020-02-01-10", ""), ("app.2020-02-01-11", "ab")],
-    );
+    let files = [("app.2020-02-01-10", ""), ("app.2020-02-01-11", "ab")];
+    expect_bytes(&rt, &folder_across_eleven(rt), &files);
 }
 
 // What the system's clock reads, in whole minutes.
@@ -40,31 +59,31 @@ fn minute(rt: HostRuntime) -> i64 {
     SystemClock::new(rt).now().div_euclid(60)
 }
 
-fn say_hello(rt: &impl Abort, opened: Result<FileAppender, InitError>) {
-    let mut appender = opened.expect(rt, "an appender");
-    appender.write_all(b"Hello").expect(rt, "a write");
-    appender.flush().expect(rt, "a flush");
+// Writes `Hello`.
+fn say_hello(rt: &impl Abort, writer: &mut impl Write) {
+    writer.write_all(b"Hello").expect(rt, "a write");
+    writer.flush().expect(rt, "a flush");
 }
 
 const ROTATIONS: [&str; 5] = ["minutely", "hourly", "daily", "weekly", "never"];
 
+// A log of this rotation at a path.
+fn say_hello_at(rt: HostRuntime, host: &impl Host, rotation: &str, path: &str) {
+    let opened = match rotation {
+        "minutely" => minutely(rt, path, "app"),
+        "hourly" => hourly(rt, path, "app"),
+        "daily" => daily(rt, path, "app"),
+        "weekly" => weekly(rt, path, "app"),
+        _ => never(rt, path, "app"),
+    };
+    say_hello(host, &mut opened.expect(host, "an appender"));
+}
+
 // A log of each rotation, each in a directory of its own.
 fn say_hello_to_each(rt: HostRuntime, host: &impl Host, directory: &str) {
-    let [first, second, third, fourth, fifth] = ROTATIONS;
-    say_hello(
-        host,
-        minutely(rt, at(host, directory, first).as_str(), "app"),
-    );
-    say_hello(
-        host,
-        hourly(rt, at(host, directory, second).as_str(), "app"),
-    );
-    say_hello(host, daily(rt, at(host, directory, third).as_str(), "app"));
-    say_hello(
-        host,
-        weekly(rt, at(host, directory, fourth).as_str(), "app"),
-    );
-    say_hello(host, never(rt, at(host, directory, fifth).as_str(), "app"));
+    for rotation in ROTATIONS {
+        say_hello_at(rt, host, rotation, at(host, directory, rotation).as_str());
+    }
 }
 
 // Checks that one file alone is there, which reads as `Hello`, and answers its name.
@@ -76,24 +95,35 @@ fn expect_hello(rt: &impl Host, directory: &str) -> String {
     name
 }
 
+// Checks that each log is one file, and that a name without a date is that of the log that has no rotation.
+fn expect_each(rt: &impl Host, directory: &str) {
+    for rotation in ROTATIONS {
+        let name = expect_hello(rt, at(rt, directory, rotation).as_str());
+        assert!(rt; name.starts_with("app"), "{name}");
+        expect_eq_of(rt, &name, name.as_str() == "app", rotation == "never");
+    }
+}
+
+// Tells whether all logs were written within one minute, and checks them if so.
+fn is_within_a_minute(rt: HostRuntime, host: &impl Host, directory: &str) -> bool {
+    let before = minute(rt);
+    say_hello_to_each(rt, host, directory);
+    let within = minute(rt) == before;
+    if within {
+        expect_each(host, directory);
+    }
+    clear(host, directory);
+    within
+}
+
 #[test]
 fn a_log_of_each_rotation_is_one_file(rt: HostRuntime) {
     // Once more where a minute ended in between.
     for _ in 0..3 {
         let directory = fresh(rt, "rotations").expect(&rt, "a directory");
-        let before = minute(rt);
-        say_hello_to_each(rt, &rt, directory.as_str());
-        if minute(rt) == before {
-            for rotation in ROTATIONS {
-                let inner = at(&rt, directory.as_str(), rotation);
-                let name = expect_hello(&rt, inner.as_str());
-                assert!(rt; name.starts_with("app"), "{name}");
-                expect_eq_of(&rt, &name, name.as_str() == "app", rotation == "never");
-            }
-            clear(&rt, directory.as_str());
+        if is_within_a_minute(rt, &rt, directory.as_str()) {
             return;
         }
-        clear(&rt, directory.as_str());
     }
     rt.panic("the clock runs on");
 }
@@ -166,14 +196,19 @@ static TWO_HOURS: [Step; 5] = [
     Step::Flush,
 ];
 
-#[test]
-fn the_next_hour_goes_to_the_next_file(rt: HostRuntime) {
-    let builder = hourly_log(&rt, "test_make_writer");
+// Writes to two hours in a fresh directory.
+fn write_two_hours(rt: &impl Host, directory: io::Result<String>) {
+    let builder = hourly_log(rt, "test_make_writer");
     let files = [
         ("test_make_writer.2020-02-01-10", "file 1\nfile 1\n"),
         ("test_make_writer.2020-02-01-11", "file 2\nfile 2\n"),
     ];
-    write_in(&rt, fresh(rt, "hours"), &builder, &TWO_HOURS, &files);
+    write_in(rt, directory, &builder, &TWO_HOURS, &files);
+}
+
+#[test]
+fn the_next_hour_goes_to_the_next_file(rt: HostRuntime) {
+    write_two_hours(&rt, fresh(rt, "hours"));
 }
 
 // Two lines in each of three hours.
@@ -194,11 +229,16 @@ const KEPT: [(&str, &str); 2] = [
     ("test_max_log_files.2020-02-01-12", "file 3\nfile 3\n"),
 ];
 
+// Writes to three hours in memory and in a fresh directory, where two files are kept.
+fn write_three_hours(rt: &impl Host, directory: io::Result<String>) {
+    let builder = hourly_log(rt, "test_max_log_files").max_log_files(2);
+    write_in_memory(rt, &builder, &THREE_HOURS, &KEPT);
+    write_in(rt, directory, &builder, &THREE_HOURS, &KEPT);
+}
+
 #[test]
 fn two_files_are_kept(rt: HostRuntime) {
-    let builder = hourly_log(&rt, "test_max_log_files").max_log_files(2);
-    write_in_memory(&rt, &builder, &THREE_HOURS, &KEPT);
-    write_in(&rt, fresh(rt, "kept"), &builder, &THREE_HOURS, &KEPT);
+    write_three_hours(&rt, fresh(rt, "kept"));
 }
 
 // A line in each of two hours.
@@ -225,36 +265,40 @@ fn expect_linked(rt: &impl Host, path: &str, directory: &str) {
     expect_files(rt, directory, &files);
 }
 
-#[test]
-fn the_link_leads_to_the_newest_file(rt: HostRuntime) {
-    let parent = fresh(rt, "link").expect(&rt, "a directory");
-    let parent = parent.as_str();
-    env::set_current_dir(&rt, parent).expect(&rt, "a directory");
-    let whole = at(&rt, parent, "whole");
-    let whole = whole.as_str();
-    expect_linked(&rt, whole, whole);
+// Writes logs with links at a whole path and at two relative ones.
+fn expect_links(rt: &(impl Host + Env), parent: &str) {
+    env::set_current_dir(rt, parent).expect(rt, "a directory");
+    let whole = at(rt, parent, "whole");
+    expect_linked(rt, whole.as_str(), whole.as_str());
     for (path, place) in [("relative", "relative"), ("./deep/logs", "deep/logs")] {
-        expect_linked(&rt, path, at(&rt, parent, place).as_str());
+        expect_linked(rt, path, at(rt, parent, place).as_str());
     }
-    clear(&rt, parent);
+    clear(rt, parent);
 }
 
 #[test]
-fn an_appender_shows_its_file_and_boundary(rt: HostRuntime) {
-    let alloc = rt.alloc();
+fn the_link_leads_to_the_newest_file(rt: HostRuntime) {
+    let parent = fresh(rt, "link").expect(&rt, "a directory");
+    expect_links(&rt, parent.as_str());
+}
+
+// Shows an appender that is opened at 10:01.
+fn expect_shown_appender<R: Host + Wait>(rt: R) {
     let builder = hourly_log(&rt, "app");
     let clock = TestClock::new(START);
-    let appender = opened(rt, &builder, MemoryFolder::new(alloc), &clock);
+    let appender = opened(rt, &builder, MemoryFolder::new(rt.alloc()), &clock);
     expect_shown(
         &rt,
         &appender,
         "RollingFileAppender { open_name: \"app.2020-02-01-10\", boundary: Some(1580554800) }",
     );
-    assert!(rt;
-        shown(&rt, &SystemClock::new(rt))
-            .as_str()
-            .starts_with("SystemClock")
-    );
+}
+
+#[test]
+fn an_appender_shows_its_file_and_boundary(rt: HostRuntime) {
+    expect_shown_appender(rt);
+    let clock = shown(&rt, &SystemClock::new(rt));
+    assert!(rt; clock.as_str().starts_with("SystemClock"));
 }
 
 // A system whose clock tells so many seconds since 1970, if it can be read.

@@ -11,6 +11,7 @@ use appender_store::store::{Folder, Kind, Listed};
 use std::cell::Cell;
 use std::io::ErrorKind;
 use std::process::Abort;
+use std::rt::Env;
 use std::{env, fs, io};
 
 // A call of a folder by a name.
@@ -303,13 +304,18 @@ fn take_at(rt: &impl Host, path: &str, steps: &[Step]) {
     take_all(rt, folder_at(*rt, path), path, steps);
 }
 
+// Makes folders in a directory, whose parents are not there yet.
+fn make_with_parents(rt: &impl Host, directory: &str) {
+    for path in ["a/b/c", "a/b/d/", "a", "e//f"] {
+        take_at(rt, at(rt, directory, path).as_str(), &MADE_TWICE);
+    }
+    clear(rt, directory);
+}
+
 #[test]
 fn a_folder_is_made_with_its_parents(rt: HostRuntime) {
     let parent = fresh(rt, "parents").expect(&rt, "a directory");
-    for path in ["a/b/c", "a/b/d/", "a", "e//f"] {
-        take_at(&rt, at(&rt, parent.as_str(), path).as_str(), &MADE_TWICE);
-    }
-    clear(&rt, parent.as_str());
+    make_with_parents(&rt, parent.as_str());
     take_in(&rt, fresh(rt, "parents"), "plain", &NOT_MADE);
 }
 
@@ -320,16 +326,20 @@ static ONE_MORE: [Step; 3] = [
     Step::Lists(1),
 ];
 
+// Writes to a file of the current directory by three of its paths.
+fn append_in_current(rt: &(impl Host + Env), directory: &str) {
+    env::set_current_dir(rt, directory).expect(rt, "a directory");
+    for path in ["", ".", "./"] {
+        take_at(rt, path, &ONE_MORE);
+    }
+    expect_entries(rt, directory, &[Entry::File("file", "xxx")]);
+    clear(rt, directory);
+}
+
 #[test]
 fn an_empty_path_is_the_current_directory(rt: HostRuntime) {
     let directory = fresh(rt, "current").expect(&rt, "a directory");
-    let directory = directory.as_str();
-    env::set_current_dir(&rt, directory).expect(&rt, "a directory");
-    for path in ["", ".", "./"] {
-        take_at(&rt, path, &ONE_MORE);
-    }
-    expect_entries(&rt, directory, &[Entry::File("file", "xxx")]);
-    clear(&rt, directory);
+    append_in_current(&rt, directory.as_str());
 }
 
 // An empty folder, one of every kind of entry, and one that is gone.

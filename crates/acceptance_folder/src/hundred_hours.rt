@@ -6,7 +6,7 @@ use crate::scene::{
 };
 use crate::threads::SteppingClock;
 use appender_names::names::Names;
-use appender_rolling::rolling::{MakeWriter, RollingFileAppender};
+use appender_rolling::rolling::{Builder, MakeWriter, RollingFileAppender};
 use appender_store::store::Folder;
 use std::alloc::AllocError;
 use std::io::Write;
@@ -101,22 +101,51 @@ fn check_file(rt: &impl Abort, hour: i64, text: &str, last: &mut [i64; THREADS])
     Some(())
 }
 
+// Checks the lines of the file of this name.
+fn check_named(
+    rt: &impl Host,
+    directory: &str,
+    names: &Names,
+    name: &str,
+    last: &mut [i64; THREADS],
+) {
+    let hour = names.read(name).expect(rt, "a name that is a date");
+    let text = text_of(rt, directory, name);
+    check_file(rt, hour, text.as_str(), last).expect(rt, "lines that are whole");
+}
+
 // Checks the five files that stand, and the link, whose name comes last.
-fn check_files(rt: &impl Host, directory: &str, names: &Names) -> Result<(), Fail> {
+fn check_files(rt: &impl Host, directory: &str, names: &Names) {
     let mut found = names_in(rt, directory);
-    let link = found.pop().ok_or("no link")?;
+    let link = found.pop().expect(rt, "a link");
     expect_eq(rt, link.as_str(), "latest.log");
     expect_eq(rt, found.len(), 5);
     let mut last = [-1i64; THREADS];
     for name in &found {
-        let hour = names.read(name.as_str()).ok_or("a name that is no date")?;
-        let text = text_of(rt, directory, name.as_str());
-        check_file(rt, hour, text.as_str(), &mut last).ok_or("a line that is torn")?;
+        check_named(rt, directory, names, name.as_str(), &mut last);
     }
     expect_eq(rt, last, [LINES - 1; THREADS]);
-    let newest = found.last().ok_or("no file")?;
-    expect_target(rt, directory, link.as_str(), newest.as_str());
-    Ok(())
+    let newest = found.last().expect(rt, "a file");
+    expect_target(rt, directory, "latest.log", newest.as_str());
+}
+
+// Writes the last line of each thread once all threads have written the others, and answers the log's
+// folder.
+fn write_all_in_threads<S: Folder + Send, R: Host + Threads + Wait + Sync>(
+    rt: R,
+    builder: &Builder,
+    folder: S,
+) -> S
+where
+    S::File: Send,
+{
+    let clock = SteppingClock::new(START, 900);
+    let appender = opened(rt, builder, folder, &clock);
+    for numbers in [(0, LINES - 1), (LINES - 1, LINES)] {
+        let wrote = write_in_threads(&rt, &appender, &clock, numbers).expect(&rt, "memory");
+        expect_eq(&rt, wrote, true);
+    }
+    appender.into_parts().0
 }
 
 // A hundred hours go by, and five files are kept.
@@ -127,15 +156,10 @@ fn no_line_of_a_hundred_hours_is_lost(rt: HostRuntime) -> Result<(), Fail> {
     let builder = hourly_log(&rt, "app")
         .latest_symlink(alloc, "latest.log")?
         .max_log_files(5);
-    let clock = SteppingClock::new(START, 900);
-    let folder = folder_at(rt, directory.as_str());
-    let appender = opened(rt, &builder, folder, &clock);
-    for numbers in [(0, LINES - 1), (LINES - 1, LINES)] {
-        assert!(rt; write_in_threads(&rt, &appender, &clock, numbers)?);
-    }
+    let folder = write_all_in_threads(rt, &builder, folder_at(rt, directory.as_str()));
     // Before the first file there was no link to remove.
-    expect_eq(&rt, appender.into_parts().0.failures(), 1);
-    check_files(&rt, directory.as_str(), &builder.names(alloc)?)?;
+    expect_eq(&rt, folder.failures(), 1);
+    check_files(&rt, directory.as_str(), &builder.names(alloc)?);
     clear(&rt, directory.as_str());
     Ok(())
 }

@@ -78,6 +78,11 @@ pub(crate) fn clear(rt: &impl Host, path: &str) {
     }
 }
 
+// A copy of a text.
+fn owned(rt: &impl Host, text: &str) -> String {
+    String::from_str(rt.alloc(), text).expect(rt, "memory")
+}
+
 /// The path of an entry.
 pub(crate) fn at(rt: &impl Host, directory: &str, name: &str) -> String {
     format!(in rt.alloc(); "{directory}/{name}").expect(rt, "memory")
@@ -138,7 +143,7 @@ pub(crate) fn text_of(rt: &impl Host, directory: &str, name: &str) -> String {
 /// What a link says.
 pub(crate) fn target_of(rt: &impl Host, directory: &str, name: &str) -> String {
     let target = fs::read_link(rt, at(rt, directory, name)).expect(rt, "a link");
-    String::from_str(rt.alloc(), target.as_str()).expect(rt, "memory")
+    owned(rt, target.as_str())
 }
 
 /// Checks what can be read under a name, through links too.
@@ -158,8 +163,9 @@ pub(crate) fn names_in(rt: &impl Host, directory: &str) -> Vec<String> {
     let mut names = Vec::new(rt.alloc());
     for entry in fs::read_dir(rt, directory).expect(rt, "a directory") {
         let entry = entry.expect(rt, "an entry");
-        let name = String::from_str(rt.alloc(), entry.file_name()).expect(rt, "memory");
-        names.push(name).expect(rt, "memory");
+        names
+            .push(owned(rt, entry.file_name()))
+            .expect(rt, "memory");
     }
     names.sort_unstable();
     names

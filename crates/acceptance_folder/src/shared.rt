@@ -20,16 +20,35 @@ use std::thread::Threads;
 use std::time::Duration;
 use std::{io, thread, time};
 
+// Ten threads write to the log of this folder, which is answered.
+fn folder_of_threads<C: Clock + Sync, R: Host + Threads + Wait + Sync>(
+    rt: R,
+    appender: RollingFileAppender<MemoryFolder, C, R>,
+) -> MemoryFolder {
+    let wrote = write_in_threads(&rt, &appender).expect(&rt, "memory");
+    expect_eq(&rt, wrote, true);
+    appender.into_parts().0
+}
+
+// Checks what a file of a folder in memory holds.
+fn expect_held(rt: &impl Abort, folder: &MemoryFolder, name: &str, wanted: &[u8]) {
+    expect_eq(rt, folder.bytes(name), Some(wanted));
+}
+
+// Opens a log over this folder, to which ten threads write.
+fn begin_one_file<R: Host + Threads + Wait + Sync>(rt: R, folder: MemoryFolder) -> MemoryFolder {
+    let appender = opened(rt, &hourly_log(&rt, "app"), folder, Crowded::new());
+    folder_of_threads(rt, appender)
+}
+
 #[test]
 fn ten_threads_begin_one_file(rt: HostRuntime) -> Result<(), Fail> {
     let mut folder = MemoryFolder::new(rt.alloc());
     // Behind the opening, a switch of two calls, and ten lines.
     folder.fail_call(14)?;
-    let appender = opened(rt, &hourly_log(&rt, "app"), folder, Crowded::new());
-    assert!(rt; write_in_threads(&rt, &appender)?);
-    let (folder, _clock) = appender.into_parts();
+    let folder = begin_one_file(rt, folder);
     expect_eq(&rt, folder.failures(), 0);
-    expect_eq(&rt, folder.bytes("app.2020-02-01-10"), Some(b"".as_slice()));
+    expect_held(&rt, &folder, "app.2020-02-01-10", b"");
     expect_lines(&rt, &[folder.bytes("app.2020-02-01-11").unwrap_or(b"")]);
     expect_eq(&rt, folder.body(2), None);
     Ok(())
@@ -70,18 +89,30 @@ fn write_beside<C: Clock + Sync, R: Threads + Wait + time::Clock + Sync + Drop>(
     })
 }
 
-#[test]
-fn a_writer_keeps_its_file(rt: HostRuntime) -> Result<(), Fail> {
+// A writer that is made before the hour ends writes on, while another one is asked for.
+fn write_across_hours<R: Host + Threads + Wait + time::Clock + Sync>(
+    rt: &R,
+    appender: &RollingFileAppender<MemoryFolder, &SteppingClock, R>,
+    clock: &SteppingClock,
+) {
+    let mut writer = appender.make_writer().expect(rt, "a writer");
+    expect_eq(rt, writer.write(b"a").expect(rt, "a write"), 1);
+    clock.set(ELEVEN);
+    assert!(rt; write_beside(rt, appender, writer));
+}
+
+// Writes a log across two hours, and answers its folder.
+fn folder_across_hours<R: Host + Threads + Wait + time::Clock + Sync>(rt: R) -> MemoryFolder {
     let clock = SteppingClock::new(START, 0);
     let appender = in_memory(rt, &clock);
-    let mut writer = appender.make_writer()?;
-    expect_eq(&rt, writer.write(b"a")?, 1);
-    clock.set(ELEVEN);
-    assert!(rt; write_beside(&rt, &appender, writer));
-    let (folder, _clock) = appender.into_parts();
+    write_across_hours(&rt, &appender, &clock);
+    appender.into_parts().0
+}
+
+#[test]
+fn a_writer_keeps_its_file(rt: HostRuntime) {
     let files = [("app.2020-02-01-10", "ab"), ("app.2020-02-01-11", "c")];
-    expect_bytes(&rt, &folder, &files);
-    Ok(())
+    expect_bytes(&rt, &folder_across_hours(rt), &files);
 }
 
 // A folder in which, behind the opening, the first and the fourth append take less than the line,
@@ -104,33 +135,57 @@ fn write_three<C: Clock, R: Wait + Drop>(
     Ok(kind_of_error(writer.write_all(b"bye")))
 }
 
-#[test]
-fn a_line_goes_on_behind_a_short_append(rt: HostRuntime) -> Result<(), Fail> {
-    let folder = short_folder(rt.alloc())?;
+// Writes three lines to a log over this folder, of which the third is refused, and answers the folder.
+fn folder_of_three<R: Host + Wait>(rt: R, folder: MemoryFolder) -> MemoryFolder {
     let clock = SteppingClock::new(START, 0);
     let appender = opened(rt, &hourly_log(&rt, "app"), folder, &clock);
-    expect_eq(&rt, write_three(&appender)?, Some(ErrorKind::WriteZero));
-    let (folder, _clock) = appender.into_parts();
+    let refusal = write_three(&appender).expect(&rt, "two lines");
+    expect_eq(&rt, refusal, Some(ErrorKind::WriteZero));
+    appender.into_parts().0
+}
+
+#[test]
+fn a_line_goes_on_behind_a_short_append(rt: HostRuntime) -> Result<(), Fail> {
+    let folder = folder_of_three(rt, short_folder(rt.alloc())?);
     expect_bytes(&rt, &folder, &[("app.2020-02-01-10", "hello all b")]);
     Ok(())
 }
 
-#[test]
-fn the_latest_moment_decides(rt: HostRuntime) -> Result<(), Fail> {
+// Ten threads write to a log whose clock turns back and forth. Answers its folder.
+fn folder_of_turns<R: Host + Threads + Wait + Sync>(rt: R) -> MemoryFolder {
     let appender = in_memory(rt, Turning::new());
-    assert!(rt; write_in_threads(&rt, &appender)?);
+    let wrote = write_in_threads(&rt, &appender).expect(&rt, "memory");
+    expect_eq(&rt, wrote, true);
     expect_shown(
         &rt,
         &appender,
         "RollingFileAppender { open_name: \"app.2020-02-01-12\", boundary: Some(1580562000) }",
     );
-    let (folder, _clock) = appender.into_parts();
-    expect_eq(&rt, folder.bytes("app.2020-02-01-10"), Some(b"".as_slice()));
+    appender.into_parts().0
+}
+
+#[test]
+fn the_latest_moment_decides(rt: HostRuntime) {
+    let folder = folder_of_turns(rt);
+    expect_held(&rt, &folder, "app.2020-02-01-10", b"");
     // Where the first look was at 12:00, no file begins at 11:00.
     let eleven = folder.bytes("app.2020-02-01-11").unwrap_or(b"");
     let twelve = folder.bytes("app.2020-02-01-12").unwrap_or(b"");
     expect_lines(&rt, &[eleven, twelve]);
-    Ok(())
+}
+
+// Shows an appender of a log without rotation, and a writer of it.
+fn expect_shown_appender<R: Host + Wait>(
+    rt: &R,
+    appender: &RollingFileAppender<MemoryFolder, &SteppingClock, R>,
+) {
+    expect_shown(
+        rt,
+        appender,
+        "RollingFileAppender { open_name: \"2020-02-01\", boundary: None }",
+    );
+    let writer = appender.make_writer().expect(rt, "a writer");
+    expect_shown(rt, &writer, "RollingWriter { .. }");
 }
 
 // Shows what a builder makes, and checks what can be said of it.
@@ -138,19 +193,11 @@ fn expect_default<R: Host + Wait>(rt: R, builder: &Builder) {
     assert!(rt; shown(&rt, builder).as_str().starts_with("Builder {"));
     let clock = SteppingClock::new(START, 0);
     let appender = opened(rt, builder, MemoryFolder::new(rt.alloc()), &clock);
-    expect_shown(
-        &rt,
-        &appender,
-        "RollingFileAppender { open_name: \"2020-02-01\", boundary: None }",
-    );
-    match appender.make_writer() {
-        Ok(writer) => expect_shown(&rt, &writer, "RollingWriter { .. }"),
-        Err(fault) => rt.panic(fault),
-    }
+    expect_shown_appender(&rt, &appender);
 }
 
-#[test]
-fn all_types_can_be_shown(rt: HostRuntime) {
+// Shows what each of three builders makes, and an error.
+fn expect_all_shown<R: Host + Wait>(rt: R) {
     expect_default(rt, &Builder::default());
     expect_default(rt, &Builder::new());
     expect_default(rt, &RollingFileAppender::builder());
@@ -158,15 +205,25 @@ fn all_types_can_be_shown(rt: HostRuntime) {
 }
 
 #[test]
-fn a_log_of_one_thread_can_be_shown(rt: HostRuntime) {
+fn all_types_can_be_shown(rt: HostRuntime) {
+    expect_all_shown(rt);
+}
+
+// Shows a log of one thread.
+fn expect_shown_log(rt: &(impl AllocGlobal + Abort)) {
     let alloc = rt.alloc();
     let clock = SteppingClock::new(START, 0);
     match Builder::new().open_in(alloc, MemoryFolder::new(alloc), &clock) {
         Ok(log) => expect_shown(
-            &rt,
+            rt,
             &log,
             "RollingFile { open_name: \"2020-02-01\", boundary: None }",
         ),
         Err(_) => rt.panic("not opened"),
     }
+}
+
+#[test]
+fn a_log_of_one_thread_can_be_shown(rt: HostRuntime) {
+    expect_shown_log(&rt);
 }

@@ -6,7 +6,9 @@ use crate::expect::{expect_eq, expect_shown, expect_text};
 use appender_non_blocking::non_blocking::{
     Account, CountedGuard, CountedSender, NonBlockingBuilder, Sent, Shut, Unsettled,
 };
-use fake_gate::gate::{Host, Seen, new_gate};
+use fake_gate::gate::{Gate, Host, Seen, new_gate};
+use std::alloc::{AllocError, Global};
+use std::io;
 use std::marker::Brand;
 use std::process::Abort;
 use std::sync::ledger::{Blank, Ledger};
@@ -25,7 +27,7 @@ enum Story {
 }
 
 impl Story {
-    fn builder(self) -> NonBlockingBuilder {
+    fn builder(self, alloc: Global) -> Result<NonBlockingBuilder, AllocError> {
         let limit = match self {
             Story::DropsLines | Story::DropsItsGuard => 1,
             _ => 4,
@@ -34,6 +36,7 @@ impl Story {
         NonBlockingBuilder::default()
             .buffered_lines_limit(limit)
             .lossy(!waits)
+            .thread_name(alloc, "counted")
     }
 
     fn senders(self) -> u32 {
@@ -47,11 +50,16 @@ impl Story {
 }
 
 fn run<R: Host + Abort>(rt: R, story: Story) -> Result<(), Fail> {
+    let builder = story.builder(rt.alloc())?;
+    let (writer, seen) = new_gate(rt, b"held")?;
     let senders = story.senders();
     let accepted = Blank::new(u64::from(senders) + 1);
     tell::<Brand, Brand, Brand, Brand, R>(
         rt,
         story,
+        builder,
+        writer,
+        &seen,
         senders,
         accepted,
         Blank::new(1),
@@ -60,6 +68,7 @@ fn run<R: Host + Abort>(rt: R, story: Story) -> Result<(), Fail> {
     )
 }
 
+// Makes the senders and their guard, with which the story is played.
 fn tell<
     A: Ledger + Send + Sync + 'static,
     H: Ledger + Send + Sync + 'static,
@@ -69,6 +78,9 @@ fn tell<
 >(
     rt: R,
     story: Story,
+    builder: NonBlockingBuilder,
+    writer: Gate<R>,
+    seen: &Seen,
     senders: u32,
     accepted: Blank,
     handed: Blank,
@@ -80,27 +92,42 @@ fn tell<
     requires shutdowns { (shutdowns.name ≡ S.name) × (shutdowns.parts ≡ S.parts) × (shutdowns.parts ≡ 1) }
     requires closings { (closings.name ≡ C.name) × (closings.parts ≡ C.parts) × (closings.parts ≡ 1) }
 {
-    let (writer, seen) = new_gate(rt, b"held")?;
-    let (senders, guard) = story
-        .builder()
-        .thread_name(rt.alloc(), "counted")?
-        .finish_counted::<A, H, S, C, _, R>(
-            rt,
-            rt.alloc(),
-            writer,
-            senders as usize,
-            accepted,
-            handed,
-            shutdowns,
-            closings,
-        )?;
+    let (senders, guard) = builder.finish_counted::<A, H, S, C, _, R>(
+        rt,
+        rt.alloc(),
+        writer,
+        senders as usize,
+        accepted,
+        handed,
+        shutdowns,
+        closings,
+    )?;
+    play(rt, story, senders, guard, seen);
+    Ok(())
+}
+
+fn play<
+    A: Ledger + Send + Sync + 'static,
+    H: Ledger + Send + Sync + 'static,
+    S: Ledger + Send + Sync + 'static,
+    C: Ledger + Send + Sync + 'static,
+    R: Host + Abort,
+>(
+    rt: R,
+    story: Story,
+    senders: Vec<CountedSender<A, H, S, C, R>>,
+    guard: CountedGuard<A, H, S, C, R>,
+    seen: &Seen,
+)
+    requires { (A.parts ≡ guard.made + 1) × (H.parts ≡ 1) × (S.parts ≡ 1) × (C.parts ≡ 1) }
+{
     match story {
-        Story::TellsTickets => crowd(rt, senders, guard, &seen),
-        Story::LeavesLines => leaves_lines(rt, senders, guard, &seen),
+        Story::TellsTickets => crowd(rt, senders, guard, seen),
+        Story::LeavesLines => leaves_lines(rt, senders, guard, seen),
         Story::GivesBack => gives_back(rt, senders, guard),
         Story::HasNoSender => settles(rt, senders, guard, 0, 0, 0, 0),
-        Story::DropsLines => drops_lines(rt, senders, guard, &seen),
-        Story::DropsItsGuard => drops_its_guard(rt, senders, guard, &seen),
+        Story::DropsLines => drops_lines(rt, senders, guard, seen),
+        Story::DropsItsGuard => drops_its_guard(rt, senders, guard, seen),
         Story::CanBeShown => can_be_shown(rt, senders, guard),
     }
 }
@@ -114,11 +141,11 @@ pub(crate) fn settles<A: Ledger, H: Ledger, S: Ledger, C: Ledger, R: Host + Abor
     handed: u64,
     left: u64,
     dropped: usize,
-) -> Result<(), Fail>
+)
     requires { (A.parts ≡ guard.made + 1) × (H.parts ≡ 1) × (S.parts ≡ 1) × (C.parts ≡ 1) }
 {
     let Ok(account) = guard.settle(senders) else {
-        return Err(Fail::from("senders are missing"));
+        rt.panic("senders are missing");
     };
     expect_eq(
         &rt,
@@ -130,127 +157,182 @@ pub(crate) fn settles<A: Ledger, H: Ledger, S: Ledger, C: Ledger, R: Host + Abor
             dropped,
         },
     );
-    Ok(())
 }
 
-// Writes a line, and compares what its sender is told.
-fn expect_told<A: Ledger, H: Ledger, S: Ledger, C: Ledger, R: Host + Abort>(
-    rt: R,
-    sender: &mut CountedSender<A, H, S, C, R>,
-    line: &[u8],
-    wanted: Sent,
-) {
-    let told = sender.write_line(line).expect(&rt, "the queue is open");
+/// A sender that is told what becomes of its lines. A proof over it is shorter than one over the five
+/// parameters of a `CountedSender`.
+pub(crate) trait Told: Send + Drop + 'static {
+    /// Writes a line, and tells what became of it.
+    fn tell(&mut self, line: &[u8]) -> io::Result<Sent>;
+
+    /// How many lines are queued.
+    fn queued_lines(&self) -> u64;
+
+    /// How many lines were dropped.
+    fn dropped_lines(&self) -> usize;
+}
+
+impl<
+    A: Ledger + Send + Sync + 'static,
+    H: Ledger + Send + Sync + 'static,
+    S: Ledger + Send + Sync + 'static,
+    C: Ledger + Send + Sync + 'static,
+    R: Host,
+> Told for CountedSender<A, H, S, C, R> {
+    fn tell(&mut self, line: &[u8]) -> io::Result<Sent> {
+        self.write_line(line)
+    }
+
+    fn queued_lines(&self) -> u64 {
+        self.queued()
+    }
+
+    fn dropped_lines(&self) -> usize {
+        self.dropped()
+    }
+}
+
+// Writes a line by the first sender, and compares what it is told.
+fn expect_told<T: Told, R: Host + Abort>(rt: R, senders: &mut Vec<T>, line: &[u8], wanted: Sent) {
+    let sender = senders.first_mut().expect(&rt, "a sender");
+    let told = sender.tell(line).expect(&rt, "the queue is open");
     expect_eq(&rt, told, wanted);
 }
 
+// Compares how many lines of the first sender are queued, and how many were dropped.
+fn expect_counts<T: Told, R: Host + Abort>(rt: R, senders: &[T], queued: u64, dropped: usize) {
+    let sender = senders.first().expect(&rt, "a sender");
+    expect_eq(&rt, sender.queued_lines(), queued);
+    expect_eq(&rt, sender.dropped_lines(), dropped);
+}
+
+// Writes the line that the gate holds, and another one behind it.
+fn expect_two_told<T: Told, R: Host + Abort>(
+    rt: R,
+    senders: &mut Vec<T>,
+    seen: &Seen,
+    second: &[u8],
+) {
+    expect_told(rt, senders, b"held", Sent::Queued(1));
+    assert!(rt; seen.is_held(rt));
+    expect_told(rt, senders, second, Sent::Queued(2));
+}
+
+// Shuts the queue, which can be done once.
+fn expect_shut<A: Ledger, H: Ledger, S: Ledger, C: Ledger, R: Host + Abort>(
+    rt: R,
+    guard: &mut CountedGuard<A, H, S, C, R>,
+)
+    ensures { guard.new.made ≡ guard.old.made }
+{
+    expect_eq(&rt, guard.sent(), false);
+    expect_eq(&rt, guard.shut(), Shut::Sent);
+    expect_eq(&rt, guard.sent(), true);
+    expect_eq(&rt, guard.shut(), Shut::Already);
+}
+
 // What lies behind the shutdown is left.
-fn leaves_lines<A: Ledger, H: Ledger, S: Ledger, C: Ledger, R: Host + Abort>(
+fn leaves_lines<
+    A: Ledger + Send + Sync + 'static,
+    H: Ledger + Send + Sync + 'static,
+    S: Ledger + Send + Sync + 'static,
+    C: Ledger + Send + Sync + 'static,
+    R: Host + Abort,
+>(
     rt: R,
     senders: Vec<CountedSender<A, H, S, C, R>>,
     guard: CountedGuard<A, H, S, C, R>,
     seen: &Seen,
-) -> Result<(), Fail>
+)
     requires { (A.parts ≡ guard.made + 1) × (H.parts ≡ 1) × (S.parts ≡ 1) × (C.parts ≡ 1) }
 {
     let mut senders = senders;
     let mut guard = guard;
-    let Some(sender) = senders.first_mut() else {
-        return Err(Fail::from("no sender was made"));
-    };
-    expect_told(rt, sender, b"held", Sent::Queued(1));
-    assert!(rt; seen.is_held(rt));
-    expect_told(rt, sender, b"b", Sent::Queued(2));
-    assert!(rt; !guard.sent());
-    expect_eq(&rt, guard.shut(), Shut::Sent);
-    assert!(rt; guard.sent());
-    expect_eq(&rt, guard.shut(), Shut::Already);
-    expect_told(rt, sender, b"c", Sent::Queued(3));
-    expect_eq(&rt, sender.queued(), 3);
+    expect_two_told(rt, &mut senders, seen, b"b");
+    expect_shut(rt, &mut guard);
+    expect_told(rt, &mut senders, b"c", Sent::Queued(3));
+    expect_counts(rt, senders.as_slice(), 3, 0);
     seen.opens();
-    settles(rt, senders, guard, 3, 2, 1, 0)?;
+    settles(rt, senders, guard, 3, 2, 1, 0);
     expect_text(rt, seen, b"held|b|");
-    Ok(())
 }
 
 fn gives_back<A: Ledger, H: Ledger, S: Ledger, C: Ledger, R: Host + Abort>(
     rt: R,
     senders: Vec<CountedSender<A, H, S, C, R>>,
     guard: CountedGuard<A, H, S, C, R>,
-) -> Result<(), Fail>
+)
     requires { (A.parts ≡ guard.made + 1) × (H.parts ≡ 1) × (S.parts ≡ 1) × (C.parts ≡ 1) }
 {
     let mut senders = senders;
-    let missing = senders.pop();
+    let missing = senders.pop().expect(&rt, "a sender");
     let Err(unsettled) = guard.settle(senders) else {
-        return Err(Fail::from("a sender was missing"));
+        rt.panic("a sender was missing");
     };
     let Unsettled { guard, senders } = unsettled;
     expect_eq(&rt, senders.len(), 1);
     let mut senders = senders;
-    if let Some(sender) = missing {
-        senders.push(sender)?;
-    }
-    settles(rt, senders, guard, 0, 0, 0, 0)
+    senders
+        .push(missing)
+        .map_err(AllocError::from)
+        .expect(&rt, "memory");
+    settles(rt, senders, guard, 0, 0, 0, 0);
 }
 
-fn drops_lines<A: Ledger, H: Ledger, S: Ledger, C: Ledger, R: Host + Abort>(
+fn drops_lines<
+    A: Ledger + Send + Sync + 'static,
+    H: Ledger + Send + Sync + 'static,
+    S: Ledger + Send + Sync + 'static,
+    C: Ledger + Send + Sync + 'static,
+    R: Host + Abort,
+>(
     rt: R,
     senders: Vec<CountedSender<A, H, S, C, R>>,
     guard: CountedGuard<A, H, S, C, R>,
     seen: &Seen,
-) -> Result<(), Fail>
+)
     requires { (A.parts ≡ guard.made + 1) × (H.parts ≡ 1) × (S.parts ≡ 1) × (C.parts ≡ 1) }
 {
     let mut senders = senders;
-    let Some(sender) = senders.first_mut() else {
-        return Err(Fail::from("no sender was made"));
-    };
-    expect_told(rt, sender, b"held", Sent::Queued(1));
-    assert!(rt; seen.is_held(rt));
-    expect_told(rt, sender, b"a", Sent::Queued(2));
-    expect_told(rt, sender, b"b", Sent::Dropped);
-    expect_eq(&rt, sender.dropped(), 1);
+    expect_two_told(rt, &mut senders, seen, b"a");
+    expect_told(rt, &mut senders, b"b", Sent::Dropped);
+    expect_counts(rt, senders.as_slice(), 2, 1);
     seen.opens();
-    settles(rt, senders, guard, 2, 2, 0, 1)?;
+    settles(rt, senders, guard, 2, 2, 0, 1);
     expect_text(rt, seen, b"held|a|");
-    Ok(())
 }
 
 // The guard finds no room for its shutdown. The worker ends with its last sender, and leaves no line.
-fn drops_its_guard<A: Ledger, H: Ledger, S: Ledger, C: Ledger, R: Host + Abort>(
+fn drops_its_guard<
+    A: Ledger + Send + Sync + 'static,
+    H: Ledger + Send + Sync + 'static,
+    S: Ledger + Send + Sync + 'static,
+    C: Ledger + Send + Sync + 'static,
+    R: Host + Abort,
+>(
     rt: R,
     senders: Vec<CountedSender<A, H, S, C, R>>,
     guard: CountedGuard<A, H, S, C, R>,
     seen: &Seen,
-) -> Result<(), Fail> {
+) {
     let mut senders = senders;
-    let Some(sender) = senders.first_mut() else {
-        return Err(Fail::from("no sender was made"));
-    };
-    sender.write_line(b"held")?;
-    assert!(rt; seen.is_held(rt));
-    sender.write_line(b"a")?;
+    expect_two_told(rt, &mut senders, seen, b"a");
     drop(guard);
     seen.opens();
     drop(senders);
     assert!(rt; seen.come(rt, 2));
-    Ok(())
 }
 
 fn can_be_shown<A: Ledger, H: Ledger, S: Ledger, C: Ledger, R: Host + Abort>(
     rt: R,
     senders: Vec<CountedSender<A, H, S, C, R>>,
     guard: CountedGuard<A, H, S, C, R>,
-) -> Result<(), Fail> {
-    let Some(sender) = senders.first() else {
-        return Err(Fail::from("no sender was made"));
-    };
+) {
+    let sender = senders.first().expect(&rt, "a sender");
     expect_shown(&rt, sender, "CountedSender { .. }");
     expect_shown(&rt, &guard, "CountedGuard { .. }");
     expect_shown(&rt, &Sent::Dropped, "Dropped");
     expect_shown(&rt, &Unsettled { guard, senders }, "Unsettled { .. }");
-    Ok(())
 }
 
 #[test]

@@ -1,6 +1,6 @@
 // Many senders: none is left asleep while there is room, or once the queue is closed.
 use crate::expect::expect_eq;
-use appender_non_blocking::non_blocking::{Closing, NonBlocking, NonBlockingBuilder};
+use appender_non_blocking::non_blocking::{Closing, NonBlocking, NonBlockingBuilder, WorkerGuard};
 use fake_gate::gate::Host;
 use std::alloc::Global;
 use std::io::Write;
@@ -69,26 +69,35 @@ fn join_all<R: Host>(rt: R, running: Vec<JoinHandle<usize>>) -> usize {
     queued
 }
 
-// One worker and so many senders with so many lines each, while the guard closes, or before it does. A
-// guard that closes early finds the worker busy for so long that it waits for room, and each sender too.
-fn crowd<R: Host + Abort>(
+// A worker that counts its lines. Where the guard closes early, it is busy with the first one for so long
+// that the guard waits for room, and each sender too.
+fn over_counting<R: Host>(
     rt: R,
     limit: usize,
+    closes_early: bool,
+    came: &Arc<AtomicUsize, Global>,
+) -> io::Result<(NonBlocking<R>, WorkerGuard<R>)> {
+    let writer = Counting {
+        rt,
+        lines: Arc::try_clone(came)?,
+        first: Duration::from_micros(if closes_early { 200 } else { 0 }),
+    };
+    NonBlockingBuilder::default()
+        .lossy(false)
+        .buffered_lines_limit(limit)
+        .finish(rt, rt.alloc(), writer)
+}
+
+// A line, and so many senders with so many lines each, while the guard closes, or before it does. Answers
+// what the guard told, and how many lines were queued.
+fn queue_all<R: Host>(
+    rt: R,
+    mut sender: NonBlocking<R>,
+    guard: WorkerGuard<R>,
     senders: usize,
     lines: usize,
     closes_early: bool,
-) -> Result<(), Fail> {
-    let came = Arc::new(rt.alloc(), AtomicUsize::new(0))?;
-    let writer = Counting {
-        rt,
-        lines: Arc::try_clone(&came)?,
-        first: Duration::from_micros(if closes_early { 200 } else { 0 }),
-    };
-    let (mut sender, guard) = NonBlockingBuilder::default()
-        .lossy(false)
-        .buffered_lines_limit(limit)
-        .finish(rt, rt.alloc(), writer)?;
-    let counter = sender.error_counter()?;
+) -> Result<(Closing, usize), Fail> {
     sender.write(b"Hello")?;
     let running = start(rt, &sender, senders, lines)?;
     drop(sender);
@@ -99,19 +108,37 @@ fn crowd<R: Host + Abort>(
         let queued = join_all(rt, running);
         (guard.close(), queued)
     };
-    let queued = queued.saturating_add(1);
-    let left = match closing {
-        Closing::Done { left } => left,
-        // On a machine that is busy otherwise the worker may not get on within the guard's time. No thread
-        // was left asleep: all of them were joined.
-        Closing::Full | Closing::Pending if closes_early => return Ok(()),
-        _ => return Err(Fail::from(io::ErrorKind::TimedOut)),
-    };
-    expect_eq(&rt, came.load(SeqCst).saturating_add(left as usize), queued);
-    assert!(rt;
-        closes_early || (left == 0 && queued == senders.saturating_mul(lines).saturating_add(1))
-    );
-    expect_eq(&rt, counter.dropped_lines(), 0);
+    Ok((closing, queued.saturating_add(1)))
+}
+
+// How many lines the worker left, if it ended. On a machine that is busy otherwise it may not get on within
+// the time of a guard that closes early. No thread was left asleep: all of them were joined.
+fn left_by(rt: &impl Abort, closing: Closing, closes_early: bool) -> Option<u64> {
+    match closing {
+        Closing::Done { left } => Some(left),
+        Closing::Full | Closing::Pending if closes_early => None,
+        _ => rt.panic("the worker goes on"),
+    }
+}
+
+// One worker and so many senders with so many lines each, while the guard closes, or before it does.
+fn crowd<R: Host + Abort>(
+    rt: R,
+    limit: usize,
+    senders: usize,
+    lines: usize,
+    closes_early: bool,
+) -> Result<(), Fail> {
+    let came = Arc::new(rt.alloc(), AtomicUsize::new(0))?;
+    let (sender, guard) = over_counting(rt, limit, closes_early, &came).expect(&rt, "a worker");
+    let counter = sender.error_counter().expect(&rt, "memory");
+    let (closing, queued) = queue_all(rt, sender, guard, senders, lines, closes_early)?;
+    if let Some(left) = left_by(&rt, closing, closes_early) {
+        expect_eq(&rt, came.load(SeqCst).saturating_add(left as usize), queued);
+        let all = senders.saturating_mul(lines).saturating_add(1);
+        expect_eq(&rt, closes_early || (left == 0 && queued == all), true);
+        expect_eq(&rt, counter.dropped_lines(), 0);
+    }
     Ok(())
 }
 

@@ -12,6 +12,7 @@ use std::process::Abort;
 use std::rt::Files;
 use std::sync::Arc;
 use std::test::Fail;
+use std::thread::JoinHandle;
 use std::time::Duration;
 use std::{fs, io, thread};
 
@@ -101,22 +102,32 @@ fn a_full_queue_keeps_its_sender_waiting(rt: HostRuntime) -> Result<(), Fail> {
     Ok(())
 }
 
+// Starts a thread that writes a line.
+fn say_hello<R: Host>(rt: R, mut sender: NonBlocking<R>) -> io::Result<JoinHandle<()>> {
+    Ok(thread::spawn(&rt, move || {
+        let _ = sender.write_all(b"Hello");
+    })?)
+}
+
+// Each of ten threads writes a line.
+fn say_hello_by_ten<R: Host>(rt: R, sender: &NonBlocking<R>) -> Result<(), Fail> {
+    let mut running = Vec::new(rt.alloc());
+    for _ in 0..10u32 {
+        running.push(say_hello(rt, sender.make_writer()?)?)?;
+    }
+    for thread in running {
+        thread.join(&rt);
+    }
+    Ok(())
+}
+
 #[test]
 fn every_thread_gets_its_line_through(rt: HostRuntime) -> Result<(), Fail> {
     let builder = NonBlockingBuilder::default();
     let (sender, guard, seen) = over_gate(rt, builder, b"")?;
     let counter = sender.error_counter()?;
-    let mut running = Vec::new(rt.alloc());
-    for _ in 0..10u32 {
-        let mut mine = sender.make_writer()?;
-        running.push(thread::spawn(&rt, move || {
-            let _ = mine.write_all(b"Hello");
-        })?)?;
-    }
-    for thread in running {
-        thread.join(&rt);
-    }
-    assert!(rt; seen.come(rt, 10));
+    say_hello_by_ten(rt, &sender)?;
+    expect_eq(&rt, seen.come(rt, 10), true);
     expect_dropped(&rt, &counter, 0);
     drop(guard);
     let lines = b"Hello|Hello|Hello|Hello|Hello|Hello|Hello|Hello|Hello|Hello|";
@@ -140,6 +151,22 @@ fn every_byte_comes_as_it_was(rt: HostRuntime) -> Result<(), Fail> {
     Ok(())
 }
 
+// The queue closes once the worker takes the shutdown, and drops what comes then.
+fn write_until_dropped<R: Host + Abort>(
+    rt: R,
+    sender: &mut NonBlocking<R>,
+    counter: &ErrorCounter,
+) {
+    for _ in 0..10_000u32 {
+        if counter.dropped_lines() > 0 {
+            break;
+        }
+        expect_taken(rt, sender, b"later");
+        thread::sleep(&rt, Duration::from_millis(1));
+    }
+    assert!(rt; counter.dropped_lines() > 0);
+}
+
 // The shutdown stands before the lines that come later, though the queue takes them.
 #[test]
 fn lines_behind_the_shutdown_are_not_written(rt: HostRuntime) -> Result<(), Fail> {
@@ -151,32 +178,35 @@ fn lines_behind_the_shutdown_are_not_written(rt: HostRuntime) -> Result<(), Fail
     expect_taken(rt, &mut sender, b"late");
     expect_dropped(&rt, &counter, 0);
     seen.opens();
-    // The queue closes once the worker takes the shutdown, and drops what comes then.
-    for _ in 0..10_000u32 {
-        if counter.dropped_lines() > 0 {
-            break;
-        }
-        expect_taken(rt, &mut sender, b"later");
-        thread::sleep(&rt, Duration::from_millis(1));
-    }
-    assert!(rt; counter.dropped_lines() > 0);
+    write_until_dropped(rt, &mut sender, &counter);
     expect_text(rt, &seen, b"g|");
+    Ok(())
+}
+
+// Writes a line to a queue that is closed.
+fn write_late<R: Host + Abort>(rt: R, sender: &mut NonBlocking<R>, lossy: bool) {
+    match sender.write(b"late") {
+        Ok(taken) => assert!(rt; lossy && taken == 4),
+        Err(fault) => assert!(rt; !lossy && fault.kind() == ErrorKind::Other),
+    }
+}
+
+// Closes a queue, and writes a line to it.
+fn expect_no_line<R: Host + Abort>(rt: R, lossy: bool) -> io::Result<()> {
+    let builder = NonBlockingBuilder::default().lossy(lossy);
+    let (mut sender, guard, seen) = over_gate(rt, builder, b"")?;
+    let counter = sender.error_counter()?.clone()?;
+    expect_closing(rt, guard, Closing::Done { left: 0 });
+    write_late(rt, &mut sender, lossy);
+    expect_dropped(&rt, &counter, if lossy { 1 } else { 0 });
+    expect_eq(&rt, seen.count(), 0);
     Ok(())
 }
 
 #[test]
 fn a_closed_queue_takes_no_line(rt: HostRuntime) -> Result<(), Fail> {
     for lossy in [true, false] {
-        let builder = NonBlockingBuilder::default().lossy(lossy);
-        let (mut sender, guard, seen) = over_gate(rt, builder, b"")?;
-        let counter = sender.error_counter()?.clone()?;
-        expect_closing(rt, guard, Closing::Done { left: 0 });
-        match sender.write(b"late") {
-            Ok(taken) => assert!(rt; lossy && taken == 4),
-            Err(fault) => assert!(rt; !lossy && fault.kind() == ErrorKind::Other),
-        }
-        expect_eq(&rt, counter.dropped_lines(), if lossy { 1 } else { 0 });
-        expect_eq(&rt, seen.count(), 0);
+        expect_no_line(rt, lossy)?;
     }
     Ok(())
 }
@@ -240,14 +270,23 @@ fn all_types_can_be_shown(rt: HostRuntime) -> Result<(), Fail> {
     Ok(())
 }
 
+// Whether this thread of this process is called so. One that has ended has no file.
+fn is_called<R: Files + AllocGlobal + Clone + Drop>(
+    rt: &R,
+    task: &str,
+    name: &[u8],
+) -> io::Result<bool> {
+    let path = format!(in rt.alloc(); "/proc/self/task/{task}/comm")?;
+    match fs::read(rt, path.as_str()) {
+        Ok(called) => Ok(called.trim_ascii_end() == name),
+        Err(_) => Ok(false),
+    }
+}
+
 // Whether a thread of this process is called so. The system keeps the first fifteen bytes of a name.
 fn has_thread<R: Files + AllocGlobal + Clone + Drop>(rt: &R, name: &[u8]) -> io::Result<bool> {
     for task in fs::read_dir(rt, "/proc/self/task")? {
-        let path = format!(in rt.alloc(); "/proc/self/task/{}/comm", task?.file_name())?;
-        // One that has ended since has no file.
-        if let Ok(called) = fs::read(rt, path.as_str())
-            && called.trim_ascii_end() == name
-        {
+        if is_called(rt, task?.file_name(), name)? {
             return Ok(true);
         }
     }

@@ -18,6 +18,11 @@ pub on_ok : {T E P : Type 0} (result : Result T E) → P → OnOk result P
 on_ok (Ok value) p = p
 on_ok (Err error) p = tt
 
+-- what follows from it holds where it does
+pub on_ok_by : {T E P Q : Type 0} (result : Result T E) → (P → Q) → OnOk result P → OnOk result Q
+on_ok_by (Ok value) step p = step p
+on_ok_by (Err error) step p = tt
+
 -- a new buffer has the bytes of the reader that it borrows
 pub buffers_all : {I A : Type 0} (remaining : I → Option (List ℕ)) (buffered : BufReader (MutBor I) A) (input : MutBor I) (text : List ℕ)
     → reader_inner buffered ≡ input → reader_buffer buffered ≡ [] → reader_capacity buffered ≡ 8192 → remaining input.now ≡ Some text

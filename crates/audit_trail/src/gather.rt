@@ -3,9 +3,9 @@ ghost use Rattle.std.specs.Prelude.{◌≡◌, ◌+◌, ◌≤◌, IfOk, vec_len
 
 use crate::trail::{Fault, open_log, tell};
 use program_input::read_line;
-use std::alloc::AllocError;
+use std::alloc::{AllocError, Global};
 use std::fs::File;
-use std::io::{BufReader, Read, Write};
+use std::io::{BufRead, BufReader, Read, Write};
 use std::marker::Brand;
 use std::sync::Wait;
 use std::sync::ledger::{Blank, Ledger};
@@ -88,22 +88,51 @@ fn gather_files<R: Host, T: Trails, O: Write, E: Write>(
 {
     let log = trails.open_trail(directory)?;
     let (mut sources, mut opened) = (Vec::new(rt.alloc()), Vec::new(rt.alloc()));
+    let unopened = open_sources(trails, paths, &mut sources, &mut opened, errors)?;
+    let (account, sent) = gather(rt, log, sources)?;
+    let ended = tell_ends(opened, sent, errors);
+    write_account(account, output)?;
+    Ok(unopened.max(ended))
+}
+
+// The sources that can be opened, each with its path. The others are told, and the answer is the
+// greatest status of these.
+fn open_sources<'a, T: Trails, E: Write>(
+    trails: &T,
+    paths: &'a [String],
+    sources: &mut Vec<T::Source>,
+    opened: &mut Vec<&'a str>,
+    errors: &mut E,
+) -> Result<u8, AllocError>
+    ensures { IfOk result (λ status. status ≤ 3) }
+{
     let mut status = 0;
     for path in paths {
         match trails.open_source(path.as_str()) {
             Ok(source) => {
-                sources.push(source).map_err(AllocError::from)?;
-                opened.push(path.as_str()).map_err(AllocError::from)?;
+                sources.push(source)?;
+                opened.push(path.as_str())?;
             }
             Err(fault) => status = tell_of(path.as_str(), &Fault::from(fault), errors).max(status),
         }
     }
-    let (account, sent) = gather(rt, log, sources)?;
+    Ok(status)
+}
+
+// Tells of each source that was not sent to its end, and answers the greatest status of these.
+fn tell_ends<E: Write>(opened: Vec<&str>, sent: Vec<Result<(), Fault>>, errors: &mut E) -> u8
+    ensures { result ≤ 3 }
+{
+    let mut status = 0;
     for (path, sent) in opened.into_iter().zip(sent) {
         if let Err(fault) = sent {
             status = tell_of(path, &fault, errors).max(status);
         }
     }
+    status
+}
+
+fn write_account<O: Write>(account: Account, output: &mut O) -> Result<(), Fault> {
     let Account {
         accepted,
         handed,
@@ -114,8 +143,7 @@ fn gather_files<R: Host, T: Trails, O: Write, E: Write>(
         output,
         "accepted {accepted} handed {handed} left {left} dropped {dropped}"
     )
-    .map_err(Fault::Write)?;
-    Ok(status)
+    .map_err(Fault::Write)
 }
 
 // Tells the fault of a source on `errors`, and answers its status.
@@ -193,72 +221,110 @@ fn gather_by<
     }
 }
 
+// What a thread sends the lines of its source by. It spares the functions below the names of the books.
+trait LineSender {
+    // Waits until the line is queued.
+    fn send(&mut self, line: &[u8]) -> io::Result<()>;
+}
+
+impl<A: Ledger, H: Ledger, S: Ledger, C: Ledger, R: Wait + Drop> LineSender
+    for CountedSender<A, H, S, C, R> {
+    fn send(&mut self, line: &[u8]) -> io::Result<()> {
+        self.write_line(line)?;
+        Ok(())
+    }
+}
+
 // The senders, once each has sent the lines of its source, and how that ended.
-fn send_all<
-    A: Ledger + Send + Sync + 'static,
-    H: Ledger + Send + Sync + 'static,
-    S: Ledger + Send + Sync + 'static,
-    C: Ledger + Send + Sync + 'static,
-    I: Read + Send + Drop + 'static,
-    R: Host,
->(
+fn send_all<S: LineSender + Send + Drop + 'static, I: Read + Send + Drop + 'static, R: Host>(
     rt: R,
-    senders: Vec<CountedSender<A, H, S, C, R>>,
+    senders: Vec<S>,
     sources: Vec<I>,
-) -> Result<(Vec<CountedSender<A, H, S, C, R>>, Vec<Result<(), Fault>>), Fault> {
+) -> Result<(Vec<S>, Vec<Result<(), Fault>>), Fault> {
     let mut running = Vec::new(rt.alloc());
     for (sender, source) in senders.into_iter().zip(sources) {
-        let Ok(thread) = thread::spawn(&rt, move || send_source(rt, sender, source)) else {
-            return Err(Fault::Thread);
-        };
+        let thread = start(rt, sender, source)?;
         running.push(thread).map_err(AllocError::from)?;
     }
     join_all(rt, running)
 }
 
-// The same of threads that run.
-fn join_all<A: Ledger, H: Ledger, S: Ledger, C: Ledger, R: Host>(
+// A thread that sends the lines of a source.
+fn start<S: LineSender + Send + Drop + 'static, I: Read + Send + Drop + 'static, R: Host>(
     rt: R,
-    running: Vec<JoinHandle<(CountedSender<A, H, S, C, R>, Result<(), Fault>)>>,
-) -> Result<(Vec<CountedSender<A, H, S, C, R>>, Vec<Result<(), Fault>>), Fault> {
-    let (mut back, mut sent) = (Vec::new(rt.alloc()), Vec::new(rt.alloc()));
-    for thread in running {
-        let (sender, ended) = thread.join(&rt);
-        back.push(sender).map_err(AllocError::from)?;
-        sent.push(ended).map_err(AllocError::from)?;
+    sender: S,
+    source: I,
+) -> Result<JoinHandle<(S, Result<(), Fault>)>, Fault> {
+    match thread::spawn(&rt, move || send_source(rt.alloc(), sender, source)) {
+        Ok(thread) => Ok(thread),
+        Err(_) => Err(Fault::Thread),
     }
+}
+
+// What the threads give back.
+fn join_all<S: Drop, R: Host>(
+    rt: R,
+    running: Vec<JoinHandle<(S, Result<(), Fault>)>>,
+) -> Result<(Vec<S>, Vec<Result<(), Fault>>), Fault> {
+    let (mut back, mut sent) = (Vec::new(rt.alloc()), Vec::new(rt.alloc()));
+    join_each(rt, running, &mut back, &mut sent)?;
     Ok((back, sent))
 }
 
-// What the thread of a source does: it gives its sender back, however far it came.
-fn send_source<A: Ledger, H: Ledger, S: Ledger, C: Ledger, I: Read + Drop, R: Host>(
+// The same at the ends of these two.
+fn join_each<S: Drop, R: Host>(
     rt: R,
-    sender: CountedSender<A, H, S, C, R>,
+    running: Vec<JoinHandle<(S, Result<(), Fault>)>>,
+    back: &mut Vec<S>,
+    sent: &mut Vec<Result<(), Fault>>,
+) -> Result<(), AllocError> {
+    for thread in running {
+        let (sender, ended) = thread.join(&rt);
+        back.push(sender)?;
+        sent.push(ended)?;
+    }
+    Ok(())
+}
+
+// What the thread of a source does: it gives its sender back, however far it came.
+fn send_source<S: LineSender, I: Read + Drop>(
+    alloc: Global,
+    sender: S,
     source: I,
-) -> (CountedSender<A, H, S, C, R>, Result<(), Fault>) {
+) -> (S, Result<(), Fault>) {
     let (mut sender, mut source) = (sender, source);
-    let sent = send_lines(rt, &mut sender, &mut source);
+    let sent = send_buffered(alloc, &mut sender, &mut source);
     (sender, sent)
 }
 
-// Sends each line with its newline. A last line without one gets it, since lines of other sources follow.
-fn send_lines<A: Ledger, H: Ledger, S: Ledger, C: Ledger, I: Read, R: Host>(
-    rt: R,
-    sender: &mut CountedSender<A, H, S, C, R>,
+fn send_buffered<S: LineSender, I: Read>(
+    alloc: Global,
+    sender: &mut S,
     source: &mut I,
 ) -> Result<(), Fault> {
-    let mut input = BufReader::new(rt.alloc(), source)?;
-    let mut line = Vec::new(rt.alloc());
+    let mut input = BufReader::new(alloc, source)?;
+    send_lines(alloc, sender, &mut input)
+}
+
+fn send_lines<S: LineSender, I: BufRead>(
+    alloc: Global,
+    sender: &mut S,
+    input: &mut I,
+) -> Result<(), Fault> {
+    let mut line = Vec::new(alloc);
     for _ in 0..u64::MAX {
-        if !read_line(&mut input, &mut line)? {
+        if !read_line(input, &mut line)? {
             return Ok(());
         }
-        if line.last() != Some(&b'\n') {
-            line.push(b'\n').map_err(AllocError::from)?;
-        }
-        if let Err(fault) = sender.write_line(line.as_slice()) {
-            return Err(Fault::Write(fault));
-        }
+        send_line(sender, &mut line)?;
     }
     Err(Fault::Read(io::Error::other("too many lines")))
+}
+
+// Sends a line with its newline. A last line without one gets it, since lines of other sources follow.
+fn send_line<S: LineSender>(sender: &mut S, line: &mut Vec<u8>) -> Result<(), Fault> {
+    if line.last() != Some(&b'\n') {
+        line.push(b'\n').map_err(AllocError::from)?;
+    }
+    sender.send(line.as_slice()).map_err(Fault::Write)
 }

@@ -115,10 +115,21 @@ fn copy_lines<R: Runtime + AllocGlobal, I: Read>(
     let [directory] = arguments else {
         return Err(Fault::Usage);
     };
-    let alloc = rt.alloc();
-    let mut input = BufReader::new(alloc, input)?;
-    let mut log = open_log(rt, directory.as_str())?;
-    write_lines(alloc, &mut input, &mut log)?;
+    let mut input = BufReader::new(rt.alloc(), input)?;
+    log_lines(rt, directory.as_str(), &mut input)
+}
+
+// Opens the log, and writes each line of `input` to it.
+fn log_lines<R: Runtime + AllocGlobal, I: BufRead>(
+    rt: &R,
+    directory: &str,
+    input: &mut I,
+) -> Result<(), Fault>
+    ensures { OnOk result ((text : List ℕ) → I.remaining input.old ≡ Some text →
+        KeepsLines ⟦<DirFolder<R> as Folder>⟧ ⟦<SystemClock<R> as Clock>⟧ text) }
+{
+    let mut log = open_log(rt, directory)?;
+    write_lines(rt.alloc(), input, &mut log)?;
     log.flush().map_err(Fault::Write)
 }
 

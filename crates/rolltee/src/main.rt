@@ -9,18 +9,14 @@ mod tee;
 mod tests;
 
 use program_input::arguments;
-use std::io;
 use std::process::ExitCode;
 
 fn main(rt: HostRuntime) -> ExitCode {
     let (mut input, mut errors) = (rt.stdin(), rt.stderr());
     let status = match arguments(&rt) {
         Ok(arguments) => tee::tee(rt, &rt, arguments.as_slice(), &mut input, &mut errors),
-        Err(fault) if fault.kind() == io::ErrorKind::OutOfMemory => {
-            tee::tell(&tee::Fault::Memory, &mut errors)
-        }
-        // One of them is no UTF-8.
-        Err(_) => tee::tee(rt, &rt, &[], &mut input, &mut errors),
+        // One of them is no UTF-8, or memory was refused.
+        Err(fault) => tee::tell(&tee::Fault::Usage.of(&fault), &mut errors),
     };
     ExitCode::from(status)
 }

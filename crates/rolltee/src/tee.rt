@@ -89,8 +89,8 @@ impl Fault {
         }
     }
 
-    // This fault, or that memory was refused.
-    fn of(self, error: &io::Error) -> Fault {
+    /// This fault, or that memory was refused.
+    pub fn of(self, error: &io::Error) -> Fault {
         match error.kind() {
             io::ErrorKind::OutOfMemory => Fault::Memory,
             _ => self,
@@ -161,10 +161,23 @@ fn copy_through<R: Host, L: Logs, I: Read>(
     let [rotation, directory, prefix] = arguments else {
         return Err(Fault::Usage);
     };
-    let rotation = rotation_of(rotation.as_str()).ok_or(Fault::Usage)?;
-    let log = logs
-        .open_log(rotation, directory.as_str(), prefix.as_str())
-        .map_err(Fault::Open)?;
+    let log = open(logs, rotation.as_str(), directory.as_str(), prefix.as_str())?;
+    copy_to(rt, log, input)
+}
+
+// Opens the log that the arguments name.
+fn open<L: Logs>(logs: &L, rotation: &str, directory: &str, prefix: &str) -> Result<L::Log, Fault> {
+    let rotation = rotation_of(rotation).ok_or(Fault::Usage)?;
+    logs.open_log(rotation, directory, prefix)
+        .map_err(Fault::Open)
+}
+
+// Copies the lines to a log, by the thread of its worker. The worker is waited for also behind a fault.
+fn copy_to<R: Host, W: Write + Send + Drop + 'static, I: Read>(
+    rt: R,
+    log: W,
+    input: &mut I,
+) -> Result<(), Fault> {
     let (mut sender, guard) = start(rt, log)?;
     let copied = copy_all(rt.alloc(), input, &mut sender);
     let closed = end(guard);

@@ -101,13 +101,12 @@ fn check<R: Host + Abort, L: Logs, I: Read>(
     input: &mut I,
     status: u8,
     told: &str,
-) -> Result<(), Fail> {
-    let texts = texts_of(rt.alloc(), arguments)?;
+) {
+    let texts = texts_of(rt.alloc(), arguments).expect(&rt, "memory");
     let mut errors = Vec::new(rt.alloc());
     let answer = tee(rt, logs, texts.as_slice(), input, &mut errors);
     expect_eq(&rt, errors.as_slice(), told.as_bytes());
     expect_eq(&rt, answer, status);
-    Ok(())
 }
 
 // The same over logs of the file system. All tests open them here, since a function that does is dear to prove.
@@ -118,15 +117,14 @@ fn check_files<R: Host + Abort, I: Read>(
     input: &mut I,
     status: u8,
     told: &str,
-) -> Result<(), Fail> {
-    check(rt, files, arguments, input, status, told)
+) {
+    check(rt, files, arguments, input, status, told);
 }
 
 // Compares the bytes of a file.
-fn holds<R: Files + AllocGlobal + Abort>(rt: &R, path: &str, bytes: &[u8]) -> Result<(), Fail> {
-    let content = fs::read(rt, path)?;
+fn holds<R: Files + AllocGlobal + Abort>(rt: &R, path: &str, bytes: &[u8]) {
+    let content = fs::read(rt, path).expect(rt, "a file");
     expect_eq(rt, content.as_slice(), bytes);
-    Ok(())
 }
 
 // Runs the program over the log `app` of a folder, which holds these bytes then.
@@ -137,12 +135,12 @@ fn check_log<R: Host + Files + Abort, I: Read>(
     input: &mut I,
     told: (u8, &str),
     bytes: &[u8],
-) -> Result<(), Fail> {
+) {
     let (status, told) = told;
     let arguments = ["never", directory, "app"];
-    check_files(rt, files, &arguments, input, status, told)?;
-    let path = format!(in rt.alloc(); "{directory}/app")?;
-    holds(&rt, path.as_str(), bytes)
+    check_files(rt, files, &arguments, input, status, told);
+    let path = format!(in rt.alloc(); "{directory}/app").expect(&rt, "memory");
+    holds(&rt, path.as_str(), bytes);
 }
 
 // How many bytes the files of a folder have.
@@ -159,29 +157,25 @@ fn length_in(rt: &HostRuntime, directory: &str) -> io::Result<u64> {
 }
 
 #[test]
-fn writes_every_line_of_every_run(rt: HostRuntime) -> Result<(), Fail> {
-    let directory = fresh(&rt, "runs")?;
+fn writes_every_line_of_every_run(rt: HostRuntime) {
+    let directory = fresh(&rt, "runs").expect(&rt, "a path");
     let directory = directory.as_str();
     for text in ["a\nb", "a\nba\nb"] {
         let mut input = b"a\nb".as_slice();
-        check_log(rt, &rt, directory, &mut input, (0, ""), text.as_bytes())?;
+        check_log(rt, &rt, directory, &mut input, (0, ""), text.as_bytes());
     }
-    Ok(fs::remove_dir_all(&rt, directory)?)
+    fs::remove_dir_all(&rt, directory).expect(&rt, "a folder");
 }
 
 // Writes these lines to a log of this rotation, and finds as many bytes in its folder.
-fn fills<R: Host + Abort>(
-    rt: R,
-    files: &HostRuntime,
-    rotation: &str,
-    lines: &[u8],
-) -> Result<(), Fail> {
-    let directory = fresh(files, rotation)?;
+fn fills<R: Host + Abort>(rt: R, files: &HostRuntime, rotation: &str, lines: &[u8]) {
+    let directory = fresh(files, rotation).expect(&rt, "a path");
     let directory = directory.as_str();
     let mut input = lines;
-    check_files(rt, files, &[rotation, directory, "app"], &mut input, 0, "")?;
-    expect_eq(&rt, length_in(files, directory)?, lines.len() as u64);
-    Ok(fs::remove_dir_all(files, directory)?)
+    check_files(rt, files, &[rotation, directory, "app"], &mut input, 0, "");
+    let length = length_in(files, directory).expect(&rt, "a folder");
+    expect_eq(&rt, length, lines.len() as u64);
+    fs::remove_dir_all(files, directory).expect(&rt, "a folder");
 }
 
 // More lines than may wait, to the log of each rotation.
@@ -192,13 +186,13 @@ fn waits_for_the_log(rt: HostRuntime) -> Result<(), Fail> {
         lines.extend_from_slice(b"one line\n")?;
     }
     for rotation in ["minutely", "hourly", "daily", "weekly", "never"] {
-        fills(rt, &rt, rotation, lines.as_slice())?;
+        fills(rt, &rt, rotation, lines.as_slice());
     }
     Ok(())
 }
 
 #[test]
-fn tells_its_usage(rt: HostRuntime) -> Result<(), Fail> {
+fn tells_its_usage(rt: HostRuntime) {
     let wrong: [&[&str]; 5] = [
         &[],
         &["never", "dir"],
@@ -209,68 +203,66 @@ fn tells_its_usage(rt: HostRuntime) -> Result<(), Fail> {
     for arguments in wrong {
         let logs = SlowLogs { rt, millis: 0 };
         let usage = "usage: rolltee ROTATION DIR PREFIX\n";
-        check(rt, &logs, arguments, &mut b"a\n".as_slice(), 2, usage)?;
+        check(rt, &logs, arguments, &mut b"a\n".as_slice(), 2, usage);
     }
-    Ok(())
 }
 
 #[test]
-fn tells_a_name_that_is_not_allowed(rt: HostRuntime) -> Result<(), Fail> {
-    let directory = fresh(&rt, "name")?;
+fn tells_a_name_that_is_not_allowed(rt: HostRuntime) {
+    let directory = fresh(&rt, "name").expect(&rt, "a path");
     let directory = directory.as_str();
     let arguments = ["hourly", directory, "a/b"];
     let mut input = b"a\n".as_slice();
-    check_files(rt, &rt, &arguments, &mut input, 1, "name not allowed\n")?;
-    expect_eq(&rt, fs::exists(&rt, directory)?, false);
-    Ok(())
+    check_files(rt, &rt, &arguments, &mut input, 1, "name not allowed\n");
+    let exists = fs::exists(&rt, directory).expect(&rt, "a path");
+    expect_eq(&rt, exists, false);
 }
 
 #[test]
-fn tells_a_folder_that_is_none(rt: HostRuntime) -> Result<(), Fail> {
-    let path = fresh(&rt, "file")?;
+fn tells_a_folder_that_is_none(rt: HostRuntime) {
+    let path = fresh(&rt, "file").expect(&rt, "a path");
     let path = path.as_str();
-    fs::write(&rt, path, "here")?;
+    fs::write(&rt, path, "here").expect(&rt, "a file");
     let told = "failed to create log directory: File exists (os error 17)\n";
     let mut input = b"a\n".as_slice();
-    check_files(rt, &rt, &["never", path, "app"], &mut input, 1, told)?;
-    holds(&rt, path, b"here")?;
-    Ok(fs::remove_file(&rt, path)?)
+    check_files(rt, &rt, &["never", path, "app"], &mut input, 1, told);
+    holds(&rt, path, b"here");
+    fs::remove_file(&rt, path).expect(&rt, "a file");
 }
 
 // Also where there is no memory for an opening.
 #[test]
-fn tells_why_no_log_is_opened(rt: HostRuntime) -> Result<(), Fail> {
+fn tells_why_no_log_is_opened(rt: HostRuntime) {
     let arguments = ["never", "dir", "app"];
     let told = "out of memory\n";
-    check(rt, &NoLogs, &arguments, &mut b"a\n".as_slice(), 1, told)
+    check(rt, &NoLogs, &arguments, &mut b"a\n".as_slice(), 1, told);
 }
 
 // What was read before the fault is written, since the guard is closed all the same.
 #[test]
-fn tells_an_input_that_is_not_read(rt: HostRuntime) -> Result<(), Fail> {
+fn tells_an_input_that_is_not_read(rt: HostRuntime) {
     for (kind, status, told) in [
         (io::ErrorKind::PermissionDenied, 1, "read failed\n"),
         (io::ErrorKind::OutOfMemory, 3, "no memory\n"),
     ] {
-        let directory = fresh(&rt, "read")?;
+        let directory = fresh(&rt, "read").expect(&rt, "a path");
         let directory = directory.as_str();
         let mut input = Broken {
             left: b"a\nb".as_slice(),
             kind,
         };
-        check_log(rt, &rt, directory, &mut input, (status, told), b"a\n")?;
-        fs::remove_dir_all(&rt, directory)?;
+        check_log(rt, &rt, directory, &mut input, (status, told), b"a\n");
+        fs::remove_dir_all(&rt, directory).expect(&rt, "a folder");
     }
-    Ok(())
 }
 
 // The log takes longer for its one line than the end waits.
 #[test]
-fn tells_that_lines_are_still_written(rt: HostRuntime) -> Result<(), Fail> {
+fn tells_that_lines_are_still_written(rt: HostRuntime) {
     let logs = SlowLogs { rt, millis: 3000 };
     let arguments = ["never", "dir", "app"];
     let told = "shutdown pending\n";
-    check(rt, &logs, &arguments, &mut b"a\n".as_slice(), 1, told)
+    check(rt, &logs, &arguments, &mut b"a\n".as_slice(), 1, told);
 }
 
 // While the log takes its time for the first line, the others fill the queue.
@@ -283,5 +275,6 @@ fn tells_that_the_queue_stays_full(rt: HostRuntime) -> Result<(), Fail> {
     let logs = SlowLogs { rt, millis: 3000 };
     let arguments = ["never", "dir", "app"];
     let told = "shutdown full\n";
-    check(rt, &logs, &arguments, &mut lines.as_slice(), 1, told)
+    check(rt, &logs, &arguments, &mut lines.as_slice(), 1, told);
+    Ok(())
 }

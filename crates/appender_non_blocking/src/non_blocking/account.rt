@@ -133,10 +133,7 @@ impl<A: Ledger, H: Ledger, S: Ledger, C: Ledger, R: Wait + Clock + Print + Drop>
             sent,
             ..
         } = self;
-        let mut state = shared.lock(rt, &mut Patience::NEW);
-        let (reply, calls) = state.shut(false, shutdowns);
-        drop(state);
-        shared.wake(calls);
+        let reply = shared.shut(rt, shutdowns);
         if let Shut::Sent = reply {
             *sent = true;
         }

@@ -107,15 +107,11 @@ impl NonBlockingBuilder {
         ensures { IfOk result (λ made. made.0.lossy ≡ self.lossy) }
     {
         let NonBlockingBuilder { limit, lossy, name } = self;
-        let shared = Arc::new(alloc, Shared::new(alloc, limit, lossy, NoBooks)?)?;
-        let served = Arc::try_clone(&shared)?;
+        let shared = Shared::new(alloc, limit, lossy, NoBooks)?;
         let guarded = Arc::try_clone(&shared)?;
         // The guard is a sender too.
         shared.add_sender(&rt);
-        let mut writer = writer;
-        let _worker = thread::Builder::new()
-            .name(named(alloc, name)?)
-            .spawn(&rt, move || serve(&rt, &*served, &mut writer, ()))?;
+        start(rt, alloc, name, &shared, writer)?;
         Ok((
             NonBlocking::first(rt, alloc, shared, lossy),
             WorkerGuard::new(rt, guarded),
@@ -166,20 +162,36 @@ impl NonBlockingBuilder {
             shutdowns,
             closings,
         };
-        let shared = Arc::new(alloc, Shared::new(alloc, limit, lossy, books)?)?;
+        let shared = Shared::new(alloc, limit, lossy, books)?;
         // The guard is the sender that the queue counts already.
         let (made, part) = make_senders(rt, alloc, &shared, lossy, share, senders)?;
         let pass = Pass {
             handed: lines,
             closings: closed,
         };
-        let served = Arc::try_clone(&shared)?;
-        let worker = start_counted(rt, named(alloc, name)?, served, writer, pass)?;
+        let worker = start_counted(rt, alloc, name, &shared, writer, pass)?;
         Ok((
             made,
             CountedGuard::new(rt, shared, part, sent, senders, worker),
         ))
     }
+}
+
+// Starts the worker's thread.
+fn start<W: Write + Send + Drop + 'static, R: Threads + Wait + Eprint + Copy + Send + 'static>(
+    rt: R,
+    alloc: Global,
+    name: Option<String>,
+    shared: &Arc<Shared<NoBooks>, Global>,
+    writer: W,
+) -> io::Result<()> {
+    let name = named(alloc, name)?;
+    let shared = Arc::try_clone(shared)?;
+    let mut writer = writer;
+    let _worker = thread::Builder::new()
+        .name(name)
+        .spawn(&rt, move || serve(&rt, &*shared, &mut writer, ()))?;
+    Ok(())
 }
 
 // Starts the worker's thread, which hands back its shares in the end.
@@ -192,14 +204,17 @@ fn start_counted<
     R: Threads + Wait + Eprint + Copy + Send + 'static,
 >(
     rt: R,
-    name: String,
-    shared: Arc<Shared<FourBooks<A, H, S, C>>, Global>,
+    alloc: Global,
+    name: Option<String>,
+    shared: &Arc<Shared<FourBooks<A, H, S, C>>, Global>,
     writer: W,
     pass: Pass<H, C>,
 ) -> io::Result<JoinHandle<Done<H, C>>>
     requires { (pass.handed.parts ≡ 1) × (H.parts ≡ 1) × (pass.closings.parts ≡ 1) × (C.parts ≡ 1)
         × (pass.closings.amount ≡ 0) }
 {
+    let name = named(alloc, name)?;
+    let shared = Arc::try_clone(shared)?;
     let mut writer = writer;
     let job = move || -> Done<H, C>
         requires { (pass.handed.parts ≡ 1) × (H.parts ≡ 1) × (pass.closings.parts ≡ 1) × (C.parts ≡ 1)

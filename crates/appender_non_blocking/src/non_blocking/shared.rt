@@ -1,6 +1,9 @@
 // What senders, guard and worker share.
+ghost use Rattle.std.specs.Prelude.{◌≡◌};
+ghost use Rattle.appender_state.specs.Cases.{AsSent};
 ghost use Rattle.appender_state.specs.Tally.{no_tally};
 
+use appender_queue::queue::Shut;
 use appender_state::books::Books;
 use appender_state::state::{Calls, State};
 use appender_sync::sync;
@@ -8,7 +11,7 @@ use appender_sync::sync::Patience;
 use crossbeam_utils::CachePadded;
 use std::alloc::{AllocError, Global};
 use std::sync::atomic::AtomicUsize;
-use std::sync::{Condvar, Mutex, MutexGuard, Wait};
+use std::sync::{Arc, Condvar, Mutex, MutexGuard, Wait};
 
 #[derive(Drop)]
 pub(super) struct Shared<B: Books> {
@@ -32,17 +35,18 @@ impl<B: Books> Shared<B> {
         limit: usize,
         lossy: bool,
         books: B,
-    ) -> Result<Shared<B>, AllocError>
+    ) -> Result<Arc<Shared<B>, Global>, AllocError>
         requires { B.say books no_tally }
     {
-        Ok(Shared {
+        let shared = Shared {
             state: CachePadded::new(Mutex::new(State::new(alloc, limit, lossy, books)?)),
             came: Condvar::new(),
             room: Condvar::new(),
             ended: Mutex::new(false),
             end: Condvar::new(),
             dropped: AtomicUsize::new(0),
-        })
+        };
+        Ok(Arc::new(alloc, shared)?)
     }
 
     /// Takes the lock: tries for a while before it sleeps.
@@ -86,6 +90,18 @@ impl<B: Books> Shared<B> {
         let calls = state.drop_sender();
         drop(state);
         self.wake(calls);
+    }
+
+    /// Tries once to send the shutdown.
+    pub(super) fn shut<R: Wait>(&self, rt: &R, mine: &mut B::Shutdowns) -> Shut
+        requires { B.may_shut mine.old }
+        ensures { AsSent result (B.counts_shutdown mine.old mine.new) (mine.new ≡ mine.old) }
+    {
+        let mut state = self.lock(rt, &mut Patience::NEW);
+        let (reply, calls) = state.shut(false, mine);
+        drop(state);
+        self.wake(calls);
+        reply
     }
 
     /// Tells the guard that the worker has ended.

@@ -1,9 +1,9 @@
 // Full disks, short writes, links that come in between, and a folder that goes.
 
+use crate::disk::runs::{Outcome, Step};
+use crate::disk::scene::{ELEVEN, START, TWELVE, disk_of, expect_texts, write_log};
 use crate::expect::expect_eq;
-use crate::scene::{ELEVEN, START, TWELVE, disk_of, expect_texts, write_log};
 use fake_files::disk::{Call, Disk};
-use fake_logs::runs::{Outcome, Step};
 use std::alloc::Global;
 use std::io;
 use std::process::Abort;

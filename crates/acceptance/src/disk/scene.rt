@@ -1,9 +1,9 @@
 // The logs that the tests write, and what their disks hold at first.
 
+use crate::disk::runs::{Outcome, Step, run_log};
 use crate::expect::expect_eq_of;
 use appender_rolling::rolling::{Builder, Rotation};
 use fake_files::disk::Disk;
-use fake_logs::runs::{Outcome, Step, run_log};
 use std::alloc::{AllocError, Global};
 use std::fmt::Debug;
 use std::io;

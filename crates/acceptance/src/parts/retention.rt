@@ -122,15 +122,19 @@ fn expect_count(rt: &impl Abort, folder: &MemoryFolder, wanted: usize) {
     expect_eq(rt, names.len(), wanted);
 }
 
+// Prunes a folder so that all of its files are kept, and then so that two log files are.
+fn prune_twice(rt: &impl Abort, alloc: Global, folder: &mut MemoryFolder) {
+    let names = Names::new(alloc, Rotation::DAILY, "app", "log").expect(rt, "names");
+    prune_old_logs(alloc, folder, &names, 0);
+    expect_count(rt, folder, 3);
+    prune_old_logs(alloc, folder, &names, 2);
+}
+
 #[test]
 fn old_logs_are_pruned_by_a_call_of_its_own(rt: HostRuntime) {
-    let alloc = rt.alloc();
-    let names = Names::new(alloc, Rotation::DAILY, "app", "log").expect(&rt, "names");
-    let mut folder = MemoryFolder::new(alloc);
+    let mut folder = MemoryFolder::new(rt.alloc());
     put_logs(&mut folder).expect(&rt, "room");
-    prune_old_logs(alloc, &mut folder, &names, 0);
-    expect_count(&rt, &folder, 3);
-    prune_old_logs(alloc, &mut folder, &names, 2);
+    prune_twice(&rt, rt.alloc(), &mut folder);
     expect_eq(&rt, folder.bytes("app.2020-01-30.log"), None);
     expect_eq(
         &rt,

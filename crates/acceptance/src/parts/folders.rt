@@ -46,17 +46,32 @@ fn puts_only_what_names_one_entry(rt: HostRuntime) {
     }
 }
 
+// Puts a file where no folder is.
+fn put_first_file(rt: &(impl AllocGlobal + Abort)) {
+    let mut folder = MemoryFolder::absent(rt.alloc());
+    expect_eq(rt, folder.put_file("a", b"x"), Ok(()));
+    expect_eq(rt, folder.bytes("a"), Some(b"x".as_slice()));
+}
+
+// Puts a folder where none is.
+fn put_first_folder(rt: &(impl AllocGlobal + Abort)) {
+    let mut folder = MemoryFolder::absent(rt.alloc());
+    expect_eq(rt, folder.put_folder("a"), Ok(()));
+    expect_eq(rt, folder.kind("a"), Some(Kind::Folder));
+}
+
+// Puts a link where no folder is.
+fn put_first_link(rt: &(impl AllocGlobal + Abort)) {
+    let mut folder = MemoryFolder::absent(rt.alloc());
+    expect_eq(rt, folder.put_link("a", "b"), Ok(()));
+    expect_eq(rt, folder.target("a"), Some("b"));
+}
+
 #[test]
 fn a_put_makes_an_absent_folder(rt: HostRuntime) {
-    let mut files = MemoryFolder::absent(rt.alloc());
-    let mut folders = MemoryFolder::absent(rt.alloc());
-    let mut links = MemoryFolder::absent(rt.alloc());
-    expect_eq(&rt, files.put_file("a", b"x"), Ok(()));
-    expect_eq(&rt, folders.put_folder("a"), Ok(()));
-    expect_eq(&rt, links.put_link("a", "b"), Ok(()));
-    expect_eq(&rt, files.bytes("a"), Some(b"x".as_slice()));
-    expect_eq(&rt, folders.kind("a"), Some(Kind::Folder));
-    expect_eq(&rt, links.target("a"), Some("b"));
+    put_first_file(&rt);
+    put_first_folder(&rt);
+    put_first_link(&rt);
 }
 
 // Removes the old file and the link to it.

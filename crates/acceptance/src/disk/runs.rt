@@ -1,4 +1,4 @@
-//! Runs of a log over a fake disk, told as texts.
+// Runs of a log over a fake disk, told as texts.
 
 use appender_folder::folder::DirFolder;
 use appender_rolling::rolling::{Builder, Clock, RollingFile, Switch, SystemClock};
@@ -12,7 +12,7 @@ use std::io::Write;
 
 /// A step of a run. What goes wrong from a step on does so until another step says else.
 #[derive(Clone, Copy, Debug)]
-pub enum Step {
+pub(crate) enum Step {
     /// A text is put at a moment, in seconds since 1970.
     Put(u64, &'static str),
     /// The open file is flushed.
@@ -29,22 +29,22 @@ pub enum Step {
 
 /// What came of a run.
 #[derive(Debug, Drop)]
-pub struct Outcome {
+pub(crate) struct Outcome {
     /// What the opening and the steps answered, a line each.
-    pub answers: String,
+    pub(crate) answers: String,
     /// The names of the folder in byte order, a line each with what they hold.
-    pub files: String,
+    pub(crate) files: String,
     /// What was printed on standard error, and then how many calls of the folder failed.
-    pub printed: String,
+    pub(crate) printed: String,
     /// The bytes that puts counted.
-    pub counted: String,
+    pub(crate) counted: String,
     /// What all files hold, one behind the other as they were made, those whose names are gone too.
-    pub appended: String,
+    pub(crate) appended: String,
 }
 
 impl Outcome {
     /// The answers, the files, and what was printed.
-    pub fn texts(&self) -> (&str, &str, &str) {
+    pub(crate) fn texts(&self) -> (&str, &str, &str) {
         (
             self.answers.as_str(),
             self.files.as_str(),
@@ -160,7 +160,12 @@ fn run_over<S: Folder, C: Clock>(
 }
 
 /// Opens a log at a moment, in seconds since 1970, and does the steps.
-pub fn run_log(disk: &Disk, builder: &Builder, start: u64, steps: &[Step]) -> io::Result<Outcome> {
+pub(crate) fn run_log(
+    disk: &Disk,
+    builder: &Builder,
+    start: u64,
+    steps: &[Step],
+) -> io::Result<Outcome> {
     let system = Fake::new(disk);
     disk.seconds.set(start);
     let folder = DirFolder::new(system, FOLDER)?;
@@ -169,7 +174,7 @@ pub fn run_log(disk: &Disk, builder: &Builder, start: u64, steps: &[Step]) -> io
 }
 
 /// The entries of the folder as a listing tells them, a line each.
-pub fn list_folder(disk: &Disk) -> io::Result<String> {
+pub(crate) fn list_folder(disk: &Disk) -> io::Result<String> {
     let system = Fake::new(disk);
     let mut folder = DirFolder::new(system, FOLDER)?;
     let mut all = String::new(system.alloc());

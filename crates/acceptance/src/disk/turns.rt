@@ -1,8 +1,8 @@
 // A run in which each call of the system fails in its turn.
 
+use crate::disk::runs::{Outcome, Step};
+use crate::disk::scene::{ELEVEN, START, TWELVE, expect_texts, old_logs, write_log};
 use crate::expect::expect_eq_of;
-use crate::scene::{ELEVEN, START, TWELVE, expect_texts, old_logs, write_log};
-use fake_logs::runs::{Outcome, Step};
 use std::alloc::{AllocError, Global};
 use std::process::Abort;
 use std::test::Fail;

@@ -2,6 +2,7 @@
 use crate::expect::{expect_eq, expect_eq_of, shown};
 use appender_core::queue::{Counts, LineQueue, Refused, Shut, Taken};
 use std::alloc::Global;
+use std::process::Abort;
 use std::test::*;
 
 // One call of a queue.
@@ -150,26 +151,51 @@ fn line_text(alloc: Global, word: &str, line: &[u8]) -> Result<String, Fail> {
     Ok(format!(in alloc; "{word} {}", str::from_utf8(line)?)?)
 }
 
+// Offers a line, and tells the answer.
+fn offered(alloc: Global, queue: &mut LineQueue, line: &str) -> Result<String, Fail> {
+    match queue.offer(line.as_bytes().to_vec(alloc)?) {
+        Ok(ticket) => Ok(format!(in alloc; "accepted {ticket}")?),
+        Err(Refused::Full(line)) => line_text(alloc, "full", &line),
+        Err(Refused::Closed(line)) => line_text(alloc, "closed", &line),
+    }
+}
+
+// What was taken, in words.
+fn taken_text(alloc: Global, taken: &Taken) -> Result<String, Fail> {
+    let word = match taken {
+        Taken::Line(ticket, line) => {
+            return Ok(format!(in alloc; "line {ticket} {}", str::from_utf8(line)?)?);
+        }
+        Taken::Shutdown => "shutdown",
+        Taken::Gone => "gone",
+        Taken::Empty => "empty",
+    };
+    Ok(String::from_str(alloc, word)?)
+}
+
 // Makes the call, and tells its answer.
 fn answer(alloc: Global, queue: &mut LineQueue, call: Call) -> Result<String, Fail> {
     match call {
-        Call::Offer(line) => match queue.offer(line.as_bytes().to_vec(alloc)?) {
-            Ok(ticket) => Ok(format!(in alloc; "accepted {ticket}")?),
-            Err(Refused::Full(line)) => line_text(alloc, "full", &line),
-            Err(Refused::Closed(line)) => line_text(alloc, "closed", &line),
-        },
+        Call::Offer(line) => offered(alloc, queue, line),
         Call::Shut => Ok(format!(in alloc; "{:?}", queue.shut())?),
-        Call::Take { waits } => match queue.take(waits) {
-            Taken::Line(ticket, line) => {
-                Ok(format!(in alloc; "line {ticket} {}", str::from_utf8(&line)?)?)
-            }
-            Taken::Shutdown => Ok(String::from_str(alloc, "shutdown")?),
-            Taken::Gone => Ok(String::from_str(alloc, "gone")?),
-            Taken::Empty => Ok(String::from_str(alloc, "empty")?),
-        },
+        Call::Take { waits } => taken_text(alloc, &queue.take(waits)),
         Call::AddSender => Ok(format!(in alloc; "senders {}", queue.add_sender())?),
         Call::DropSender => Ok(format!(in alloc; "senders {}", queue.drop_sender())?),
     }
+}
+
+// Makes the calls of a run, and checks what they answer.
+fn check_calls(
+    rt: &(impl AllocGlobal + Abort),
+    row: usize,
+    queue: &mut LineQueue,
+    calls: &[(Call, &str)],
+) -> Result<(), Fail> {
+    for (call, want) in calls {
+        let got = answer(rt.alloc(), queue, *call)?;
+        expect_eq_of(rt, row, got.as_str(), *want);
+    }
+    Ok(())
 }
 
 #[test]
@@ -177,10 +203,7 @@ fn queues_answer_as_told(rt: HostRuntime) -> Result<(), Fail> {
     let alloc = rt.alloc();
     for (row, run) in QUEUE_RUNS.iter().enumerate() {
         let mut queue = LineQueue::new(alloc, run.limit, run.lossy)?;
-        for (call, want) in run.calls.iter() {
-            let got = answer(alloc, &mut queue, *call)?;
-            expect_eq_of(&rt, row, got.as_str(), *want);
-        }
+        check_calls(&rt, row, &mut queue, run.calls)?;
         let (accepted, handed, queued, left, dropped) = run.counts;
         let want = Counts {
             accepted,
@@ -204,36 +227,43 @@ fn queues_show_themselves(rt: HostRuntime) -> Result<(), Fail> {
 #[test]
 fn room_that_cannot_be_had_is_refused(rt: HostRuntime) -> Result<(), Fail> {
     let alloc = rt.alloc();
-    assert!(rt; LineQueue::new(alloc, usize::MAX, true).is_err());
+    expect_eq(&rt, LineQueue::new(alloc, usize::MAX, true).is_err(), true);
     let mut queue = LineQueue::new(alloc, 1, true)?;
-    expect_eq(
-        &rt,
-        answer(alloc, &mut queue, Call::Offer("a"))?.as_str(),
-        "accepted 1",
-    );
-    Ok(())
+    check_calls(&rt, 0, &mut queue, &[(Call::Offer("a"), "accepted 1")])
+}
+
+// Offers a line with this number, which is its ticket.
+fn offer_number(rt: &(impl AllocGlobal + Abort), queue: &mut LineQueue, number: u64) {
+    let line = number.to_le_bytes().to_vec(rt.alloc());
+    let ticket = queue.offer(line.expect(rt, "memory"));
+    expect_eq(rt, &ticket, &Ok(number));
+}
+
+// Takes the line with this number.
+fn take_number(rt: &(impl AllocGlobal + Abort), queue: &mut LineQueue, number: u64) {
+    let line = number.to_le_bytes().to_vec(rt.alloc());
+    let wanted = Taken::Line(number, line.expect(rt, "memory"));
+    expect_eq(rt, &queue.take(false), &wanted);
+}
+
+// Offers a line, for which there is no room.
+fn offer_too_much(rt: &(impl AllocGlobal + Abort), queue: &mut LineQueue) {
+    let line = b"none".to_vec(rt.alloc()).expect(rt, "memory");
+    let back = b"none".to_vec(rt.alloc()).expect(rt, "memory");
+    expect_eq(rt, &queue.offer(line), &Err(Refused::Full(back)));
 }
 
 #[test]
 fn every_place_of_a_long_queue_serves(rt: HostRuntime) -> Result<(), Fail> {
-    let alloc = rt.alloc();
-    let mut queue = LineQueue::new(alloc, 128_000, true)?;
+    let mut queue = LineQueue::new(rt.alloc(), 128_000, true)?;
     // From the second half on the queue is full, and each offer has the place that a take left.
     for ticket in 1..=256_000u64 {
         if ticket > 128_000 {
-            let first = ticket - 128_000;
-            let line = first.to_le_bytes().to_vec(alloc)?;
-            expect_eq(&rt, &queue.take(false), &Taken::Line(first, line));
+            take_number(&rt, &mut queue, ticket - 128_000);
         }
-        let line = ticket.to_le_bytes().to_vec(alloc)?;
-        expect_eq(&rt, &queue.offer(line), &Ok(ticket));
+        offer_number(&rt, &mut queue, ticket);
     }
-    let line = b"none".to_vec(alloc)?;
-    expect_eq(
-        &rt,
-        &queue.offer(line),
-        &Err(Refused::Full(b"none".to_vec(alloc)?)),
-    );
+    offer_too_much(&rt, &mut queue);
     expect_eq(&rt, queue.counts().queued, 128_000);
     Ok(())
 }

@@ -1,11 +1,12 @@
 // Runs of a worker between a queue and a writer.
 use crate::expect::{expect_eq_of, shown};
-use crate::script::{Act, Script};
+use crate::parts::script::{Act, Script};
 use appender_core::queue::{LineQueue, Shut, Taken};
 use appender_core::worker::{Want, WorkerCore};
 use std::alloc::Global;
 use std::io;
 use std::io::{ErrorKind, Write};
+use std::process::Abort;
 use std::test::*;
 
 // Lines that a worker finds, whether a shutdown stands behind them, its writer, what it does, and
@@ -79,13 +80,16 @@ static WORKER_RUNS: [WorkerRun; 6] = [
 
 // What is wanted, in words.
 fn said(alloc: Global, want: Want) -> Result<String, Fail> {
-    Ok(match want {
-        Want::Take { waits: true } => String::from_str(alloc, "wait, ")?,
-        Want::Take { waits: false } => String::from_str(alloc, "take, ")?,
-        Want::Write(rest) => format!(in alloc; "write {}, ", str::from_utf8(rest)?)?,
-        Want::Flush => String::from_str(alloc, "flush, ")?,
-        Want::Ended => String::from_str(alloc, "ended, ")?,
-    })
+    let word = match want {
+        Want::Take { waits: true } => "wait, ",
+        Want::Take { waits: false } => "take, ",
+        Want::Write(rest) => {
+            return Ok(format!(in alloc; "write {}, ", str::from_utf8(rest)?)?);
+        }
+        Want::Flush => "flush, ",
+        Want::Ended => "ended, ",
+    };
+    Ok(String::from_str(alloc, word)?)
 }
 
 // Does what the worker wants, and tells whether it would do more.
@@ -124,24 +128,40 @@ fn work(alloc: Global, queue: &mut LineQueue, writer: &mut Script) -> Result<Str
     Ok(wants)
 }
 
+// A queue with the lines of a run, and its shutdown.
+fn queue_of(rt: &(impl AllocGlobal + Abort), row: usize, run: &WorkerRun) -> LineQueue {
+    let mut queue = LineQueue::new(rt.alloc(), 8, false).expect(rt, "memory");
+    for (n, line) in run.lines.iter().enumerate() {
+        let line = line.as_bytes().to_vec(rt.alloc()).expect(rt, "memory");
+        expect_eq_of(rt, row, &queue.offer(line), &Ok(n as u64 + 1));
+    }
+    if run.shuts {
+        expect_eq_of(rt, row, queue.shut(), Shut::Sent);
+    }
+    queue
+}
+
+// Does what the worker of a run wants, and checks what that was and what it came to.
+fn check_run(
+    rt: &(impl AllocGlobal + Abort),
+    row: usize,
+    run: &WorkerRun,
+    queue: &mut LineQueue,
+) -> Result<(), Fail> {
+    let mut writer = Script::new(rt.alloc(), run.interruptions, run.acts);
+    writer.flushes_fail = run.flushes_fail;
+    let wants = work(rt.alloc(), queue, &mut writer)?;
+    expect_eq_of(rt, row, wants.as_str(), run.wants);
+    expect_eq_of(rt, row, writer.text.as_slice(), run.text.as_bytes());
+    expect_eq_of(rt, row, queue.counts().handed, run.lines.len() as u64);
+    Ok(())
+}
+
 #[test]
 fn workers_do_as_told(rt: HostRuntime) -> Result<(), Fail> {
-    let alloc = rt.alloc();
     for (row, run) in WORKER_RUNS.iter().enumerate() {
-        let mut queue = LineQueue::new(alloc, 8, false)?;
-        for (n, line) in run.lines.iter().enumerate() {
-            let ticket = queue.offer(line.as_bytes().to_vec(alloc)?);
-            expect_eq_of(&rt, row, &ticket, &Ok(n as u64 + 1));
-        }
-        if run.shuts {
-            expect_eq_of(&rt, row, queue.shut(), Shut::Sent);
-        }
-        let mut writer = Script::new(alloc, run.interruptions, run.acts);
-        writer.flushes_fail = run.flushes_fail;
-        let wants = work(alloc, &mut queue, &mut writer)?;
-        expect_eq_of(&rt, row, wants.as_str(), run.wants);
-        expect_eq_of(&rt, row, writer.text.as_slice(), run.text.as_bytes());
-        expect_eq_of(&rt, row, queue.counts().handed, run.lines.len() as u64);
+        let mut queue = queue_of(&rt, row, run);
+        check_run(&rt, row, run, &mut queue)?;
     }
     Ok(())
 }

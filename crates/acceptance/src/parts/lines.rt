@@ -1,6 +1,6 @@
 // The writing of one line.
 use crate::expect::{expect_eq, expect_eq_of};
-use crate::script::{Act, Script};
+use crate::parts::script::{Act, Script};
 use appender_core::worker::run_line;
 use std::io::ErrorKind;
 use std::test::*;

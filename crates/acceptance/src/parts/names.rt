@@ -47,14 +47,16 @@ static PERIODS: [(Rotation, i64, i64, i64); 12] = [
 #[test]
 fn starts_of_periods(rt: HostRuntime) {
     for (rotation, moment, start, next) in &PERIODS {
-        assert!(rt; in_range(*moment));
+        expect_eq_of(&rt, moment, in_range(*moment), true);
         expect_eq(&rt, rotation.round_date(*moment), *start);
         expect_eq(&rt, rotation.next_date(*moment), Some(*next));
     }
     expect_eq(&rt, Rotation::NEVER.next_date(MONDAY), None);
-    assert!(rt; Rotation::NEVER.is_never() && !Rotation::WEEKLY.is_never());
-    assert!(rt; !in_range(FIRST - 1) && !in_range(LAST + 1));
-    assert!(rt; !in_range(i64::MIN) && !in_range(i64::MAX));
+    expect_eq(&rt, Rotation::NEVER.is_never(), true);
+    expect_eq(&rt, Rotation::WEEKLY.is_never(), false);
+    for moment in [FIRST - 1, LAST + 1, i64::MIN, i64::MAX] {
+        expect_eq_of(&rt, moment, in_range(moment), false);
+    }
 }
 
 // A rotation, a prefix, a suffix, a moment and the name that it has.
@@ -153,13 +155,17 @@ static NAMES: [Name; 30] = [
     (Rotation::DAILY, "", "", LAST, "9998-12-31"),
 ];
 
+fn expect_name(rt: &impl Abort, names: &Names, moment: i64, wanted: &str) {
+    assert!(rt; in_range(moment));
+    let named = names.file_name(moment).expect(rt, "memory");
+    expect_eq(rt, named.as_str(), wanted);
+}
+
 #[test]
 fn names_of_moments(rt: HostRuntime) {
     for (rotation, prefix, suffix, moment, name) in &NAMES {
-        assert!(rt; in_range(*moment));
         let names = Names::new(rt.alloc(), *rotation, prefix, suffix).expect(&rt, "names");
-        let named = names.file_name(*moment).expect(&rt, "memory");
-        expect_eq(&rt, named.as_str(), *name);
+        expect_name(&rt, &names, *moment, name);
     }
 }
 

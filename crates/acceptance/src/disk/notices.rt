@@ -1,9 +1,9 @@
 // What is printed on standard error where a boundary meets a fault.
 
+use crate::disk::runs::{Outcome, Step};
+use crate::disk::scene::{ELEVEN, START, old_logs, write_log};
 use crate::expect::{expect_eq, expect_eq_of};
-use crate::scene::{ELEVEN, START, old_logs, write_log};
 use fake_files::disk::Call;
-use fake_logs::runs::{Outcome, Step};
 use std::alloc::Global;
 use std::process::Abort;
 use std::test::Fail;

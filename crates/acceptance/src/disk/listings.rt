@@ -1,9 +1,9 @@
 // What retention does with a folder that tells less than it should.
 
+use crate::disk::runs::list_folder;
+use crate::disk::scene::{disk_of, write_log};
 use crate::expect::{expect_eq, expect_eq_of};
-use crate::scene::{disk_of, write_log};
 use fake_files::disk::{Disk, Fault};
-use fake_logs::runs::list_folder;
 use std::alloc::Global;
 use std::io;
 use std::io::ErrorKind;

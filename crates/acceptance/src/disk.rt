@@ -1,0 +1,8 @@
+// Tests of logs over a disk whose calls fail, as a test chooses.
+
+mod faults;
+mod listings;
+mod notices;
+mod runs;
+mod scene;
+mod turns;

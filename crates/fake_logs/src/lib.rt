@@ -1,4 +1,0 @@
-//! Logs over the fake file system, as tests run them.
-#![tactic(auto)]
-
-pub mod runs;
