@@ -6,7 +6,7 @@ use std::alloc::{AllocError, Global};
 use std::process::Abort;
 use std::test::Fail;
 use tracing_appender::replay::{
-    ReplayError, Reply, RollReply, RollStep, Step, replay, replay_rolling,
+    ReplayError, Reply, RollReply, RollRun, RollStep, Run, Step, replay, replay_rolling,
 };
 use tracing_appender::rolling::{Builder, Rotation};
 use tracing_appender::store::{Folder, MemoryFolder, NoticeKind};
@@ -65,14 +65,24 @@ fn bytes_told(replies: &[RollReply]) -> usize {
     told
 }
 
+fn played(run: RollRun<MemoryFolder>) -> Played {
+    let told = bytes_told(&run.replies);
+    (run.roller.into_folder(), told)
+}
+
+// What a run leaves whose log isn't opened.
+fn unopened(error: ReplayError<MemoryFolder>) -> Result<Played, Fail> {
+    match error {
+        ReplayError::Init(_, folder) => Ok((folder, 0)),
+        ReplayError::Memory(_) => Err(Fail::from("no memory")),
+    }
+}
+
 fn play(alloc: Global, folder: MemoryFolder, steps: &[RollStep]) -> Result<Played, Fail> {
-    match replay_rolling(alloc, &builder(alloc)?, folder, START, steps) {
-        Ok(run) => {
-            let told = bytes_told(&run.replies);
-            Ok((run.roller.into_folder(), told))
-        }
-        Err(ReplayError::Init(_, folder)) => Ok((folder, 0)),
-        Err(ReplayError::Memory(_)) => Err(Fail::from("no memory")),
+    let builder = builder(alloc)?;
+    match replay_rolling(alloc, &builder, folder, START, steps) {
+        Ok(run) => Ok(played(run)),
+        Err(error) => unopened(error),
     }
 }
 
@@ -87,14 +97,16 @@ fn queued_bytes_told(replies: &[Reply]) -> usize {
     told
 }
 
+fn played_queued(run: Run<MemoryFolder>) -> Played {
+    let told = queued_bytes_told(&run.replies);
+    (run.roller.into_folder(), told)
+}
+
 fn play_queued(alloc: Global, folder: MemoryFolder, steps: &[Step]) -> Result<Played, Fail> {
-    match replay(alloc, &builder(alloc)?, 4, false, folder, START, steps) {
-        Ok(run) => {
-            let told = queued_bytes_told(&run.replies);
-            Ok((run.roller.into_folder(), told))
-        }
-        Err(ReplayError::Init(_, folder)) => Ok((folder, 0)),
-        Err(ReplayError::Memory(_)) => Err(Fail::from("no memory")),
+    let builder = builder(alloc)?;
+    match replay(alloc, &builder, 4, false, folder, START, steps) {
+        Ok(run) => Ok(played_queued(run)),
+        Err(error) => unopened(error),
     }
 }
 

@@ -1,9 +1,10 @@
 // Appenders that are written to by std's `Write`, over real folders and over one in memory.
 
-use crate::expect::{expect_eq, expect_eq_of, expect_shown, shown};
+use crate::expect::{expect_eq, expect_eq_of, shown};
 use crate::scene::{
-    ELEVEN, Host, START, TWELVE, TestClock, at, clear, expect_bytes, expect_files, expect_target,
-    expect_text, folder_at, fresh, hourly_log, names_in, opened,
+    ELEVEN, Host, START, TWELVE, TestClock, at, clear, expect_bytes, expect_files,
+    expect_shown_appender, expect_target, expect_text, folder_at, fresh, hourly_log, names_in,
+    opened,
 };
 use appender_rolling::rolling::{
     Builder, Clock, RollingFileAppender, SystemClock, daily, hourly, minutely, never, weekly,
@@ -12,50 +13,11 @@ use appender_store::store::{Folder, MemoryFolder};
 use std::io::Write;
 use std::process::Abort;
 use std::rt::Env;
-use std::sync::Wait;
 use std::time::Duration;
 use std::{env, io, time};
 
-// Writes a byte, and sees that it is taken.
-fn put_byte<S: Folder, R: Host>(
-    rt: &R,
-    appender: &mut RollingFileAppender<S, &TestClock, R>,
-    byte: &[u8],
-) {
-    expect_eq(rt, appender.write(byte).expect(rt, "a write"), 1);
-}
-
-// Writes a byte at 11:00 and one a second before, and flushes.
-fn write_across_eleven<R: Host>(
-    rt: &R,
-    appender: &mut RollingFileAppender<MemoryFolder, &TestClock, R>,
-    clock: &TestClock,
-) {
-    clock.set(ELEVEN);
-    put_byte(rt, appender, b"a");
-    clock.set(ELEVEN - 1);
-    put_byte(rt, appender, b"b");
-    appender.flush().expect(rt, "a flush");
-    expect_eq(rt, clock.reads(), 3);
-}
-
-// Writes a log across 11:00, and answers its folder.
-fn folder_across_eleven<R: Host>(rt: R) -> MemoryFolder {
-    let clock = TestClock::new(START);
-    let builder = hourly_log(&rt, "app");
-    let mut appender = opened(rt, &builder, MemoryFolder::new(rt.alloc()), &clock);
-    write_across_eleven(&rt, &mut appender, &clock);
-    appender.into_parts().0
-}
-
-#[test]
-fn each_write_reads_the_clock_once(rt: HostRuntime) {
-    let files = [("app.2020-02-01-10", ""), ("app.2020-02-01-11", "ab")];
-    expect_bytes(&rt, &folder_across_eleven(rt), &files);
-}
-
 // What the system's clock reads, in whole minutes.
-fn minute(rt: HostRuntime) -> i64 {
+fn minute(rt: impl time::Clock + Drop) -> i64 {
     SystemClock::new(rt).now().div_euclid(60)
 }
 
@@ -65,10 +27,10 @@ fn say_hello(rt: &impl Abort, writer: &mut impl Write) {
     writer.flush().expect(rt, "a flush");
 }
 
-const ROTATIONS: [&str; 5] = ["minutely", "hourly", "daily", "weekly", "never"];
+static ROTATIONS: [&str; 5] = ["minutely", "hourly", "daily", "weekly", "never"];
 
 // A log of this rotation at a path.
-fn say_hello_at(rt: HostRuntime, host: &impl Host, rotation: &str, path: &str) {
+fn say_hello_at<R: Host + time::Clock>(rt: R, rotation: &str, path: &str) {
     let opened = match rotation {
         "minutely" => minutely(rt, path, "app"),
         "hourly" => hourly(rt, path, "app"),
@@ -76,13 +38,13 @@ fn say_hello_at(rt: HostRuntime, host: &impl Host, rotation: &str, path: &str) {
         "weekly" => weekly(rt, path, "app"),
         _ => never(rt, path, "app"),
     };
-    say_hello(host, &mut opened.expect(host, "an appender"));
+    say_hello(&rt, &mut opened.expect(&rt, "an appender"));
 }
 
 // A log of each rotation, each in a directory of its own.
-fn say_hello_to_each(rt: HostRuntime, host: &impl Host, directory: &str) {
-    for rotation in ROTATIONS {
-        say_hello_at(rt, host, rotation, at(host, directory, rotation).as_str());
+fn say_hello_to_each<R: Host + time::Clock>(rt: R, directory: &str) {
+    for rotation in &ROTATIONS {
+        say_hello_at(rt, rotation, at(&rt, directory, rotation).as_str());
     }
 }
 
@@ -95,24 +57,29 @@ fn expect_hello(rt: &impl Host, directory: &str) -> String {
     name
 }
 
-// Checks that each log is one file, and that a name without a date is that of the log that has no rotation.
+// Checks that a name without a date is that of the log that has no rotation.
+fn expect_name(rt: &impl Abort, rotation: &str, name: &str) {
+    expect_eq_of(rt, name, name.starts_with("app"), true);
+    expect_eq_of(rt, name, name == "app", rotation == "never");
+}
+
+// Checks that each log is one file.
 fn expect_each(rt: &impl Host, directory: &str) {
-    for rotation in ROTATIONS {
+    for rotation in &ROTATIONS {
         let name = expect_hello(rt, at(rt, directory, rotation).as_str());
-        assert!(rt; name.starts_with("app"), "{name}");
-        expect_eq_of(rt, &name, name.as_str() == "app", rotation == "never");
+        expect_name(rt, rotation, name.as_str());
     }
 }
 
 // Tells whether all logs were written within one minute, and checks them if so.
-fn is_within_a_minute(rt: HostRuntime, host: &impl Host, directory: &str) -> bool {
+fn is_within_a_minute<R: Host + time::Clock>(rt: R, directory: &str) -> bool {
     let before = minute(rt);
-    say_hello_to_each(rt, host, directory);
+    say_hello_to_each(rt, directory);
     let within = minute(rt) == before;
     if within {
-        expect_each(host, directory);
+        expect_each(&rt, directory);
     }
-    clear(host, directory);
+    clear(&rt, directory);
     within
 }
 
@@ -121,7 +88,7 @@ fn a_log_of_each_rotation_is_one_file(rt: HostRuntime) {
     // Once more where a minute ended in between.
     for _ in 0..3 {
         let directory = fresh(rt, "rotations").expect(&rt, "a directory");
-        if is_within_a_minute(rt, &rt, directory.as_str()) {
+        if is_within_a_minute(rt, directory.as_str()) {
             return;
         }
     }
@@ -132,21 +99,43 @@ fn a_log_of_each_rotation_is_one_file(rt: HostRuntime) {
 enum Step {
     // A line is written when the clock tells this.
     Put(i64, &'static str),
+    // The clock tells this, and one call of `write` takes so many of these bytes.
+    Write(i64, &'static [u8], usize),
     Flush,
+    // The clock was read so often.
+    Reads(u64),
 }
 
 // Takes a step.
 fn take<S: Folder, R: Host>(
+    rt: &R,
     appender: &mut RollingFileAppender<S, &TestClock, R>,
     clock: &TestClock,
     step: &Step,
-) -> io::Result<()> {
+) {
     match *step {
         Step::Put(moment, line) => {
             clock.set(moment);
-            appender.write_all(line.as_bytes())
+            appender.write_all(line.as_bytes()).expect(rt, "a line");
         }
-        Step::Flush => appender.flush(),
+        Step::Write(moment, bytes, wanted) => {
+            clock.set(moment);
+            expect_eq(rt, appender.write(bytes).expect(rt, "a write"), wanted);
+        }
+        Step::Flush => appender.flush().expect(rt, "a flush"),
+        Step::Reads(wanted) => expect_eq(rt, clock.reads(), wanted),
+    }
+}
+
+// Takes these steps.
+fn take_all<S: Folder, R: Host>(
+    rt: &R,
+    appender: &mut RollingFileAppender<S, &TestClock, R>,
+    clock: &TestClock,
+    steps: &[Step],
+) {
+    for step in steps {
+        take(rt, appender, clock, step);
     }
 }
 
@@ -154,9 +143,7 @@ fn take<S: Folder, R: Host>(
 fn write_log<S: Folder>(rt: impl Host, builder: &Builder, folder: S, steps: &[Step]) -> S {
     let clock = TestClock::new(START);
     let mut appender = opened(rt, builder, folder, &clock);
-    for step in steps {
-        take(&mut appender, &clock, step).expect(&rt, "a step");
-    }
+    take_all(&rt, &mut appender, &clock, steps);
     appender.into_parts().0
 }
 
@@ -187,6 +174,21 @@ fn write_in(
     clear(rt, directory);
 }
 
+// A byte at 11:00 and one a second before.
+static ACROSS_ELEVEN: [Step; 4] = [
+    Step::Write(ELEVEN, b"a", 1),
+    Step::Write(ELEVEN - 1, b"b", 1),
+    Step::Flush,
+    Step::Reads(3),
+];
+
+static BOTH_BYTES: [(&str, &str); 2] = [("app.2020-02-01-10", ""), ("app.2020-02-01-11", "ab")];
+
+#[test]
+fn each_write_reads_the_clock_once(rt: HostRuntime) {
+    write_in_memory(&rt, &hourly_log(&rt, "app"), &ACROSS_ELEVEN, &BOTH_BYTES);
+}
+
 // Two lines, and an hour later two more.
 static TWO_HOURS: [Step; 5] = [
     Step::Put(START, "file 1\n"),
@@ -196,14 +198,15 @@ static TWO_HOURS: [Step; 5] = [
     Step::Flush,
 ];
 
+static TWO_FILES: [(&str, &str); 2] = [
+    ("test_make_writer.2020-02-01-10", "file 1\nfile 1\n"),
+    ("test_make_writer.2020-02-01-11", "file 2\nfile 2\n"),
+];
+
 // Writes to two hours in a fresh directory.
 fn write_two_hours(rt: &impl Host, directory: io::Result<String>) {
     let builder = hourly_log(rt, "test_make_writer");
-    let files = [
-        ("test_make_writer.2020-02-01-10", "file 1\nfile 1\n"),
-        ("test_make_writer.2020-02-01-11", "file 2\nfile 2\n"),
-    ];
-    write_in(rt, directory, &builder, &TWO_HOURS, &files);
+    write_in(rt, directory, &builder, &TWO_HOURS, &TWO_FILES);
 }
 
 #[test]
@@ -224,7 +227,7 @@ static THREE_HOURS: [Step; 9] = [
     Step::Flush,
 ];
 
-const KEPT: [(&str, &str); 2] = [
+static KEPT: [(&str, &str); 2] = [
     ("test_max_log_files.2020-02-01-11", "file 2\nfile 2\n"),
     ("test_max_log_files.2020-02-01-12", "file 3\nfile 3\n"),
 ];
@@ -248,6 +251,14 @@ static LINE_AN_HOUR: [Step; 3] = [
     Step::Flush,
 ];
 
+const NEWEST: &str = "test_latest_symlink.2020-02-01-11";
+
+static LINKED: [(&str, &str); 3] = [
+    ("latest.log", "file 2\n"),
+    ("test_latest_symlink.2020-02-01-10", "file 1\n"),
+    (NEWEST, "file 2\n"),
+];
+
 // Writes a log with a link at a path, and checks what then stands in a directory.
 fn expect_linked(rt: &impl Host, path: &str, directory: &str) {
     let builder = hourly_log(rt, "test_latest_symlink")
@@ -255,22 +266,19 @@ fn expect_linked(rt: &impl Host, path: &str, directory: &str) {
         .expect(rt, "memory");
     // At first there is neither the directory nor a link to remove.
     write_at(rt, &builder, path, &LINE_AN_HOUR, 2);
-    let newest = "test_latest_symlink.2020-02-01-11";
-    expect_target(rt, directory, "latest.log", newest);
-    let files = [
-        ("latest.log", "file 2\n"),
-        ("test_latest_symlink.2020-02-01-10", "file 1\n"),
-        (newest, "file 2\n"),
-    ];
-    expect_files(rt, directory, &files);
+    expect_target(rt, directory, "latest.log", NEWEST);
+    expect_files(rt, directory, &LINKED);
 }
+
+// Relative paths, and where they lead to.
+static RELATIVE: [(&str, &str); 2] = [("relative", "relative"), ("./deep/logs", "deep/logs")];
 
 // Writes logs with links at a whole path and at two relative ones.
 fn expect_links(rt: &(impl Host + Env), parent: &str) {
     env::set_current_dir(rt, parent).expect(rt, "a directory");
     let whole = at(rt, parent, "whole");
     expect_linked(rt, whole.as_str(), whole.as_str());
-    for (path, place) in [("relative", "relative"), ("./deep/logs", "deep/logs")] {
+    for (path, place) in &RELATIVE {
         expect_linked(rt, path, at(rt, parent, place).as_str());
     }
     clear(rt, parent);
@@ -282,21 +290,13 @@ fn the_link_leads_to_the_newest_file(rt: HostRuntime) {
     expect_links(&rt, parent.as_str());
 }
 
-// Shows an appender that is opened at 10:01.
-fn expect_shown_appender<R: Host + Wait>(rt: R) {
-    let builder = hourly_log(&rt, "app");
-    let clock = TestClock::new(START);
-    let appender = opened(rt, &builder, MemoryFolder::new(rt.alloc()), &clock);
-    expect_shown(
-        &rt,
-        &appender,
-        "RollingFileAppender { open_name: \"app.2020-02-01-10\", boundary: Some(1580554800) }",
-    );
-}
-
 #[test]
 fn an_appender_shows_its_file_and_boundary(rt: HostRuntime) {
-    expect_shown_appender(rt);
+    expect_shown_appender(
+        rt,
+        &hourly_log(&rt, "app"),
+        "RollingFileAppender { open_name: \"app.2020-02-01-10\", boundary: Some(1580554800) }",
+    );
     let clock = shown(&rt, &SystemClock::new(rt));
     assert!(rt; clock.as_str().starts_with("SystemClock"));
 }

@@ -304,9 +304,11 @@ fn take_at(rt: &impl Host, path: &str, steps: &[Step]) {
     take_all(rt, folder_at(*rt, path), path, steps);
 }
 
+static WITH_PARENTS: [&str; 4] = ["a/b/c", "a/b/d/", "a", "e//f"];
+
 // Makes folders in a directory, whose parents are not there yet.
 fn make_with_parents(rt: &impl Host, directory: &str) {
-    for path in ["a/b/c", "a/b/d/", "a", "e//f"] {
+    for path in &WITH_PARENTS {
         take_at(rt, at(rt, directory, path).as_str(), &MADE_TWICE);
     }
     clear(rt, directory);
@@ -326,10 +328,12 @@ static ONE_MORE: [Step; 3] = [
     Step::Lists(1),
 ];
 
+static CURRENT: [&str; 3] = ["", ".", "./"];
+
 // Writes to a file of the current directory by three of its paths.
 fn append_in_current(rt: &(impl Host + Env), directory: &str) {
     env::set_current_dir(rt, directory).expect(rt, "a directory");
-    for path in ["", ".", "./"] {
+    for path in &CURRENT {
         take_at(rt, path, &ONE_MORE);
     }
     expect_entries(rt, directory, &[Entry::File("file", "xxx")]);

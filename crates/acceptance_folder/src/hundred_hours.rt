@@ -1,6 +1,6 @@
 // Eight threads, and a folder of the file system.
 
-use crate::expect::expect_eq;
+use crate::expect::{expect_eq, expect_eq_of};
 use crate::scene::{
     Host, START, clear, expect_target, folder_at, fresh, hourly_log, names_in, opened, text_of,
 };
@@ -12,7 +12,6 @@ use std::alloc::AllocError;
 use std::io::Write;
 use std::process::Abort;
 use std::sync::Wait;
-use std::test::Fail;
 use std::thread::Threads;
 use std::{io, thread};
 
@@ -21,17 +20,8 @@ const THREADS: usize = 8;
 /// How many lines a thread writes, and the last of them once all threads have written the others.
 const LINES: i64 = 51;
 
-// A line: which thread wrote it, how many it had written, and what the clock was to tell before its
-// writer was made and while it was held.
-#[derive(Clone, Copy)]
-struct Line {
-    thread: usize,
-    number: i64,
-    before: i64,
-    after: i64,
-}
-
-// Writes these lines of one thread.
+// Writes these lines of one thread. A line says which thread wrote it, how many it had written, and
+// what the clock was to tell before its writer was made and while it was held.
 fn write_lines<S: Folder, R: Wait + AllocGlobal + Drop>(
     rt: &R,
     appender: &RollingFileAppender<S, &SteppingClock, R>,
@@ -68,37 +58,33 @@ where
     Ok(!wrote.contains(&false))
 }
 
-fn read_line(text: &str) -> Option<Line> {
+// Reads the four numbers of a line.
+fn read_line(rt: &impl Abort, text: &str) -> [i64; 4] {
     let mut words = text.split(' ');
-    let line = Line {
-        thread: words.next()?.parse().ok()?,
-        number: words.next()?.parse().ok()?,
-        before: words.next()?.parse().ok()?,
-        after: words.next()?.parse().ok()?,
-    };
-    if words.next().is_none() {
-        Some(line)
-    } else {
-        None
+    let mut numbers = [0i64; 4];
+    for number in &mut numbers {
+        *number = words
+            .next()
+            .and_then(|word| word.parse().ok())
+            .expect(rt, "a number");
     }
+    expect_eq(rt, words.next(), None);
+    numbers
 }
 
-// Checks the lines of the file of an hour: each is whole, came in that hour, and follows the one
-// before it of its thread.
-fn check_file(rt: &impl Abort, hour: i64, text: &str, last: &mut [i64; THREADS]) -> Option<()> {
-    for text in text.lines() {
-        let line = read_line(text)?;
-        let next = hour.saturating_add(3_600);
-        assert!(rt;
-            line.before < next && hour <= line.after,
-            "{text} in {hour}"
-        );
-        let last = last.get_mut(line.thread)?;
-        let follows = last.saturating_add(1) == line.number;
-        assert!(rt; *last < 0 || follows, "{text} after {last}");
-        *last = line.number;
-    }
-    Some(())
+// Checks a line of the file of an hour: it is whole, came in that hour, and follows the one before it
+// of its thread.
+fn check_line(rt: &impl Abort, hour: i64, text: &str, last: &mut [i64; THREADS]) {
+    let [thread, number, before, after] = read_line(rt, text);
+    let is_timely = before < hour.saturating_add(3_600) && hour <= after;
+    expect_eq_of(rt, (text, hour), is_timely, true);
+    let last = usize::try_from(thread)
+        .ok()
+        .and_then(|thread| last.get_mut(thread))
+        .expect(rt, "a thread");
+    let follows = *last < 0 || last.saturating_add(1) == number;
+    expect_eq_of(rt, (text, *last), follows, true);
+    *last = number;
 }
 
 // Checks the lines of the file of this name.
@@ -111,7 +97,17 @@ fn check_named(
 ) {
     let hour = names.read(name).expect(rt, "a name that is a date");
     let text = text_of(rt, directory, name);
-    check_file(rt, hour, text.as_str(), last).expect(rt, "lines that are whole");
+    for line in text.lines() {
+        check_line(rt, hour, line, last);
+    }
+}
+
+// A log of which five files are kept, with a link to the newest.
+fn log_of_five(rt: &impl Host) -> Builder {
+    hourly_log(rt, "app")
+        .latest_symlink(rt.alloc(), "latest.log")
+        .expect(rt, "memory")
+        .max_log_files(5)
 }
 
 // Checks the five files that stand, and the link, whose name comes last.
@@ -129,18 +125,23 @@ fn check_files(rt: &impl Host, directory: &str, names: &Names) {
     expect_target(rt, directory, "latest.log", newest.as_str());
 }
 
+// Checks what is left of a hundred hours.
+fn check_log(rt: &impl Host, directory: &str, failures: u64) {
+    // Before the first file there was no link to remove.
+    expect_eq(rt, failures, 1);
+    let names = log_of_five(rt).names(rt.alloc()).expect(rt, "names");
+    check_files(rt, directory, &names);
+    clear(rt, directory);
+}
+
 // Writes the last line of each thread once all threads have written the others, and answers the log's
 // folder.
-fn write_all_in_threads<S: Folder + Send, R: Host + Threads + Wait + Sync>(
-    rt: R,
-    builder: &Builder,
-    folder: S,
-) -> S
+fn write_all_in_threads<S: Folder + Send, R: Host + Threads + Wait + Sync>(rt: R, folder: S) -> S
 where
     S::File: Send,
 {
     let clock = SteppingClock::new(START, 900);
-    let appender = opened(rt, builder, folder, &clock);
+    let appender = opened(rt, &log_of_five(&rt), folder, &clock);
     for numbers in [(0, LINES - 1), (LINES - 1, LINES)] {
         let wrote = write_in_threads(&rt, &appender, &clock, numbers).expect(&rt, "memory");
         expect_eq(&rt, wrote, true);
@@ -148,18 +149,10 @@ where
     appender.into_parts().0
 }
 
-// A hundred hours go by, and five files are kept.
+// A hundred hours go by.
 #[test]
-fn no_line_of_a_hundred_hours_is_lost(rt: HostRuntime) -> Result<(), Fail> {
-    let alloc = rt.alloc();
-    let directory = fresh(rt, "hundred_hours")?;
-    let builder = hourly_log(&rt, "app")
-        .latest_symlink(alloc, "latest.log")?
-        .max_log_files(5);
-    let folder = write_all_in_threads(rt, &builder, folder_at(rt, directory.as_str()));
-    // Before the first file there was no link to remove.
-    expect_eq(&rt, folder.failures(), 1);
-    check_files(&rt, directory.as_str(), &builder.names(alloc)?);
-    clear(&rt, directory.as_str());
-    Ok(())
+fn no_line_of_a_hundred_hours_is_lost(rt: HostRuntime) {
+    let directory = fresh(rt, "hundred_hours").expect(&rt, "a directory");
+    let folder = write_all_in_threads(rt, folder_at(rt, directory.as_str()));
+    check_log(&rt, directory.as_str(), folder.failures());
 }

@@ -1,14 +1,15 @@
 // Directories of the tests, a clock that they set, and what they compare.
 
-use crate::expect::{expect_eq, expect_eq_of};
+use crate::expect::{expect_eq, expect_eq_of, expect_shown};
 use appender_folder::folder::DirFolder;
-use appender_rolling::rolling::{Builder, Clock, RollingFileAppender, Rotation};
+use appender_rolling::rolling::{Builder, Clock, MakeWriter, RollingFileAppender, Rotation};
 use appender_store::store::{Folder, MemoryFolder};
 use std::cell::Cell;
 use std::io::ErrorKind;
 use std::os::unix::fs::symlink;
 use std::process::Abort;
 use std::rt::Files;
+use std::sync::Wait;
 use std::{env, fs, io, process};
 
 /// 2020-02-01 10:01:00.
@@ -93,11 +94,6 @@ pub(crate) fn folder_at<R: Host>(rt: R, path: &str) -> DirFolder<R> {
     DirFolder::new(rt, path).expect(&rt, "memory")
 }
 
-/// Makes a file.
-pub(crate) fn put(rt: &impl Host, directory: &str, name: &str, text: &str) {
-    fs::write(rt, at(rt, directory, name), text).expect(rt, "a file");
-}
-
 /// What stands in a directory: its name, and what a file reads as or a link says.
 #[derive(Clone, Copy)]
 pub(crate) enum Entry {
@@ -109,16 +105,18 @@ pub(crate) enum Entry {
 /// Makes these entries.
 pub(crate) fn fill(rt: &impl Host, directory: &str, entries: &[Entry]) {
     for entry in entries {
-        match *entry {
-            Entry::File(name, text) => put(rt, directory, name, text),
-            Entry::Link(name, target) => {
-                symlink(rt, target, at(rt, directory, name)).expect(rt, "a link");
-            }
-            Entry::Folder(name) => {
-                fs::create_dir(rt, at(rt, directory, name)).expect(rt, "a directory");
-            }
-        }
+        make(rt, directory, *entry);
     }
+}
+
+// Makes an entry.
+fn make(rt: &impl Host, directory: &str, entry: Entry) {
+    let made = match entry {
+        Entry::File(name, text) => fs::write(rt, at(rt, directory, name), text),
+        Entry::Link(name, target) => symlink(rt, target, at(rt, directory, name)),
+        Entry::Folder(name) => fs::create_dir(rt, at(rt, directory, name)),
+    };
+    made.expect(rt, "an entry");
 }
 
 /// Checks that a directory has exactly these entries.
@@ -193,11 +191,13 @@ pub(crate) fn expect_bytes(rt: &impl Abort, folder: &MemoryFolder, wanted: &[(&s
         wanted.len(),
     );
     for (name, text) in wanted {
-        match folder.bytes(name) {
-            Some(bytes) => expect_eq_of(rt, name, bytes, text.as_bytes()),
-            None => rt.panic(name),
-        }
+        expect_held(rt, folder, name, text);
     }
+}
+
+/// Checks what a file of a folder in memory holds.
+pub(crate) fn expect_held(rt: &impl Abort, folder: &MemoryFolder, name: &str, wanted: &str) {
+    expect_eq_of(rt, name, folder.bytes(name), Some(wanted.as_bytes()));
 }
 
 /// A builder of an hourly log.
@@ -219,6 +219,15 @@ pub(crate) fn opened<S: Folder, C: Clock, R: Host>(
         Ok(appender) => appender,
         Err((error, _folder, _clock)) => rt.panic(error),
     }
+}
+
+/// Checks what an appender shows that is opened in memory at 10:01, and a writer of it.
+pub(crate) fn expect_shown_appender<R: Host + Wait>(rt: R, builder: &Builder, wanted: &str) {
+    let clock = TestClock::new(START);
+    let appender = opened(rt, builder, MemoryFolder::new(rt.alloc()), &clock);
+    expect_shown(&rt, &appender, wanted);
+    let writer = appender.make_writer().expect(&rt, "a writer");
+    expect_shown(&rt, &writer, "RollingWriter { .. }");
 }
 
 /// The kind of the error, if there is one.

@@ -1,7 +1,10 @@
 // Ten threads, and a folder in memory.
 
 use crate::expect::{expect_eq, expect_shown, shown};
-use crate::scene::{ELEVEN, Host, START, expect_bytes, hourly_log, kind_of_error, opened};
+use crate::scene::{
+    ELEVEN, Host, START, expect_bytes, expect_held, expect_shown_appender, hourly_log,
+    kind_of_error, opened,
+};
 use crate::threads::{
     Crowded, SteppingClock, Turning, expect_lines, in_memory, write_in_threads, writes,
 };
@@ -30,11 +33,6 @@ fn folder_of_threads<C: Clock + Sync, R: Host + Threads + Wait + Sync>(
     appender.into_parts().0
 }
 
-// Checks what a file of a folder in memory holds.
-fn expect_held(rt: &impl Abort, folder: &MemoryFolder, name: &str, wanted: &[u8]) {
-    expect_eq(rt, folder.bytes(name), Some(wanted));
-}
-
 // Opens a log over this folder, to which ten threads write.
 fn begin_one_file<R: Host + Threads + Wait + Sync>(rt: R, folder: MemoryFolder) -> MemoryFolder {
     let appender = opened(rt, &hourly_log(&rt, "app"), folder, Crowded::new());
@@ -48,7 +46,7 @@ fn ten_threads_begin_one_file(rt: HostRuntime) -> Result<(), Fail> {
     folder.fail_call(14)?;
     let folder = begin_one_file(rt, folder);
     expect_eq(&rt, folder.failures(), 0);
-    expect_held(&rt, &folder, "app.2020-02-01-10", b"");
+    expect_held(&rt, &folder, "app.2020-02-01-10", "");
     expect_lines(&rt, &[folder.bytes("app.2020-02-01-11").unwrap_or(b"")]);
     expect_eq(&rt, folder.body(2), None);
     Ok(())
@@ -167,40 +165,29 @@ fn folder_of_turns<R: Host + Threads + Wait + Sync>(rt: R) -> MemoryFolder {
 #[test]
 fn the_latest_moment_decides(rt: HostRuntime) {
     let folder = folder_of_turns(rt);
-    expect_held(&rt, &folder, "app.2020-02-01-10", b"");
+    expect_held(&rt, &folder, "app.2020-02-01-10", "");
     // Where the first look was at 12:00, no file begins at 11:00.
     let eleven = folder.bytes("app.2020-02-01-11").unwrap_or(b"");
     let twelve = folder.bytes("app.2020-02-01-12").unwrap_or(b"");
     expect_lines(&rt, &[eleven, twelve]);
 }
 
-// Shows an appender of a log without rotation, and a writer of it.
-fn expect_shown_appender<R: Host + Wait>(
-    rt: &R,
-    appender: &RollingFileAppender<MemoryFolder, &SteppingClock, R>,
-) {
-    expect_shown(
+// Shows a builder, and an appender of it, which has no rotation.
+fn expect_default<R: Host + Wait>(rt: R, builder: Builder) {
+    let shown = shown(&rt, &builder);
+    expect_eq(&rt, shown.as_str().starts_with("Builder {"), true);
+    expect_shown_appender(
         rt,
-        appender,
+        &builder,
         "RollingFileAppender { open_name: \"2020-02-01\", boundary: None }",
     );
-    let writer = appender.make_writer().expect(rt, "a writer");
-    expect_shown(rt, &writer, "RollingWriter { .. }");
-}
-
-// Shows what a builder makes, and checks what can be said of it.
-fn expect_default<R: Host + Wait>(rt: R, builder: &Builder) {
-    assert!(rt; shown(&rt, builder).as_str().starts_with("Builder {"));
-    let clock = SteppingClock::new(START, 0);
-    let appender = opened(rt, builder, MemoryFolder::new(rt.alloc()), &clock);
-    expect_shown_appender(&rt, &appender);
 }
 
 // Shows what each of three builders makes, and an error.
 fn expect_all_shown<R: Host + Wait>(rt: R) {
-    expect_default(rt, &Builder::default());
-    expect_default(rt, &Builder::new());
-    expect_default(rt, &RollingFileAppender::builder());
+    expect_default(rt, Builder::default());
+    expect_default(rt, Builder::new());
+    expect_default(rt, RollingFileAppender::builder());
     expect_shown(&rt, &InitError::Moment, "Moment");
 }
 

@@ -4,13 +4,7 @@
 //! account says what became of their lines.
 #![tactic(auto)]
 
-#[cfg(test)]
-mod expect;
-mod gather;
-#[cfg(test)]
-mod tests;
-mod trail;
-
+use audit_trail_core::{gather, trail};
 use program_input::arguments;
 use std::process::ExitCode;
 

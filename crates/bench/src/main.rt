@@ -18,7 +18,7 @@ use row::HEADER;
 use std::alloc::Global;
 use std::fs::OpenOptions;
 use std::io::{ErrorKind, Write};
-use std::rt::Files;
+use std::rt::{Env, Files};
 use std::sync::{Mutex, Wait};
 use std::thread::Threads;
 use std::time::{Clock, Duration};
@@ -36,13 +36,7 @@ direct: the time of a line of THREADS threads, or with 0 of one alone, to the lo
 idle: a line, and then nothing for so long";
 
 fn main(rt: HostRuntime) -> io::Result<()> {
-    let mut numbers = Vec::new(rt.alloc());
-    for word in env::args(&rt)?.skip(2) {
-        let Ok(number) = word.parse::<u32>() else {
-            return Err(io::Error::from(ErrorKind::InvalidInput));
-        };
-        numbers.push(number)?;
-    }
+    let numbers = numbers_of(&rt, rt.alloc())?;
     let Some(mode) = env::args(&rt)?.nth(1) else {
         return println!(rt; "{USAGE}");
     };
@@ -65,6 +59,18 @@ fn main(rt: HostRuntime) -> io::Result<()> {
         }
         (mode, numbers) => run(rt, rt.alloc(), mode, numbers),
     }
+}
+
+// The arguments behind the first.
+fn numbers_of(rt: &(impl Env + Alloc), alloc: Global) -> io::Result<Vec<u32>> {
+    let mut numbers = Vec::new(alloc);
+    for word in env::args(rt)?.skip(2) {
+        let Ok(number) = word.parse::<u32>() else {
+            return Err(io::Error::from(ErrorKind::InvalidInput));
+        };
+        numbers.push(number)?;
+    }
+    Ok(numbers)
 }
 
 fn run<R: Files + Threads + Wait + Clock + Print + Eprint + Copy + Send + 'static>(

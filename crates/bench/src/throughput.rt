@@ -91,13 +91,7 @@ fn send_all<
     let gate = Arc::new(alloc, Barrier::new(threads))?;
     let mut running = Vec::new(alloc);
     for _ in 0..case.senders {
-        let mine = sender.clone()?;
-        let theirs = gate.clone()?;
-        let line = vec![in alloc; b'x'; case.bytes]?;
-        running.push(thread::spawn(&rt, move || {
-            theirs.wait(&rt);
-            send_some(&rt, mine, line.as_slice(), case.each);
-        })?)?;
+        running.push(start_one(rt, alloc, sender.clone()?, gate.clone()?, case)?)?;
     }
     drop(sender);
     // Time for all of them to come to the gate.
@@ -106,6 +100,25 @@ fn send_all<
     gate.wait(&rt);
     join_all(&rt, running);
     Ok(start)
+}
+
+// A thread that sends its lines once all have come to the gate.
+fn start_one<
+    S: LineSender + Send + Drop + 'static,
+    R: Threads + Wait + Clock + Copy + Send + 'static,
+>(
+    rt: R,
+    alloc: Global,
+    sender: S,
+    gate: Arc<Barrier, Global>,
+    case: Case,
+) -> io::Result<JoinHandle<()>> {
+    let line = vec![in alloc; b'x'; case.bytes]?;
+    let started = thread::spawn(&rt, move || {
+        gate.wait(&rt);
+        send_some(&rt, sender, line.as_slice(), case.each);
+    })?;
+    Ok(started)
 }
 
 fn join_all<R: Threads>(rt: &R, running: Vec<JoinHandle<()>>) {

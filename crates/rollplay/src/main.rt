@@ -2,13 +2,7 @@
 //! and prints what each step answered and what the folder holds at the end.
 #![tactic(auto)]
 
-#[cfg(test)]
-mod expect;
-mod page;
-mod play;
-#[cfg(test)]
-mod tests;
-
+use rollplay_core::play;
 use std::process::ExitCode;
 
 fn main(rt: HostRuntime) -> ExitCode {

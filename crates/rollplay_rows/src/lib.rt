@@ -1,314 +1,215 @@
 //! Scripts with what they print, worked out by hand, for the tests of more than one crate.
 #![tactic(auto)]
 
+/// Scripts, each with what is told of it, in one text: a bar ends each of both.
+#[derive(Clone, Copy)]
+pub struct Table {
+    /// How many scripts there are.
+    pub rows: usize,
+    /// All of it.
+    pub text: &'static str,
+}
+
+/// The first script of a table's text, what is told of it, and the text behind both.
+pub fn first_row(text: &str) -> Option<(&str, &str, &str)> {
+    let (script, behind) = text.split_once('|')?;
+    let (told, behind) = behind.split_once('|')?;
+    Some((script, told, behind))
+}
+
 /// Scripts without a queue whose log is opened, and what is printed.
-pub static PLAYED: [(&str, &str); 45] = [
-    // Arrivals an hour apart; a clock that goes back keeps the file.
-    (
-        "rotation hourly\nprefix app\nstart 1580551260\nput 1580554800 a\nput 1580554799 b\n",
-        "open app.2020-02-01-10\nopened ok 1\nnone ok 1\nfile app.2020-02-01-10 0\nfile app.2020-02-01-11 2 ab\n",
+pub static PLAYED: Table = Table {
+    rows: 45,
+    text: concat!(
+        // Arrivals an hour apart; a clock that goes back keeps the file.
+        "rotation hourly\nprefix app\nstart 1580551260\nput 1580554800 a\nput 1580554799 b\n|",
+        "open app.2020-02-01-10\nopened ok 1\nnone ok 1\nfile app.2020-02-01-10 0\nfile app.2020-02-01-11 2 ab\n|",
+        // A file that is there is appended to.
+        "rotation hourly\nprefix app\nfile app.2020-02-01-10 x\nstart 1580551260\nput 1580551261 y\n|",
+        "open app.2020-02-01-10\nnone ok 1\nfile app.2020-02-01-10 2 xy\n|",
+        // No rotation is never, which keeps the day of the opening as its name.
+        "start 1580551260\nput 1580724060 x|",
+        "open 2020-02-01\nnone ok 1\nfile 2020-02-01 1 x\n|",
+        // The names of all rotations.
+        "rotation weekly\nprefix my_prefix\nsuffix log\nstart 1739786460\n|",
+        "open my_prefix.2025-02-16.log\nfile my_prefix.2025-02-16.log 0\n|",
+        "rotation daily\nprefix my_prefix\nsuffix log\nstart 1739786460\n|",
+        "open my_prefix.2025-02-17.log\nfile my_prefix.2025-02-17.log 0\n|",
+        "rotation hourly\nprefix my_prefix\nsuffix log\nstart 1739786460\n|",
+        "open my_prefix.2025-02-17-10.log\nfile my_prefix.2025-02-17-10.log 0\n|",
+        "rotation minutely\nprefix my_prefix\nsuffix log\nstart 1739786460\n|",
+        "open my_prefix.2025-02-17-10-01.log\nfile my_prefix.2025-02-17-10-01.log 0\n|",
+        "rotation never\nprefix my_prefix\nsuffix log\nstart 1739786460\n|",
+        "open my_prefix.log\nfile my_prefix.log 0\n|",
+        // Each step's answer.
+        "rotation hourly\nprefix app\nstart 1580551260\nsee 1580551261\nwrite ab\nwrite\nput 1580551262\nflush\nsee 1580554800\n|",
+        "open app.2020-02-01-10\nnone\nok 2\nok 0\nnone ok 0\nok\nopened\nfile app.2020-02-01-10 2 ab\nfile app.2020-02-01-11 0\n|",
+        // A switch that fails keeps the file, and isn't tried again in the same hour.
+        "rotation hourly\nprefix app\nfolder app.2020-02-01-11\nstart 1580551260\nput 1580554800 a\nsee 1580554801\nsee 1580558400\n|",
+        "open app.2020-02-01-10\nfailed ok 1\nnone\nopened\nfile app.2020-02-01-10 1 a\nfolder app.2020-02-01-11\nfile app.2020-02-01-12 0\n|",
+        // Escapes stand for a newline and a backslash, and are printed again.
+        "prefix app\nfile notes a\\nb\\\\c\nstart 0\nwrite \\\\n\\n\nput 0 \\n\n|",
+        "open app\nok 3\nnone ok 1\nfile app 4 \\\\n\\n\\n\nfile notes 5 a\\nb\\\\c\n|",
+        "prefix a\\\\b\nstart 0\n|",
+        "open a\\b\nfile a\\b 0\n|",
+        // A backslash in a file's name stands for itself.
+        "prefix app\nfile a\\n x\nfolder b\\\nstart 0\n|",
+        "open app\nfile a\\n 1 x\nfile app 0\nfolder b\\\n|",
+        // Names in byte order, empty files without a space behind the length.
+        "prefix app\nfile b\nfile B \nfolder \u{e4}\nfile a 1\nstart 0\n|",
+        "open app\nfile B 0\nfile a 1 1\nfile app 0\nfile b 0\nfolder \u{e4}\n|",
+        // The last of several lines holds, and an empty text is none.
+        "rotation daily\nrotation never\nprefix a\nprefix\nsuffix b\nsuffix log\nstart 0\n|",
+        "open log\nfile log 0\n|",
+        "prefix \nsuffix log\nstart 0\n|",
+        "open log\nfile log 0\n|",
+        // Further spaces, tabs and carriage returns belong to the text, and so does a byte of zero.
+        "prefix app\nstart 0\nput 5  a\nwrite b \nwrite \t\u{e4}\u{20ac}\r\nwrite \0\n|",
+        "open app\nnone ok 2\nok 2\nok 7\nok 1\nfile app 12  ab \t\u{e4}\u{20ac}\r\0\n|",
+        // The oldest log files go by their names, and by their creation moments where these are known.
+        "rotation hourly\nprefix app\nmax 2\nfile app.2020-02-01-08 x\nfile app.2020-02-01-09 y\nfile app.notes z\nstart 1580551260\n|",
+        "open app.2020-02-01-10\nfile app.2020-02-01-09 1 y\nfile app.2020-02-01-10 0\nfile app.notes 1 z\n|",
+        "rotation hourly\nprefix app\nmax 2\ncreated 2\nfile app.2020-02-01-08 x\ncreated 3\nfile app.2020-02-01-09 y\ncreated 1\nfile app.notes z\nstart 1580551260\n|",
+        "open app.2020-02-01-10\nfile app.2020-02-01-09 1 y\nfile app.2020-02-01-10 0\n|",
+        // Creation moments may be unknown again, and lie before 1970; the files of the run carry the last one.
+        "rotation hourly\nprefix app\nmax 0002\ncreated 5\nfile app.a x\ncreated none\nfile app.b y\ncreated -170141183460469231731687303715884105728\nfile app.c z\nstart 1580551260\nsee 1580554800\n|",
+        "open app.2020-02-01-10\nopened\nfile app.2020-02-01-11 0\nfile app.a 1 x\nfile app.b 1 y\n|",
+        // The last maximum holds, and 0 is none.
+        "rotation hourly\nprefix app\nmax 1\nmax 0\nfile app.2020-02-01-09 y\nstart 1580551260\n|",
+        "open app.2020-02-01-10\nfile app.2020-02-01-09 1 y\nfile app.2020-02-01-10 0\n|",
+        // The file that is open goes too where one file is kept.
+        "rotation hourly\nprefix app\nmax 1\nfile other x\nfolder app.d\nstart 1580551260\nput 1580551261 a\nput 1580554800 b\n|",
+        "open app.2020-02-01-10\nnone ok 1\nopened ok 1\nfile app.2020-02-01-11 1 b\nfolder app.d\nfile other 1 x\n|",
+        // With neither prefix nor suffix only dates are log files.
+        "rotation daily\nmax 1\nfile 2020-01-31 x\nfile 2020-01-32 y\nfile notes z\nstart 1580551260\n|",
+        "open 2020-02-01\nfile 2020-01-32 1 y\nfile 2020-02-01 0\nfile notes 1 z\n|",
+        // The link follows the newest file, in place of what link stood there; its text may be empty.
+        "rotation hourly\nprefix app\nlink latest.log\nlink-at latest.log old\\\nlink-at other x\nstart 1580551260\nput 1580554860 test\\n\n|",
+        "open app.2020-02-01-10\nopened ok 5\nfile app.2020-02-01-10 0\nfile app.2020-02-01-11 5 test\\n\nlink latest.log app.2020-02-01-11\nlink other x\n|",
+        "prefix app\nlink a\nlink\nlink-at a /b/../c\nstart 0\n|",
+        "open app\nlink a /b/../c\nfile app 0\n|",
+        // A folder that is absent is made.
+        "absent\nrotation hourly\nprefix app\nlink latest\nstart 1580551260\n|",
+        "open app.2020-02-01-10\nfile app.2020-02-01-10 0\nlink latest app.2020-02-01-10\n|",
+        // Calls that fail: the restart that keeps one file loses its name, and its body goes on.
+        "rotation hourly\nprefix app\nmax 1\nfile app.2020-02-01-10 x\nfail 6\nfail 8\nstart 1580551260\nput 1580554800 y\n|",
+        "open app.2020-02-01-10\nfailed ok 1\n|",
+        // A switch whose opening fails twice, and the one after it.
+        "rotation hourly\nprefix app\nfail 2\nfail 4\nstart 1580551260\nput 1580554800 a\nput 1580556600 b\nput 1580558400 c\n|",
+        "open app.2020-02-01-10\nfailed ok 1\nnone ok 1\nopened ok 1\nfile app.2020-02-01-10 2 ab\nfile app.2020-02-01-12 1 c\n|",
+        // An append that fails, a flush that fails, and an append that falls short; the lesser of two counts holds.
+        "prefix app\nfail 0002\nfail 3\nshort 4 3\nshort 4 2\nshort 5 0\nfail 6\nshort 6 1\nstart 0\nwrite a\nflush\nwrite hello\nwrite b\nwrite c\n|",
+        "open app\nerr\nerr\nok 2\nok 0\nerr\nfile app 2 he\n|",
+        // Numbers may begin with zeros, and lie before 1970.
+        "start -0001\n|",
+        "open 1969-12-31\nfile 1969-12-31 0\n|",
+        "prefix app\nstart 0000001580551260\nsee 9223372036854775807\nsee -9223372036854775808\n|",
+        "open app\nnone\nnone\nfile app 0\n|",
+        // A boundary before the epoch, the Sunday that ends a week, and the end of a minute.
+        "rotation daily\nstart -1\nput -1 v\nput 0 w\n|",
+        "open 1969-12-31\nnone ok 1\nopened ok 1\nfile 1969-12-31 1 v\nfile 1970-01-01 1 w\n|",
+        "rotation weekly\nprefix my_prefix\nsuffix log\nstart 1739786460\nput 1740268799 x\nput 1740268800 y\n|",
+        "open my_prefix.2025-02-16.log\nnone ok 1\nopened ok 1\nfile my_prefix.2025-02-16.log 1 x\nfile my_prefix.2025-02-23.log 1 y\n|",
+        "rotation minutely\nsuffix log\nstart 1580551260\nput 1580551319 x\nput 1580551320 y\n|",
+        "open 2020-02-01-10-01.log\nnone ok 1\nopened ok 1\nfile 2020-02-01-10-01.log 1 x\nfile 2020-02-01-10-02.log 1 y\n|",
+        // Moments outside the years 1 to 9998 count as not seen.
+        "rotation daily\nstart 253370764799\nput 253370764800 x\n|",
+        "open 9998-12-31\nnone ok 1\nfile 9998-12-31 1 x\n|",
+        "rotation hourly\nprefix app\nstart 1580551260\nput 253370764800 x\nput -62135596801 y\nput 1580554800 z\nput 9223372036854775807 w\n|",
+        "open app.2020-02-01-10\nnone ok 1\nnone ok 1\nopened ok 1\nnone ok 1\nfile app.2020-02-01-10 2 xy\nfile app.2020-02-01-11 2 zw\n|",
+        // A write and a flush look at no clock.
+        "rotation hourly\nprefix app\nfile app.2020-02-01-10 held\nstart 1580551260\nsee 1580554799\nwrite one\nflush\nsee 1580554800\n|",
+        "open app.2020-02-01-10\nnone\nok 3\nok\nopened\nfile app.2020-02-01-10 7 heldone\nfile app.2020-02-01-11 0\n|",
+        // A date is no name of a log under never with a prefix, nor is one without an hour under hourly.
+        "prefix app\nlink app.2020-02-01\nstart 1580551260\n|",
+        "open app\nfile app 0\nlink app.2020-02-01 app\n|",
+        "rotation hourly\nprefix app\nlink app.2020-02-01\nstart 1580551260\n|",
+        "open app.2020-02-01-10\nlink app.2020-02-01 app.2020-02-01-10\nfile app.2020-02-01-10 0\n|",
+        // A run keeps the newest files.
+        "rotation hourly\nprefix test\nmax 2\nstart 1580551260\nput 1580551260 1\\n\nput 1580551261 1\\n\nput 1580554861 2\\n\nput 1580554862 2\\n\nput 1580558462 3\\n\nput 1580558463 3\\n\n|",
+        "open test.2020-02-01-10\nnone ok 2\nnone ok 2\nopened ok 2\nnone ok 2\nopened ok 2\nnone ok 2\nfile test.2020-02-01-11 4 2\\n2\\n\nfile test.2020-02-01-12 4 3\\n3\\n\n|",
+        // The period's own file is a candidate: it stays as the newest, and one file less is left.
+        "rotation hourly\nprefix app\nmax 2\nfile app.2020-02-01-09 p\nfile app.2020-02-01-10 q\nstart 1580551260\n|",
+        "open app.2020-02-01-10\nfile app.2020-02-01-10 1 q\n|",
+        "rotation hourly\nprefix app\nmax 1\nfile app.2020-02-01-10 x\nstart 1580551260\n|",
+        "open app.2020-02-01-10\nfile app.2020-02-01-10 0\n|",
+        // A listing that fails, and one of three removals.
+        "rotation hourly\nprefix app\nmax 1\nfile app.2020-02-01-07\nfile app.2020-02-01-08\nfail 1\nfail 4\nstart 1580551260\nsee 1580554800\n|",
+        "open app.2020-02-01-10\nopened\nfile app.2020-02-01-07 0\nfile app.2020-02-01-11 0\n|",
+        // Between boundaries nothing is listed: calls 3 to 5 are the appends.
+        "rotation hourly\nprefix app\nmax 2\nfail 3\nfail 5\nstart 1580551260\nput 1580551260 a\nput 1580551261 b\nput 1580551262 c\n|",
+        "open app.2020-02-01-10\nnone err\nnone ok 1\nnone err\nfile app.2020-02-01-10 1 b\n|",
+        // A fault of the file that gives way is no fault of the switch.
+        "rotation hourly\nprefix app\nfail 3\nstart 1580551260\nput 1580554800 a\n|",
+        "open app.2020-02-01-10\nopened ok 1\nfile app.2020-02-01-10 0\nfile app.2020-02-01-11 1 a\n|",
     ),
-    // A file that is there is appended to.
-    (
-        "rotation hourly\nprefix app\nfile app.2020-02-01-10 x\nstart 1580551260\nput 1580551261 y\n",
-        "open app.2020-02-01-10\nnone ok 1\nfile app.2020-02-01-10 2 xy\n",
-    ),
-    // No rotation is never, which keeps the day of the opening as its name.
-    (
-        "start 1580551260\nput 1580724060 x",
-        "open 2020-02-01\nnone ok 1\nfile 2020-02-01 1 x\n",
-    ),
-    // The names of all rotations.
-    (
-        "rotation weekly\nprefix my_prefix\nsuffix log\nstart 1739786460\n",
-        "open my_prefix.2025-02-16.log\nfile my_prefix.2025-02-16.log 0\n",
-    ),
-    (
-        "rotation daily\nprefix my_prefix\nsuffix log\nstart 1739786460\n",
-        "open my_prefix.2025-02-17.log\nfile my_prefix.2025-02-17.log 0\n",
-    ),
-    (
-        "rotation hourly\nprefix my_prefix\nsuffix log\nstart 1739786460\n",
-        "open my_prefix.2025-02-17-10.log\nfile my_prefix.2025-02-17-10.log 0\n",
-    ),
-    (
-        "rotation minutely\nprefix my_prefix\nsuffix log\nstart 1739786460\n",
-        "open my_prefix.2025-02-17-10-01.log\nfile my_prefix.2025-02-17-10-01.log 0\n",
-    ),
-    (
-        "rotation never\nprefix my_prefix\nsuffix log\nstart 1739786460\n",
-        "open my_prefix.log\nfile my_prefix.log 0\n",
-    ),
-    // Each step's answer.
-    (
-        "rotation hourly\nprefix app\nstart 1580551260\nsee 1580551261\nwrite ab\nwrite\nput 1580551262\nflush\nsee 1580554800\n",
-        "open app.2020-02-01-10\nnone\nok 2\nok 0\nnone ok 0\nok\nopened\nfile app.2020-02-01-10 2 ab\nfile app.2020-02-01-11 0\n",
-    ),
-    // A switch that fails keeps the file, and isn't tried again in the same hour.
-    (
-        "rotation hourly\nprefix app\nfolder app.2020-02-01-11\nstart 1580551260\nput 1580554800 a\nsee 1580554801\nsee 1580558400\n",
-        "open app.2020-02-01-10\nfailed ok 1\nnone\nopened\nfile app.2020-02-01-10 1 a\nfolder app.2020-02-01-11\nfile app.2020-02-01-12 0\n",
-    ),
-    // Escapes stand for a newline and a backslash, and are printed again.
-    (
-        "prefix app\nfile notes a\\nb\\\\c\nstart 0\nwrite \\\\n\\n\nput 0 \\n\n",
-        "open app\nok 3\nnone ok 1\nfile app 4 \\\\n\\n\\n\nfile notes 5 a\\nb\\\\c\n",
-    ),
-    ("prefix a\\\\b\nstart 0\n", "open a\\b\nfile a\\b 0\n"),
-    // A backslash in a file's name stands for itself.
-    (
-        "prefix app\nfile a\\n x\nfolder b\\\nstart 0\n",
-        "open app\nfile a\\n 1 x\nfile app 0\nfolder b\\\n",
-    ),
-    // Names in byte order, empty files without a space behind the length.
-    (
-        "prefix app\nfile b\nfile B \nfolder \u{e4}\nfile a 1\nstart 0\n",
-        "open app\nfile B 0\nfile a 1 1\nfile app 0\nfile b 0\nfolder \u{e4}\n",
-    ),
-    // The last of several lines holds, and an empty text is none.
-    (
-        "rotation daily\nrotation never\nprefix a\nprefix\nsuffix b\nsuffix log\nstart 0\n",
-        "open log\nfile log 0\n",
-    ),
-    ("prefix \nsuffix log\nstart 0\n", "open log\nfile log 0\n"),
-    // Further spaces, tabs and carriage returns belong to the text, and so does a byte of zero.
-    (
-        "prefix app\nstart 0\nput 5  a\nwrite b \nwrite \t\u{e4}\u{20ac}\r\nwrite \0\n",
-        "open app\nnone ok 2\nok 2\nok 7\nok 1\nfile app 12  ab \t\u{e4}\u{20ac}\r\0\n",
-    ),
-    // The oldest log files go by their names, and by their creation moments where these are known.
-    (
-        "rotation hourly\nprefix app\nmax 2\nfile app.2020-02-01-08 x\nfile app.2020-02-01-09 y\nfile app.notes z\nstart 1580551260\n",
-        "open app.2020-02-01-10\nfile app.2020-02-01-09 1 y\nfile app.2020-02-01-10 0\nfile app.notes 1 z\n",
-    ),
-    (
-        "rotation hourly\nprefix app\nmax 2\ncreated 2\nfile app.2020-02-01-08 x\ncreated 3\nfile app.2020-02-01-09 y\ncreated 1\nfile app.notes z\nstart 1580551260\n",
-        "open app.2020-02-01-10\nfile app.2020-02-01-09 1 y\nfile app.2020-02-01-10 0\n",
-    ),
-    // Creation moments may be unknown again, and lie before 1970; the files of the run carry the last one.
-    (
-        "rotation hourly\nprefix app\nmax 0002\ncreated 5\nfile app.a x\ncreated none\nfile app.b y\ncreated -170141183460469231731687303715884105728\nfile app.c z\nstart 1580551260\nsee 1580554800\n",
-        "open app.2020-02-01-10\nopened\nfile app.2020-02-01-11 0\nfile app.a 1 x\nfile app.b 1 y\n",
-    ),
-    // The last maximum holds, and 0 is none.
-    (
-        "rotation hourly\nprefix app\nmax 1\nmax 0\nfile app.2020-02-01-09 y\nstart 1580551260\n",
-        "open app.2020-02-01-10\nfile app.2020-02-01-09 1 y\nfile app.2020-02-01-10 0\n",
-    ),
-    // The file that is open goes too where one file is kept.
-    (
-        "rotation hourly\nprefix app\nmax 1\nfile other x\nfolder app.d\nstart 1580551260\nput 1580551261 a\nput 1580554800 b\n",
-        "open app.2020-02-01-10\nnone ok 1\nopened ok 1\nfile app.2020-02-01-11 1 b\nfolder app.d\nfile other 1 x\n",
-    ),
-    // With neither prefix nor suffix only dates are log files.
-    (
-        "rotation daily\nmax 1\nfile 2020-01-31 x\nfile 2020-01-32 y\nfile notes z\nstart 1580551260\n",
-        "open 2020-02-01\nfile 2020-01-32 1 y\nfile 2020-02-01 0\nfile notes 1 z\n",
-    ),
-    // The link follows the newest file, in place of what link stood there; its text may be empty.
-    (
-        "rotation hourly\nprefix app\nlink latest.log\nlink-at latest.log old\\\nlink-at other x\nstart 1580551260\nput 1580554860 test\\n\n",
-        "open app.2020-02-01-10\nopened ok 5\nfile app.2020-02-01-10 0\nfile app.2020-02-01-11 5 test\\n\nlink latest.log app.2020-02-01-11\nlink other x\n",
-    ),
-    (
-        "prefix app\nlink a\nlink\nlink-at a /b/../c\nstart 0\n",
-        "open app\nlink a /b/../c\nfile app 0\n",
-    ),
-    // A folder that is absent is made.
-    (
-        "absent\nrotation hourly\nprefix app\nlink latest\nstart 1580551260\n",
-        "open app.2020-02-01-10\nfile app.2020-02-01-10 0\nlink latest app.2020-02-01-10\n",
-    ),
-    // Calls that fail: the restart that keeps one file loses its name, and its body goes on.
-    (
-        "rotation hourly\nprefix app\nmax 1\nfile app.2020-02-01-10 x\nfail 6\nfail 8\nstart 1580551260\nput 1580554800 y\n",
-        "open app.2020-02-01-10\nfailed ok 1\n",
-    ),
-    // A switch whose opening fails twice, and the one after it.
-    (
-        "rotation hourly\nprefix app\nfail 2\nfail 4\nstart 1580551260\nput 1580554800 a\nput 1580556600 b\nput 1580558400 c\n",
-        "open app.2020-02-01-10\nfailed ok 1\nnone ok 1\nopened ok 1\nfile app.2020-02-01-10 2 ab\nfile app.2020-02-01-12 1 c\n",
-    ),
-    // An append that fails, a flush that fails, and an append that falls short; the lesser of two counts holds.
-    (
-        "prefix app\nfail 0002\nfail 3\nshort 4 3\nshort 4 2\nshort 5 0\nfail 6\nshort 6 1\nstart 0\nwrite a\nflush\nwrite hello\nwrite b\nwrite c\n",
-        "open app\nerr\nerr\nok 2\nok 0\nerr\nfile app 2 he\n",
-    ),
-    // Numbers may begin with zeros, and lie before 1970.
-    ("start -0001\n", "open 1969-12-31\nfile 1969-12-31 0\n"),
-    (
-        "prefix app\nstart 0000001580551260\nsee 9223372036854775807\nsee -9223372036854775808\n",
-        "open app\nnone\nnone\nfile app 0\n",
-    ),
-    // A boundary before the epoch, the Sunday that ends a week, and the end of a minute.
-    (
-        "rotation daily\nstart -1\nput -1 v\nput 0 w\n",
-        "open 1969-12-31\nnone ok 1\nopened ok 1\nfile 1969-12-31 1 v\nfile 1970-01-01 1 w\n",
-    ),
-    (
-        "rotation weekly\nprefix my_prefix\nsuffix log\nstart 1739786460\nput 1740268799 x\nput 1740268800 y\n",
-        "open my_prefix.2025-02-16.log\nnone ok 1\nopened ok 1\nfile my_prefix.2025-02-16.log 1 x\nfile my_prefix.2025-02-23.log 1 y\n",
-    ),
-    (
-        "rotation minutely\nsuffix log\nstart 1580551260\nput 1580551319 x\nput 1580551320 y\n",
-        "open 2020-02-01-10-01.log\nnone ok 1\nopened ok 1\nfile 2020-02-01-10-01.log 1 x\nfile 2020-02-01-10-02.log 1 y\n",
-    ),
-    // Moments outside the years 1 to 9998 count as not seen.
-    (
-        "rotation daily\nstart 253370764799\nput 253370764800 x\n",
-        "open 9998-12-31\nnone ok 1\nfile 9998-12-31 1 x\n",
-    ),
-    (
-        "rotation hourly\nprefix app\nstart 1580551260\nput 253370764800 x\nput -62135596801 y\nput 1580554800 z\nput 9223372036854775807 w\n",
-        "open app.2020-02-01-10\nnone ok 1\nnone ok 1\nopened ok 1\nnone ok 1\nfile app.2020-02-01-10 2 xy\nfile app.2020-02-01-11 2 zw\n",
-    ),
-    // A write and a flush look at no clock.
-    (
-        "rotation hourly\nprefix app\nfile app.2020-02-01-10 held\nstart 1580551260\nsee 1580554799\nwrite one\nflush\nsee 1580554800\n",
-        "open app.2020-02-01-10\nnone\nok 3\nok\nopened\nfile app.2020-02-01-10 7 heldone\nfile app.2020-02-01-11 0\n",
-    ),
-    // A date is no name of a log under never with a prefix, nor is one without an hour under hourly.
-    (
-        "prefix app\nlink app.2020-02-01\nstart 1580551260\n",
-        "open app\nfile app 0\nlink app.2020-02-01 app\n",
-    ),
-    (
-        "rotation hourly\nprefix app\nlink app.2020-02-01\nstart 1580551260\n",
-        "open app.2020-02-01-10\nlink app.2020-02-01 app.2020-02-01-10\nfile app.2020-02-01-10 0\n",
-    ),
-    // A run keeps the newest files.
-    (
-        "rotation hourly\nprefix test\nmax 2\nstart 1580551260\nput 1580551260 1\\n\nput 1580551261 1\\n\nput 1580554861 2\\n\nput 1580554862 2\\n\nput 1580558462 3\\n\nput 1580558463 3\\n\n",
-        "open test.2020-02-01-10\nnone ok 2\nnone ok 2\nopened ok 2\nnone ok 2\nopened ok 2\nnone ok 2\nfile test.2020-02-01-11 4 2\\n2\\n\nfile test.2020-02-01-12 4 3\\n3\\n\n",
-    ),
-    // The period's own file is a candidate: it stays as the newest, and one file less is left.
-    (
-        "rotation hourly\nprefix app\nmax 2\nfile app.2020-02-01-09 p\nfile app.2020-02-01-10 q\nstart 1580551260\n",
-        "open app.2020-02-01-10\nfile app.2020-02-01-10 1 q\n",
-    ),
-    (
-        "rotation hourly\nprefix app\nmax 1\nfile app.2020-02-01-10 x\nstart 1580551260\n",
-        "open app.2020-02-01-10\nfile app.2020-02-01-10 0\n",
-    ),
-    // A listing that fails, and one of three removals.
-    (
-        "rotation hourly\nprefix app\nmax 1\nfile app.2020-02-01-07\nfile app.2020-02-01-08\nfail 1\nfail 4\nstart 1580551260\nsee 1580554800\n",
-        "open app.2020-02-01-10\nopened\nfile app.2020-02-01-07 0\nfile app.2020-02-01-11 0\n",
-    ),
-    // Between boundaries nothing is listed: calls 3 to 5 are the appends.
-    (
-        "rotation hourly\nprefix app\nmax 2\nfail 3\nfail 5\nstart 1580551260\nput 1580551260 a\nput 1580551261 b\nput 1580551262 c\n",
-        "open app.2020-02-01-10\nnone err\nnone ok 1\nnone err\nfile app.2020-02-01-10 1 b\n",
-    ),
-    // A fault of the file that gives way is no fault of the switch.
-    (
-        "rotation hourly\nprefix app\nfail 3\nstart 1580551260\nput 1580554800 a\n",
-        "open app.2020-02-01-10\nopened ok 1\nfile app.2020-02-01-10 0\nfile app.2020-02-01-11 1 a\n",
-    ),
-];
+};
 
 /// Scripts with a queue whose log is opened, and what is printed.
-pub static QUEUED: [(&str, &str); 20] = [
-    // A full queue drops in lossy mode, and counts it.
-    (
-        "rotation hourly\nprefix app\nqueue 1 lossy\nstart 1580551260\noffer 1 a\noffer 1 b\nwork 1580551260\nwork 1580551260\nwork 1580551260\nwork 1580551260\n",
-        "open app.2020-02-01-10\naccepted 1\nfull\ntook 1\nwrote none ok 1\nempty\nflushed\nfile app.2020-02-01-10 1 a\ncounts 1 1 0 0 1\n",
+pub static QUEUED: Table = Table {
+    rows: 20,
+    text: concat!(
+        // A full queue drops in lossy mode, and counts it.
+        "rotation hourly\nprefix app\nqueue 1 lossy\nstart 1580551260\noffer 1 a\noffer 1 b\nwork 1580551260\nwork 1580551260\nwork 1580551260\nwork 1580551260\n|",
+        "open app.2020-02-01-10\naccepted 1\nfull\ntook 1\nwrote none ok 1\nempty\nflushed\nfile app.2020-02-01-10 1 a\ncounts 1 1 0 0 1\n|",
+        // What lies behind the shutdown is left, and two flushes come before the end.
+        "rotation hourly\nprefix app\nqueue 3 lossy\nstart 1580551260\noffer 1 a\nshut\noffer 2 b\nwork 1580551260\nwork 1580551260\nwork 1580551260\nwork 1580551260\nwork 1580551260\nwork 1580551260\noffer 2 c\n|",
+        "open app.2020-02-01-10\naccepted 1\nsent\naccepted 2\ntook 1\nwrote none ok 1\nshutdown\nflushed\nflushed\nended\nclosed\nfile app.2020-02-01-10 1 a\ncounts 2 1 0 1 1\n|",
+        // The rest of a line goes to a file of its own where a boundary lies between its writes; a take looks at no clock.
+        "rotation hourly\nprefix app\nshort 2 1\nqueue 1 waiting\nstart 1580551260\noffer 1 ab\nwork 1580558400\nwork 1580551260\nwork 1580554800\n|",
+        "open app.2020-02-01-10\naccepted 1\ntook 1\nwrote none ok 1\nwrote opened ok 1\nfile app.2020-02-01-10 1 a\nfile app.2020-02-01-11 1 b\ncounts 1 1 0 0 0\n|",
+        // A queue of no line has room while the worker waits, for one.
+        "prefix app\nqueue 0 lossy\nstart 0\noffer 1 a\nwork 0\noffer 2 b\noffer 3 c\nwork 0\nwork 0\n|",
+        "open app\nfull\nempty\naccepted 1\nfull\ntook 1\nwrote none ok 1\nfile app 1 b\ncounts 1 1 0 0 2\n|",
+        // It has room for a shutdown in the same way.
+        "prefix app\nqueue 0 waiting\nstart 0\nshut\nwork 0\nshut\nshut\nwork 0\nshut\n|",
+        "open app\nfull\nempty\nsent\nalready\nshutdown\nclosed\nfile app 0\ncounts 0 0 0 0 0\n|",
+        // Senders come and go; what lies in the queue is taken after the last of them.
+        "prefix app\nqueue 2 lossy\nstart 0\nadd\ndrop\ndrop\noffer 1 a\nwork 0\nwork 0\nwork 0\nwork 0\nwork 0\nwork 0\nwork 0\noffer 1 b\nshut\n|",
+        "open app\nsenders 2\nsenders 1\nsenders 0\naccepted 1\ntook 1\nwrote none ok 1\ngone\nflushed\nflushed\nended\nended\nclosed\nclosed\nfile app 1 a\ncounts 1 1 0 0 1\n|",
+        // There are no fewer senders than none.
+        "prefix app\nqueue 2 lossy\nstart 0\ndrop\ndrop\nadd\n|",
+        "open app\nsenders 0\nsenders 0\nsenders 1\nfile app 0\ncounts 0 0 0 0 0\n|",
+        // A shutdown takes a place, which may be missing.
+        "prefix app\nqueue 1 lossy\nstart 0\noffer 7 a\nshut\nwork 0\nshut\noffer 7 b\nshut\nwork 0\nwork 0\nshut\n|",
+        "open app\naccepted 1\nfull\ntook 1\nsent\nfull\nalready\nwrote none ok 1\nshutdown\nclosed\nfile app 1 a\ncounts 1 1 0 0 1\n|",
+        // Where senders are to wait, nothing is counted as dropped.
+        "prefix app\nqueue 1 waiting\nstart 0\noffer 1 a\noffer 1 b\noffer 1 c\n|",
+        "open app\naccepted 1\nfull\nfull\nfile app 0\ncounts 1 0 1 0 0\n|",
+        // The last `queue` holds, wherever it stands among what is set up.
+        "queue 5 lossy\nprefix app\nqueue 1 waiting\nstart 0\noffer 1 a\noffer 1 b\n|",
+        "open app\naccepted 1\nfull\nfile app 0\ncounts 1 0 1 0 0\n|",
+        "queue 0 waiting\nprefix app\nqueue 002 lossy\nstart 0\noffer 1 a\noffer 1 b\noffer 1 c\n|",
+        "open app\naccepted 1\naccepted 2\nfull\nfile app 0\ncounts 2 0 2 0 1\n|",
+        // No step at all.
+        "prefix app\nqueue 1 lossy\nstart 0\n|",
+        "open app\nfile app 0\ncounts 0 0 0 0 0\n|",
+        // The folder is absent at first, and `queue` stands behind that line.
+        "absent\nqueue 1 lossy\nprefix app\nstart 0\n|",
+        "open app\nfile app 0\ncounts 0 0 0 0 0\n|",
+        // The greatest label, and an empty line: nothing is written of it.
+        "prefix app\nqueue 2 lossy\nstart 0\noffer 18446744073709551615 \noffer 0\nwork 0\nwork 0\n|",
+        "open app\naccepted 1\naccepted 2\ntook 1\ntook 2\nfile app 0\ncounts 2 2 0 0 0\n|",
+        // Spaces and escapes of a line.
+        "prefix app\nqueue 2 lossy\nstart 0\noffer 007  a\\n\\\\ \nwork 0\nwork 0\n|",
+        "open app\naccepted 1\ntook 1\nwrote none ok 5\nfile app 5  a\\n\\\\ \ncounts 1 1 0 0 0\n|",
+        // A worker that finds nothing at first waits, and flushes nothing then.
+        "prefix app\nqueue 1 lossy\nstart 0\nwork 0\nwork 0\n|",
+        "open app\nempty\nempty\nfile app 0\ncounts 0 0 0 0 0\n|",
+        // A write that fails gives up its line, and the next one is taken.
+        "prefix app\nfail 2\nqueue 2 lossy\nstart 0\noffer 1 a\noffer 1 b\nwork 0\nwork 0\nwork 0\nwork 0\n|",
+        "open app\naccepted 1\naccepted 2\ntook 1\nwrote none err\ntook 2\nwrote none ok 1\nfile app 1 b\ncounts 2 2 0 0 0\n|",
+        // So does a write that takes no byte.
+        "prefix app\nshort 2 0\nqueue 2 lossy\nstart 0\noffer 1 a\noffer 1 b\nwork 0\nwork 0\nwork 0\nwork 0\n|",
+        "open app\naccepted 1\naccepted 2\ntook 1\nwrote none ok 0\ntook 2\nwrote none ok 1\nfile app 1 b\ncounts 2 2 0 0 0\n|",
+        // A flush that fails before the end, which comes nevertheless.
+        "prefix app\nfail 2\nqueue 1 lossy\nstart 0\nshut\nwork 0\nwork 0\nwork 0\nwork 0\n|",
+        "open app\nsent\nshutdown\nflush err\nflushed\nended\nfile app 0\ncounts 0 0 0 0 0\n|",
+        // A switch that fails at a write.
+        "rotation hourly\nprefix app\nfolder app.2020-02-01-11\nqueue 1 lossy\nstart 1580551260\noffer 1 a\nwork 0\nwork 1580554800\n|",
+        "open app.2020-02-01-10\naccepted 1\ntook 1\nwrote failed ok 1\nfile app.2020-02-01-10 1 a\nfolder app.2020-02-01-11\ncounts 1 1 0 0 0\n|",
     ),
-    // What lies behind the shutdown is left, and two flushes come before the end.
-    (
-        "rotation hourly\nprefix app\nqueue 3 lossy\nstart 1580551260\noffer 1 a\nshut\noffer 2 b\nwork 1580551260\nwork 1580551260\nwork 1580551260\nwork 1580551260\nwork 1580551260\nwork 1580551260\noffer 2 c\n",
-        "open app.2020-02-01-10\naccepted 1\nsent\naccepted 2\ntook 1\nwrote none ok 1\nshutdown\nflushed\nflushed\nended\nclosed\nfile app.2020-02-01-10 1 a\ncounts 2 1 0 1 1\n",
-    ),
-    // The rest of a line goes to a file of its own where a boundary lies between its writes; a take looks at no clock.
-    (
-        "rotation hourly\nprefix app\nshort 2 1\nqueue 1 waiting\nstart 1580551260\noffer 1 ab\nwork 1580558400\nwork 1580551260\nwork 1580554800\n",
-        "open app.2020-02-01-10\naccepted 1\ntook 1\nwrote none ok 1\nwrote opened ok 1\nfile app.2020-02-01-10 1 a\nfile app.2020-02-01-11 1 b\ncounts 1 1 0 0 0\n",
-    ),
-    // A queue of no line has room while the worker waits, for one.
-    (
-        "prefix app\nqueue 0 lossy\nstart 0\noffer 1 a\nwork 0\noffer 2 b\noffer 3 c\nwork 0\nwork 0\n",
-        "open app\nfull\nempty\naccepted 1\nfull\ntook 1\nwrote none ok 1\nfile app 1 b\ncounts 1 1 0 0 2\n",
-    ),
-    // It has room for a shutdown in the same way.
-    (
-        "prefix app\nqueue 0 waiting\nstart 0\nshut\nwork 0\nshut\nshut\nwork 0\nshut\n",
-        "open app\nfull\nempty\nsent\nalready\nshutdown\nclosed\nfile app 0\ncounts 0 0 0 0 0\n",
-    ),
-    // Senders come and go; what lies in the queue is taken after the last of them.
-    (
-        "prefix app\nqueue 2 lossy\nstart 0\nadd\ndrop\ndrop\noffer 1 a\nwork 0\nwork 0\nwork 0\nwork 0\nwork 0\nwork 0\nwork 0\noffer 1 b\nshut\n",
-        "open app\nsenders 2\nsenders 1\nsenders 0\naccepted 1\ntook 1\nwrote none ok 1\ngone\nflushed\nflushed\nended\nended\nclosed\nclosed\nfile app 1 a\ncounts 1 1 0 0 1\n",
-    ),
-    // There are no fewer senders than none.
-    (
-        "prefix app\nqueue 2 lossy\nstart 0\ndrop\ndrop\nadd\n",
-        "open app\nsenders 0\nsenders 0\nsenders 1\nfile app 0\ncounts 0 0 0 0 0\n",
-    ),
-    // A shutdown takes a place, which may be missing.
-    (
-        "prefix app\nqueue 1 lossy\nstart 0\noffer 7 a\nshut\nwork 0\nshut\noffer 7 b\nshut\nwork 0\nwork 0\nshut\n",
-        "open app\naccepted 1\nfull\ntook 1\nsent\nfull\nalready\nwrote none ok 1\nshutdown\nclosed\nfile app 1 a\ncounts 1 1 0 0 1\n",
-    ),
-    // Where senders are to wait, nothing is counted as dropped.
-    (
-        "prefix app\nqueue 1 waiting\nstart 0\noffer 1 a\noffer 1 b\noffer 1 c\n",
-        "open app\naccepted 1\nfull\nfull\nfile app 0\ncounts 1 0 1 0 0\n",
-    ),
-    // The last `queue` holds, wherever it stands among what is set up.
-    (
-        "queue 5 lossy\nprefix app\nqueue 1 waiting\nstart 0\noffer 1 a\noffer 1 b\n",
-        "open app\naccepted 1\nfull\nfile app 0\ncounts 1 0 1 0 0\n",
-    ),
-    (
-        "queue 0 waiting\nprefix app\nqueue 002 lossy\nstart 0\noffer 1 a\noffer 1 b\noffer 1 c\n",
-        "open app\naccepted 1\naccepted 2\nfull\nfile app 0\ncounts 2 0 2 0 1\n",
-    ),
-    // No step at all.
-    (
-        "prefix app\nqueue 1 lossy\nstart 0\n",
-        "open app\nfile app 0\ncounts 0 0 0 0 0\n",
-    ),
-    // The folder is absent at first, and `queue` stands behind that line.
-    (
-        "absent\nqueue 1 lossy\nprefix app\nstart 0\n",
-        "open app\nfile app 0\ncounts 0 0 0 0 0\n",
-    ),
-    // The greatest label, and an empty line: nothing is written of it.
-    (
-        "prefix app\nqueue 2 lossy\nstart 0\noffer 18446744073709551615 \noffer 0\nwork 0\nwork 0\n",
-        "open app\naccepted 1\naccepted 2\ntook 1\ntook 2\nfile app 0\ncounts 2 2 0 0 0\n",
-    ),
-    // Spaces and escapes of a line.
-    (
-        "prefix app\nqueue 2 lossy\nstart 0\noffer 007  a\\n\\\\ \nwork 0\nwork 0\n",
-        "open app\naccepted 1\ntook 1\nwrote none ok 5\nfile app 5  a\\n\\\\ \ncounts 1 1 0 0 0\n",
-    ),
-    // A worker that finds nothing at first waits, and flushes nothing then.
-    (
-        "prefix app\nqueue 1 lossy\nstart 0\nwork 0\nwork 0\n",
-        "open app\nempty\nempty\nfile app 0\ncounts 0 0 0 0 0\n",
-    ),
-    // A write that fails gives up its line, and the next one is taken.
-    (
-        "prefix app\nfail 2\nqueue 2 lossy\nstart 0\noffer 1 a\noffer 1 b\nwork 0\nwork 0\nwork 0\nwork 0\n",
-        "open app\naccepted 1\naccepted 2\ntook 1\nwrote none err\ntook 2\nwrote none ok 1\nfile app 1 b\ncounts 2 2 0 0 0\n",
-    ),
-    // So does a write that takes no byte.
-    (
-        "prefix app\nshort 2 0\nqueue 2 lossy\nstart 0\noffer 1 a\noffer 1 b\nwork 0\nwork 0\nwork 0\nwork 0\n",
-        "open app\naccepted 1\naccepted 2\ntook 1\nwrote none ok 0\ntook 2\nwrote none ok 1\nfile app 1 b\ncounts 2 2 0 0 0\n",
-    ),
-    // A flush that fails before the end, which comes nevertheless.
-    (
-        "prefix app\nfail 2\nqueue 1 lossy\nstart 0\nshut\nwork 0\nwork 0\nwork 0\nwork 0\n",
-        "open app\nsent\nshutdown\nflush err\nflushed\nended\nfile app 0\ncounts 0 0 0 0 0\n",
-    ),
-    // A switch that fails at a write.
-    (
-        "rotation hourly\nprefix app\nfolder app.2020-02-01-11\nqueue 1 lossy\nstart 1580551260\noffer 1 a\nwork 0\nwork 1580554800\n",
-        "open app.2020-02-01-10\naccepted 1\ntook 1\nwrote failed ok 1\nfile app.2020-02-01-10 1 a\nfolder app.2020-02-01-11\ncounts 1 1 0 0 0\n",
-    ),
-];
+};
 
 /// What comes before and behind the line of `FAULTS` in a script whose run makes fifteen calls of its
 /// folder: an opening that lists, removes, opens and renews the link, a write, a switch that does the same
@@ -320,69 +221,40 @@ pub static AROUND_FAULTS: (&str, &str) = (
 
 /// A call that fails or falls short, and what is printed. Call 5 is that of the opening's link, without
 /// which nothing is opened.
-pub static FAULTS: [(&str, &str); 16] = [
-    (
-        "fail 1\n",
-        "open app.2020-02-01-10\nnone ok 1\nopened ok 1\nnone ok 1\nok\nfile app.2020-02-01-10 1 a\nfile app.2020-02-01-11 2 bc\nlink latest.log app.2020-02-01-11\n",
+pub static FAULTS: Table = Table {
+    rows: 16,
+    text: concat!(
+        "fail 1\n|",
+        "open app.2020-02-01-10\nnone ok 1\nopened ok 1\nnone ok 1\nok\nfile app.2020-02-01-10 1 a\nfile app.2020-02-01-11 2 bc\nlink latest.log app.2020-02-01-11\n|",
+        "fail 2\n|",
+        "open app.2020-02-01-10\nnone ok 1\nopened ok 1\nnone ok 1\nok\nfile app.2020-02-01-10 1 a\nfile app.2020-02-01-11 2 bc\nlink latest.log app.2020-02-01-11\n|",
+        "fail 3\n|",
+        "open app.2020-02-01-10\nnone ok 1\nopened ok 1\nnone ok 1\nok\nfile app.2020-02-01-10 1 a\nfile app.2020-02-01-11 2 bc\nlink latest.log app.2020-02-01-11\n|",
+        "fail 4\n|",
+        "open app.2020-02-01-10\nnone ok 1\nopened ok 1\nnone ok 1\nok\nfile app.2020-02-01-10 1 a\nfile app.2020-02-01-11 2 bc\nlink latest.log app.2020-02-01-11\n|",
+        "fail 6\n|",
+        "open app.2020-02-01-10\nnone err\nopened ok 1\nnone ok 1\nok\nfile app.2020-02-01-10 0\nfile app.2020-02-01-11 2 bc\nlink latest.log app.2020-02-01-11\n|",
+        "fail 7\n|",
+        "open app.2020-02-01-10\nnone ok 1\nopened ok 1\nnone ok 1\nok\nfile app.2020-02-01-09 1 p\nfile app.2020-02-01-10 1 a\nfile app.2020-02-01-11 2 bc\nlink latest.log app.2020-02-01-11\n|",
+        "fail 8\n|",
+        "open app.2020-02-01-10\nnone ok 1\nopened ok 1\nnone ok 1\nok\nfile app.2020-02-01-09 1 p\nfile app.2020-02-01-10 1 a\nfile app.2020-02-01-11 2 bc\nlink latest.log app.2020-02-01-11\n|",
+        "fail 9\n|",
+        "open app.2020-02-01-10\nnone ok 1\nopened ok 1\nnone ok 1\nok\nfile app.2020-02-01-10 1 a\nfile app.2020-02-01-11 2 bc\nlink latest.log app.2020-02-01-11\n|",
+        "fail 10\n|",
+        "open app.2020-02-01-10\nnone ok 1\nfailed ok 1\nnone ok 1\nok\nfile app.2020-02-01-10 3 abc\nfile app.2020-02-01-11 0\nlink latest.log app.2020-02-01-10\n|",
+        "fail 11\n|",
+        "open app.2020-02-01-10\nnone ok 1\nfailed ok 1\nnone ok 1\nok\nfile app.2020-02-01-10 3 abc\nfile app.2020-02-01-11 0\n|",
+        "fail 12\n|",
+        "open app.2020-02-01-10\nnone ok 1\nopened ok 1\nnone ok 1\nok\nfile app.2020-02-01-10 1 a\nfile app.2020-02-01-11 2 bc\nlink latest.log app.2020-02-01-11\n|",
+        "fail 13\n|",
+        "open app.2020-02-01-10\nnone ok 1\nopened err\nnone ok 1\nok\nfile app.2020-02-01-10 1 a\nfile app.2020-02-01-11 1 c\nlink latest.log app.2020-02-01-11\n|",
+        "fail 14\n|",
+        "open app.2020-02-01-10\nnone ok 1\nopened ok 1\nnone err\nok\nfile app.2020-02-01-10 1 a\nfile app.2020-02-01-11 1 b\nlink latest.log app.2020-02-01-11\n|",
+        "fail 15\n|",
+        "open app.2020-02-01-10\nnone ok 1\nopened ok 1\nnone ok 1\nerr\nfile app.2020-02-01-10 1 a\nfile app.2020-02-01-11 2 bc\nlink latest.log app.2020-02-01-11\n|",
+        "fail 16\n|",
+        "open app.2020-02-01-10\nnone ok 1\nopened ok 1\nnone ok 1\nok\nfile app.2020-02-01-10 1 a\nfile app.2020-02-01-11 2 bc\nlink latest.log app.2020-02-01-11\n|",
+        "short 13 0\n|",
+        "open app.2020-02-01-10\nnone ok 1\nopened ok 0\nnone ok 1\nok\nfile app.2020-02-01-10 1 a\nfile app.2020-02-01-11 1 c\nlink latest.log app.2020-02-01-11\n|",
     ),
-    (
-        "fail 2\n",
-        "open app.2020-02-01-10\nnone ok 1\nopened ok 1\nnone ok 1\nok\nfile app.2020-02-01-10 1 a\nfile app.2020-02-01-11 2 bc\nlink latest.log app.2020-02-01-11\n",
-    ),
-    (
-        "fail 3\n",
-        "open app.2020-02-01-10\nnone ok 1\nopened ok 1\nnone ok 1\nok\nfile app.2020-02-01-10 1 a\nfile app.2020-02-01-11 2 bc\nlink latest.log app.2020-02-01-11\n",
-    ),
-    (
-        "fail 4\n",
-        "open app.2020-02-01-10\nnone ok 1\nopened ok 1\nnone ok 1\nok\nfile app.2020-02-01-10 1 a\nfile app.2020-02-01-11 2 bc\nlink latest.log app.2020-02-01-11\n",
-    ),
-    (
-        "fail 6\n",
-        "open app.2020-02-01-10\nnone err\nopened ok 1\nnone ok 1\nok\nfile app.2020-02-01-10 0\nfile app.2020-02-01-11 2 bc\nlink latest.log app.2020-02-01-11\n",
-    ),
-    (
-        "fail 7\n",
-        "open app.2020-02-01-10\nnone ok 1\nopened ok 1\nnone ok 1\nok\nfile app.2020-02-01-09 1 p\nfile app.2020-02-01-10 1 a\nfile app.2020-02-01-11 2 bc\nlink latest.log app.2020-02-01-11\n",
-    ),
-    (
-        "fail 8\n",
-        "open app.2020-02-01-10\nnone ok 1\nopened ok 1\nnone ok 1\nok\nfile app.2020-02-01-09 1 p\nfile app.2020-02-01-10 1 a\nfile app.2020-02-01-11 2 bc\nlink latest.log app.2020-02-01-11\n",
-    ),
-    (
-        "fail 9\n",
-        "open app.2020-02-01-10\nnone ok 1\nopened ok 1\nnone ok 1\nok\nfile app.2020-02-01-10 1 a\nfile app.2020-02-01-11 2 bc\nlink latest.log app.2020-02-01-11\n",
-    ),
-    (
-        "fail 10\n",
-        "open app.2020-02-01-10\nnone ok 1\nfailed ok 1\nnone ok 1\nok\nfile app.2020-02-01-10 3 abc\nfile app.2020-02-01-11 0\nlink latest.log app.2020-02-01-10\n",
-    ),
-    (
-        "fail 11\n",
-        "open app.2020-02-01-10\nnone ok 1\nfailed ok 1\nnone ok 1\nok\nfile app.2020-02-01-10 3 abc\nfile app.2020-02-01-11 0\n",
-    ),
-    (
-        "fail 12\n",
-        "open app.2020-02-01-10\nnone ok 1\nopened ok 1\nnone ok 1\nok\nfile app.2020-02-01-10 1 a\nfile app.2020-02-01-11 2 bc\nlink latest.log app.2020-02-01-11\n",
-    ),
-    (
-        "fail 13\n",
-        "open app.2020-02-01-10\nnone ok 1\nopened err\nnone ok 1\nok\nfile app.2020-02-01-10 1 a\nfile app.2020-02-01-11 1 c\nlink latest.log app.2020-02-01-11\n",
-    ),
-    (
-        "fail 14\n",
-        "open app.2020-02-01-10\nnone ok 1\nopened ok 1\nnone err\nok\nfile app.2020-02-01-10 1 a\nfile app.2020-02-01-11 1 b\nlink latest.log app.2020-02-01-11\n",
-    ),
-    (
-        "fail 15\n",
-        "open app.2020-02-01-10\nnone ok 1\nopened ok 1\nnone ok 1\nerr\nfile app.2020-02-01-10 1 a\nfile app.2020-02-01-11 2 bc\nlink latest.log app.2020-02-01-11\n",
-    ),
-    (
-        "fail 16\n",
-        "open app.2020-02-01-10\nnone ok 1\nopened ok 1\nnone ok 1\nok\nfile app.2020-02-01-10 1 a\nfile app.2020-02-01-11 2 bc\nlink latest.log app.2020-02-01-11\n",
-    ),
-    (
-        "short 13 0\n",
-        "open app.2020-02-01-10\nnone ok 1\nopened ok 0\nnone ok 1\nok\nfile app.2020-02-01-10 1 a\nfile app.2020-02-01-11 1 c\nlink latest.log app.2020-02-01-11\n",
-    ),
-];
+};

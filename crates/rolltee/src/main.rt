@@ -2,13 +2,8 @@
 //! of UTC: `rolltee ROTATION DIR PREFIX`. One thread reads the lines, and another writes them.
 #![tactic(auto)]
 
-#[cfg(test)]
-mod expect;
-mod tee;
-#[cfg(test)]
-mod tests;
-
 use program_input::arguments;
+use rolltee_core::tee;
 use std::process::ExitCode;
 
 fn main(rt: HostRuntime) -> ExitCode {

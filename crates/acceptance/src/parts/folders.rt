@@ -26,8 +26,8 @@ static PUTS: [(&str, Result<(), PutError>); 11] = [
 fn expect_names(rt: &impl Abort, folder: &MemoryFolder, wanted: &[&str]) {
     let names = folder.names().expect(rt, "memory");
     expect_eq(rt, names.len(), wanted.len());
-    for (name, want) in names.iter().zip(wanted) {
-        expect_eq(rt, name.as_str(), *want);
+    for (place, name) in names.iter().enumerate() {
+        expect_eq(rt, Some(&name.as_str()), wanted.get(place));
     }
 }
 

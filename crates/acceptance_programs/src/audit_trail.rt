@@ -1,0 +1,266 @@
+// The whole program over a real folder, and its lines over a folder in memory.
+use crate::expect::{expect_eq, expect_eq_of};
+use audit_trail_core::gather::{Host, Trails, keep_all};
+use audit_trail_core::trail::{Fault, keep, write_lines};
+use std::alloc::{AllocError, Global};
+use std::cell::Cell;
+use std::io::Read;
+use std::process::Abort;
+use std::rt::Runtime;
+use std::test::Fail;
+use std::{env, fs, io, process};
+use tracing_appender::rolling::{Builder, Clock, RollingFile, Rotation};
+use tracing_appender::store::MemoryFolder;
+
+// An input that can't be read.
+#[derive(Drop)]
+struct Broken;
+
+impl Read for Broken {
+    fn read(&mut self, _buf: &mut [u8]) -> io::Result<usize> {
+        Err(io::Error::from(io::ErrorKind::PermissionDenied))
+    }
+}
+
+// A clock that goes on by half an hour at each reading.
+#[derive(Drop)]
+struct Ticking {
+    now: Cell<i64>,
+}
+
+impl Clock for Ticking {
+    ghost now_gives = { λ clock m. Unit {0} };
+
+    fn now(&self) -> i64 {
+        let moment = self.now.get();
+        self.now.set(moment.saturating_add(1800));
+        moment
+    }
+}
+
+// A path of this test's own, where nothing stands.
+fn fresh(rt: &HostRuntime, name: &str) -> io::Result<String> {
+    let parent = env::temp_dir(rt)?;
+    let id = process::id(rt.process());
+    let path = format!(in rt.alloc(); "{}/audit_trail_{id}_{name}", parent.as_str())?;
+    let _ = fs::remove_dir_all(rt, path.as_str());
+    Ok(path)
+}
+
+// Runs the program, and compares the status and what it tells.
+fn check<R: Runtime + AllocGlobal + Abort>(
+    rt: &R,
+    arguments: &[String],
+    input: &[u8],
+    status: u8,
+    told: &str,
+) {
+    let mut input = input;
+    let mut errors = Vec::new(rt.alloc());
+    let answer = keep(rt, arguments, &mut input, &mut errors);
+    expect_eq(rt, errors.as_slice(), told.as_bytes());
+    expect_eq(rt, answer, status);
+}
+
+#[test]
+fn keeps_all_lines_of_all_runs(rt: HostRuntime) -> Result<(), Fail> {
+    let arguments = Vec::from_array(rt.alloc(), [fresh(&rt, "runs")?])?;
+    check(&rt, arguments.as_slice(), b"first\n\nlast", 0, "");
+    check(&rt, arguments.as_slice(), b"\nagain\n", 0, "");
+    let directory = arguments[0].as_str();
+    let link = format!(in rt.alloc(); "{directory}/latest.log")?;
+    expect_eq(
+        &rt,
+        fs::read_to_string(&rt, link.as_str())?.as_str(),
+        "first\n\nlast\nagain\n",
+    );
+    // The link leads to the log of a day.
+    let target = fs::read_link(&rt, link.as_str())?;
+    expect_eq(&rt, target.as_str().len(), "audit.2020-02-01.log".len());
+    fs::remove_dir_all(&rt, directory)?;
+    Ok(())
+}
+
+#[test]
+fn tells_its_usage(rt: HostRuntime) -> Result<(), Fail> {
+    check(
+        &rt,
+        &[],
+        b"a\n",
+        2,
+        "usage: audit_trail DIRECTORY [SOURCE..]\n",
+    );
+    Ok(())
+}
+
+#[test]
+fn tells_a_folder_that_is_none(rt: HostRuntime) -> Result<(), Fail> {
+    let arguments = Vec::from_array(rt.alloc(), [fresh(&rt, "file")?])?;
+    let path = arguments[0].as_str();
+    fs::write(&rt, path, "here")?;
+    let told = "failed to create log directory: File exists (os error 17)\n";
+    check(&rt, arguments.as_slice(), b"a\n", 1, told);
+    expect_eq(&rt, fs::read_to_string(&rt, path)?.as_str(), "here");
+    fs::remove_file(&rt, path)?;
+    Ok(())
+}
+
+#[test]
+fn tells_an_input_that_is_not_read(rt: HostRuntime) -> Result<(), Fail> {
+    let arguments = Vec::from_array(rt.alloc(), [fresh(&rt, "read")?])?;
+    let mut errors = Vec::new(rt.alloc());
+    expect_eq(
+        &rt,
+        keep(&rt, arguments.as_slice(), &mut Broken, &mut errors),
+        1,
+    );
+    expect_eq(
+        &rt,
+        errors.as_slice(),
+        b"read failed: permission denied\n".as_slice(),
+    );
+    fs::remove_dir_all(&rt, arguments[0].as_str())?;
+    Ok(())
+}
+
+// What the system says of a file that isn't there.
+const LACKING: &str = "No such file or directory (os error 2)";
+
+// A file of this test's own, with this content.
+fn source(rt: &HostRuntime, name: &str, content: &str) -> io::Result<String> {
+    let path = fresh(rt, name)?;
+    fs::write(rt, path.as_str(), content)?;
+    Ok(path)
+}
+
+// Two sources that can be read, and after each of them one that can't.
+fn sources(rt: &HostRuntime) -> io::Result<[String; 4]> {
+    let first = source(rt, "source_1", "a 1\na 2\na 3")?;
+    let second = source(rt, "source_2", "b 1\n\n")?;
+    let (lacks, fails) = (fresh(rt, "nothing")?, fresh(rt, "no_more")?);
+    Ok([first, lacks, second, fails])
+}
+
+// What the program tells of the two that can't be read.
+fn faults_of(alloc: Global, sources: &[String; 4]) -> Result<String, AllocError> {
+    let [_, lacks, _, fails] = sources;
+    format!(in alloc; "{lacks}: read failed: {LACKING}\n{fails}: read failed: {LACKING}\n")
+}
+
+// Runs the program over these sources, and checks what it tells.
+fn check_account<R: Host + Trails + Abort>(
+    rt: R,
+    directory: &str,
+    sources: &[String],
+    faults: &str,
+) {
+    let (mut output, mut errors) = (Vec::new(rt.alloc()), Vec::new(rt.alloc()));
+    let status = keep_all(rt, &rt, directory, sources, &mut output, &mut errors);
+    expect_eq(
+        &rt,
+        output.as_slice(),
+        b"accepted 5 handed 5 left 0 dropped 0\n".as_slice(),
+    );
+    expect_eq(&rt, errors.as_slice(), faults.as_bytes());
+    expect_eq(&rt, status, 1);
+}
+
+// The lines that begin so, in their order, with a bar behind each.
+fn lines_of(alloc: Global, text: &str, begin: &str) -> Result<String, AllocError> {
+    let mut found = String::new(alloc);
+    for line in text.lines() {
+        if line.starts_with(begin) {
+            found.push_str(line)?;
+            found.push('|')?;
+        }
+    }
+    Ok(found)
+}
+
+// Checks what the log holds: the lines of one source stand in their order.
+fn check_written(rt: &(impl AllocGlobal + Abort), written: &str) -> Result<(), Fail> {
+    expect_eq(rt, written.len(), 17);
+    for (begin, wanted) in [("a", "a 1|a 2|a 3|"), ("b", "b 1|")] {
+        let found = lines_of(rt.alloc(), written, begin)?;
+        expect_eq(rt, found.as_str(), wanted);
+    }
+    let all = lines_of(rt.alloc(), written, "")?;
+    expect_eq(rt, all.len(), "a 1|a 2|a 3|b 1||".len());
+    Ok(())
+}
+
+#[test]
+fn gives_an_account_of_all_sources(rt: HostRuntime) -> Result<(), Fail> {
+    let directory = fresh(&rt, "sources")?;
+    let sources = sources(&rt)?;
+    let faults = faults_of(rt.alloc(), &sources)?;
+    check_account(rt, directory.as_str(), sources.as_slice(), faults.as_str());
+    let link = format!(in rt.alloc(); "{directory}/latest.log")?;
+    let written = fs::read_to_string(&rt, link.as_str())?;
+    check_written(&rt, written.as_str())?;
+    fs::remove_dir_all(&rt, directory.as_str())?;
+    Ok(())
+}
+
+// A log over a folder in memory, opened at 2020-02-01 10:01:00.
+fn hourly(alloc: Global, folder: MemoryFolder) -> Result<RollingFile<MemoryFolder, Ticking>, Fail> {
+    let clock = Ticking {
+        now: Cell::new(1_580_551_260),
+    };
+    let builder = Builder::new()
+        .rotation(Rotation::HOURLY)
+        .filename_prefix(alloc, "app")?;
+    match builder.open_in(alloc, folder, clock) {
+        Ok(log) => Ok(log),
+        Err((error, _, _)) => Err(Fail::from(error)),
+    }
+}
+
+// Checks what a file of a folder in memory holds.
+fn expect_file(rt: &impl Abort, folder: &MemoryFolder, name: &str, text: &str) {
+    match folder.bytes(name) {
+        Some(bytes) => expect_eq_of(rt, name, bytes, text.as_bytes()),
+        None => assert!(rt; false, "no {name}"),
+    }
+}
+
+#[test]
+fn each_line_is_put_at_its_moment(rt: HostRuntime) -> Result<(), Fail> {
+    let alloc = rt.alloc();
+    let mut log = hourly(alloc, MemoryFolder::new(alloc))?;
+    let mut input = b"a\nb\nc".as_slice();
+    assert!(rt; write_lines(alloc, &mut input, &mut log).is_ok());
+    let (folder, _) = log.into_parts();
+    expect_file(&rt, &folder, "app.2020-02-01-10", "a\n");
+    expect_file(&rt, &folder, "app.2020-02-01-11", "b\nc");
+    Ok(())
+}
+
+#[test]
+fn a_line_cut_short_is_told(rt: HostRuntime) -> Result<(), Fail> {
+    let alloc = rt.alloc();
+    let mut folder = MemoryFolder::new(alloc);
+    folder.short_append(2, 1)?;
+    let mut log = hourly(alloc, folder)?;
+    let mut input = b"ab\nc\n".as_slice();
+    assert!(rt; matches!(write_lines(alloc, &mut input, &mut log), Err(Fault::Cut)));
+    let (folder, _) = log.into_parts();
+    expect_file(&rt, &folder, "app.2020-02-01-10", "a");
+    Ok(())
+}
+
+#[test]
+fn a_write_that_fails_is_told(rt: HostRuntime) -> Result<(), Fail> {
+    let alloc = rt.alloc();
+    let mut folder = MemoryFolder::new(alloc);
+    folder.fail_call(2)?;
+    let mut log = hourly(alloc, folder)?;
+    let mut input = b"ab\n".as_slice();
+    assert!(rt;
+        matches!(
+            write_lines(alloc, &mut input, &mut log),
+            Err(Fault::Write(_))
+        )
+    );
+    Ok(())
+}

@@ -1,0 +1,280 @@
+// The whole program over a real folder.
+use crate::expect::expect_eq;
+use rolltee_core::tee::{Host, Logs, tee};
+use std::alloc::{AllocError, Global};
+use std::io::{Read, Write};
+use std::process::Abort;
+use std::rt::Files;
+use std::test::Fail;
+use std::time::{Clock, Duration};
+use std::{env, fs, io, process, thread};
+use tracing_appender::rolling::{InitError, Rotation};
+
+// An input that can't be read behind these bytes.
+#[derive(Drop)]
+struct Broken<'a> {
+    left: &'a [u8],
+    kind: io::ErrorKind,
+}
+
+impl<'a> Read for Broken<'a> {
+    fn read(&mut self, buf: &mut [u8]) -> io::Result<usize> {
+        if self.left.is_empty() {
+            return Err(io::Error::from(self.kind));
+        }
+        self.left.read(buf)
+    }
+}
+
+// A log that takes its time for each line.
+#[derive(Drop)]
+struct Slow<R: Clock> {
+    rt: R,
+    millis: u64,
+}
+
+impl<R: Clock> Write for Slow<R> {
+    fn write(&mut self, buf: &[u8]) -> io::Result<usize> {
+        thread::sleep(&self.rt, Duration::from_millis(self.millis));
+        Ok(buf.len())
+    }
+
+    fn flush(&mut self) -> io::Result<()> {
+        Ok(())
+    }
+}
+
+#[derive(Clone, Copy)]
+struct SlowLogs<R> {
+    rt: R,
+    millis: u64,
+}
+
+impl<R: Clock + Copy + Send + 'static> Logs for SlowLogs<R> {
+    type Log = Slow<R>;
+
+    fn open_log(&self, _: Rotation, _: &str, _: &str) -> Result<Slow<R>, InitError> {
+        Ok(Slow {
+            rt: self.rt,
+            millis: self.millis,
+        })
+    }
+}
+
+struct NoLogs;
+
+impl Logs for NoLogs {
+    type Log = io::Sink;
+
+    fn open_log(&self, _: Rotation, _: &str, _: &str) -> Result<io::Sink, InitError> {
+        Err(InitError::Memory)
+    }
+}
+
+// A path of this test's own, where nothing stands.
+fn fresh(rt: &HostRuntime, name: &str) -> io::Result<String> {
+    let parent = env::temp_dir(rt)?;
+    let path = path_in(rt, parent.as_str(), name)?;
+    let _ = fs::remove_dir_all(rt, path.as_str());
+    Ok(path)
+}
+
+// A path in this folder that no other process takes.
+fn path_in(rt: &HostRuntime, parent: &str, name: &str) -> Result<String, AllocError> {
+    let id = process::id(rt.process());
+    format!(in rt.alloc(); "{parent}/rolltee_{id}_{name}")
+}
+
+fn texts_of(alloc: Global, words: &[&str]) -> Result<Vec<String>, AllocError> {
+    let mut texts = Vec::new(alloc);
+    for word in words {
+        texts.push(word.to_string(alloc)?)?;
+    }
+    Ok(texts)
+}
+
+// Runs the program over these logs, and compares its status and what it tells.
+fn check<R: Host + Abort, L: Logs, I: Read>(
+    rt: R,
+    logs: &L,
+    arguments: &[&str],
+    input: &mut I,
+    status: u8,
+    told: &str,
+) {
+    let texts = texts_of(rt.alloc(), arguments).expect(&rt, "memory");
+    let mut errors = Vec::new(rt.alloc());
+    let answer = tee(rt, logs, texts.as_slice(), input, &mut errors);
+    expect_eq(&rt, errors.as_slice(), told.as_bytes());
+    expect_eq(&rt, answer, status);
+}
+
+// The same over logs of the file system. All tests open them here, since a function that does is dear to prove.
+fn check_files<R: Host + Abort, I: Read>(
+    rt: R,
+    files: &HostRuntime,
+    arguments: &[&str],
+    input: &mut I,
+    status: u8,
+    told: &str,
+) {
+    check(rt, files, arguments, input, status, told);
+}
+
+// Compares the bytes of a file.
+fn holds<R: Files + AllocGlobal + Abort>(rt: &R, path: &str, bytes: &[u8]) {
+    let content = fs::read(rt, path).expect(rt, "a file");
+    expect_eq(rt, content.as_slice(), bytes);
+}
+
+// Runs the program over the log `app` of a folder, which holds these bytes then.
+fn check_log<R: Host + Files + Abort, I: Read>(
+    rt: R,
+    files: &HostRuntime,
+    directory: &str,
+    input: &mut I,
+    told: (u8, &str),
+    bytes: &[u8],
+) {
+    let (status, told) = told;
+    let arguments = ["never", directory, "app"];
+    check_files(rt, files, &arguments, input, status, told);
+    let path = format!(in rt.alloc(); "{directory}/app").expect(&rt, "memory");
+    holds(&rt, path.as_str(), bytes);
+}
+
+// How many bytes the files of a folder have.
+fn length_in(rt: &HostRuntime, directory: &str) -> io::Result<u64> {
+    let mut length = 0u64;
+    for entry in fs::read_dir(rt, directory)? {
+        let bytes = match entry {
+            Ok(entry) => entry.metadata()?.len(),
+            Err(fault) => return Err(fault),
+        };
+        length = length.saturating_add(bytes);
+    }
+    Ok(length)
+}
+
+#[test]
+fn writes_every_line_of_every_run(rt: HostRuntime) {
+    let directory = fresh(&rt, "runs").expect(&rt, "a path");
+    let directory = directory.as_str();
+    for text in ["a\nb", "a\nba\nb"] {
+        let mut input = b"a\nb".as_slice();
+        check_log(rt, &rt, directory, &mut input, (0, ""), text.as_bytes());
+    }
+    fs::remove_dir_all(&rt, directory).expect(&rt, "a folder");
+}
+
+// Writes these lines to a log of this rotation, and finds as many bytes in its folder.
+fn fills<R: Host + Abort>(rt: R, files: &HostRuntime, rotation: &str, lines: &[u8]) {
+    let directory = fresh(files, rotation).expect(&rt, "a path");
+    let directory = directory.as_str();
+    let mut input = lines;
+    check_files(rt, files, &[rotation, directory, "app"], &mut input, 0, "");
+    let length = length_in(files, directory).expect(&rt, "a folder");
+    expect_eq(&rt, length, lines.len() as u64);
+    fs::remove_dir_all(files, directory).expect(&rt, "a folder");
+}
+
+// More lines than may wait, to the log of each rotation.
+#[test]
+fn waits_for_the_log(rt: HostRuntime) -> Result<(), Fail> {
+    let mut lines = Vec::new(rt.alloc());
+    for _ in 0..3000u32 {
+        lines.extend_from_slice(b"one line\n")?;
+    }
+    for rotation in ["minutely", "hourly", "daily", "weekly", "never"] {
+        fills(rt, &rt, rotation, lines.as_slice());
+    }
+    Ok(())
+}
+
+#[test]
+fn tells_its_usage(rt: HostRuntime) {
+    let wrong: [&[&str]; 5] = [
+        &[],
+        &["never", "dir"],
+        &["never", "dir", "app", "more"],
+        &["yearly", "dir", "app"],
+        &["Never", "dir", "app"],
+    ];
+    for arguments in wrong {
+        let logs = SlowLogs { rt, millis: 0 };
+        let usage = "usage: rolltee ROTATION DIR PREFIX\n";
+        check(rt, &logs, arguments, &mut b"a\n".as_slice(), 2, usage);
+    }
+}
+
+#[test]
+fn tells_a_name_that_is_not_allowed(rt: HostRuntime) {
+    let directory = fresh(&rt, "name").expect(&rt, "a path");
+    let directory = directory.as_str();
+    let arguments = ["hourly", directory, "a/b"];
+    let mut input = b"a\n".as_slice();
+    check_files(rt, &rt, &arguments, &mut input, 1, "name not allowed\n");
+    let exists = fs::exists(&rt, directory).expect(&rt, "a path");
+    expect_eq(&rt, exists, false);
+}
+
+#[test]
+fn tells_a_folder_that_is_none(rt: HostRuntime) {
+    let path = fresh(&rt, "file").expect(&rt, "a path");
+    let path = path.as_str();
+    fs::write(&rt, path, "here").expect(&rt, "a file");
+    let told = "failed to create log directory: File exists (os error 17)\n";
+    let mut input = b"a\n".as_slice();
+    check_files(rt, &rt, &["never", path, "app"], &mut input, 1, told);
+    holds(&rt, path, b"here");
+    fs::remove_file(&rt, path).expect(&rt, "a file");
+}
+
+// Also where there is no memory for an opening.
+#[test]
+fn tells_why_no_log_is_opened(rt: HostRuntime) {
+    let arguments = ["never", "dir", "app"];
+    let told = "out of memory\n";
+    check(rt, &NoLogs, &arguments, &mut b"a\n".as_slice(), 1, told);
+}
+
+// What was read before the fault is written, since the guard is closed all the same.
+#[test]
+fn tells_an_input_that_is_not_read(rt: HostRuntime) {
+    for (kind, status, told) in [
+        (io::ErrorKind::PermissionDenied, 1, "read failed\n"),
+        (io::ErrorKind::OutOfMemory, 3, "no memory\n"),
+    ] {
+        let directory = fresh(&rt, "read").expect(&rt, "a path");
+        let directory = directory.as_str();
+        let mut input = Broken {
+            left: b"a\nb".as_slice(),
+            kind,
+        };
+        check_log(rt, &rt, directory, &mut input, (status, told), b"a\n");
+        fs::remove_dir_all(&rt, directory).expect(&rt, "a folder");
+    }
+}
+
+// The log takes longer for its one line than the end waits.
+#[test]
+fn tells_that_lines_are_still_written(rt: HostRuntime) {
+    let logs = SlowLogs { rt, millis: 3000 };
+    let arguments = ["never", "dir", "app"];
+    let told = "shutdown pending\n";
+    check(rt, &logs, &arguments, &mut b"a\n".as_slice(), 1, told);
+}
+
+// While the log takes its time for the first line, the others fill the queue.
+#[test]
+fn tells_that_the_queue_stays_full(rt: HostRuntime) -> Result<(), Fail> {
+    let mut lines = Vec::new(rt.alloc());
+    for _ in 0..1025u32 {
+        lines.extend_from_slice(b"\n")?;
+    }
+    let logs = SlowLogs { rt, millis: 3000 };
+    let arguments = ["never", "dir", "app"];
+    let told = "shutdown full\n";
+    check(rt, &logs, &arguments, &mut lines.as_slice(), 1, told);
+    Ok(())
+}

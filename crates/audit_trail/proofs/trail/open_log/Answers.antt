@@ -1,5 +1,0 @@
-use Rattle.audit_trail.proofs.Runs.{opens_with}
-use Rattle.audit_trail.proofs.trail.open_log.Goals as goal
-
-pub returns : goal.returns
-returns g c = opens_with _ _ c.open-2.result c.in_ok-settings.ensures c.open-2.ensures

@@ -1,0 +1,10 @@
+use Rattle.std.proofs.Common.{◌≡◌, ℕ, List, Some}
+use Rattle.audit_trail_core.specs.Trail.{PutsLines}
+use Rattle.audit_trail_core.proofs.trail.write_lines.Given as goal
+
+-- the lines so far were put, and what is left of the text is left to be read
+abbrev pub invariant-loop : goal.invariant-loop
+invariant-loop g l =
+    (text : List ℕ) → g.I.Read.remaining l.fn.input ≡ Some text →
+    (count : ℕ) × (rest : List ℕ) × (g.I.Read.remaining l.input ≡ Some rest)
+    × PutsLines g.S.Folder g.C.Clock count text l.fn.log rest l.log

@@ -1,8 +1,0 @@
--- Prints a reply at a time.
-use Rattle.std.proofs.Common.{◌≡◌, ◌++◌, take}
-use Rattle.rollplay.specs.Page.{reply_lines}
-use Rattle.rollplay.proofs.page.print_replies.Given as goal
-
-abbrev pub invariant-loop-reply : goal.invariant-loop-reply
-invariant-loop-reply l =
-    l.page.items ≡ l.initial.page.items ++ reply_lines (take l.reply-index l.replies)

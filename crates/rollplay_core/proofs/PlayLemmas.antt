@@ -1,0 +1,41 @@
+-- What is read of a script.
+use Rattle.std.proofs.Common.{◌≡◌, ℕ, ℤ, suc, ◌≤◌, List, Vec, Option, None, Some, Result, Ok, Err, IfOk, IfSome, length, take, arith, ap, sym, ◌∙◌}
+use Rattle.std.specs.Option.{option_map}
+use Rattle.std.proofs.lemmas.List.{length-take}
+use Rattle.std.proofs.lemmas.Grind.{common_steps}
+use Rattle.std.specs.declared.alloc.Global.{Global}
+use Rattle.appender_store.specs.declared.store.Folder.{Ghosts}
+use Rattle.appender_store.specs.declared.store.memory.MemoryFolder.{MemoryFolder}
+use Rattle.appender_rolling.specs.Config.{Config}
+use Rattle.appender_replay.specs.Replay.{IsNotRun}
+use Rattle.appender_replay.specs.declared.replay.ReplayError.{ReplayError}
+use Rattle.appender_replay.specs.declared.replay.ReplayError.TheVariants.{Memory as NoMemory, Init}
+use Rattle.rollplay_core.specs.declared.play.Failure.{Failure}
+use Rattle.rollplay_core.specs.declared.play.Opening.{Opening}
+use Rattle.rollplay_core.specs.declared.play.Opening.TheVariants.{Refused}
+use Rattle.rollplay_core.specs.Play.{IsGiven, IsRefusalPage, Tells}
+use Rattle.rollplay_script.specs.Script.{Plan, rolling, queued}
+
+-- a front that is shorter than it may be is all
+take_short : (n : ℕ) (xs : List ℕ) → length xs ≤ n → take n xs ≡ xs
+take_short n xs short = grind (arith, common_steps)
+
+-- what was read is all that was given, since it fell short of the limit
+pub given_whole : (given : Option (List ℕ)) (limit most : ℕ) (read : List ℕ) → limit ≡ suc most
+    → IfSome (option_map (take limit) given) (λ front. read ≡ front) → length read ≤ most → IsGiven given read
+given_whole None limit most read next front short = tt
+given_whole (Some bytes) limit most read next front short =
+    let counted = ap length front ∙ length-take limit bytes in
+    let all : length bytes ≤ limit = omega (arith, counted) in
+    sym (front ∙ take_short limit bytes all)
+
+-- where no log was opened, the page tells why
+pub tells_refusal : {F : Type 0} (kind : Ghosts MemoryFolder F) (config : Config) (folder : MemoryFolder) (start : ℤ) (plan : Plan) (error : ReplayError MemoryFolder) (result : Result (Opening × Vec ℕ Global) Failure)
+    → IsNotRun kind config start folder error → IfOk result (λ r. (r.0 ≡ Refused) × IsRefusalPage error r.1.items)
+    → IfOk result (λ r. Tells kind config folder start plan r.0 r.1.items)
+tells_refusal kind config folder start plan error (Err failure) not_run told = tt
+tells_refusal kind config folder start plan (NoMemory back) (Ok r) not_run told = absurd told.1
+tells_refusal kind config folder start (rolling steps) (Init error back) (Ok r) not_run told =
+    rw told.0 (record { error = error; back = back; refused = not_run; page_is = told.1 })
+tells_refusal kind config folder start (queued limit lossy steps) (Init error back) (Ok r) not_run told =
+    rw told.0 (record { error = error; back = back; refused = not_run; page_is = told.1 })

@@ -1,0 +1,135 @@
+-- A play of a script: its run over a folder in memory, and what is printed of it. `kind` has what such a folder tells.
+use Rattle.std.specs.Prelude.{◌≡◌, ℕ, ℤ, Bool, List, [], ◌++◌, length, Option, IfSome, codes}
+use Rattle.std.specs.Fmt.{decimal}
+use Rattle.std.specs.Io.KnownBytes.{Appends}
+use Rattle.appender_names.specs.declared.error.InitError.{InitError}
+use Rattle.appender_store.specs.declared.store.Folder.{Ghosts}
+use Rattle.appender_store.specs.declared.store.memory.MemoryFolder.{MemoryFolder}
+use Rattle.appender_store.specs.MemoryView.{state_of}
+use Rattle.appender_rolling.specs.Config.{Config}
+use Rattle.appender_rolling.specs.Opening.{file_name_of}
+use Rattle.appender_rolling.specs.Roller.{Rolling, OpensNoRoller}
+use Rattle.appender_queue.specs.Queue.{Queue}
+use Rattle.appender_queue.specs.QueueReplies.{counts_of}
+use Rattle.appender_replay.specs.Answers.{Answers, WorkerDoes}
+use Rattle.appender_replay.specs.Record.{queue_after}
+use Rattle.appender_replay.specs.Replay.{RollDoes, RunsFrom, told_of}
+use Rattle.appender_replay.specs.Whole.{HandsInOrder, HandsLabelInOrder, TextLaw}
+use Rattle.appender_replay.specs.declared.replay.RollStep.{RollStep}
+use Rattle.appender_replay.specs.declared.replay.RollReply.{RollReply}
+use Rattle.appender_replay.specs.declared.replay.ReplayError.{ReplayError}
+use Rattle.appender_replay.specs.declared.replay.ReplayError.TheVariants.{Memory as NoMemory, Init}
+use Rattle.appender_replay.specs.declared.replay.whole.Step.{Step}
+use Rattle.appender_replay.specs.declared.replay.whole.Reply.{Reply}
+use Rattle.rollplay_core.specs.declared.play.Opening.{Opening}
+use Rattle.rollplay_core.specs.declared.play.Opening.TheVariants.{Opened, Refused}
+use Rattle.rollplay_core.specs.declared.play.Failure.{Failure}
+use Rattle.rollplay_core.specs.declared.play.Failure.TheVariants.{Line, Script, Read, Write, Memory}
+use Rattle.rollplay_script.specs.declared.script.ScriptError.{ScriptError}
+use Rattle.rollplay_script.specs.declared.script.ScriptError.TheVariants.{Fault, Memory as OutOfMemory}
+use Rattle.rollplay_core.specs.Page.{line_of, run_page, queued_page, refusal_page}
+use Rattle.rollplay_script.specs.Script.{Plan, rolling, queued, IsScript, HasFirstFault}
+
+-- the log was opened and all steps were run, and the page tells it
+pub record TellsRun {F : Type 0} (kind : Ghosts MemoryFolder F) (config : Config) (folder : MemoryFolder) (start : ℤ) (steps : List RollStep) (page : List ℕ) : Type 0 where
+  pub replies : List RollReply
+  pub one_each : length replies ≡ length steps
+  pub last : Rolling MemoryFolder F
+  pub runs : RunsFrom kind (RollDoes kind) config start folder (told_of steps replies) last
+  pub page_is : page ≡ run_page (file_name_of config start) replies (state_of last.folder).content
+
+-- The log was opened behind a queue of so many lines, and all steps were run: each answered as those before it demand, which
+-- lead to this queue, and the worker did what it wanted. Its lines were handed over in order, those of each sender too, and
+-- the worker's writes are of them alone. The page tells the replies, the folder at the end and the counts of the queue.
+pub record TellsQueuedRun {F : Type 0} (kind : Ghosts MemoryFolder F) (config : Config) (folder : MemoryFolder) (start : ℤ) (limit : ℕ) (lossy : Bool) (steps : List Step) (page : List ℕ) : Type 0 where
+  pub replies : List Reply
+  pub one_each : length replies ≡ length steps
+  pub answers : Answers limit lossy (told_of steps replies)
+  pub queue : Queue
+  pub queue_is : queue ≡ queue_after limit lossy (told_of steps replies)
+  pub handed : HandsInOrder (told_of steps replies) queue
+  pub labels : (label : ℕ) → HandsLabelInOrder (told_of steps replies) label
+  pub text : TextLaw (told_of steps replies)
+  pub last : Rolling MemoryFolder F
+  pub runs : RunsFrom kind (WorkerDoes kind) config start folder (told_of steps replies) last
+  pub page_is : page ≡ queued_page (file_name_of config start) replies (state_of last.folder).content (counts_of queue)
+
+-- the log was not opened, and the page tells why
+pub record TellsRefusal {F : Type 0} (kind : Ghosts MemoryFolder F) (config : Config) (folder : MemoryFolder) (start : ℤ) (page : List ℕ) : Type 0 where
+  pub error : InitError
+  pub back : MemoryFolder
+  pub refused : OpensNoRoller kind config start folder error back
+  pub page_is : page ≡ refusal_page error (state_of back).content
+
+-- where no step was run, the page tells why; nothing is told of a lack of memory
+abbrev pub IsRefusalPage : ReplayError MemoryFolder → List ℕ → Type 0
+IsRefusalPage (NoMemory back) page = ⊥
+IsRefusalPage (Init error back) page = page ≡ refusal_page error (state_of back).content
+
+abbrev pub Tells : {F : Type 0} → Ghosts MemoryFolder F → Config → MemoryFolder → ℤ → Plan → Opening → List ℕ → Type 0
+Tells kind config folder start (rolling steps) Opened page = TellsRun kind config folder start steps page
+Tells kind config folder start (queued limit lossy steps) Opened page = TellsQueuedRun kind config folder start limit lossy steps page
+Tells kind config folder start plan Refused page = TellsRefusal kind config folder start page
+
+-- the text is a script, and the page tells its run
+pub record Plays {F : Type 0} (kind : Ghosts MemoryFolder F) (opening : Opening) (text page : List ℕ) : Type 0 where
+  pub config : Config
+  pub folder : MemoryFolder
+  pub start : ℤ
+  pub plan : Plan
+  pub script : IsScript text config (state_of folder) start plan
+  pub tells : Tells kind config folder start plan opening page
+
+-- all that was given, where that is known
+abbrev pub IsGiven : Option (List ℕ) → List ℕ → Type 0
+IsGiven given text = IfSome given (λ bytes. bytes ≡ text)
+
+-- the whole page of the script that was given was written, and nothing else
+pub record Prints {F : Type 0} (kind : Ghosts MemoryFolder F) (opening : Opening) (given old new : Option (List ℕ)) : Type 0 where
+  pub text : List ℕ
+  pub page : List ℕ
+  pub given_is : IsGiven given text
+  pub plays : Plays kind opening text page
+  pub appends : Appends old new page
+
+-- the script that was given was played, and its page not written
+pub record IsUnwritten {F : Type 0} (kind : Ghosts MemoryFolder F) (given : Option (List ℕ)) : Type 0 where
+  pub text : List ℕ
+  pub opening : Opening
+  pub page : List ℕ
+  pub given_is : IsGiven given text
+  pub plays : Plays kind opening text page
+
+-- ---- failures
+
+-- what is told of each
+abbrev pub words_of : Failure → List ℕ
+words_of (Line number) = line_of (codes "line " ++ (decimal number ++ codes ": fault"))
+words_of Script = line_of (codes "bad script")
+words_of Read = line_of (codes "read failed")
+words_of Write = []
+words_of Memory = line_of (codes "no memory")
+
+abbrev pub status_of : Failure → ℕ
+status_of (Line number) = 2
+status_of Script = 2
+status_of Read = 2
+status_of Write = 2
+status_of Memory = 3
+
+-- a fault of a script is one of its lines
+abbrev pub failure_of : ScriptError → Failure
+failure_of (Fault number) = Line number
+failure_of OutOfMemory = Memory
+
+-- what reading the script can lead to
+abbrev pub IsOfReading : Failure → Type 0
+IsOfReading (Line number) = ⊥
+IsOfReading Write = ⊥
+IsOfReading failure = Unit {0}
+
+-- what each says of the input and the output, of which only a fault of writing changes something
+abbrev pub Fails : {F : Type 0} → Ghosts MemoryFolder F → Failure → Option (List ℕ) → Type 0 → Type 0
+Fails kind (Line number) given Same = ((text : List ℕ) × IsGiven given text × HasFirstFault text number) × Same
+Fails kind Write given Same = IsUnwritten kind given
+Fails kind failure given Same = Same

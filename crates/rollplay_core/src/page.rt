@@ -1,0 +1,236 @@
+//! What is printed of a run. Each line ends with a newline, and the only fault is that memory was refused.
+ghost use Rattle.std.specs.Prelude.{◌≡◌, ◌++◌, OnOk, None, Some};
+ghost use Rattle.appender_names.specs.Rotation.{IsMoment};
+ghost use Rattle.appender_store.specs.MemoryView.{state_of};
+ghost use Rattle.appender_rolling.specs.Opening.{file_name_of};
+ghost use Rattle.rollplay_core.specs.Page.{reply_words, line_of, entry_words, entry_line, folder_lines, run_page};
+ghost use Rattle.rollplay_core.specs.Page.{refusal_page, open_line, reply_lines, queue_reply_words, queue_reply_lines};
+ghost use Rattle.rollplay_core.specs.Page.{counts_words, queued_page};
+ghost use Rattle.appender_queue.specs.QueueReplies.{counts_of};
+ghost use Rattle.rollplay_words.specs.Text.{escape_of, escapes_of};
+
+use std::alloc::AllocError;
+use std::io::Write;
+use std::{fmt, io};
+use tracing_appender::queue::{Counts, Shut};
+use tracing_appender::replay::{Reply, RollReply, RollRun, Run};
+use tracing_appender::rolling::{InitError, Roller, Switch};
+use tracing_appender::store::MemoryFolder;
+
+// A switch in one word.
+#[derive(Clone, Copy)]
+struct Told(Switch);
+
+impl fmt::Display for Told {
+    ghost use Rattle.std.specs.Prelude.{Some};
+    ghost use Rattle.rollplay_core.specs.Page.{switch_word};
+
+    ghost output = { λ told. Some (switch_word told.0) };
+
+    fn fmt<W: fmt::Write>(&self, f: &mut fmt::Formatter<W>) -> fmt::Result {
+        f.write_str(match self.0 {
+            Switch::None => "none",
+            Switch::Opened => "opened",
+            Switch::Failed => "failed",
+        })
+    }
+}
+
+// How many bytes were taken, or that it failed.
+#[derive(Clone, Copy)]
+struct Taken<'a>(&'a Result<usize, io::ErrorKind>);
+
+impl fmt::Display for Taken<'_> {
+    ghost use Rattle.std.specs.Prelude.{Some};
+    ghost use Rattle.rollplay_core.specs.Page.{count_words};
+
+    ghost output = { λ taken. Some (count_words taken.0.now) };
+
+    fn fmt<W: fmt::Write>(&self, f: &mut fmt::Formatter<W>) -> fmt::Result {
+        match self.0 {
+            Ok(count) => write!(f, "ok {count}"),
+            Err(_) => f.write_str("err"),
+        }
+    }
+}
+
+/// Prints a run that was opened at `start`, in seconds of UTC since the epoch: the name of the first file, what each
+/// step answered, and the folder at the end.
+pub fn print_run(page: &mut Vec<u8>, start: i64, run: &RollRun<MemoryFolder>) -> io::Result<()>
+    requires { IsMoment start }
+    ensures { OnOk result (page.new.items ≡ page.old.items ++ run_page
+        (file_name_of run.now.roller.config start) run.now.replies.items
+        (state_of run.now.roller.folder).content) }
+{
+    print_opening(page, start, &run.roller)?;
+    print_replies(page, &run.replies)?;
+    print_folder(page, run.roller.folder())
+}
+
+/// Prints a run behind a queue that was opened at `start`, in seconds of UTC since the epoch: the name of the first
+/// file, what each step answered, the folder at the end, and the counts of the queue.
+pub fn print_queued_run(page: &mut Vec<u8>, start: i64, run: &Run<MemoryFolder>) -> io::Result<()>
+    requires { IsMoment start }
+    ensures { OnOk result (page.new.items ≡ page.old.items ++ queued_page
+        (file_name_of run.now.roller.config start) run.now.replies.items
+        (state_of run.now.roller.folder).content (counts_of run.now.queue)) }
+{
+    print_opening(page, start, &run.roller)?;
+    print_queue_replies(page, &run.replies)?;
+    print_folder(page, run.roller.folder())?;
+    print_counts(page, run.queue.counts())
+}
+
+/// Prints why the log was not opened, and the folder as it was handed back.
+pub fn print_refusal(page: &mut Vec<u8>, error: &InitError, folder: &MemoryFolder) -> io::Result<()>
+    ensures { OnOk result (page.new.items ≡
+        page.old.items ++ refusal_page error.now (state_of folder.now).content) }
+{
+    let code = error.code();
+    writeln!(page, "init error {code}")?;
+    print_folder(page, folder)
+}
+
+// Prints the name of the first file.
+fn print_opening(page: &mut Vec<u8>, start: i64, roller: &Roller<MemoryFolder>) -> io::Result<()>
+    requires { IsMoment start }
+    ensures { OnOk result (page.new.items ≡
+        page.old.items ++ open_line (file_name_of roller.now.config start)) }
+{
+    let name = roller.names().file_name(start)?;
+    writeln!(page, "open {name}")
+}
+
+// Prints a line for each reply.
+fn print_replies(page: &mut Vec<u8>, replies: &[RollReply]) -> io::Result<()>
+    ensures { OnOk result (page.new.items ≡ page.old.items ++ reply_lines replies.now) }
+{
+    for reply in replies {
+        print_reply(page, reply)?;
+    }
+    Ok(())
+}
+
+// Prints what a step answered.
+fn print_reply(page: &mut Vec<u8>, reply: &RollReply) -> io::Result<()>
+    ensures { OnOk result
+        (page.new.items ≡ page.old.items ++ line_of (reply_words reply.now)) }
+{
+    match reply {
+        RollReply::Saw(switch) => writeln!(page, "{}", Told(*switch)),
+        RollReply::Put(switch, taken) => writeln!(page, "{} {}", Told(*switch), Taken(taken)),
+        RollReply::Wrote(taken) => writeln!(page, "{}", Taken(taken)),
+        RollReply::Flushed(Ok(())) => writeln!(page, "ok"),
+        RollReply::Flushed(Err(_)) => writeln!(page, "err"),
+    }
+}
+
+// Prints a line for each reply of a run behind a queue.
+fn print_queue_replies(page: &mut Vec<u8>, replies: &[Reply]) -> io::Result<()>
+    ensures { OnOk result (page.new.items ≡ page.old.items ++ queue_reply_lines replies.now) }
+{
+    for reply in replies {
+        print_queue_reply(page, reply)?;
+    }
+    Ok(())
+}
+
+// Prints what a step of such a run answered.
+fn print_queue_reply(page: &mut Vec<u8>, reply: &Reply) -> io::Result<()>
+    ensures { OnOk result
+        (page.new.items ≡ page.old.items ++ line_of (queue_reply_words reply.now)) }
+{
+    match reply {
+        Reply::Accepted(ticket) => writeln!(page, "accepted {ticket}"),
+        Reply::Full => writeln!(page, "full"),
+        Reply::Closed => writeln!(page, "closed"),
+        Reply::NoMemory => writeln!(page, "no memory"),
+        Reply::Shut(Shut::Sent) => writeln!(page, "sent"),
+        Reply::Shut(Shut::Already) => writeln!(page, "already"),
+        Reply::Shut(Shut::Full) => writeln!(page, "full"),
+        Reply::Shut(Shut::Closed) => writeln!(page, "closed"),
+        Reply::Senders(count) => writeln!(page, "senders {count}"),
+        Reply::Took(ticket) => writeln!(page, "took {ticket}"),
+        Reply::TookShutdown => writeln!(page, "shutdown"),
+        Reply::TookGone => writeln!(page, "gone"),
+        Reply::TookEmpty => writeln!(page, "empty"),
+        Reply::Wrote(switch, taken) => writeln!(page, "wrote {} {}", Told(*switch), Taken(taken)),
+        Reply::Flushed(Ok(())) => writeln!(page, "flushed"),
+        Reply::Flushed(Err(_)) => writeln!(page, "flush err"),
+        Reply::Ended => writeln!(page, "ended"),
+    }
+}
+
+// Prints the counts of a queue.
+fn print_counts(page: &mut Vec<u8>, counts: Counts) -> io::Result<()>
+    ensures { OnOk result
+        (page.new.items ≡ page.old.items ++ line_of (counts_words counts)) }
+{
+    let Counts {
+        accepted,
+        handed,
+        queued,
+        left,
+        dropped,
+    } = counts;
+    writeln!(page, "counts {accepted} {handed} {queued} {left} {dropped}")
+}
+
+// Prints a line for each name of a folder, in byte order.
+fn print_folder(page: &mut Vec<u8>, folder: &MemoryFolder) -> io::Result<()>
+    ensures { OnOk result
+        (page.new.items ≡ page.old.items ++ folder_lines (state_of folder.now).content) }
+{
+    let names = folder.names()?;
+    for name in &names {
+        print_entry(page, folder, name.as_str())?;
+    }
+    Ok(())
+}
+
+fn print_entry(page: &mut Vec<u8>, folder: &MemoryFolder, name: &str) -> io::Result<()>
+    ensures { OnOk result
+        (page.new.items ≡ page.old.items ++ entry_line (state_of folder.now).content name.now) }
+{
+    if let Some(bytes) = folder.bytes(name) {
+        return print_file(page, name, bytes);
+    }
+    match folder.target(name) {
+        Some(target) => writeln!(page, "link {name} {target}"),
+        None => writeln!(page, "folder {name}"),
+    }
+}
+
+fn print_file(page: &mut Vec<u8>, name: &str, bytes: &[u8]) -> io::Result<()>
+    ensures { OnOk result (page.new.items ≡
+        page.old.items ++ line_of (entry_words name.now (Some bytes.now) None)) }
+{
+    let length = bytes.len();
+    write!(page, "file {name} {length}")?;
+    if length != 0 {
+        page.write_all(b" ")?;
+        push_escapes(page, bytes)?;
+    }
+    page.write_all(b"\n")
+}
+
+// Adds bytes in one line: a newline as `\n`, a backslash as `\\`, and others as they are.
+fn push_escapes(page: &mut Vec<u8>, bytes: &[u8]) -> Result<(), AllocError>
+    ensures { OnOk result (page.new.items ≡ page.old.items ++ escapes_of bytes.now) }
+{
+    page.reserve(bytes.len())?;
+    for byte in bytes {
+        push_byte(page, *byte)?;
+    }
+    Ok(())
+}
+
+fn push_byte(page: &mut Vec<u8>, byte: u8) -> Result<(), AllocError>
+    ensures { OnOk result (page.new.items ≡ page.old.items ++ escape_of byte) }
+{
+    match byte {
+        b'\n' => page.extend_from_slice(b"\\n"),
+        b'\\' => page.extend_from_slice(b"\\\\"),
+        _ => Ok(page.push(byte)?),
+    }
+}

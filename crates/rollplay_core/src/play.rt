@@ -1,0 +1,250 @@
+//! A play of a script: what is read, what is printed, and the status at the end.
+
+ghost use Rattle.std.specs.Prelude.{◌≡◌, ◌⊎◌, ◌≤◌, IfOk, IfErr, OnOk, IfSome, string_bytes, string_len};
+ghost use Rattle.std.specs.Io.KnownBytes.{Keeps, Appends};
+ghost use Rattle.appender_store.specs.MemoryView.{state_of};
+ghost use Rattle.rollplay_core.specs.Play.{Tells, IsGiven, Prints, IsUnwritten, IsOfReading, Fails, words_of};
+ghost use Rattle.rollplay_core.specs.Play.{status_of, IsRefusalPage};
+ghost use Rattle.rollplay_script.specs.Draft.{plan_of};
+ghost use Rattle.rollplay_script.specs.Script.{rolling, queued};
+
+use crate::page;
+use rollplay_script::line::Queueing;
+use rollplay_script::script::{LONGEST, Plan, Script, ScriptError};
+use std::alloc::Global;
+use std::io;
+use std::io::{Read, Write};
+use tracing_appender::replay::{ReplayError, RollStep, Step, replay, replay_rolling};
+use tracing_appender::rolling::Builder;
+use tracing_appender::store::{Folder, MemoryFolder};
+
+// Whether the log of a script was opened.
+#[derive(Clone, Copy)]
+enum Opening {
+    Opened,
+    Refused,
+}
+
+impl Opening {
+    fn status(self) -> u8
+        ensures opened { self ≡ Opening.Opened → result ≡ 0 }
+        ensures refused { self ≡ Opening.Refused → result ≡ 1 }
+    {
+        match self {
+            Opening::Opened => 0,
+            Opening::Refused => 1,
+        }
+    }
+}
+
+// Why a script was not played, or its output not written.
+#[derive(Clone, Copy)]
+enum Failure {
+    // This line is faulty, counted from 1.
+    Line(usize),
+    // It is no UTF-8, or too long.
+    Script,
+    // The input was not read.
+    Read,
+    // The output was not written.
+    Write,
+    // Memory was refused.
+    Memory,
+}
+
+impl Failure {
+    fn status(self) -> u8
+        ensures { result ≡ status_of self }
+    {
+        match self {
+            Failure::Memory => 3,
+            _ => 2,
+        }
+    }
+
+    // Tells it on `errors`.
+    fn tell<E: Write>(self, errors: &mut E) -> io::Result<()>
+        ensures { OnOk result (Appends (E.contents errors.old) (E.contents errors.new) (words_of self)) }
+    {
+        match self {
+            Failure::Line(number) => writeln!(errors, "line {number}: fault"),
+            Failure::Script => writeln!(errors, "bad script"),
+            Failure::Read => writeln!(errors, "read failed"),
+            Failure::Write => Ok(()),
+            Failure::Memory => writeln!(errors, "no memory"),
+        }
+    }
+}
+
+impl From<ScriptError> for Failure {
+    ghost use Rattle.rollplay_core.specs.Play.{failure_of};
+
+    ghost from_gives = { λ error failure. failure ≡ failure_of error };
+
+    fn from(error: ScriptError) -> Failure {
+        match error {
+            ScriptError::Fault(line) => Failure::Line(line),
+            ScriptError::Memory => Failure::Memory,
+        }
+    }
+}
+
+/// Reads a script on `input` and plays it over a folder in memory. What the calls answered and what the folder then
+/// holds goes to `output`, and what stands in the way to `errors`, whose own faults are ignored. The answer is the
+/// status of the process: 0; 1 where the log was not opened; 2 where the script is faulty or not read, or the output
+/// not written; 3 where memory was refused.
+pub fn play<R: Read, W: Write, E: Write>(
+    alloc: Global,
+    input: &mut R,
+    output: &mut W,
+    errors: &mut E,
+) -> u8
+    ensures statuses { result ≤ 3 }
+    ensures opened { result ≡ 0 → Prints ⟦<MemoryFolder as Folder>⟧ Opening.Opened
+        (R.remaining input.old) (W.contents output.old) (W.contents output.new) }
+    ensures refused { result ≡ 1 → Prints ⟦<MemoryFolder as Folder>⟧ Opening.Refused
+        (R.remaining input.old) (W.contents output.old) (W.contents output.new) }
+    ensures fault { result ≡ 2 → Keeps (W.contents output.old) (W.contents output.new)
+        ⊎ IsUnwritten ⟦<MemoryFolder as Folder>⟧ (R.remaining input.old) }
+    ensures memory { result ≡ 3 → Keeps (W.contents output.old) (W.contents output.new) }
+{
+    match play_input(alloc, input, output) {
+        Ok(opening) => opening.status(),
+        Err(failure) => {
+            let _ = failure.tell(errors);
+            failure.status()
+        }
+    }
+}
+
+fn play_input<R: Read, W: Write>(
+    alloc: Global,
+    input: &mut R,
+    output: &mut W,
+) -> Result<Opening, Failure>
+    ensures ok { IfOk result (λ opening. Prints ⟦<MemoryFolder as Folder>⟧ opening
+        (R.remaining input.old) (W.contents output.old) (W.contents output.new)) }
+    ensures err { IfErr result (λ failure. Fails ⟦<MemoryFolder as Folder>⟧ failure
+        (R.remaining input.old) (Keeps (W.contents output.old) (W.contents output.new))) }
+{
+    let text = read_text(alloc, input)?;
+    let script = Script::read(alloc, text.as_str())?;
+    let (opening, page) = play_script(alloc, script)?;
+    match write_page(output, page.as_slice()) {
+        Ok(()) => Ok(opening),
+        Err(_) => Err(Failure::Write),
+    }
+}
+
+// The text of a script, of which no more is read than shows that it is too long.
+fn read_text<R: Read>(alloc: Global, input: &mut R) -> Result<String, Failure>
+    ensures length { IfOk result (λ text. string_len text ≤ LONGEST) }
+    ensures given { IfOk result (λ text. IsGiven (R.remaining input.old) (string_bytes text)) }
+    ensures err { IfErr result IsOfReading }
+{
+    let mut bytes = Vec::new(alloc);
+    let mut limited = Read::take(&mut *input, LONGEST as u64 + 1);
+    if let Err(error) = limited.read_to_end(&mut bytes) {
+        return Err(match error.kind() {
+            io::ErrorKind::OutOfMemory => Failure::Memory,
+            _ => Failure::Read,
+        });
+    }
+    if bytes.len() > LONGEST {
+        return Err(Failure::Script);
+    }
+    String::from_utf8(bytes).map_err(|_| Failure::Script)
+}
+
+// Runs a script, and tells on a page what is to be printed.
+fn play_script(alloc: Global, script: Script) -> Result<(Opening, Vec<u8>), Failure>
+    ensures ok { IfOk result (λ r. Tells ⟦<MemoryFolder as Folder>⟧ script.builder script.folder
+        script.start (plan_of script.plan) r.0 r.1.items) }
+    ensures err { IfErr result (λ failure. failure ≡ Failure.Memory) }
+{
+    let Script {
+        builder,
+        folder,
+        start,
+        plan,
+    } = script;
+    match plan {
+        Plan::Rolling(steps) => play_rolling(alloc, &builder, folder, start, &steps),
+        Plan::Queued(queueing, steps) => {
+            play_queued(alloc, &builder, queueing, folder, start, &steps)
+        }
+    }
+}
+
+// Runs a log that is written by itself.
+fn play_rolling(
+    alloc: Global,
+    builder: &Builder,
+    folder: MemoryFolder,
+    start: i64,
+    steps: &[RollStep],
+) -> Result<(Opening, Vec<u8>), Failure>
+    ensures ok { IfOk result (λ r. Tells ⟦<MemoryFolder as Folder>⟧ builder.now folder
+        start (rolling steps.now) r.0 r.1.items) }
+    ensures err { IfErr result (λ failure. failure ≡ Failure.Memory) }
+{
+    let mut page = Vec::new(alloc);
+    match replay_rolling(alloc, builder, folder, start, steps) {
+        Ok(run) => match page::print_run(&mut page, start, &run) {
+            Ok(()) => Ok((Opening::Opened, page)),
+            Err(_) => Err(Failure::Memory),
+        },
+        Err(error) => tell_refusal(alloc, error),
+    }
+}
+
+// Runs a log that a worker writes, from a queue.
+fn play_queued(
+    alloc: Global,
+    builder: &Builder,
+    queueing: Queueing,
+    folder: MemoryFolder,
+    start: i64,
+    steps: &[Step],
+) -> Result<(Opening, Vec<u8>), Failure>
+    ensures ok { IfOk result (λ r. Tells ⟦<MemoryFolder as Folder>⟧ builder.now folder
+        start (queued queueing.limit queueing.lossy steps.now) r.0 r.1.items) }
+    ensures err { IfErr result (λ failure. failure ≡ Failure.Memory) }
+{
+    let Queueing { limit, lossy } = queueing;
+    let mut page = Vec::new(alloc);
+    match replay(alloc, builder, limit, lossy, folder, start, steps) {
+        Ok(run) => match page::print_queued_run(&mut page, start, &run) {
+            Ok(()) => Ok((Opening::Opened, page)),
+            Err(_) => Err(Failure::Memory),
+        },
+        Err(error) => tell_refusal(alloc, error),
+    }
+}
+
+// Tells on a page why the log was not opened.
+fn tell_refusal(
+    alloc: Global,
+    error: ReplayError<MemoryFolder>,
+) -> Result<(Opening, Vec<u8>), Failure>
+    ensures ok { IfOk result (λ r. (r.0 ≡ Opening.Refused) × IsRefusalPage error r.1.items) }
+    ensures err { IfErr result (λ failure. failure ≡ Failure.Memory) }
+{
+    let mut page = Vec::new(alloc);
+    match error {
+        ReplayError::Init(error, folder) => {
+            match page::print_refusal(&mut page, &error, &folder) {
+                Ok(()) => Ok((Opening::Refused, page)),
+                Err(_) => Err(Failure::Memory),
+            }
+        }
+        ReplayError::Memory(_) => Err(Failure::Memory),
+    }
+}
+
+fn write_page<W: Write>(output: &mut W, page: &[u8]) -> io::Result<()>
+    ensures { OnOk result (Appends (W.contents output.old) (W.contents output.new) page.now) }
+{
+    output.write_all(page)?;
+    output.flush()
+}

@@ -1,8 +1,0 @@
-// What these tests compare: a call of this makes a proof shorter than `assert_eq!` does.
-use std::fmt::Debug;
-use std::process::Abort;
-
-/// Ends the test where a value isn't the wanted one.
-pub(crate) fn expect_eq<T: Copy + PartialEq + Debug>(rt: &impl Abort, got: T, wanted: T) {
-    assert!(rt; got == wanted, "{got:?} where {wanted:?} is wanted");
-}

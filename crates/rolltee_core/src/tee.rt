@@ -1,0 +1,224 @@
+//! Lines from an input to a rolling log, through a non-blocking writer.
+ghost use Rattle.std.specs.Prelude.{◌≡◌, ◌≢◌, ◌≤◌, length, Err};
+ghost use Rattle.rolltee_core.specs.Status.{status_of};
+
+use program_input::{CopyFault, copy_lines};
+use std::alloc::{AllocError, Global};
+use std::io;
+use std::io::{BufReader, Read, Write};
+use std::sync::Wait;
+use std::thread::Threads;
+use std::time::Clock;
+use thiserror::Error;
+use tracing_appender::non_blocking::{Closing, NonBlocking, NonBlockingBuilder, WorkerGuard};
+use tracing_appender::rolling::{FileAppender, InitError, RollingFileAppender, Rotation};
+
+/// How many lines may wait to be written; behind them the reading waits.
+const LIMIT: usize = 1024;
+
+/// What the program asks of its runtime.
+pub trait Host: AllocGlobal + Threads + Wait + Clock + Print + Eprint + Copy + Send + 'static {}
+
+impl<R: AllocGlobal + Threads + Wait + Clock + Print + Eprint + Copy + Send + 'static> Host for R {}
+
+/// Opens logs: those of the file system, or a test's own.
+pub trait Logs {
+    /// A log.
+    type Log: Write + Send + Drop + 'static;
+
+    /// A log of this rotation in this folder, the names of whose files begin with `prefix`.
+    fn open_log(
+        &self,
+        rotation: Rotation,
+        directory: &str,
+        prefix: &str,
+    ) -> Result<Self::Log, InitError>;
+}
+
+impl Logs for HostRuntime {
+    type Log = FileAppender;
+
+    fn open_log(
+        &self,
+        rotation: Rotation,
+        directory: &str,
+        prefix: &str,
+    ) -> Result<FileAppender, InitError> {
+        RollingFileAppender::new(*self, rotation, directory, prefix)
+    }
+}
+
+/// Why not all lines were written.
+#[derive(Debug, Drop, Error)]
+pub enum Fault {
+    /// There weren't three arguments, or the first was no rotation.
+    #[error("usage: rolltee ROTATION DIR PREFIX")]
+    Usage,
+    /// No log was opened.
+    #[error("{0}")]
+    Open(InitError),
+    /// The thread that writes was not made.
+    #[error("no thread")]
+    Thread,
+    /// The input was not read.
+    #[error("read failed")]
+    Read,
+    /// A line was not taken.
+    #[error("write failed")]
+    Write,
+    /// Lines were still being written a second after the last one was read.
+    #[error("shutdown pending")]
+    Pending,
+    /// The queue stayed full at the end.
+    #[error("shutdown full")]
+    Full,
+    /// Memory was refused.
+    #[error("no memory")]
+    Memory,
+}
+
+impl Fault {
+    // The status that the program ends with.
+    fn status(&self) -> u8
+        ensures { result ≡ status_of self.now }
+    {
+        match self {
+            Fault::Usage => 2,
+            Fault::Memory => 3,
+            _ => 1,
+        }
+    }
+
+    /// This fault, or that memory was refused.
+    pub fn of(self, error: &io::Error) -> Fault {
+        match error.kind() {
+            io::ErrorKind::OutOfMemory => Fault::Memory,
+            _ => self,
+        }
+    }
+}
+
+impl From<AllocError> for Fault {
+    fn from(_error: AllocError) -> Fault {
+        Fault::Memory
+    }
+}
+
+/// A fault of reading.
+impl From<io::Error> for Fault {
+    fn from(error: io::Error) -> Fault {
+        Fault::Read.of(&error)
+    }
+}
+
+impl From<CopyFault> for Fault {
+    fn from(fault: CopyFault) -> Fault {
+        match fault {
+            CopyFault::Read(error) => Fault::Read.of(&error),
+            CopyFault::Write(error) => Fault::Write.of(&error),
+            CopyFault::Cut => Fault::Write,
+        }
+    }
+}
+
+/// Writes each line of `input` to the log that the three arguments name, which `logs` opens: a
+/// rotation, a folder and the beginning of the files' names. The first fault goes to `errors`, whose
+/// own faults are ignored; the lines read before it are written. The answer is the status of the
+/// process: 0; 1 where no log was opened, no thread made, the input not read or a line not written; 2
+/// where the arguments aren't of that form; 3 where memory was refused.
+pub fn tee<R: Host, L: Logs, I: Read, E: Write>(
+    rt: R,
+    logs: &L,
+    arguments: &[String],
+    input: &mut I,
+    errors: &mut E,
+) -> u8
+    ensures status { result ≤ 3 }
+    ensures usage { length arguments.now ≢ 3 → result ≡ 2 }
+{
+    match copy_through(rt, logs, arguments, input) {
+        Ok(()) => 0,
+        Err(fault) => tell(&fault, errors),
+    }
+}
+
+/// Tells a fault on `errors`, and answers its status.
+pub fn tell<E: Write>(fault: &Fault, errors: &mut E) -> u8
+    ensures { result ≡ status_of fault.now }
+{
+    let _ = writeln!(errors, "{fault}");
+    fault.status()
+}
+
+fn copy_through<R: Host, L: Logs, I: Read>(
+    rt: R,
+    logs: &L,
+    arguments: &[String],
+    input: &mut I,
+) -> Result<(), Fault>
+    ensures { length arguments.now ≢ 3 → result ≡ Err Fault.Usage }
+{
+    let [rotation, directory, prefix] = arguments else {
+        return Err(Fault::Usage);
+    };
+    let log = open(logs, rotation.as_str(), directory.as_str(), prefix.as_str())?;
+    copy_to(rt, log, input)
+}
+
+// Opens the log that the arguments name.
+fn open<L: Logs>(logs: &L, rotation: &str, directory: &str, prefix: &str) -> Result<L::Log, Fault> {
+    let rotation = rotation_of(rotation).ok_or(Fault::Usage)?;
+    logs.open_log(rotation, directory, prefix)
+        .map_err(Fault::Open)
+}
+
+// Copies the lines to a log, by the thread of its worker. The worker is waited for also behind a fault.
+fn copy_to<R: Host, W: Write + Send + Drop + 'static, I: Read>(
+    rt: R,
+    log: W,
+    input: &mut I,
+) -> Result<(), Fault> {
+    let (mut sender, guard) = start(rt, log)?;
+    let copied = copy_all(rt.alloc(), input, &mut sender);
+    let closed = end(guard);
+    copied.and(closed)
+}
+
+// Starts the worker that writes to the log.
+fn start<R: Host, W: Write + Send + Drop + 'static>(
+    rt: R,
+    log: W,
+) -> Result<(NonBlocking<R>, WorkerGuard<R>), Fault> {
+    let builder = NonBlockingBuilder::default()
+        .lossy(false)
+        .buffered_lines_limit(LIMIT);
+    match builder.finish(rt, rt.alloc(), log) {
+        Ok(made) => Ok(made),
+        Err(error) => Err(Fault::Thread.of(&error)),
+    }
+}
+
+fn rotation_of(word: &str) -> Option<Rotation> {
+    match word {
+        "minutely" => Some(Rotation::MINUTELY),
+        "hourly" => Some(Rotation::HOURLY),
+        "daily" => Some(Rotation::DAILY),
+        "weekly" => Some(Rotation::WEEKLY),
+        "never" => Some(Rotation::NEVER),
+        _ => None,
+    }
+}
+
+// Waits until the lines are written.
+fn end<R: Wait + Clock + Print + Drop>(guard: WorkerGuard<R>) -> Result<(), Fault> {
+    match guard.close() {
+        Closing::Done { .. } | Closing::Ended => Ok(()),
+        Closing::Pending => Err(Fault::Pending),
+        Closing::Full => Err(Fault::Full),
+    }
+}
+
+fn copy_all<I: Read, W: Write>(alloc: Global, input: &mut I, writer: &mut W) -> Result<(), Fault> {
+    let mut input = BufReader::new(alloc, input)?;
+    Ok(copy_lines(alloc, &mut input, writer)?)
+}
