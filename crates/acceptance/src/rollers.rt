@@ -1,9 +1,7 @@
 // What a roller and a builder tell, and bodies that names don't lead to any more.
 
 use crate::expect::{expect_eq, expect_eq_of, shown};
-use std::alloc::{AllocError, Global};
 use std::process::Abort;
-use std::test::Fail;
 use tracing_appender::rolling::{Builder, InitError, Roller, Rotation, Switch};
 use tracing_appender::store::MemoryFolder;
 
@@ -14,21 +12,25 @@ const ELEVEN: i64 = 1_580_554_800;
 
 const TWELVE: i64 = 1_580_558_400;
 
-fn hourly(alloc: Global, suffix: &str) -> Result<Builder, AllocError> {
-    Builder::new()
+fn hourly(rt: &(impl AllocGlobal + Abort), suffix: &str) -> Builder {
+    let builder = Builder::new()
         .rotation(Rotation::HOURLY)
-        .filename_prefix(alloc, "app")?
-        .filename_suffix(alloc, suffix)
+        .filename_prefix(rt.alloc(), "app");
+    let builder = builder.expect(rt, "memory");
+    builder
+        .filename_suffix(rt.alloc(), suffix)
+        .expect(rt, "memory")
 }
 
+// A roller that has to be opened.
 fn opened(
-    alloc: Global,
+    rt: &(impl AllocGlobal + Abort),
     builder: &Builder,
     folder: MemoryFolder,
-) -> Result<Roller<MemoryFolder>, Fail> {
-    match Roller::open(alloc, builder, folder, START) {
-        Ok(roller) => Ok(roller),
-        Err((error, _folder)) => Err(Fail::from(error)),
+) -> Roller<MemoryFolder> {
+    match Roller::open(rt.alloc(), builder, folder, START) {
+        Ok(roller) => roller,
+        Err((error, _folder)) => rt.panic(error),
     }
 }
 
@@ -50,23 +52,18 @@ fn write_at_twelve(rt: &impl Abort, roller: &mut Roller<MemoryFolder>) {
 }
 
 #[test]
-fn a_roller_tells_what_is_open(rt: HostRuntime) -> Result<(), Fail> {
-    let alloc = rt.alloc();
-    let mut roller = opened(alloc, &hourly(alloc, "log")?, MemoryFolder::new(alloc))?;
+fn a_roller_tells_what_is_open(rt: HostRuntime) {
+    let folder = MemoryFolder::new(rt.alloc());
+    let mut roller = opened(&rt, &hourly(&rt, "log"), folder);
     expect_first(&rt, &roller);
     write_at_twelve(&rt, &mut roller);
-    let folder = roller.into_folder();
-    expect_eq(
-        &rt,
-        folder.bytes("app.2020-02-01-12.log"),
-        Some(b"line\n".as_slice()),
-    );
-    Ok(())
+    let bytes = roller.folder().bytes("app.2020-02-01-12.log");
+    expect_eq(&rt, bytes, Some(b"line\n".as_slice()));
 }
 
 // Checks the name that an hourly log begins with.
 fn expect_first_name(rt: &(impl AllocGlobal + Abort)) {
-    let builder = hourly(rt.alloc(), "log").expect(rt, "memory");
+    let builder = hourly(rt, "log");
     let names = builder.names(rt.alloc()).expect(rt, "names");
     let name = names.file_name(START).expect(rt, "memory");
     expect_eq(rt, name.as_str(), "app.2020-02-01-10.log");
@@ -74,7 +71,7 @@ fn expect_first_name(rt: &(impl AllocGlobal + Abort)) {
 
 // Checks that no names have this suffix.
 fn expect_refused(rt: &(impl AllocGlobal + Abort), suffix: &str) {
-    let builder = hourly(rt.alloc(), suffix).expect(rt, "memory");
+    let builder = hourly(rt, suffix);
     let is_refused = matches!(builder.names(rt.alloc()), Err(InitError::Name));
     expect_eq(rt, is_refused, true);
 }
@@ -97,13 +94,16 @@ fn expect_bodies(rt: &impl Abort, folder: &MemoryFolder, wanted: &[&[u8]]) {
 }
 
 // A folder with a log file, in which two calls fail.
-fn failing_folder(alloc: Global) -> Result<MemoryFolder, Fail> {
-    let mut folder = MemoryFolder::new(alloc);
-    folder.put_file("app.2020-02-01-10", b"x")?;
+fn failing_folder(rt: &(impl AllocGlobal + Abort)) -> MemoryFolder {
+    let mut folder = MemoryFolder::new(rt.alloc());
+    folder
+        .put_file("app.2020-02-01-10", b"x")
+        .expect(rt, "a file");
     // Calls 1 to 3 list, remove and open; calls 4 to 8 list, remove, open, make and open.
-    folder.fail_call(6)?;
-    folder.fail_call(8)?;
-    Ok(folder)
+    for call in [6, 8] {
+        folder.fail_call(call).expect(rt, "memory");
+    }
+    folder
 }
 
 // Writes a line for which no file can be opened.
@@ -119,15 +119,13 @@ fn expect_no_names(rt: &impl Abort, folder: &MemoryFolder) {
 }
 
 #[test]
-fn bodies_stay_without_a_name(rt: HostRuntime) -> Result<(), Fail> {
-    let alloc = rt.alloc();
-    let builder = hourly(alloc, "")?.max_log_files(1);
-    let mut roller = opened(alloc, &builder, failing_folder(alloc)?)?;
+fn bodies_stay_without_a_name(rt: HostRuntime) {
+    let builder = hourly(&rt, "").max_log_files(1);
+    let mut roller = opened(&rt, &builder, failing_folder(&rt));
     // The restart that keeps one file began anew.
     expect_bodies(&rt, roller.folder(), &[b"x", b""]);
     write_at_eleven(&rt, &mut roller);
     let folder = roller.into_folder();
     expect_no_names(&rt, &folder);
     expect_bodies(&rt, &folder, &[b"x", b"y"]);
-    Ok(())
 }

@@ -7,7 +7,6 @@ use rollplay_rows::{PLAYED, first_row};
 use rollplay_script::script::{LONGEST, Plan, Script};
 use std::alloc::Global;
 use std::io;
-use std::io::Error;
 use std::process::Abort;
 use tracing_appender::folder::DirFolder;
 use tracing_appender::replay::replay_rolling;
@@ -25,35 +24,33 @@ fn needs_memory(script: &str) -> bool {
     false
 }
 
-fn read(alloc: Global, script: &str) -> io::Result<Script> {
+// A script that isn't too long and has no fault.
+fn read(alloc: Global, script: &str) -> Option<Script> {
     if script.len() > LONGEST {
-        return Err(Error::other("too long"));
+        return None;
     }
-    match Script::read(alloc, script) {
-        Ok(script) => Ok(script),
-        Err(_) => Err(Error::other("no script")),
-    }
+    Script::read(alloc, script).ok()
 }
 
-// The folder after a plan was carried out in it.
+// The folder after a plan without a queue was carried out in it, if the log was opened.
 fn carry_out<S: Folder>(
     alloc: Global,
     builder: &Builder,
     folder: S,
     start: i64,
     plan: &Plan,
-) -> io::Result<S> {
-    match plan {
-        Plan::Rolling(steps) => match replay_rolling(alloc, builder, folder, start, steps) {
-            Ok(run) => Ok(run.roller.into_folder()),
-            Err(_) => Err(Error::other("not opened")),
-        },
-        Plan::Queued(_, _) => Err(Error::other("with a queue")),
+) -> Option<S> {
+    let Plan::Rolling(steps) = plan else {
+        return None;
+    };
+    match replay_rolling(alloc, builder, folder, start, steps) {
+        Ok(run) => Some(run.roller.into_folder()),
+        Err(_) => None,
     }
 }
 
 // The folder in memory of a script after it was carried out.
-fn folder_after(alloc: Global, script: Script) -> io::Result<MemoryFolder> {
+fn folder_after(alloc: Global, script: Script) -> Option<MemoryFolder> {
     let Script {
         builder,
         folder,
@@ -64,8 +61,8 @@ fn folder_after(alloc: Global, script: Script) -> io::Result<MemoryFolder> {
 }
 
 // What a folder in memory holds after a script, as `Disk::shown` tells it.
-fn play_in_memory(alloc: Global, script: Script) -> io::Result<String> {
-    let folder = folder_after(alloc, script)?;
+fn play_in_memory(rt: &impl Abort, alloc: Global, script: Script) -> io::Result<String> {
+    let folder = folder_after(alloc, script).expect(rt, "a run");
     copied(alloc, &folder)?.shown()
 }
 
@@ -78,16 +75,16 @@ fn disk_before(alloc: Global, script: &str, folder: &MemoryFolder) -> io::Result
     Ok(disk)
 }
 
-fn carry_out_on_disk(alloc: Global, disk: &Disk, script: &Script) -> io::Result<()> {
-    let folder = DirFolder::new(Fake::new(disk), FOLDER)?;
-    carry_out(alloc, &script.builder, folder, script.start, &script.plan)?;
-    Ok(())
+// Carries a script out on a disk, and tells whether the log was opened.
+fn carry_out_on_disk(rt: &impl Abort, alloc: Global, disk: &Disk, script: &Script) -> bool {
+    let folder = DirFolder::new(Fake::new(disk), FOLDER).expect(rt, "memory");
+    carry_out(alloc, &script.builder, folder, script.start, &script.plan).is_some()
 }
 
 // What a fake disk holds after a script.
-fn play_on_disk(alloc: Global, text: &str, script: &Script) -> io::Result<String> {
+fn play_on_disk(rt: &impl Abort, alloc: Global, text: &str, script: &Script) -> io::Result<String> {
     let disk = disk_before(alloc, text, &script.folder)?;
-    carry_out_on_disk(alloc, &disk, script)?;
+    expect_eq(rt, carry_out_on_disk(rt, alloc, &disk, script), true);
     disk.shown()
 }
 
@@ -110,8 +107,8 @@ fn copy_entry(disk: &Disk, folder: &MemoryFolder, name: &str) -> io::Result<()> 
 
 fn check_script(rt: &impl Abort, alloc: Global, text: &str) {
     let script = read(alloc, text).expect(rt, "a script");
-    let on_disk = play_on_disk(alloc, text, &script).expect(rt, "a play");
-    let in_memory = play_in_memory(alloc, script).expect(rt, "a play");
+    let on_disk = play_on_disk(rt, alloc, text, &script).expect(rt, "a play");
+    let in_memory = play_in_memory(rt, alloc, script).expect(rt, "a play");
     expect_eq_of(rt, text, &on_disk, &in_memory);
 }
 

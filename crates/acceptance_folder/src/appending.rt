@@ -13,6 +13,7 @@ use appender_store::store::{Folder, MemoryFolder};
 use std::io::Write;
 use std::process::Abort;
 use std::rt::Env;
+use std::sync::Wait;
 use std::time::Duration;
 use std::{env, io, time};
 
@@ -22,9 +23,9 @@ fn minute(rt: impl time::Clock + Drop) -> i64 {
 }
 
 // Writes `Hello`.
-fn say_hello(rt: &impl Abort, writer: &mut impl Write) {
-    writer.write_all(b"Hello").expect(rt, "a write");
-    writer.flush().expect(rt, "a flush");
+fn say_hello(rt: &impl Abort, log: &mut impl Write) {
+    put(rt, log, "Hello");
+    flush(rt, log);
 }
 
 static ROTATIONS: [&str; 5] = ["minutely", "hourly", "daily", "weekly", "never"];
@@ -106,6 +107,20 @@ enum Step {
     Reads(u64),
 }
 
+// Writes a line.
+fn put(rt: &impl Abort, log: &mut impl Write, line: &str) {
+    log.write_all(line.as_bytes()).expect(rt, "a line");
+}
+
+// Writes by one call, and checks how many bytes it takes.
+fn write_once(rt: &impl Abort, log: &mut impl Write, bytes: &[u8], wanted: usize) {
+    expect_eq(rt, log.write(bytes).expect(rt, "a write"), wanted);
+}
+
+fn flush(rt: &impl Abort, log: &mut impl Write) {
+    log.flush().expect(rt, "a flush");
+}
+
 // Takes a step.
 fn take<S: Folder, R: Host>(
     rt: &R,
@@ -116,13 +131,13 @@ fn take<S: Folder, R: Host>(
     match *step {
         Step::Put(moment, line) => {
             clock.set(moment);
-            appender.write_all(line.as_bytes()).expect(rt, "a line");
+            put(rt, appender, line);
         }
         Step::Write(moment, bytes, wanted) => {
             clock.set(moment);
-            expect_eq(rt, appender.write(bytes).expect(rt, "a write"), wanted);
+            write_once(rt, appender, bytes, wanted);
         }
-        Step::Flush => appender.flush().expect(rt, "a flush"),
+        Step::Flush => flush(rt, appender),
         Step::Reads(wanted) => expect_eq(rt, clock.reads(), wanted),
     }
 }
@@ -184,9 +199,14 @@ static ACROSS_ELEVEN: [Step; 4] = [
 
 static BOTH_BYTES: [(&str, &str); 2] = [("app.2020-02-01-10", ""), ("app.2020-02-01-11", "ab")];
 
+// Writes both bytes in memory.
+fn write_both(rt: &impl Host) {
+    write_in_memory(rt, &hourly_log(rt, "app"), &ACROSS_ELEVEN, &BOTH_BYTES);
+}
+
 #[test]
 fn each_write_reads_the_clock_once(rt: HostRuntime) {
-    write_in_memory(&rt, &hourly_log(&rt, "app"), &ACROSS_ELEVEN, &BOTH_BYTES);
+    write_both(&rt);
 }
 
 // Two lines, and an hour later two more.
@@ -290,19 +310,28 @@ fn the_link_leads_to_the_newest_file(rt: HostRuntime) {
     expect_links(&rt, parent.as_str());
 }
 
-#[test]
-fn an_appender_shows_its_file_and_boundary(rt: HostRuntime) {
+// Checks what an hourly log shows.
+fn expect_shown_hourly<R: Host + Wait>(rt: R) {
     expect_shown_appender(
         rt,
         &hourly_log(&rt, "app"),
         "RollingFileAppender { open_name: \"app.2020-02-01-10\", boundary: Some(1580554800) }",
     );
-    let clock = shown(&rt, &SystemClock::new(rt));
+}
+
+#[test]
+fn an_appender_shows_its_file_and_boundary(rt: HostRuntime) {
+    expect_shown_hourly(rt);
+}
+
+#[test]
+fn the_system_clock_shows_itself(rt: HostRuntime) {
+    let clock = shown(&rt, &SystemClock::new(Stopped { seconds: None }));
     assert!(rt; clock.as_str().starts_with("SystemClock"));
 }
 
 // A system whose clock tells so many seconds since 1970, if it can be read.
-#[derive(Drop)]
+#[derive(Clone, Copy, Debug)]
 struct Stopped {
     seconds: Option<u64>,
 }

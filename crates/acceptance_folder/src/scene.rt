@@ -223,11 +223,19 @@ pub(crate) fn opened<S: Folder, C: Clock, R: Host>(
 
 /// Checks what an appender shows that is opened in memory at 10:01, and a writer of it.
 pub(crate) fn expect_shown_appender<R: Host + Wait>(rt: R, builder: &Builder, wanted: &str) {
-    let clock = TestClock::new(START);
-    let appender = opened(rt, builder, MemoryFolder::new(rt.alloc()), &clock);
+    let folder = MemoryFolder::new(rt.alloc());
+    let appender = opened(rt, builder, folder, TestClock::new(START));
     expect_shown(&rt, &appender, wanted);
-    let writer = appender.make_writer().expect(&rt, "a writer");
-    expect_shown(&rt, &writer, "RollingWriter { .. }");
+    expect_shown_writer(&rt, &appender);
+}
+
+// Checks what a writer shows.
+fn expect_shown_writer<S: Folder, C: Clock, R: Host + Wait>(
+    rt: &R,
+    appender: &RollingFileAppender<S, C, R>,
+) {
+    let writer = appender.make_writer().expect(rt, "a writer");
+    expect_shown(rt, &writer, "RollingWriter { .. }");
 }
 
 /// The kind of the error, if there is one.

@@ -11,6 +11,8 @@ mod tests;
 use crate::queue::ring::Ring;
 use crate::queue::store::Store;
 use std::alloc::{AllocError, Global};
+use std::fmt;
+use std::fmt::{Debug, Formatter};
 use std::marker::Model;
 
 /// A line that was not queued, given back, and why.
@@ -64,7 +66,7 @@ pub struct Counts {
 }
 
 // The queue's rules, over any store.
-#[derive(Debug, Drop)]
+#[derive(Drop)]
 struct Rules<S: Store> {
     store: S,
     accepted: u64,
@@ -246,7 +248,7 @@ impl<S: Store> Rules<S> {
 ///
 /// In lossy mode a refused line counts as dropped; else its sender is to try again, as in the
 /// documentation of the crate tracing-appender.
-#[derive(Debug, Drop)]
+#[derive(Drop)]
 pub struct LineQueue {
     rules: Rules<Ring>,
 }
@@ -335,5 +337,13 @@ impl LineQueue {
         ensures { TellsCounts self.now result }
     {
         self.rules.counts()
+    }
+}
+
+impl Debug for LineQueue {
+    fn fmt<W: fmt::Write>(&self, f: &mut Formatter<W>) -> fmt::Result {
+        f.debug_struct("LineQueue")
+            .field("counts", &self.counts())
+            .finish_non_exhaustive()
     }
 }

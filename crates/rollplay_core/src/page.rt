@@ -140,25 +140,26 @@ fn print_queue_reply(page: &mut Vec<u8>, reply: &Reply) -> io::Result<()>
     ensures { OnOk result
         (page.new.items ≡ page.old.items ++ line_of (queue_reply_words reply.now)) }
 {
-    match reply {
-        Reply::Accepted(ticket) => writeln!(page, "accepted {ticket}"),
-        Reply::Full => writeln!(page, "full"),
-        Reply::Closed => writeln!(page, "closed"),
-        Reply::NoMemory => writeln!(page, "no memory"),
-        Reply::Shut(Shut::Sent) => writeln!(page, "sent"),
-        Reply::Shut(Shut::Already) => writeln!(page, "already"),
-        Reply::Shut(Shut::Full) => writeln!(page, "full"),
-        Reply::Shut(Shut::Closed) => writeln!(page, "closed"),
-        Reply::Senders(count) => writeln!(page, "senders {count}"),
-        Reply::Took(ticket) => writeln!(page, "took {ticket}"),
-        Reply::TookShutdown => writeln!(page, "shutdown"),
-        Reply::TookGone => writeln!(page, "gone"),
-        Reply::TookEmpty => writeln!(page, "empty"),
-        Reply::Wrote(switch, taken) => writeln!(page, "wrote {} {}", Told(*switch), Taken(taken)),
-        Reply::Flushed(Ok(())) => writeln!(page, "flushed"),
-        Reply::Flushed(Err(_)) => writeln!(page, "flush err"),
-        Reply::Ended => writeln!(page, "ended"),
-    }
+    let word = match reply {
+        Reply::Accepted(ticket) => return writeln!(page, "accepted {ticket}"),
+        Reply::Senders(count) => return writeln!(page, "senders {count}"),
+        Reply::Took(ticket) => return writeln!(page, "took {ticket}"),
+        Reply::Wrote(switch, taken) => {
+            return writeln!(page, "wrote {} {}", Told(*switch), Taken(taken));
+        }
+        Reply::Full | Reply::Shut(Shut::Full) => "full",
+        Reply::Closed | Reply::Shut(Shut::Closed) => "closed",
+        Reply::NoMemory => "no memory",
+        Reply::Shut(Shut::Sent) => "sent",
+        Reply::Shut(Shut::Already) => "already",
+        Reply::TookShutdown => "shutdown",
+        Reply::TookGone => "gone",
+        Reply::TookEmpty => "empty",
+        Reply::Flushed(Ok(())) => "flushed",
+        Reply::Flushed(Err(_)) => "flush err",
+        Reply::Ended => "ended",
+    };
+    writeln!(page, "{word}")
 }
 
 // Prints the counts of a queue.

@@ -91,6 +91,29 @@ is_of_queue drop = true
 is_of_queue work = true
 is_of_queue kind = false
 
+-- these, the start, and the steps of runs without a queue
+abbrev pub is_of_run : LineKind → Bool
+is_of_run start = true
+is_of_run see = true
+is_of_run put = true
+is_of_run write = true
+is_of_run flush = true
+is_of_run kind = is_of_queue kind
+
+-- these, and what is said of the folder
+abbrev pub is_of_folder_or_run : LineKind → Bool
+is_of_folder_or_run created = true
+is_of_folder_or_run file = true
+is_of_folder_or_run folder = true
+is_of_folder_or_run link_at = true
+is_of_folder_or_run absent = true
+is_of_folder_or_run failing = true
+is_of_folder_or_run shortened = true
+is_of_folder_or_run kind = is_of_run kind
+
+abbrev pub is_any : LineKind → Bool
+is_any kind = true
+
 -- all that is left of a line is a text, which may be missing where it is empty
 pub record TakesText (old : Option (List ℕ)) (plain : List ℕ) (new : Option (List ℕ)) : Type 0 where
   pub text : IsEscaped plain (unwrap_or old [])
@@ -152,10 +175,10 @@ pub record ContinuesWith (word : List ℕ) (rest : Option (List ℕ)) (line : Sc
   pub is : word ≡ first_word kind
   pub arguments : HasArguments kind rest line left
 
--- with this first word, it goes on as no line of a queue
-abbrev pub IsNoQueueLine : List ℕ → Option (List ℕ) → Type 0
-IsNoQueueLine word rest =
-    (kind : LineKind) → is_of_queue kind ≡ true → word ≡ first_word kind → (line : ScriptLine) → (left : Option (List ℕ))
+-- with this first word, it goes on as no line of these kinds
+abbrev pub IsNoneOf : (LineKind → Bool) → List ℕ → Option (List ℕ) → Type 0
+IsNoneOf is_of word rest =
+    (kind : LineKind) → is_of kind ≡ true → word ≡ first_word kind → (line : ScriptLine) → (left : Option (List ℕ))
     → ¬ HasArguments kind rest line left
 
 -- a line begins with the word of its kind, and its arguments follow

@@ -2,7 +2,8 @@
 
 ghost use Rattle.std.specs.Prelude.{◌≡◌, ◌≢◌, Option, List, ℕ, Bool, None, Some, Err, IfOk, IfErr};
 ghost use Rattle.appender_names.specs.declared.rotation.Rotation.{Rotation};
-ghost use Rattle.rollplay_script.specs.Line.{rotation_word, mode_word, BeginsWith, ContinuesWith, IsNoQueueLine};
+ghost use Rattle.rollplay_script.specs.Line.{rotation_word, mode_word, BeginsWith, ContinuesWith, IsNoneOf};
+ghost use Rattle.rollplay_script.specs.Line.{is_any, is_of_folder_or_run, is_of_run, is_of_queue};
 ghost use Rattle.rollplay_script.specs.Line.{IsLine, IsNoLine};
 
 use appender_names::rotation::Rotation;
@@ -75,25 +76,66 @@ impl<'a> ScriptLine<'a> {
         Ok(line)
     }
 
-    // Reads what belongs to the first word.
+    // Reads the first word, and what belongs to it.
     fn read_words(alloc: Global, words: &mut Words<'a>) -> Result<ScriptLine<'a>, LineError>
         ensures ok { IfOk result (λ line. BeginsWith words.old line words.new) }
         ensures fault { result ≡ Err LineError.Fault →
             (line : _) → (left : Option (List ℕ)) → ¬ (BeginsWith words.old line left) }
     {
-        Ok(match words.word()? {
-            "rotation" => ScriptLine::Setting(Setting::Rotation(read_rotation(words.word()?)?)),
-            "prefix" => ScriptLine::Setting(Setting::Prefix(words.text(alloc)?)),
-            "suffix" => ScriptLine::Setting(Setting::Suffix(words.text(alloc)?)),
-            "link" => ScriptLine::Setting(Setting::Link(words.text(alloc)?)),
-            "max" => ScriptLine::Setting(Setting::Max(words.count()?)),
-            "created" => ScriptLine::Setting(Setting::Created(words.created()?)),
-            "file" => ScriptLine::Setting(Setting::File(words.word()?, words.text(alloc)?)),
-            "folder" => ScriptLine::Setting(Setting::Folder(words.word()?)),
-            "link-at" => ScriptLine::Setting(Setting::LinkAt(words.word()?, words.word()?)),
-            "absent" => ScriptLine::Setting(Setting::Absent),
-            "fail" => ScriptLine::Setting(Setting::Fail(words.call()?)),
-            "short" => ScriptLine::Setting(Setting::Short(words.call()?, words.count()?)),
+        let word = words.word()?;
+        ScriptLine::read_log_words(alloc, word, words)
+    }
+
+    // Reads what belongs to a first word. Those that say how the log is kept come first.
+    fn read_log_words(
+        alloc: Global,
+        word: &str,
+        words: &mut Words<'a>,
+    ) -> Result<ScriptLine<'a>, LineError>
+        ensures ok { IfOk result (λ line. ContinuesWith word.now words.old line words.new) }
+        ensures fault { result ≡ Err LineError.Fault → IsNoneOf is_any word.now words.old }
+    {
+        Ok(ScriptLine::Setting(match word {
+            "rotation" => Setting::Rotation(read_rotation(words.word()?)?),
+            "prefix" => Setting::Prefix(words.text(alloc)?),
+            "suffix" => Setting::Suffix(words.text(alloc)?),
+            "link" => Setting::Link(words.text(alloc)?),
+            "max" => Setting::Max(words.count()?),
+            _ => return ScriptLine::read_folder_words(alloc, word, words),
+        }))
+    }
+
+    // Then those that say what stands in the folder, and which of its calls go wrong.
+    fn read_folder_words(
+        alloc: Global,
+        word: &str,
+        words: &mut Words<'a>,
+    ) -> Result<ScriptLine<'a>, LineError>
+        ensures ok { IfOk result (λ line. ContinuesWith word.now words.old line words.new) }
+        ensures fault { result ≡ Err LineError.Fault → IsNoneOf is_of_folder_or_run word.now words.old }
+    {
+        Ok(ScriptLine::Setting(match word {
+            "created" => Setting::Created(words.created()?),
+            "file" => Setting::File(words.word()?, words.text(alloc)?),
+            "folder" => Setting::Folder(words.word()?),
+            "link-at" => Setting::LinkAt(words.word()?, words.word()?),
+            "absent" => Setting::Absent,
+            "fail" => Setting::Fail(words.call()?),
+            "short" => Setting::Short(words.call()?, words.count()?),
+            _ => return ScriptLine::read_run_words(alloc, word, words),
+        }))
+    }
+
+    // Then the start, and the steps of a run without a queue.
+    fn read_run_words(
+        alloc: Global,
+        word: &str,
+        words: &mut Words<'a>,
+    ) -> Result<ScriptLine<'a>, LineError>
+        ensures ok { IfOk result (λ line. ContinuesWith word.now words.old line words.new) }
+        ensures fault { result ≡ Err LineError.Fault → IsNoneOf is_of_run word.now words.old }
+    {
+        Ok(match word {
             "start" => ScriptLine::Start(words.seconds()?),
             "see" => ScriptLine::Step(RollStep::See(words.seconds()?)),
             "put" => ScriptLine::Step(RollStep::Put(
@@ -102,18 +144,18 @@ impl<'a> ScriptLine<'a> {
             )),
             "write" => ScriptLine::Step(RollStep::Write(words.text(alloc)?.into_bytes())),
             "flush" => ScriptLine::Step(RollStep::Flush),
-            word => ScriptLine::read_queue_words(alloc, word, words)?,
+            _ => return ScriptLine::read_queue_words(alloc, word, words),
         })
     }
 
-    // Reads what belongs to a first word, if that is one of a queue's.
+    // At last those of a queue.
     fn read_queue_words(
         alloc: Global,
         word: &str,
         words: &mut Words<'a>,
     ) -> Result<ScriptLine<'a>, LineError>
         ensures ok { IfOk result (λ line. ContinuesWith word.now words.old line words.new) }
-        ensures fault { result ≡ Err LineError.Fault → IsNoQueueLine word.now words.old }
+        ensures fault { result ≡ Err LineError.Fault → IsNoneOf is_of_queue word.now words.old }
     {
         Ok(match word {
             "queue" => ScriptLine::Setting(Setting::Queue(Queueing {

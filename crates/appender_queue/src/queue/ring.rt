@@ -7,7 +7,7 @@ use std::alloc::{AllocError, Global};
 use std::marker::Model;
 
 /// Lines in a ring of places, all made at once.
-#[derive(Debug, Drop)]
+#[derive(Drop)]
 pub(crate) struct Ring {
     lines: HeapCircularBuffer<Vec<u8>>,
 }

@@ -7,7 +7,7 @@ use std::alloc::{AllocError, Global};
 use std::marker::Model;
 
 /// Lines in a row of slots, all made at once. When the first one is taken, the others move up to it.
-#[derive(Debug, Drop)]
+#[derive(Drop)]
 pub(crate) struct Slots {
     slots: Vec<Option<Vec<u8>>>,
     full: usize,
