@@ -6,7 +6,7 @@ use std::alloc::{AllocError, Global};
 use std::cell::Cell;
 use std::io::Read;
 use std::process::Abort;
-use std::rt::Runtime;
+use std::rt::{Files, Runtime};
 use std::test::Fail;
 use std::{env, fs, io, process};
 use tracing_appender::rolling::{Builder, Clock, RollingFile, Rotation};
@@ -62,22 +62,41 @@ fn check<R: Runtime + AllocGlobal + Abort>(
     expect_eq(rt, answer, status);
 }
 
+// What is asked of the runtime where a test looks at the disk.
+trait Disk: Files + AllocGlobal + Abort + Copy + Drop {}
+
+impl<R: Files + AllocGlobal + Abort + Copy + Drop> Disk for R {}
+
+// The path of the link to the newest log.
+fn latest(rt: &impl Disk, directory: &str) -> String {
+    format!(in rt.alloc(); "{directory}/latest.log").expect(rt, "memory")
+}
+
+// What the newest log holds.
+fn written_in(rt: &impl Disk, directory: &str) -> String {
+    fs::read_to_string(rt, latest(rt, directory)).expect(rt, "a log")
+}
+
+// Checks what the newest log holds, and that it is the log of a day.
+fn check_newest(rt: &impl Disk, directory: &str, wanted: &str) {
+    expect_eq(rt, written_in(rt, directory).as_str(), wanted);
+    let target = fs::read_link(rt, latest(rt, directory)).expect(rt, "a link");
+    expect_eq(rt, target.as_str().len(), "audit.2020-02-01.log".len());
+}
+
+// Removes a folder of a test.
+fn clear(rt: &impl Disk, directory: &str) {
+    fs::remove_dir_all(rt, directory).expect(rt, "a folder");
+}
+
 #[test]
 fn keeps_all_lines_of_all_runs(rt: HostRuntime) -> Result<(), Fail> {
     let arguments = Vec::from_array(rt.alloc(), [fresh(&rt, "runs")?])?;
     check(&rt, arguments.as_slice(), b"first\n\nlast", 0, "");
     check(&rt, arguments.as_slice(), b"\nagain\n", 0, "");
     let directory = arguments[0].as_str();
-    let link = format!(in rt.alloc(); "{directory}/latest.log")?;
-    expect_eq(
-        &rt,
-        fs::read_to_string(&rt, link.as_str())?.as_str(),
-        "first\n\nlast\nagain\n",
-    );
-    // The link leads to the log of a day.
-    let target = fs::read_link(&rt, link.as_str())?;
-    expect_eq(&rt, target.as_str().len(), "audit.2020-02-01.log".len());
-    fs::remove_dir_all(&rt, directory)?;
+    check_newest(&rt, directory, "first\n\nlast\nagain\n");
+    clear(&rt, directory);
     Ok(())
 }
 
@@ -166,27 +185,25 @@ fn check_account<R: Host + Trails + Abort>(
 }
 
 // The lines that begin so, in their order, with a bar behind each.
-fn lines_of(alloc: Global, text: &str, begin: &str) -> Result<String, AllocError> {
-    let mut found = String::new(alloc);
+fn lines_of(rt: &(impl AllocGlobal + Abort), text: &str, begin: &str) -> String {
+    let mut found = String::new(rt.alloc());
     for line in text.lines() {
         if line.starts_with(begin) {
-            found.push_str(line)?;
-            found.push('|')?;
+            found.push_str(line).expect(rt, "memory");
+            found.push('|').expect(rt, "memory");
         }
     }
-    Ok(found)
+    found
 }
 
 // Checks what the log holds: the lines of one source stand in their order.
-fn check_written(rt: &(impl AllocGlobal + Abort), written: &str) -> Result<(), Fail> {
+fn check_written(rt: &(impl AllocGlobal + Abort), written: &str) {
     expect_eq(rt, written.len(), 17);
     for (begin, wanted) in [("a", "a 1|a 2|a 3|"), ("b", "b 1|")] {
-        let found = lines_of(rt.alloc(), written, begin)?;
-        expect_eq(rt, found.as_str(), wanted);
+        expect_eq(rt, lines_of(rt, written, begin).as_str(), wanted);
     }
-    let all = lines_of(rt.alloc(), written, "")?;
+    let all = lines_of(rt, written, "");
     expect_eq(rt, all.len(), "a 1|a 2|a 3|b 1||".len());
-    Ok(())
 }
 
 #[test]
@@ -195,24 +212,26 @@ fn gives_an_account_of_all_sources(rt: HostRuntime) -> Result<(), Fail> {
     let sources = sources(&rt)?;
     let faults = faults_of(rt.alloc(), &sources)?;
     check_account(rt, directory.as_str(), sources.as_slice(), faults.as_str());
-    let link = format!(in rt.alloc(); "{directory}/latest.log")?;
-    let written = fs::read_to_string(&rt, link.as_str())?;
-    check_written(&rt, written.as_str())?;
-    fs::remove_dir_all(&rt, directory.as_str())?;
+    check_written(&rt, written_in(&rt, directory.as_str()).as_str());
+    clear(&rt, directory.as_str());
     Ok(())
 }
 
 // A log over a folder in memory, opened at 2020-02-01 10:01:00.
-fn hourly(alloc: Global, folder: MemoryFolder) -> Result<RollingFile<MemoryFolder, Ticking>, Fail> {
+fn hourly(
+    rt: &(impl AllocGlobal + Abort),
+    folder: MemoryFolder,
+) -> RollingFile<MemoryFolder, Ticking> {
+    let builder = Builder::new()
+        .rotation(Rotation::HOURLY)
+        .filename_prefix(rt.alloc(), "app")
+        .expect(rt, "memory");
     let clock = Ticking {
         now: Cell::new(1_580_551_260),
     };
-    let builder = Builder::new()
-        .rotation(Rotation::HOURLY)
-        .filename_prefix(alloc, "app")?;
-    match builder.open_in(alloc, folder, clock) {
-        Ok(log) => Ok(log),
-        Err((error, _, _)) => Err(Fail::from(error)),
+    match builder.open_in(rt.alloc(), folder, clock) {
+        Ok(log) => log,
+        Err((error, _, _)) => rt.panic(error),
     }
 }
 
@@ -225,15 +244,14 @@ fn expect_file(rt: &impl Abort, folder: &MemoryFolder, name: &str, text: &str) {
 }
 
 #[test]
-fn each_line_is_put_at_its_moment(rt: HostRuntime) -> Result<(), Fail> {
+fn each_line_is_put_at_its_moment(rt: HostRuntime) {
     let alloc = rt.alloc();
-    let mut log = hourly(alloc, MemoryFolder::new(alloc))?;
+    let mut log = hourly(&rt, MemoryFolder::new(alloc));
     let mut input = b"a\nb\nc".as_slice();
     assert!(rt; write_lines(alloc, &mut input, &mut log).is_ok());
     let (folder, _) = log.into_parts();
     expect_file(&rt, &folder, "app.2020-02-01-10", "a\n");
     expect_file(&rt, &folder, "app.2020-02-01-11", "b\nc");
-    Ok(())
 }
 
 #[test]
@@ -241,7 +259,7 @@ fn a_line_cut_short_is_told(rt: HostRuntime) -> Result<(), Fail> {
     let alloc = rt.alloc();
     let mut folder = MemoryFolder::new(alloc);
     folder.short_append(2, 1)?;
-    let mut log = hourly(alloc, folder)?;
+    let mut log = hourly(&rt, folder);
     let mut input = b"ab\nc\n".as_slice();
     assert!(rt; matches!(write_lines(alloc, &mut input, &mut log), Err(Fault::Cut)));
     let (folder, _) = log.into_parts();
@@ -254,7 +272,7 @@ fn a_write_that_fails_is_told(rt: HostRuntime) -> Result<(), Fail> {
     let alloc = rt.alloc();
     let mut folder = MemoryFolder::new(alloc);
     folder.fail_call(2)?;
-    let mut log = hourly(alloc, folder)?;
+    let mut log = hourly(&rt, folder);
     let mut input = b"ab\n".as_slice();
     assert!(rt;
         matches!(

@@ -4,8 +4,8 @@ use Rattle.std.specs.Prelude.{◌≡◌, ◌≢◌, ◌⊎◌, ℕ, ◌<◌, ◌
 use Rattle.std.specs.declared.io.Error.{Error}
 use Rattle.std.specs.FinMap as fin
 use Rattle.appender_names.specs.declared.error.InitError.{InitError}
-use Rattle.appender_names.specs.declared.error.InitError.TheVariants.{Directory, File, Symlink, Memory}
-use Rattle.appender_names.specs.Rotation.{IsNever}
+use Rattle.appender_names.specs.declared.error.InitError.TheVariants.{Directory, File, Symlink, Moment, Name, Memory}
+use Rattle.appender_names.specs.Rotation.{IsMoment, IsNever}
 use Rattle.appender_names.specs.Name.{IsAllowed, IsEntry, Reads, name_of}
 use Rattle.appender_store.specs.declared.store.Folder.{Ghosts}
 use Rattle.appender_store.specs.Content.{Content, Entry, File as PlainFile, Link, Folder, Opens, RemovesLink, MakesLink, after_make_folder, IsLinkOrFolder, ForbidsOpen, ForbidsRemoveLink}
@@ -34,6 +34,21 @@ ReadsAsDate c name = (s : ℤ) × Reads (naming_of c) name s
 pub record LinkClashes (c : Config) (m : ℤ) : Type 0 where
   pub is_set : c.link ≢ []
   pub clashes : (c.link ≡ file_name_of c m) ⊎ ((¬ IsNever c.rotation) × ReadsAsDate c c.link)
+
+-- Before any call: what every opening needs was made of the configuration, and the first file's name.
+pub record IsReady (config : Config) (m : ℤ) (setup : Config) (name : List ℕ) : Type 0 where
+  pub allowed : NamesEntries config
+  pub in_range : IsMoment m
+  pub apart : ¬ LinkClashes config m
+  pub setup_is : setup ≡ config
+  pub name_is : name ≡ file_name_of config m
+
+-- It was not, for this reason. The checks come in this order: names, moment, memory, the name of the link.
+abbrev pub IsNotReady : Config → ℤ → InitError → Type 0
+IsNotReady config m Name = (¬ NamesEntries config) ⊎ (NamesEntries config × IsMoment m × LinkClashes config m)
+IsNotReady config m Moment = NamesEntries config × (¬ IsMoment m)
+IsNotReady config m Memory = NamesEntries config × IsMoment m
+IsNotReady config m error = ⊥
 
 -- ---- the file
 

@@ -21,7 +21,7 @@ pub use appender_writers::MakeWriter;
 pub use builder::Builder;
 pub use clock::{Clock, SystemClock};
 pub use file::RollingFile;
-use setup::{Opened, Setup, is_refused_name};
+use setup::{Opened, Setup};
 use std::alloc::Global;
 use std::io;
 use std::io::{ErrorKind, Write};
@@ -105,24 +105,10 @@ impl<S: Folder> Roller<S> {
         ensures ok { IfOk result (OpensRoller S.Folder builder.now moment folder) }
         ensures err { IfErr result (λ refused. OpensNoRoller S.Folder builder.now moment folder refused.0 refused.1) }
     {
-        let setup = Setup::new(alloc, builder);
-        if is_refused_name(&setup) {
-            return Err((InitError::Name, folder));
-        }
-        if !in_range(moment) {
-            return Err((InitError::Moment, folder));
-        }
-        let setup = match setup {
-            Ok(setup) => setup,
+        let (setup, name) = match Setup::ready(alloc, builder, moment) {
+            Ok(ready) => ready,
             Err(error) => return Err((error, folder)),
         };
-        let name = match setup.file_name(moment) {
-            Ok(name) => name,
-            Err(error) => return Err((error, folder)),
-        };
-        if setup.link_clashes(name.as_str(), moment) {
-            return Err((InitError::Name, folder));
-        }
         match setup.open_file(&mut folder, name.as_str()) {
             Err(error) => Err((error, folder)),
             Ok(file) => Ok(Roller {

@@ -5,7 +5,7 @@ ghost use Rattle.appender_rolling.specs.Opening.{GetsFile, GetsNo, Relinks, Reli
 
 use super::{Builder, InitError};
 use appender_names::names::Names;
-use appender_names::rotation::Rotation;
+use appender_names::rotation::{Rotation, in_range};
 use appender_retain::laws::{links_add_none, openings_add_one};
 use appender_retain::retain::prune_old_logs;
 use appender_store::laws::names_change_one_at_a_time;
@@ -50,11 +50,12 @@ impl Setup {
     ghost use Rattle.appender_names.specs.declared.error.InitError.TheVariants.{Memory};
     ghost use Rattle.appender_names.specs.Rotation.{IsMoment};
     ghost use Rattle.appender_rolling.specs.Config.{naming_of};
-    ghost use Rattle.appender_rolling.specs.Opening.{NamesEntries, ReadsAsDate, LinkClashes, OpensFile, RefusesFile, file_name_of};
+    ghost use Rattle.appender_rolling.specs.Opening.{NamesEntries, ReadsAsDate, LinkClashes, IsReady, IsNotReady};
+    ghost use Rattle.appender_rolling.specs.Opening.{OpensFile, RefusesFile, file_name_of};
 
     /// Copies what a builder has set. `Name` says that prefix, suffix or link make no names of entries
     /// of a folder, and `Memory` that there is no room for the copies.
-    pub(super) fn new(alloc: Global, builder: &Builder) -> Result<Setup, InitError>
+    fn new(alloc: Global, builder: &Builder) -> Result<Setup, InitError>
         ensures ok { IfOk result (λ setup. setup ≡ builder.now) }
         ensures allowed { result ≢ Err Name → NamesEntries builder.now }
         ensures name { result ≡ Err Name → ¬ (NamesEntries builder.now) }
@@ -71,6 +72,30 @@ impl Setup {
         })
     }
 
+    /// What an opening at this moment needs before any call of a folder, with the name of the first file.
+    pub(super) fn ready(
+        alloc: Global,
+        builder: &Builder,
+        moment: i64,
+    ) -> Result<(Setup, String), InitError>
+        ensures ok { IfOk result (λ ready. IsReady builder.now moment ready.0 (string_bytes ready.1)) }
+        ensures err { IfErr result (λ error. IsNotReady builder.now moment error) }
+    {
+        let setup = Setup::new(alloc, builder);
+        if is_refused_name(&setup) {
+            return Err(InitError::Name);
+        }
+        if !in_range(moment) {
+            return Err(InitError::Moment);
+        }
+        let setup = setup?;
+        let name = setup.file_name(moment)?;
+        if setup.link_clashes(name.as_str(), moment) {
+            return Err(InitError::Name);
+        }
+        Ok((setup, name))
+    }
+
     pub(super) fn names(&self) -> &Names
         ensures { result.now ≡ naming_of self.now }
     {
@@ -84,7 +109,7 @@ impl Setup {
     }
 
     /// The name of the file of a moment. The error is a refusal of memory.
-    pub(super) fn file_name(&self, moment: i64) -> Result<String, InitError>
+    fn file_name(&self, moment: i64) -> Result<String, InitError>
         requires { IsMoment moment }
         ensures ok { IfOk result (λ name. string_bytes name ≡ file_name_of self.now moment) }
         ensures err { IfErr result (λ error. error ≡ Memory) }
@@ -93,7 +118,7 @@ impl Setup {
     }
 
     /// Whether the link has the name of the first file, or one that other files can have.
-    pub(super) fn link_clashes(&self, first: &str, moment: i64) -> bool
+    fn link_clashes(&self, first: &str, moment: i64) -> bool
         requires { first.now ≡ file_name_of self.now moment }
         ensures { IsTrue result ↔ LinkClashes self.now moment }
     {
@@ -154,8 +179,8 @@ impl Setup {
     }
 }
 
-/// Whether a setup was refused for its names.
-pub(super) fn is_refused_name(setup: &Result<Setup, InitError>) -> bool
+// Whether a setup was refused for its names.
+fn is_refused_name(setup: &Result<Setup, InitError>) -> bool
     ensures { IsTrue result ↔ (setup.now ≡ Err Name) }
 {
     matches!(setup, Err(InitError::Name))
