@@ -1,9 +1,5 @@
 //! A disk in memory, and what goes wrong with it.
-ghost use Rattle.std.specs.Io.{WritesAtMost};
 
-mod content;
-
-use content::Content;
 use std::alloc::{AllocError, Global};
 use std::cell::{Cell, RefCell, RefMut};
 use std::fmt::{Display, Write as _};
@@ -14,24 +10,21 @@ use std::io::{Error, ErrorKind};
 /// The path of the one folder that a disk has.
 pub const FOLDER: &str = "log/";
 
-/// The sorts of calls that are counted, named as std's traits name them.
+/// The sorts of calls that can each be made to fail, named as std's traits name them.
 #[derive(Clone, Copy, Debug, PartialEq, Eq)]
 pub enum Call {
     OpenDir,
-    ReadDir,
-    Metadata,
-    SymlinkMetadata,
     OpenFile,
-    FileMetadata,
     RemoveFile,
     CreateDir,
     Symlink,
-    Write,
     Flush,
+    /// Any other call.
+    Other,
 }
 
 /// What a call that fails answers.
-#[derive(Clone, Copy, Debug)]
+#[derive(Clone, Copy)]
 pub enum Fault {
     /// An error of this kind.
     Kind(ErrorKind),
@@ -40,7 +33,7 @@ pub enum Fault {
 }
 
 impl Fault {
-    fn error(self) -> Error {
+    pub(crate) fn error(self) -> Error {
         match self {
             Fault::Kind(kind) => Error::from(kind),
             Fault::Number(number) => Error::from_raw_os_error(number),
@@ -48,11 +41,106 @@ impl Fault {
     }
 }
 
+#[derive(Clone, Copy)]
+pub(crate) enum Kind {
+    File,
+    Link,
+    Folder,
+}
+
+// A name that is gone is empty; what its file holds stays.
+#[derive(Drop)]
+pub(crate) struct Entry {
+    pub(crate) name: Vec<u8>,
+    kind: Kind,
+    // What a file holds, or the target of a link.
+    pub(crate) bytes: Vec<u8>,
+}
+
+impl Entry {
+    pub(crate) fn metadata(&self) -> Metadata {
+        let length = self.bytes.len() as u64;
+        match self.kind {
+            Kind::File => Metadata::of_file(length),
+            Kind::Link => Metadata::of_symlink(length),
+            Kind::Folder => Metadata::of_dir(),
+        }
+    }
+
+    fn line(&self, alloc: Global) -> Result<String, AllocError> {
+        let name = text_of(self.name.as_slice());
+        let mark = match self.kind {
+            Kind::File => " ",
+            Kind::Link => " -> ",
+            Kind::Folder => "/",
+        };
+        let text = text_of(self.bytes.as_slice());
+        format!(in alloc; "{name}{mark}{text}\n")
+    }
+}
+
+// What all files hold, one behind the other.
+fn all_files(alloc: Global, entries: &[Entry]) -> Result<String, AllocError> {
+    let mut all = String::new(alloc);
+    for entry in entries {
+        if matches!(entry.kind, Kind::File) {
+            all.push_str(text_of(entry.bytes.as_slice()))?;
+        }
+    }
+    Ok(all)
+}
+
+fn text_of(bytes: &[u8]) -> &str {
+    str::from_utf8(bytes).unwrap_or("(no text)")
+}
+
+// The entry of a name, with its number.
+pub(crate) fn find<'a>(entries: &'a [Entry], name: &[u8]) -> io::Result<(usize, &'a Entry)> {
+    let mut number = 0usize;
+    for entry in entries {
+        if entry.name.as_slice() == name {
+            return Ok((number, entry));
+        }
+        number = number.saturating_add(1);
+    }
+    Err(Error::from(ErrorKind::NotFound))
+}
+
+// The name at a place of the listing, ended by a zero byte; nothing behind the last. A name that is
+// gone has no place.
+pub(crate) fn listed_name(
+    alloc: Global,
+    entries: &[Entry],
+    place: usize,
+) -> Result<Vec<u8>, AllocError> {
+    let mut line = Vec::new(alloc);
+    let mut left = place;
+    for entry in entries {
+        if !entry.name.is_empty() {
+            if left == 0 {
+                line.extend_from_slice(entry.name.as_slice())?;
+                line.push(0)?;
+                return Ok(line);
+            }
+            left = left.saturating_sub(1);
+        }
+    }
+    Ok(line)
+}
+
+pub(crate) fn take_name(entries: &mut [Entry], name: &[u8]) {
+    for entry in entries {
+        if entry.name.as_slice() == name {
+            entry.name.clear();
+        }
+    }
+}
+
 /// A disk of one folder. Nothing goes wrong until a test says so, which it may at any moment. Files
-/// have no creation moments, and a body stays also when its name is gone.
+/// have no creation moments, and what a file holds stays also when its name is gone.
 #[derive(Drop)]
 pub struct Disk {
-    alloc: Global,
+    pub(crate) alloc: Global,
     /// The call of this number fails; the first one has number 1.
     pub fails_at: Cell<Option<usize>>,
     /// Each call of this sort fails.
@@ -70,8 +158,10 @@ pub struct Disk {
     /// The seconds since 1970 that the clock tells.
     pub seconds: Cell<u64>,
     calls: Cell<usize>,
-    content: RefCell<Content>,
-    printed: RefCell<String>,
+    pub(crate) has_folder: Cell<bool>,
+    // In the order of a listing.
+    entries: RefCell<Vec<Entry>>,
+    printed: Cell<String>,
 }
 
 impl Disk {
@@ -88,33 +178,33 @@ impl Disk {
             hides: Cell::new(None),
             seconds: Cell::new(0),
             calls: Cell::new(0),
-            content: RefCell::new(Content::new(alloc)),
-            printed: RefCell::new(String::new(alloc)),
+            has_folder: Cell::new(true),
+            entries: RefCell::new(Vec::new(alloc)),
+            printed: Cell::new(String::new(alloc)),
         }
     }
 
     /// Puts a file into the folder. Its name need not be UTF-8.
     pub fn put_file(&self, name: &[u8], bytes: &[u8]) -> io::Result<()> {
-        let mut content = self.content()?;
-        let body = content.add_body(self.alloc)?;
-        content.append(body, bytes)?;
-        content.put_name_of_body(self.alloc, name, body)
+        self.put(name, Kind::File, bytes)
     }
 
     /// Puts a folder into the folder.
     pub fn put_folder(&self, name: &str) -> io::Result<()> {
-        self.content()?.put_folder(self.alloc, name.as_bytes())
+        self.put(name.as_bytes(), Kind::Folder, b"")
     }
 
     /// Puts a link into the folder.
     pub fn put_link(&self, name: &str, target: &str) -> io::Result<()> {
-        self.content()?
-            .put_link(self.alloc, name.as_bytes(), target)
+        self.put(name.as_bytes(), Kind::Link, target.as_bytes())
     }
 
     /// Takes the folder away with all names in it.
     pub fn remove_folder(&self) -> io::Result<()> {
-        self.content()?.remove_folder();
+        self.has_folder.set(false);
+        for entry in self.entries()?.iter_mut() {
+            entry.name.clear();
+        }
         Ok(())
     }
 
@@ -125,126 +215,93 @@ impl Disk {
 
     /// The names in byte order, a line each with what they hold.
     pub fn shown(&self) -> io::Result<String> {
-        self.content()?.shown(self.alloc)
+        let mut lines = Vec::new(self.alloc);
+        for entry in self.entries()?.iter() {
+            if !entry.name.is_empty() {
+                lines.push(entry.line(self.alloc)?)?;
+            }
+        }
+        lines.sort_unstable();
+        Ok(lines.concat(self.alloc)?)
     }
 
     /// What all files hold, one behind the other as they were made, those whose names are gone too.
     pub fn appended(&self) -> io::Result<String> {
-        self.content()?.all_bodies(self.alloc)
+        Ok(all_files(self.alloc, &self.entries()?)?)
     }
 
-    /// What was printed on standard error.
-    pub fn printed(&self) -> Result<String, AllocError> {
-        match self.printed.try_borrow() {
-            Ok(printed) => String::from_str(self.alloc, printed.as_str()),
-            Err(_) => Ok(String::new(self.alloc)),
-        }
-    }
-
-    pub(crate) fn alloc(&self) -> Global {
-        self.alloc
+    /// What was printed on standard error since this was last asked.
+    pub fn printed(&self) -> String {
+        self.printed.replace(String::new(self.alloc))
     }
 
     pub(crate) fn print<D: Display + Drop>(&self, value: D, end: &str) -> io::Result<()> {
-        let Ok(mut printed) = self.printed.try_borrow_mut() else {
-            return Err(Error::other("a notice within a notice"));
-        };
-        let printed = &mut *printed;
-        write!(printed, "{value}{end}")?;
+        let mut printed = self.printed();
+        let written = write!(printed, "{value}{end}");
+        self.printed.set(printed);
+        written?;
         Ok(())
     }
 
-    fn content(&self) -> io::Result<RefMut<'_, Content>> {
-        match self.content.try_borrow_mut() {
-            Ok(content) => Ok(content),
+    pub(crate) fn entries(&self) -> io::Result<RefMut<'_, Vec<Entry>>> {
+        match self.entries.try_borrow_mut() {
+            Ok(entries) => Ok(entries),
             Err(_) => Err(Error::other("a call within a call")),
         }
     }
 
-    // Counts a call, and answers its fault or what the disk holds.
-    fn begin(&self, call: Call) -> io::Result<RefMut<'_, Content>> {
+    fn put(&self, name: &[u8], kind: Kind, bytes: &[u8]) -> io::Result<()> {
+        let entry = Entry {
+            name: name.to_vec(self.alloc)?,
+            kind,
+            bytes: bytes.to_vec(self.alloc)?,
+        };
+        let mut entries = self.entries()?;
+        take_name(&mut entries, name);
+        entries.push(entry)?;
+        Ok(())
+    }
+
+    // Counts a call, and answers its fault.
+    pub(crate) fn begin(&self, call: Call) -> io::Result<()> {
         let number = self.calls.get().saturating_add(1);
         self.calls.set(number);
-        let mut content = self.content()?;
-        if let Some((at, name)) = self.link_comes.get() {
-            if at == number {
-                content.put_link(self.alloc, name.as_bytes(), "other.txt")?;
-            }
+        match self.link_comes.get() {
+            Some((at, name)) if at == number => self.put_link(name, "other.txt")?,
+            _ => {}
         }
         if self.fails_at.get() == Some(number) || self.fails_each.get() == Some(call) {
             return Err(self.fault.get().error());
         }
-        Ok(content)
-    }
-
-    pub(crate) fn open_dir(&self, path: &str) -> io::Result<()> {
-        self.begin(Call::OpenDir)?.metadata(path)?;
         Ok(())
     }
 
-    // The name at a place of the folder, ended by a zero byte; nothing behind the last.
-    pub(crate) fn read_dir(&self, place: usize) -> io::Result<Vec<u8>> {
-        Ok(self.begin(Call::ReadDir)?.listed_name(self.alloc, place)?)
-    }
-
-    // Follows a link.
-    pub(crate) fn metadata(&self, path: &str) -> io::Result<Metadata> {
-        self.begin(Call::Metadata)?.metadata(path)
-    }
-
-    pub(crate) fn symlink_metadata(&self, path: &str) -> io::Result<Metadata> {
-        let content = self.begin(Call::SymlinkMetadata)?;
-        match self.hides.get() {
-            Some(name) if path.ends_with(name) => Err(self.fault.get().error()),
-            _ => content.symlink_metadata(path),
+    // The name in a path of the folder, which has to be there. The folder itself has the empty one.
+    pub(crate) fn name_in<'a>(&self, path: &'a str) -> io::Result<&'a [u8]> {
+        match path.strip_prefix(FOLDER) {
+            Some(name) if self.has_folder.get() => Ok(name.as_bytes()),
+            _ => Err(Error::from(ErrorKind::NotFound)),
         }
     }
 
-    // The number of the body of a file that has to be new.
-    pub(crate) fn create_file(&self, path: &str) -> io::Result<usize> {
-        self.begin(Call::OpenFile)?.create_file(self.alloc, path)
-    }
-
-    // The number of the body of a file that is there, also through a link.
-    pub(crate) fn open_file(&self, path: &str) -> io::Result<usize> {
-        self.begin(Call::OpenFile)?.body_at(path)
-    }
-
-    pub(crate) fn file_metadata(&self, body: usize) -> io::Result<Metadata> {
-        Ok(self.begin(Call::FileMetadata)?.file_metadata(body))
-    }
-
-    pub(crate) fn remove_file(&self, path: &str) -> io::Result<()> {
-        self.begin(Call::RemoveFile)?.remove_file(path)
-    }
-
-    pub(crate) fn create_dir(&self, path: &str) -> io::Result<()> {
-        self.begin(Call::CreateDir)?.create_dir(path)
-    }
-
-    pub(crate) fn symlink(&self, target: &str, path: &str) -> io::Result<()> {
-        self.begin(Call::Symlink)?.symlink(self.alloc, target, path)
-    }
-
-    pub(crate) fn write(&self, body: usize, bytes: &[u8]) -> io::Result<usize>
-        ensures { WritesAtMost result bytes.now }
-    {
-        let mut content = self.begin(Call::Write)?;
-        let room = self.room.get().unwrap_or(usize::MAX);
-        if room == 0 && !bytes.is_empty() {
-            return Err(Error::from(ErrorKind::StorageFull));
+    // Puts what has to be new.
+    pub(crate) fn put_new(&self, path: &str, kind: Kind, bytes: &[u8]) -> io::Result<()> {
+        let name = self.name_in(path)?;
+        if find(&self.entries()?, name).is_ok() {
+            return Err(Error::from(ErrorKind::AlreadyExists));
         }
-        let most = self.takes.get().unwrap_or(usize::MAX).min(room);
-        let count = most.min(bytes.len());
-        content.append(body, &bytes[..count])?;
-        if self.room.get().is_some() {
-            self.room.set(Some(room.saturating_sub(count)));
-        }
-        Ok(count)
+        self.put(name, kind, bytes)
     }
 
-    pub(crate) fn flush(&self) -> io::Result<()> {
-        self.begin(Call::Flush)?;
-        Ok(())
+    // The number of a file, also through a link to one.
+    pub(crate) fn file_at(&self, path: &str) -> io::Result<usize> {
+        let name = self.name_in(path)?;
+        let entries = self.entries()?;
+        let (number, entry) = find(&entries, name)?;
+        match entry.kind {
+            Kind::File => Ok(number),
+            Kind::Link => Ok(find(&entries, entry.bytes.as_slice())?.0),
+            Kind::Folder => Err(Error::from(ErrorKind::IsADirectory)),
+        }
     }
 }

@@ -1,6 +1,6 @@
 //! The runtime of a program, over a disk in memory.
 
-use crate::disk::Disk;
+use crate::disk::{Call, Disk, FOLDER, Kind, find, listed_name, take_name};
 use std::alloc::{Allocator, Global};
 use std::fmt::Display;
 use std::fs::{Metadata, OpenFile, OpenOptions};
@@ -30,7 +30,7 @@ impl Alloc for Fake<'_> {
     type A = Global;
 
     fn alloc(&self) -> Global {
-        self.disk.alloc()
+        self.disk.alloc
     }
 }
 
@@ -62,28 +62,41 @@ impl<'a> Files for Fake<'a> {
     fn open_file(&self, how: &OpenOptions, path: &str) -> io::Result<FakeFile<'a>> {
         how.check()?;
         let disk = self.disk;
-        let body = if how.asks_create_new() {
-            disk.create_file(path)?
-        } else {
-            disk.open_file(path)?
-        };
-        Ok(FakeFile { disk, body })
+        disk.begin(Call::OpenFile)?;
+        if how.asks_create_new() {
+            disk.put_new(path, Kind::File, b"")?;
+        }
+        let number = disk.file_at(path)?;
+        Ok(FakeFile { disk, number })
     }
 
     fn open_dir(&self, path: &str) -> io::Result<FakeDir<'a>> {
-        self.disk.open_dir(path)?;
-        Ok(FakeDir {
-            disk: self.disk,
-            place: 0,
-        })
+        let disk = self.disk;
+        disk.begin(Call::OpenDir)?;
+        disk.name_in(path)?;
+        Ok(FakeDir { disk, place: 0 })
     }
 
+    // Of the folder alone.
     fn metadata(&self, path: &str) -> io::Result<Metadata> {
-        self.disk.metadata(path)
+        self.disk.begin(Call::Other)?;
+        if self.disk.name_in(path)?.is_empty() {
+            Ok(Metadata::of_dir())
+        } else {
+            Err(unsupported())
+        }
     }
 
     fn symlink_metadata(&self, path: &str) -> io::Result<Metadata> {
-        self.disk.symlink_metadata(path)
+        let disk = self.disk;
+        disk.begin(Call::Other)?;
+        match disk.hides.get() {
+            Some(name) if path.ends_with(name) => return Err(disk.fault.get().error()),
+            _ => {}
+        }
+        let name = disk.name_in(path)?;
+        let entries = disk.entries()?;
+        Ok(find(&entries, name)?.1.metadata())
     }
 
     fn copy(&self, _from: &str, _to: &str) -> io::Result<u64> {
@@ -95,11 +108,24 @@ impl<'a> Files for Fake<'a> {
     }
 
     fn remove_file(&self, path: &str) -> io::Result<()> {
-        self.disk.remove_file(path)
+        self.disk.begin(Call::RemoveFile)?;
+        let name = self.disk.name_in(path)?;
+        let mut entries = self.disk.entries()?;
+        find(&entries, name)?;
+        take_name(&mut entries, name);
+        Ok(())
     }
 
     fn create_dir(&self, path: &str) -> io::Result<()> {
-        self.disk.create_dir(path)
+        let disk = self.disk;
+        disk.begin(Call::CreateDir)?;
+        if path != FOLDER {
+            return Err(unsupported());
+        }
+        if disk.has_folder.replace(true) {
+            return Err(Error::from(ErrorKind::AlreadyExists));
+        }
+        Ok(())
     }
 
     fn remove_dir(&self, _path: &str) -> io::Result<()> {
@@ -111,7 +137,8 @@ impl<'a> Files for Fake<'a> {
     }
 
     fn symlink(&self, original: &str, link: &str) -> io::Result<()> {
-        self.disk.symlink(original, link)
+        self.disk.begin(Call::Symlink)?;
+        self.disk.put_new(link, Kind::Link, original.as_bytes())
     }
 }
 
@@ -119,7 +146,7 @@ impl<'a> Files for Fake<'a> {
 #[derive(Drop)]
 pub struct FakeFile<'a> {
     disk: &'a Disk,
-    body: usize,
+    number: usize,
 }
 
 impl Read for FakeFile<'_> {
@@ -130,11 +157,25 @@ impl Read for FakeFile<'_> {
 
 impl Write for FakeFile<'_> {
     fn write(&mut self, buf: &[u8]) -> io::Result<usize> {
-        self.disk.write(self.body, buf)
+        let disk = self.disk;
+        disk.begin(Call::Other)?;
+        let room = disk.room.get().unwrap_or(usize::MAX);
+        if room == 0 && !buf.is_empty() {
+            return Err(Error::from(ErrorKind::StorageFull));
+        }
+        let most = disk.takes.get().unwrap_or(usize::MAX).min(room);
+        let count = most.min(buf.len());
+        if let Some(entry) = disk.entries()?.get_mut(self.number) {
+            entry.bytes.extend_from_slice(&buf[..count])?;
+        }
+        if disk.room.get().is_some() {
+            disk.room.set(Some(room.saturating_sub(count)));
+        }
+        Ok(count)
     }
 
     fn flush(&mut self) -> io::Result<()> {
-        self.disk.flush()
+        self.disk.begin(Call::Flush)
     }
 }
 
@@ -146,7 +187,11 @@ impl Seek for FakeFile<'_> {
 
 impl OpenFile for FakeFile<'_> {
     fn metadata(&self) -> io::Result<Metadata> {
-        self.disk.file_metadata(self.body)
+        self.disk.begin(Call::Other)?;
+        match self.disk.entries()?.get(self.number) {
+            Some(entry) => Ok(entry.metadata()),
+            None => Err(Error::from(ErrorKind::NotFound)),
+        }
     }
 
     fn set_len(&self, _size: u64) -> io::Result<()> {
@@ -171,7 +216,8 @@ pub struct FakeDir<'a> {
 
 impl Read for FakeDir<'_> {
     fn read(&mut self, buf: &mut [u8]) -> io::Result<usize> {
-        let line = self.disk.read_dir(self.place)?;
+        self.disk.begin(Call::Other)?;
+        let line = listed_name(self.disk.alloc, &self.disk.entries()?, self.place)?;
         self.place = self.place.saturating_add(1);
         let mut rest = line.as_slice();
         rest.read(buf)

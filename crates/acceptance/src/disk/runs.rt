@@ -122,7 +122,7 @@ fn told(
     counted: String,
     failures: u64,
 ) -> io::Result<Outcome> {
-    let printed = disk.printed()?;
+    let printed = disk.printed();
     Ok(Outcome {
         answers,
         files: disk.shown()?,
