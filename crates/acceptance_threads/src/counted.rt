@@ -1,71 +1,100 @@
 // What counted senders are told, and what their guard answers.
 ghost use Rattle.std.specs.Prelude.{◌≡◌, ◌+◌, ◌<◌};
 
-use crate::counted_crowd::crowd;
-use crate::expect::{expect_eq, expect_shown, expect_text};
+use crate::counted_crowd::{Tickets, expect_in_order, write_by_ten};
+use crate::expect::{expect_eq, expect_shown, expect_text, put};
+use crate::gate::{Gate, Host, Seen, new_gate};
 use appender_non_blocking::non_blocking::{
     Account, CountedGuard, CountedSender, NonBlockingBuilder, Sent, Shut, Unsettled,
 };
-use fake_gate::gate::{Gate, Host, Seen, new_gate};
 use std::alloc::{AllocError, Global};
 use std::io;
 use std::marker::Brand;
 use std::process::Abort;
+use std::sync::Arc;
 use std::sync::ledger::{Blank, Ledger};
-use std::test::Fail;
 
-// What a test does with the senders and the guard of one worker.
+// What a test does with the senders of one worker.
 #[derive(Clone, Copy)]
-enum Story {
-    TellsTickets,
-    LeavesLines,
-    GivesBack,
-    HasNoSender,
-    DropsLines,
-    DropsItsGuard,
+enum Step {
+    // The first sender writes a line, and is told this.
+    Tells(&'static [u8], Sent),
+    // Ten threads write a hundred lines each.
+    TellsByTen,
+    // The writer comes to the line that the gate holds.
+    IsHeld,
+    // So many lines of the first sender are queued, and so many were dropped.
+    Counts(u64, usize),
+    Opens,
+}
+
+// What it then does with them and their guard.
+#[derive(Clone, Copy)]
+enum End {
+    // All are settled, with this account.
+    Settles(Account),
+    // The queue is shut. Then come these steps, and all are settled.
+    Shuts(&'static [Step], Account),
+    // They are settled without one of them, and then with it.
+    LacksOne(Account),
+    // The guard is dropped, the gate opens, and the senders are dropped.
+    DropsGuard,
     CanBeShown,
 }
 
-impl Story {
-    fn builder(self, alloc: Global) -> Result<NonBlockingBuilder, AllocError> {
-        let limit = match self {
-            Story::DropsLines | Story::DropsItsGuard => 1,
-            _ => 4,
-        };
-        let waits = matches!(self, Story::TellsTickets | Story::DropsItsGuard);
-        NonBlockingBuilder::default()
-            .buffered_lines_limit(limit)
-            .lossy(!waits)
-            .thread_name(alloc, "counted")
-    }
-
-    fn senders(self) -> u32 {
-        match self {
-            Story::TellsTickets => 10,
-            Story::GivesBack => 2,
-            Story::HasNoSender => 0,
-            _ => 1,
-        }
-    }
+// What came by then.
+#[derive(Clone, Copy)]
+enum Came {
+    Lines(&'static [u8]),
+    // So many lines, after a wait if need be.
+    Count(usize),
+    // The lines of ten threads.
+    ByTen,
 }
 
-fn run<R: Host + Abort>(rt: R, story: Story) -> Result<(), Fail> {
-    let builder = story.builder(rt.alloc())?;
-    let (writer, seen) = new_gate(rt, b"held")?;
-    let senders = story.senders();
-    let accepted = Blank::new(u64::from(senders) + 1);
-    tell::<Brand, Brand, Brand, Brand, R>(
+struct Story {
+    limit: usize,
+    lossy: bool,
+    senders: u32,
+    steps: &'static [Step],
+    end: End,
+    came: Came,
+}
+
+// What is seen while a story is played.
+#[derive(Drop)]
+struct Stage<R: Host> {
+    rt: R,
+    seen: Arc<Seen, Global>,
+    // What the sender of each of ten threads was told.
+    told: Vec<Tickets>,
+}
+
+fn builder(alloc: Global, story: &Story) -> Result<NonBlockingBuilder, AllocError> {
+    NonBlockingBuilder::default()
+        .buffered_lines_limit(story.limit)
+        .lossy(story.lossy)
+        .thread_name(alloc, "counted")
+}
+
+fn run<R: Host + Abort>(rt: R, story: &Story) {
+    let (writer, seen) = new_gate(rt, b"held").expect(&rt, "memory");
+    let mut stage = Stage {
         rt,
+        seen,
+        told: Vec::new(rt.alloc()),
+    };
+    let accepted = Blank::new(u64::from(story.senders) + 1);
+    tell::<Brand, Brand, Brand, Brand, R>(
+        &mut stage,
         story,
-        builder,
         writer,
-        &seen,
-        senders,
         accepted,
         Blank::new(1),
         Blank::new(1),
         Blank::new(1),
-    )
+    );
+    stage.expect_came(story.came);
 }
 
 // Makes the senders and their guard, with which the story is played.
@@ -76,34 +105,34 @@ fn tell<
     C: Ledger + Send + Sync + 'static,
     R: Host + Abort,
 >(
-    rt: R,
-    story: Story,
-    builder: NonBlockingBuilder,
+    stage: &mut Stage<R>,
+    story: &Story,
     writer: Gate<R>,
-    seen: &Seen,
-    senders: u32,
     accepted: Blank,
     handed: Blank,
     shutdowns: Blank,
     closings: Blank,
-) -> Result<(), Fail>
-    requires accepted { (accepted.name ≡ A.name) × (accepted.parts ≡ A.parts) × (accepted.parts ≡ senders + 1) }
+)
+    requires accepted { (accepted.name ≡ A.name) × (accepted.parts ≡ A.parts) × (accepted.parts ≡ story.now.senders + 1) }
     requires handed { (handed.name ≡ H.name) × (handed.parts ≡ H.parts) × (handed.parts ≡ 1) }
     requires shutdowns { (shutdowns.name ≡ S.name) × (shutdowns.parts ≡ S.parts) × (shutdowns.parts ≡ 1) }
     requires closings { (closings.name ≡ C.name) × (closings.parts ≡ C.parts) × (closings.parts ≡ 1) }
 {
-    let (senders, guard) = builder.finish_counted::<A, H, S, C, _, R>(
-        rt,
-        rt.alloc(),
-        writer,
-        senders as usize,
-        accepted,
-        handed,
-        shutdowns,
-        closings,
-    )?;
-    play(rt, story, senders, guard, seen);
-    Ok(())
+    let rt = stage.rt;
+    let builder = builder(rt.alloc(), story).expect(&rt, "memory");
+    let (senders, guard) = builder
+        .finish_counted::<A, H, S, C, _, R>(
+            rt,
+            rt.alloc(),
+            writer,
+            story.senders as usize,
+            accepted,
+            handed,
+            shutdowns,
+            closings,
+        )
+        .expect(&rt, "a worker");
+    play(stage, story, senders, guard);
 }
 
 fn play<
@@ -113,109 +142,60 @@ fn play<
     C: Ledger + Send + Sync + 'static,
     R: Host + Abort,
 >(
-    rt: R,
-    story: Story,
-    senders: Vec<CountedSender<A, H, S, C, R>>,
+    stage: &mut Stage<R>,
+    story: &Story,
+    mut senders: Vec<CountedSender<A, H, S, C, R>>,
     guard: CountedGuard<A, H, S, C, R>,
-    seen: &Seen,
 )
     requires { (A.parts ≡ guard.made + 1) × (H.parts ≡ 1) × (S.parts ≡ 1) × (C.parts ≡ 1) }
 {
-    match story {
-        Story::TellsTickets => crowd(rt, senders, guard, seen),
-        Story::LeavesLines => leaves_lines(rt, senders, guard, seen),
-        Story::GivesBack => gives_back(rt, senders, guard),
-        Story::HasNoSender => settles(rt, senders, guard, 0, 0, 0, 0),
-        Story::DropsLines => drops_lines(rt, senders, guard, seen),
-        Story::DropsItsGuard => drops_its_guard(rt, senders, guard, seen),
-        Story::CanBeShown => can_be_shown(rt, senders, guard),
+    stage.plays(&mut senders, story.steps);
+    match story.end {
+        End::Settles(wanted) => settles(stage.rt, senders, guard, wanted),
+        End::Shuts(steps, wanted) => shuts(stage, senders, guard, steps, wanted),
+        End::LacksOne(wanted) => lacks_one(stage.rt, senders, guard, wanted),
+        End::DropsGuard => {
+            drop(guard);
+            stage.seen.opens();
+        }
+        End::CanBeShown => can_be_shown(stage.rt, senders, guard),
     }
 }
 
-/// Settles, and compares the account.
-pub(crate) fn settles<A: Ledger, H: Ledger, S: Ledger, C: Ledger, R: Host + Abort>(
+// Settles, and compares the account.
+fn settles<A: Ledger, H: Ledger, S: Ledger, C: Ledger, R: Host + Abort>(
     rt: R,
     senders: Vec<CountedSender<A, H, S, C, R>>,
     guard: CountedGuard<A, H, S, C, R>,
-    accepted: u64,
-    handed: u64,
-    left: u64,
-    dropped: usize,
+    wanted: Account,
 )
     requires { (A.parts ≡ guard.made + 1) × (H.parts ≡ 1) × (S.parts ≡ 1) × (C.parts ≡ 1) }
 {
-    let Ok(account) = guard.settle(senders) else {
-        rt.panic("senders are missing");
-    };
-    expect_eq(
-        &rt,
-        account,
-        Account {
-            accepted,
-            handed,
-            left,
-            dropped,
-        },
-    );
+    match guard.settle(senders) {
+        Ok(account) => expect_eq(&rt, account, wanted),
+        Err(_) => rt.panic("senders are missing"),
+    }
 }
 
-/// A sender that is told what becomes of its lines. A proof over it is shorter than one over the five
-/// parameters of a `CountedSender`.
-pub(crate) trait Told: Send + Drop + 'static {
-    /// Writes a line, and tells what became of it.
-    fn tell(&mut self, line: &[u8]) -> io::Result<Sent>;
-
-    /// How many lines are queued.
-    fn queued_lines(&self) -> u64;
-
-    /// How many lines were dropped.
-    fn dropped_lines(&self) -> usize;
-}
-
-impl<
+// Shuts the queue. What lies behind the shutdown is left.
+fn shuts<
     A: Ledger + Send + Sync + 'static,
     H: Ledger + Send + Sync + 'static,
     S: Ledger + Send + Sync + 'static,
     C: Ledger + Send + Sync + 'static,
-    R: Host,
-> Told for CountedSender<A, H, S, C, R> {
-    fn tell(&mut self, line: &[u8]) -> io::Result<Sent> {
-        self.write_line(line)
-    }
-
-    fn queued_lines(&self) -> u64 {
-        self.queued()
-    }
-
-    fn dropped_lines(&self) -> usize {
-        self.dropped()
-    }
-}
-
-// Writes a line by the first sender, and compares what it is told.
-fn expect_told<T: Told, R: Host + Abort>(rt: R, senders: &mut Vec<T>, line: &[u8], wanted: Sent) {
-    let sender = senders.first_mut().expect(&rt, "a sender");
-    let told = sender.tell(line).expect(&rt, "the queue is open");
-    expect_eq(&rt, told, wanted);
-}
-
-// Compares how many lines of the first sender are queued, and how many were dropped.
-fn expect_counts<T: Told, R: Host + Abort>(rt: R, senders: &[T], queued: u64, dropped: usize) {
-    let sender = senders.first().expect(&rt, "a sender");
-    expect_eq(&rt, sender.queued_lines(), queued);
-    expect_eq(&rt, sender.dropped_lines(), dropped);
-}
-
-// Writes the line that the gate holds, and another one behind it.
-fn expect_two_told<T: Told, R: Host + Abort>(
-    rt: R,
-    senders: &mut Vec<T>,
-    seen: &Seen,
-    second: &[u8],
-) {
-    expect_told(rt, senders, b"held", Sent::Queued(1));
-    assert!(rt; seen.is_held(rt));
-    expect_told(rt, senders, second, Sent::Queued(2));
+    R: Host + Abort,
+>(
+    stage: &mut Stage<R>,
+    mut senders: Vec<CountedSender<A, H, S, C, R>>,
+    mut guard: CountedGuard<A, H, S, C, R>,
+    steps: &[Step],
+    wanted: Account,
+)
+    requires { (A.parts ≡ guard.made + 1) × (H.parts ≡ 1) × (S.parts ≡ 1) × (C.parts ≡ 1) }
+{
+    expect_shut(stage.rt, &mut guard);
+    stage.plays(&mut senders, steps);
+    settles(stage.rt, senders, guard, wanted);
 }
 
 // Shuts the queue, which can be done once.
@@ -231,96 +211,24 @@ fn expect_shut<A: Ledger, H: Ledger, S: Ledger, C: Ledger, R: Host + Abort>(
     expect_eq(&rt, guard.shut(), Shut::Already);
 }
 
-// What lies behind the shutdown is left.
-fn leaves_lines<
-    A: Ledger + Send + Sync + 'static,
-    H: Ledger + Send + Sync + 'static,
-    S: Ledger + Send + Sync + 'static,
-    C: Ledger + Send + Sync + 'static,
-    R: Host + Abort,
->(
+// A sender is missing: nothing is settled, and all is given back.
+fn lacks_one<A: Ledger, H: Ledger, S: Ledger, C: Ledger, R: Host + Abort>(
     rt: R,
-    senders: Vec<CountedSender<A, H, S, C, R>>,
+    mut senders: Vec<CountedSender<A, H, S, C, R>>,
     guard: CountedGuard<A, H, S, C, R>,
-    seen: &Seen,
+    wanted: Account,
 )
     requires { (A.parts ≡ guard.made + 1) × (H.parts ≡ 1) × (S.parts ≡ 1) × (C.parts ≡ 1) }
 {
-    let mut senders = senders;
-    let mut guard = guard;
-    expect_two_told(rt, &mut senders, seen, b"b");
-    expect_shut(rt, &mut guard);
-    expect_told(rt, &mut senders, b"c", Sent::Queued(3));
-    expect_counts(rt, senders.as_slice(), 3, 0);
-    seen.opens();
-    settles(rt, senders, guard, 3, 2, 1, 0);
-    expect_text(rt, seen, b"held|b|");
-}
-
-fn gives_back<A: Ledger, H: Ledger, S: Ledger, C: Ledger, R: Host + Abort>(
-    rt: R,
-    senders: Vec<CountedSender<A, H, S, C, R>>,
-    guard: CountedGuard<A, H, S, C, R>,
-)
-    requires { (A.parts ≡ guard.made + 1) × (H.parts ≡ 1) × (S.parts ≡ 1) × (C.parts ≡ 1) }
-{
-    let mut senders = senders;
     let missing = senders.pop().expect(&rt, "a sender");
-    let Err(unsettled) = guard.settle(senders) else {
-        rt.panic("a sender was missing");
-    };
-    let Unsettled { guard, senders } = unsettled;
-    expect_eq(&rt, senders.len(), 1);
-    let mut senders = senders;
-    senders
-        .push(missing)
-        .map_err(AllocError::from)
-        .expect(&rt, "memory");
-    settles(rt, senders, guard, 0, 0, 0, 0);
-}
-
-fn drops_lines<
-    A: Ledger + Send + Sync + 'static,
-    H: Ledger + Send + Sync + 'static,
-    S: Ledger + Send + Sync + 'static,
-    C: Ledger + Send + Sync + 'static,
-    R: Host + Abort,
->(
-    rt: R,
-    senders: Vec<CountedSender<A, H, S, C, R>>,
-    guard: CountedGuard<A, H, S, C, R>,
-    seen: &Seen,
-)
-    requires { (A.parts ≡ guard.made + 1) × (H.parts ≡ 1) × (S.parts ≡ 1) × (C.parts ≡ 1) }
-{
-    let mut senders = senders;
-    expect_two_told(rt, &mut senders, seen, b"a");
-    expect_told(rt, &mut senders, b"b", Sent::Dropped);
-    expect_counts(rt, senders.as_slice(), 2, 1);
-    seen.opens();
-    settles(rt, senders, guard, 2, 2, 0, 1);
-    expect_text(rt, seen, b"held|a|");
-}
-
-// The guard finds no room for its shutdown. The worker ends with its last sender, and leaves no line.
-fn drops_its_guard<
-    A: Ledger + Send + Sync + 'static,
-    H: Ledger + Send + Sync + 'static,
-    S: Ledger + Send + Sync + 'static,
-    C: Ledger + Send + Sync + 'static,
-    R: Host + Abort,
->(
-    rt: R,
-    senders: Vec<CountedSender<A, H, S, C, R>>,
-    guard: CountedGuard<A, H, S, C, R>,
-    seen: &Seen,
-) {
-    let mut senders = senders;
-    expect_two_told(rt, &mut senders, seen, b"a");
-    drop(guard);
-    seen.opens();
-    drop(senders);
-    assert!(rt; seen.come(rt, 2));
+    match guard.settle(senders) {
+        Ok(_) => rt.panic("a sender was missing"),
+        Err(Unsettled { guard, mut senders }) => {
+            expect_eq(&rt, senders.len(), 1);
+            put(&rt, &mut senders, missing);
+            settles(rt, senders, guard, wanted);
+        }
+    }
 }
 
 fn can_be_shown<A: Ledger, H: Ledger, S: Ledger, C: Ledger, R: Host + Abort>(
@@ -328,44 +236,214 @@ fn can_be_shown<A: Ledger, H: Ledger, S: Ledger, C: Ledger, R: Host + Abort>(
     senders: Vec<CountedSender<A, H, S, C, R>>,
     guard: CountedGuard<A, H, S, C, R>,
 ) {
-    let sender = senders.first().expect(&rt, "a sender");
-    expect_shown(&rt, sender, "CountedSender { .. }");
+    expect_shown(&rt, senders.as_slice(), "[CountedSender { .. }]");
     expect_shown(&rt, &guard, "CountedGuard { .. }");
-    expect_shown(&rt, &Sent::Dropped, "Dropped");
     expect_shown(&rt, &Unsettled { guard, senders }, "Unsettled { .. }");
+    expect_shown(&rt, Sent::Dropped, "Dropped");
 }
 
-#[test]
-fn tickets_are_told_and_lines_come_in_order(rt: HostRuntime) -> Result<(), Fail> {
-    run(rt, Story::TellsTickets)
+/// A sender that is told what becomes of its lines. A proof over it is shorter than one over the five
+/// parameters of a `CountedSender`.
+pub(crate) trait Told: Send + Drop + 'static {
+    /// Writes a line, and tells what became of it.
+    fn tell(&mut self, line: &[u8]) -> io::Result<Sent>;
+
+    /// How many lines are queued, and how many were dropped.
+    fn counts(&self) -> (u64, usize);
 }
 
-#[test]
-fn lines_behind_the_shutdown_are_left(rt: HostRuntime) -> Result<(), Fail> {
-    run(rt, Story::LeavesLines)
+impl<
+    A: Ledger + Send + Sync + 'static,
+    H: Ledger + Send + Sync + 'static,
+    S: Ledger + Send + Sync + 'static,
+    C: Ledger + Send + Sync + 'static,
+    R: Host,
+> Told for CountedSender<A, H, S, C, R> {
+    fn tell(&mut self, line: &[u8]) -> io::Result<Sent> {
+        self.write_line(line)
+    }
+
+    fn counts(&self) -> (u64, usize) {
+        (self.queued(), self.dropped())
+    }
 }
 
-#[test]
-fn a_missing_sender_leaves_all_unsettled(rt: HostRuntime) -> Result<(), Fail> {
-    run(rt, Story::GivesBack)
+// Writes a line by the first sender, and compares what it is told.
+fn expect_told<T: Told, R: Abort>(rt: &R, senders: &mut Vec<T>, line: &[u8], wanted: Sent) {
+    let sender = senders.first_mut().expect(rt, "a sender");
+    let told = sender.tell(line).expect(rt, "the queue is open");
+    expect_eq(rt, told, wanted);
 }
 
-#[test]
-fn no_sender_is_an_empty_account(rt: HostRuntime) -> Result<(), Fail> {
-    run(rt, Story::HasNoSender)
+// Compares the counts of the first sender.
+fn expect_counts<T: Told, R: Abort>(rt: &R, senders: &[T], wanted: (u64, usize)) {
+    let sender = senders.first().expect(rt, "a sender");
+    expect_eq(rt, sender.counts(), wanted);
 }
 
-#[test]
-fn dropped_lines_are_on_the_account(rt: HostRuntime) -> Result<(), Fail> {
-    run(rt, Story::DropsLines)
+impl<R: Host + Abort> Stage<R> {
+    fn plays<T: Told>(&mut self, senders: &mut Vec<T>, steps: &[Step]) {
+        for step in steps {
+            match *step {
+                Step::Tells(line, wanted) => expect_told(&self.rt, senders, line, wanted),
+                Step::TellsByTen => self.told = write_by_ten(self.rt, senders),
+                Step::IsHeld => assert!(self.rt; self.seen.is_held(self.rt)),
+                Step::Counts(queued, dropped) => {
+                    expect_counts(&self.rt, senders.as_slice(), (queued, dropped));
+                }
+                Step::Opens => self.seen.opens(),
+            }
+        }
+    }
+
+    fn expect_came(&self, wanted: Came) {
+        match wanted {
+            Came::Lines(lines) => expect_text(self.rt, &self.seen, lines),
+            Came::Count(count) => assert!(self.rt; self.seen.come(self.rt, count)),
+            Came::ByTen => expect_in_order(self.rt, self.told.as_slice(), &self.seen),
+        }
+    }
 }
 
-#[test]
-fn a_dropped_guard_does_not_hang(rt: HostRuntime) -> Result<(), Fail> {
-    run(rt, Story::DropsItsGuard)
-}
+const NONE: Account = Account {
+    accepted: 0,
+    handed: 0,
+    left: 0,
+    dropped: 0,
+};
+
+static TELLS_TICKETS: Story = Story {
+    limit: 4,
+    lossy: false,
+    senders: 10,
+    steps: &[Step::TellsByTen],
+    end: End::Settles(Account {
+        accepted: 1000,
+        handed: 1000,
+        left: 0,
+        dropped: 0,
+    }),
+    came: Came::ByTen,
+};
 
 #[test]
-fn all_types_can_be_shown(rt: HostRuntime) -> Result<(), Fail> {
-    run(rt, Story::CanBeShown)
+fn tickets_are_told_and_lines_come_in_order(rt: HostRuntime) {
+    run(rt, &TELLS_TICKETS);
+}
+
+static LEAVES_LINES: Story = Story {
+    limit: 4,
+    lossy: true,
+    senders: 1,
+    steps: &[
+        Step::Tells(b"held", Sent::Queued(1)),
+        Step::IsHeld,
+        Step::Tells(b"b", Sent::Queued(2)),
+    ],
+    end: End::Shuts(
+        &[
+            Step::Tells(b"c", Sent::Queued(3)),
+            Step::Counts(3, 0),
+            Step::Opens,
+        ],
+        Account {
+            accepted: 3,
+            handed: 2,
+            left: 1,
+            dropped: 0,
+        },
+    ),
+    came: Came::Lines(b"held|b|"),
+};
+
+#[test]
+fn lines_behind_the_shutdown_are_left(rt: HostRuntime) {
+    run(rt, &LEAVES_LINES);
+}
+
+static GIVES_BACK: Story = Story {
+    limit: 4,
+    lossy: true,
+    senders: 2,
+    steps: &[],
+    end: End::LacksOne(NONE),
+    came: Came::Lines(b""),
+};
+
+#[test]
+fn a_missing_sender_leaves_all_unsettled(rt: HostRuntime) {
+    run(rt, &GIVES_BACK);
+}
+
+static HAS_NO_SENDER: Story = Story {
+    limit: 4,
+    lossy: true,
+    senders: 0,
+    steps: &[],
+    end: End::Settles(NONE),
+    came: Came::Lines(b""),
+};
+
+#[test]
+fn no_sender_is_an_empty_account(rt: HostRuntime) {
+    run(rt, &HAS_NO_SENDER);
+}
+
+static DROPS_LINES: Story = Story {
+    limit: 1,
+    lossy: true,
+    senders: 1,
+    steps: &[
+        Step::Tells(b"held", Sent::Queued(1)),
+        Step::IsHeld,
+        Step::Tells(b"a", Sent::Queued(2)),
+        Step::Tells(b"b", Sent::Dropped),
+        Step::Counts(2, 1),
+        Step::Opens,
+    ],
+    end: End::Settles(Account {
+        accepted: 2,
+        handed: 2,
+        left: 0,
+        dropped: 1,
+    }),
+    came: Came::Lines(b"held|a|"),
+};
+
+#[test]
+fn dropped_lines_are_on_the_account(rt: HostRuntime) {
+    run(rt, &DROPS_LINES);
+}
+
+// The guard finds no room for its shutdown. The worker ends with its last sender, and leaves no line.
+static DROPS_ITS_GUARD: Story = Story {
+    limit: 1,
+    lossy: false,
+    senders: 1,
+    steps: &[
+        Step::Tells(b"held", Sent::Queued(1)),
+        Step::IsHeld,
+        Step::Tells(b"a", Sent::Queued(2)),
+    ],
+    end: End::DropsGuard,
+    came: Came::Count(2),
+};
+
+#[test]
+fn a_dropped_guard_does_not_hang(rt: HostRuntime) {
+    run(rt, &DROPS_ITS_GUARD);
+}
+
+static CAN_BE_SHOWN: Story = Story {
+    limit: 4,
+    lossy: true,
+    senders: 1,
+    steps: &[],
+    end: End::CanBeShown,
+    came: Came::Lines(b""),
+};
+
+#[test]
+fn all_types_can_be_shown(rt: HostRuntime) {
+    run(rt, &CAN_BE_SHOWN);
 }

@@ -1,14 +1,13 @@
 // Many senders: none is left asleep while there is room, or once the queue is closed.
-use crate::expect::expect_eq;
+use crate::expect::{expect_eq, put};
+use crate::gate::Host;
 use appender_non_blocking::non_blocking::{Closing, NonBlocking, NonBlockingBuilder, WorkerGuard};
-use fake_gate::gate::Host;
 use std::alloc::Global;
 use std::io::Write;
 use std::process::Abort;
 use std::sync::atomic::AtomicUsize;
 use std::sync::atomic::Ordering::SeqCst;
 use std::sync::{Arc, Wait};
-use std::test::Fail;
 use std::thread::JoinHandle;
 use std::time::Duration;
 use std::{io, thread};
@@ -45,19 +44,42 @@ fn send<R: Wait + Drop>(mut sender: NonBlocking<R>, lines: usize) -> usize {
     queued
 }
 
-// Starts so many threads, each with a sender and lines of its own.
-fn start<R: Host>(
-    rt: R,
-    sender: &NonBlocking<R>,
+// How many senders there are, with how many lines each, over a queue of how many; and whether the guard
+// closes before the senders end.
+#[derive(Clone, Copy)]
+struct Crowd {
+    limit: usize,
     senders: usize,
     lines: usize,
-) -> Result<Vec<JoinHandle<usize>>, Fail> {
+    closes_early: bool,
+}
+
+// What became of a crowd: what the guard told, and how many lines were queued, and how many dropped.
+#[derive(Clone, Copy)]
+struct Outcome {
+    closing: Closing,
+    queued: usize,
+    dropped: usize,
+}
+
+// Starts a thread with a sender of its own.
+fn start_one<R: Host>(
+    rt: R,
+    sender: &NonBlocking<R>,
+    lines: usize,
+) -> io::Result<JoinHandle<usize>> {
+    let mine = sender.clone()?;
+    Ok(thread::spawn(&rt, move || send(mine, lines))?)
+}
+
+// Starts the threads of all senders.
+fn start<R: Host + Abort>(rt: R, sender: &NonBlocking<R>, crowd: Crowd) -> Vec<JoinHandle<usize>> {
     let mut running = Vec::new(rt.alloc());
-    for _ in 0..senders {
-        let mine = sender.clone()?;
-        running.push(thread::spawn(&rt, move || send(mine, lines))?)?;
+    for _ in 0..crowd.senders {
+        let thread = start_one(rt, sender, crowd.lines).expect(&rt, "a thread");
+        put(&rt, &mut running, thread);
     }
-    Ok(running)
+    running
 }
 
 // How many lines all threads queued.
@@ -73,42 +95,54 @@ fn join_all<R: Host>(rt: R, running: Vec<JoinHandle<usize>>) -> usize {
 // that the guard waits for room, and each sender too.
 fn over_counting<R: Host>(
     rt: R,
-    limit: usize,
-    closes_early: bool,
-    came: &Arc<AtomicUsize, Global>,
+    crowd: Crowd,
+    lines: Arc<AtomicUsize, Global>,
 ) -> io::Result<(NonBlocking<R>, WorkerGuard<R>)> {
-    let writer = Counting {
-        rt,
-        lines: Arc::try_clone(came)?,
-        first: Duration::from_micros(if closes_early { 200 } else { 0 }),
-    };
+    let first = Duration::from_micros(if crowd.closes_early { 200 } else { 0 });
     NonBlockingBuilder::default()
         .lossy(false)
-        .buffered_lines_limit(limit)
-        .finish(rt, rt.alloc(), writer)
+        .buffered_lines_limit(crowd.limit)
+        .finish(rt, rt.alloc(), Counting { rt, lines, first })
 }
 
-// A line, and so many senders with so many lines each, while the guard closes, or before it does. Answers
-// what the guard told, and how many lines were queued.
-fn queue_all<R: Host>(
+// Writes a line, and then those of all senders, whose threads are joined, while the guard closes or before
+// it does.
+fn queue_all<R: Host + Abort>(
+    rt: R,
+    sender: NonBlocking<R>,
+    guard: WorkerGuard<R>,
+    crowd: Crowd,
+) -> (Closing, usize) {
+    let running = begin(rt, sender, crowd);
+    if crowd.closes_early {
+        let closing = guard.close();
+        (closing, join_all(rt, running).saturating_add(1))
+    } else {
+        let queued = join_all(rt, running).saturating_add(1);
+        (guard.close(), queued)
+    }
+}
+
+// Writes a line, and starts the threads. The first sender ends.
+fn begin<R: Host + Abort>(
     rt: R,
     mut sender: NonBlocking<R>,
-    guard: WorkerGuard<R>,
-    senders: usize,
-    lines: usize,
-    closes_early: bool,
-) -> Result<(Closing, usize), Fail> {
-    sender.write(b"Hello")?;
-    let running = start(rt, &sender, senders, lines)?;
-    drop(sender);
-    let (closing, queued) = if closes_early {
-        let closing = guard.close();
-        (closing, join_all(rt, running))
-    } else {
-        let queued = join_all(rt, running);
-        (guard.close(), queued)
-    };
-    Ok((closing, queued.saturating_add(1)))
+    crowd: Crowd,
+) -> Vec<JoinHandle<usize>> {
+    sender.write(b"Hello").expect(&rt, "the line is taken");
+    start(rt, &sender, crowd)
+}
+
+// Plays a crowd over a worker that counts its lines here.
+fn play<R: Host + Abort>(rt: R, crowd: Crowd, came: Arc<AtomicUsize, Global>) -> Outcome {
+    let (sender, guard) = over_counting(rt, crowd, came).expect(&rt, "a worker");
+    let counter = sender.error_counter().expect(&rt, "memory");
+    let (closing, queued) = queue_all(rt, sender, guard, crowd);
+    Outcome {
+        closing,
+        queued,
+        dropped: counter.dropped_lines(),
+    }
 }
 
 // How many lines the worker left, if it ended. On a machine that is busy otherwise it may not get on within
@@ -121,50 +155,77 @@ fn left_by(rt: &impl Abort, closing: Closing, closes_early: bool) -> Option<u64>
     }
 }
 
-// One worker and so many senders with so many lines each, while the guard closes, or before it does.
-fn crowd<R: Host + Abort>(
-    rt: R,
-    limit: usize,
-    senders: usize,
-    lines: usize,
-    closes_early: bool,
-) -> Result<(), Fail> {
-    let came = Arc::new(rt.alloc(), AtomicUsize::new(0))?;
-    let (sender, guard) = over_counting(rt, limit, closes_early, &came).expect(&rt, "a worker");
-    let counter = sender.error_counter().expect(&rt, "memory");
-    let (closing, queued) = queue_all(rt, sender, guard, senders, lines, closes_early)?;
-    if let Some(left) = left_by(&rt, closing, closes_early) {
-        expect_eq(&rt, came.load(SeqCst).saturating_add(left as usize), queued);
-        let all = senders.saturating_mul(lines).saturating_add(1);
-        expect_eq(&rt, closes_early || (left == 0 && queued == all), true);
-        expect_eq(&rt, counter.dropped_lines(), 0);
+// Each line that was queued came or was left, and none was dropped.
+fn expect_all<R: Abort>(rt: &R, crowd: Crowd, outcome: Outcome, came: usize) {
+    let Outcome {
+        closing,
+        queued,
+        dropped,
+    } = outcome;
+    if let Some(left) = left_by(rt, closing, crowd.closes_early) {
+        expect_eq(rt, came.saturating_add(left as usize), queued);
+        let all = crowd.senders.saturating_mul(crowd.lines).saturating_add(1);
+        expect_eq(rt, crowd.closes_early || (left == 0 && queued == all), true);
+        expect_eq(rt, dropped, 0);
     }
-    Ok(())
+}
+
+fn run<R: Host + Abort>(rt: R, crowd: Crowd) {
+    let came = Arc::new(rt.alloc(), AtomicUsize::new(0)).expect(&rt, "memory");
+    let counted = Arc::try_clone(&came).expect(&rt, "memory");
+    let outcome = play(rt, crowd, counted);
+    expect_all(&rt, crowd, outcome, came.load(SeqCst));
+}
+
+// Plays a crowd whose guard closes early, ten thousand times.
+fn run_often<R: Host + Abort>(rt: R, limit: usize) {
+    let crowd = Crowd {
+        limit,
+        senders: 3,
+        lines: 1,
+        closes_early: true,
+    };
+    for _ in 0..10_000u32 {
+        run(rt, crowd);
+    }
+}
+
+// How many lines may wait, how many senders there are, and how many lines each of them writes.
+static CROWDS: [(usize, usize, usize); 6] = [
+    (0, 4, 5_000),
+    (0, 16, 1_250),
+    (1, 4, 5_000),
+    (1, 16, 1_250),
+    (4, 8, 2_500),
+    (64, 8, 2_500),
+];
+
+fn run_crowds<R: Host + Abort>(rt: R) {
+    for (limit, senders, lines) in &CROWDS {
+        let crowd = Crowd {
+            limit: *limit,
+            senders: *senders,
+            lines: *lines,
+            closes_early: false,
+        };
+        run(rt, crowd);
+    }
 }
 
 #[test]
-fn crowds_get_through(rt: HostRuntime) -> Result<(), Fail> {
-    for (limit, senders) in [(0, 4), (0, 16), (1, 4), (1, 16), (4, 8), (64, 8)] {
-        crowd(rt, limit, senders, 20_000 / senders, false)?;
-    }
-    Ok(())
+fn crowds_get_through(rt: HostRuntime) {
+    run_crowds(rt);
 }
 
 // Senders wait for room, and so does the guard, which may take a call that was meant for one of them; and
 // the queue closes while many wait.
 #[test]
-fn a_guard_that_waits_strands_no_sender(rt: HostRuntime) -> Result<(), Fail> {
-    for _ in 0..10_000u32 {
-        crowd(rt, 1, 3, 1, true)?;
-    }
-    Ok(())
+fn a_guard_that_waits_strands_no_sender(rt: HostRuntime) {
+    run_often(rt, 1);
 }
 
 // With no place in the queue, each line and the shutdown wait until the worker does.
 #[test]
-fn a_guard_without_a_place_strands_no_sender(rt: HostRuntime) -> Result<(), Fail> {
-    for _ in 0..10_000u32 {
-        crowd(rt, 0, 3, 1, true)?;
-    }
-    Ok(())
+fn a_guard_without_a_place_strands_no_sender(rt: HostRuntime) {
+    run_often(rt, 0);
 }

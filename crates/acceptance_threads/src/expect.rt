@@ -1,5 +1,6 @@
 // What these tests compare: a call of these makes a proof shorter than `assert_eq!` or `format!` does.
-use fake_gate::gate::{Host, Seen};
+use crate::gate::{Host, Seen};
+use std::alloc::AllocError;
 use std::fmt::Debug;
 use std::process::Abort;
 
@@ -26,4 +27,12 @@ pub(crate) fn shown<T: Copy + Debug>(rt: &(impl AllocGlobal + Abort), value: T) 
 pub(crate) fn expect_text<R: Host + Abort>(rt: R, seen: &Seen, wanted: &[u8]) {
     let text = seen.text(&rt).expect(&rt, "memory");
     expect_eq(&rt, text.as_slice(), wanted);
+}
+
+/// Puts a value behind the others. Ends the test where there is no memory.
+pub(crate) fn put<T: Drop>(rt: &impl Abort, values: &mut Vec<T>, value: T) {
+    values
+        .push(value)
+        .map_err(AllocError::from)
+        .expect(rt, "memory");
 }

@@ -11,4 +11,8 @@ mod crowds;
 #[cfg(test)]
 mod expect;
 #[cfg(test)]
+mod gate;
+#[cfg(test)]
 mod lines;
+#[cfg(test)]
+mod scene;

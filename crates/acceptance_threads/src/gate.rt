@@ -1,4 +1,4 @@
-//! A writer that records what it gets, and holds one line until it is told to go on.
+// A writer that records what it gets, and holds one line until it is told to go on.
 
 use std::alloc::{AllocError, Global};
 use std::io::{ErrorKind, Write};
@@ -13,13 +13,21 @@ use std::{io, thread};
 const LOOKS: u32 = 10_000;
 
 /// What a test hands to its threads.
-pub trait Host: Threads + Wait + Clock + Print + Eprint + AllocGlobal + Copy + Send + 'static {}
+pub(crate) trait Host: Threads
+    + Wait
+    + Clock
+    + Print
+    + Eprint
+    + AllocGlobal
+    + Copy
+    + Send
+    + 'static {}
 
 impl<R: Threads + Wait + Clock + Print + Eprint + AllocGlobal + Copy + Send + 'static> Host for R {}
 
 /// What writer and test share.
 #[derive(Drop)]
-pub struct Seen {
+pub(crate) struct Seen {
     lines: Mutex<Vec<Vec<u8>>>,
     came: AtomicUsize,
     // Behind the last line.
@@ -32,14 +40,14 @@ pub struct Seen {
 /// Records lines and flushes. The write of the line that it is to hold answers once the gate is
 /// open; where that takes longer than ten seconds, `late` is recorded too, and it fails.
 #[derive(Drop)]
-pub struct Gate<R: Host> {
+pub(crate) struct Gate<R: Host> {
     rt: R,
     seen: Arc<Seen, Global>,
     held: &'static [u8],
 }
 
 /// A gate that holds this line, and what it shows.
-pub fn new_gate<R: Host>(
+pub(crate) fn new_gate<R: Host>(
     rt: R,
     held: &'static [u8],
 ) -> Result<(Gate<R>, Arc<Seen, Global>), AllocError> {
@@ -87,27 +95,27 @@ impl Seen {
     }
 
     /// Waits until the writer holds its line, and tells whether it does.
-    pub fn is_held<R: Clock + Copy>(&self, rt: R) -> bool {
+    pub(crate) fn is_held<R: Clock + Copy>(&self, rt: R) -> bool {
         reaches(rt, &self.holds, 1)
     }
 
     /// Lets the writer go on.
-    pub fn opens(&self) {
+    pub(crate) fn opens(&self) {
         self.open.store(1, SeqCst);
     }
 
     /// Waits until so many lines came, and tells whether they did.
-    pub fn come<R: Clock + Copy>(&self, rt: R, count: usize) -> bool {
+    pub(crate) fn come<R: Clock + Copy>(&self, rt: R, count: usize) -> bool {
         reaches(rt, &self.came, count)
     }
 
     /// How many lines came.
-    pub fn count(&self) -> usize {
+    pub(crate) fn count(&self) -> usize {
         self.came.load(SeqCst)
     }
 
     /// Whether this line came behind so many others.
-    pub fn has_at<R: Wait>(&self, rt: &R, place: usize, line: &[u8]) -> bool {
+    pub(crate) fn has_at<R: Wait>(&self, rt: &R, place: usize, line: &[u8]) -> bool {
         match self.lines.lock(rt).get(place) {
             Some(came) => came.as_slice() == line,
             None => false,
@@ -115,7 +123,7 @@ impl Seen {
     }
 
     /// All lines, with a bar behind each.
-    pub fn text<R: Wait + AllocGlobal>(&self, rt: &R) -> Result<Vec<u8>, AllocError> {
+    pub(crate) fn text<R: Wait + AllocGlobal>(&self, rt: &R) -> Result<Vec<u8>, AllocError> {
         let mut text = Vec::new(rt.alloc());
         for line in self.lines.lock(rt).as_slice() {
             text.extend_from_slice(line.as_slice())?;
@@ -125,7 +133,7 @@ impl Seen {
     }
 
     /// How many flushes came behind the last line.
-    pub fn last_flushes(&self) -> usize {
+    pub(crate) fn last_flushes(&self) -> usize {
         self.flushes.load(SeqCst)
     }
 }

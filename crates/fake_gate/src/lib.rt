@@ -1,4 +1,0 @@
-//! A writer that a test can hold in the middle of a line.
-#![tactic(auto)]
-
-pub mod gate;
