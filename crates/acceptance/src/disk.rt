@@ -3,6 +3,6 @@
 mod faults;
 mod listings;
 mod notices;
-mod runs;
+pub(crate) mod runs;
 mod scene;
 mod turns;

@@ -1,10 +1,15 @@
 // What these tests compare: a call of these makes a proof shorter than `assert_eq!` or `format!` does.
-use std::fmt::Debug;
+use std::fmt::{Debug, Display};
 use std::process::Abort;
+
+/// What the tests ask of their runtime. What a helper can't get ends the test.
+pub(crate) trait Host: AllocGlobal + Abort {}
+
+impl<R: AllocGlobal + Abort> Host for R {}
 
 /// Ends the test where a value isn't the wanted one.
 pub(crate) fn expect_eq<T: Copy + PartialEq + Debug>(rt: &impl Abort, got: T, wanted: T) {
-    assert!(rt; got == wanted, "{got:?} where {wanted:?} is wanted");
+    expect_eq_of(rt, "a value", got, wanted);
 }
 
 /// The same, and tells of what it is the value: a name, or the row of a table.
@@ -20,7 +25,31 @@ pub(crate) fn expect_eq_of<P: Copy + Debug, T: Copy + PartialEq + Debug>(
     );
 }
 
+/// Ends the test where a value has no `Debug` text.
+pub(crate) fn expect_shown<T: Copy + Debug>(rt: &impl Host, value: T) {
+    expect_eq(rt, shown(rt, value).is_empty(), false);
+}
+
 /// The `Debug` text of a value.
-pub(crate) fn shown<T: Copy + Debug>(rt: &(impl AllocGlobal + Abort), value: T) -> String {
+pub(crate) fn shown<T: Copy + Debug>(rt: &impl Host, value: T) -> String {
     format!(in rt.alloc(); "{value:?}").expect(rt, "memory")
+}
+
+/// Two values, one behind the other.
+pub(crate) fn joined<A: Copy + Display, B: Copy + Display>(
+    rt: &impl Host,
+    first: A,
+    second: B,
+) -> String {
+    format!(in rt.alloc(); "{first}{second}").expect(rt, "memory")
+}
+
+/// A copy of a text.
+pub(crate) fn owned(rt: &impl Host, text: &str) -> String {
+    String::from_str(rt.alloc(), text).expect(rt, "memory")
+}
+
+/// The bytes of a text.
+pub(crate) fn bytes(rt: &impl Host, text: &str) -> Vec<u8> {
+    text.as_bytes().to_vec(rt.alloc()).expect(rt, "memory")
 }

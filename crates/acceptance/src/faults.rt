@@ -1,14 +1,12 @@
 // One run in which each call of the folder fails in turn: what is noted, and that no byte that was told
 // as written is lost. What the run prints and leaves then stands among the scripts of `rollplay_rows`.
 
-use crate::expect::{expect_eq, expect_eq_of};
-use std::alloc::{AllocError, Global};
+use crate::expect::{Host, bytes, expect_eq, expect_eq_of};
+use crate::logs::{folder_with, hourly_log};
 use std::process::Abort;
-use std::test::Fail;
 use tracing_appender::replay::{
     ReplayError, Reply, RollReply, RollRun, RollStep, Run, Step, replay, replay_rolling,
 };
-use tracing_appender::rolling::{Builder, Rotation};
 use tracing_appender::store::{Folder, MemoryFolder, NoticeKind};
 
 // 2020-02-01 10:01:00.
@@ -19,36 +17,28 @@ const ELEVEN: i64 = 1_580_554_800;
 // No run makes so many calls.
 const LAST: u64 = 64;
 
-fn builder(alloc: Global) -> Result<Builder, AllocError> {
-    Builder::new()
-        .rotation(Rotation::HOURLY)
-        .max_log_files(2)
-        .filename_prefix(alloc, "app")?
-        .latest_symlink(alloc, "latest.log")
-}
+static OLD_LOGS: [(&str, &str); 2] = [("app.2020-02-01-08", "o"), ("app.2020-02-01-09", "p")];
 
 // Two older files, and these calls fail.
-fn folder(alloc: Global, first: u64, last: u64) -> Result<MemoryFolder, Fail> {
-    let mut folder = MemoryFolder::new(alloc);
-    folder.put_file("app.2020-02-01-08", b"o")?;
-    folder.put_file("app.2020-02-01-09", b"p")?;
+fn folder(rt: &impl Host, first: u64, last: u64) -> MemoryFolder {
+    let mut folder = folder_with(rt, &OLD_LOGS);
     for call in first..=last {
-        folder.fail_call(call)?;
+        folder.fail_call(call).expect(rt, "memory");
     }
-    Ok(folder)
+    folder
 }
 
-fn put(alloc: Global, moment: i64, text: &str) -> Result<RollStep, AllocError> {
-    Ok(RollStep::Put(moment, Vec::from_slice(alloc, text.as_bytes())?))
-}
+// The lines that are written, and when.
+static LINES: [(i64, &str); 3] = [(START, "a"), (ELEVEN, "b"), (ELEVEN - 1, "c")];
 
-fn steps(alloc: Global) -> Result<Vec<RollStep>, AllocError> {
-    let mut steps = Vec::new(alloc);
-    steps.push(put(alloc, START, "a")?)?;
-    steps.push(put(alloc, ELEVEN, "b")?)?;
-    steps.push(put(alloc, ELEVEN - 1, "c")?)?;
-    steps.push(RollStep::Flush)?;
-    Ok(steps)
+fn steps(rt: &impl Host) -> Vec<RollStep> {
+    let mut steps = Vec::new(rt.alloc());
+    for (moment, text) in &LINES {
+        let put = RollStep::Put(*moment, bytes(rt, text));
+        steps.push(put).expect(rt, "memory");
+    }
+    steps.push(RollStep::Flush).expect(rt, "memory");
+    steps
 }
 
 // A folder as a run left it, and how many bytes the run's answers count.
@@ -71,18 +61,18 @@ fn played(run: RollRun<MemoryFolder>) -> Played {
 }
 
 // What a run leaves whose log isn't opened.
-fn unopened(error: ReplayError<MemoryFolder>) -> Result<Played, Fail> {
+fn unopened(rt: &impl Abort, error: ReplayError<MemoryFolder>) -> Played {
     match error {
-        ReplayError::Init(_, folder) => Ok((folder, 0)),
-        ReplayError::Memory(_) => Err(Fail::from("no memory")),
+        ReplayError::Init(_, folder) => (folder, 0),
+        ReplayError::Memory(_) => rt.panic("no memory"),
     }
 }
 
-fn play(alloc: Global, folder: MemoryFolder, steps: &[RollStep]) -> Result<Played, Fail> {
-    let builder = builder(alloc)?;
-    match replay_rolling(alloc, &builder, folder, START, steps) {
-        Ok(run) => Ok(played(run)),
-        Err(error) => unopened(error),
+fn play(rt: &impl Host, folder: MemoryFolder, steps: &[RollStep]) -> Played {
+    let builder = hourly_log(rt, 2, "latest.log");
+    match replay_rolling(rt.alloc(), &builder, folder, START, steps) {
+        Ok(run) => played(run),
+        Err(error) => unopened(rt, error),
     }
 }
 
@@ -102,42 +92,31 @@ fn played_queued(run: Run<MemoryFolder>) -> Played {
     (run.roller.into_folder(), told)
 }
 
-fn play_queued(alloc: Global, folder: MemoryFolder, steps: &[Step]) -> Result<Played, Fail> {
-    let builder = builder(alloc)?;
-    match replay(alloc, &builder, 4, false, folder, START, steps) {
-        Ok(run) => Ok(played_queued(run)),
-        Err(error) => unopened(error),
+fn play_queued(rt: &impl Host, folder: MemoryFolder, steps: &[Step]) -> Played {
+    let builder = hourly_log(rt, 2, "latest.log");
+    match replay(rt.alloc(), &builder, 4, false, folder, START, steps) {
+        Ok(run) => played_queued(run),
+        Err(error) => unopened(rt, error),
     }
 }
 
-fn push_works(steps: &mut Vec<Step>, moment: i64, count: usize) -> Result<(), AllocError> {
+fn push_works(rt: &impl Abort, steps: &mut Vec<Step>, moment: i64, count: usize) {
     for _ in 0..count {
-        steps.push(Step::Work(moment))?;
+        steps.push(Step::Work(moment)).expect(rt, "memory");
     }
-    Ok(())
 }
 
-// A line that is offered, taken and written.
-fn push_line(
-    alloc: Global,
-    steps: &mut Vec<Step>,
-    moment: i64,
-    text: &str,
-) -> Result<(), AllocError> {
-    let line = Vec::from_slice(alloc, text.as_bytes())?;
-    steps.push(Step::Offer(1, line))?;
-    push_works(steps, moment, 2)
-}
-
-// The lines of `steps`, each offered, taken and written before the next one, and then the shutdown.
-fn queued_steps(alloc: Global) -> Result<Vec<Step>, AllocError> {
-    let mut steps = Vec::new(alloc);
-    for (moment, text) in [(START, "a"), (ELEVEN, "b"), (ELEVEN - 1, "c")] {
-        push_line(alloc, &mut steps, moment, text)?;
+// The same lines, each offered, taken and written before the next one, and then the shutdown.
+fn queued_steps(rt: &impl Host) -> Vec<Step> {
+    let mut steps = Vec::new(rt.alloc());
+    for (moment, text) in &LINES {
+        let offer = Step::Offer(1, bytes(rt, text));
+        steps.push(offer).expect(rt, "memory");
+        push_works(rt, &mut steps, *moment, 2);
     }
-    steps.push(Step::Shut)?;
-    push_works(&mut steps, ELEVEN, 4)?;
-    Ok(steps)
+    steps.push(Step::Shut).expect(rt, "memory");
+    push_works(rt, &mut steps, ELEVEN, 4);
+    steps
 }
 
 // How many bytes the bodies hold that came after the first two.
@@ -174,54 +153,53 @@ static NOTED: [(u64, [u64; 4], usize); 16] = [
     (16, [0, 0, 0, 0], 3),
 ];
 
+// How many notices of each sort were taken.
+fn noted_in(folder: &MemoryFolder) -> [u64; 4] {
+    [
+        folder.notices(NoticeKind::List),
+        folder.notices(NoticeKind::Remove),
+        folder.notices(NoticeKind::Open),
+        folder.notices(NoticeKind::Flush),
+    ]
+}
+
+// Plays while this call fails, and checks what is noted and what is told as written.
+fn check_noted(rt: &impl Host, call: u64, steps: &[RollStep], noted: [u64; 4], bytes: usize) {
+    let (left, told) = play(rt, folder(rt, call, call), steps);
+    expect_eq_of(rt, call, noted_in(&left), noted);
+    expect_eq_of(rt, call, left.failures(), u64::from(call < 16));
+    expect_eq_of(rt, call, (told, held(&left)), (bytes, bytes));
+}
+
 #[test]
-fn each_call_that_fails_is_noted(rt: HostRuntime) -> Result<(), Fail> {
-    let alloc = rt.alloc();
-    let steps = steps(alloc)?;
+fn each_call_that_fails_is_noted(rt: HostRuntime) {
+    let steps = steps(&rt);
     for (call, noted, bytes) in &NOTED {
-        let (folder, told) = play(alloc, folder(alloc, *call, *call)?, &steps)?;
-        let counts = [
-            folder.notices(NoticeKind::List),
-            folder.notices(NoticeKind::Remove),
-            folder.notices(NoticeKind::Open),
-            folder.notices(NoticeKind::Flush),
-        ];
-        expect_eq_of(&rt, call, counts, *noted);
-        expect_eq_of(&rt, call, folder.failures(), u64::from(*call < 16));
-        expect_eq_of(&rt, call, (told, held(&folder)), (*bytes, *bytes));
+        check_noted(&rt, *call, &steps, *noted, *bytes);
     }
-    Ok(())
 }
 
 // Plays while this call and all behind it fail, and checks that the folder holds what is told as written.
-fn check_kept(rt: &(impl AllocGlobal + Abort), first: u64, steps: &[RollStep]) -> Result<(), Fail> {
-    let folder = folder(rt.alloc(), first, LAST)?;
-    let (left, told) = play(rt.alloc(), folder, steps)?;
+fn check_kept(rt: &impl Host, first: u64, steps: &[RollStep]) {
+    let (left, told) = play(rt, folder(rt, first, LAST), steps);
     expect_eq_of(rt, first, held(&left), told);
-    Ok(())
 }
 
 // The same of a run behind a queue; answers how many bytes are told.
-fn check_queued_kept(
-    rt: &(impl AllocGlobal + Abort),
-    first: u64,
-    steps: &[Step],
-) -> Result<usize, Fail> {
-    let folder = folder(rt.alloc(), first, LAST)?;
-    let (left, told) = play_queued(rt.alloc(), folder, steps)?;
+fn check_queued_kept(rt: &impl Host, first: u64, steps: &[Step]) -> usize {
+    let (left, told) = play_queued(rt, folder(rt, first, LAST), steps);
     expect_eq_of(rt, first, held(&left), told);
-    Ok(told)
+    told
 }
 
 #[test]
-fn no_byte_is_lost_from_whichever_call_on_all_fail(rt: HostRuntime) -> Result<(), Fail> {
-    let steps = steps(rt.alloc()).expect(&rt, "memory");
-    let queued = queued_steps(rt.alloc()).expect(&rt, "memory");
+fn no_byte_is_lost_from_whichever_call_on_all_fail(rt: HostRuntime) {
+    let steps = steps(&rt);
+    let queued = queued_steps(&rt);
     for first in 1..=16 {
-        check_kept(&rt, first, &steps)?;
-        check_queued_kept(&rt, first, &queued)?;
+        check_kept(&rt, first, &steps);
+        check_queued_kept(&rt, first, &queued);
     }
-    let told = check_queued_kept(&rt, LAST, &queued)?;
+    let told = check_queued_kept(&rt, LAST, &queued);
     expect_eq(&rt, told, 3);
-    Ok(())
 }

@@ -10,6 +10,8 @@ mod expect;
 #[cfg(test)]
 mod faults;
 #[cfg(test)]
+mod logs;
+#[cfg(test)]
 mod parts;
 #[cfg(test)]
 mod rollers;

@@ -1,14 +1,11 @@
 // Scripts of `rollplay` without a queue, carried out over a folder in memory and over a fake disk.
 
-use crate::expect::{expect_eq, expect_eq_of};
-use fake_files::disk::{Disk, FOLDER};
-use fake_files::fake::Fake;
+use crate::disk::runs::folder_of;
+use crate::expect::{Host, expect_eq, expect_eq_of};
+use fake_files::disk::Disk;
 use rollplay_rows::{PLAYED, first_row};
 use rollplay_script::script::{LONGEST, Plan, Script};
-use std::alloc::Global;
-use std::io;
 use std::process::Abort;
-use tracing_appender::folder::DirFolder;
 use tracing_appender::replay::replay_rolling;
 use tracing_appender::rolling::Builder;
 use tracing_appender::store::{Folder, Kind, MemoryFolder};
@@ -16,100 +13,91 @@ use tracing_appender::store::{Folder, Kind, MemoryFolder};
 // Whether a disk can't do what a script says: fail at a call by its number among those of a folder,
 // or give a creation moment.
 fn needs_memory(script: &str) -> bool {
-    for line in script.lines() {
-        if line.starts_with("fail ") || line.starts_with("short ") || line.starts_with("created ") {
-            return true;
-        }
-    }
-    false
+    script.lines().any(is_of_memory)
 }
 
-// A script that isn't too long and has no fault.
-fn read(alloc: Global, script: &str) -> Option<Script> {
-    if script.len() > LONGEST {
-        return None;
-    }
-    Script::read(alloc, script).ok()
+fn is_of_memory(line: &str) -> bool {
+    line.starts_with("fail ") || line.starts_with("short ") || line.starts_with("created ")
 }
 
-// The folder after a plan without a queue was carried out in it, if the log was opened.
+fn read(rt: &impl Host, script: &str) -> Script {
+    assert!(rt; script.len() <= LONGEST);
+    Script::read(rt.alloc(), script).expect(rt, "a script")
+}
+
+// The folder after a plan was carried out in it.
 fn carry_out<S: Folder>(
-    alloc: Global,
+    rt: &impl Host,
     builder: &Builder,
     folder: S,
     start: i64,
     plan: &Plan,
-) -> Option<S> {
+) -> S {
     let Plan::Rolling(steps) = plan else {
-        return None;
+        rt.panic("a script with a queue");
     };
-    match replay_rolling(alloc, builder, folder, start, steps) {
-        Ok(run) => Some(run.roller.into_folder()),
-        Err(_) => None,
+    match replay_rolling(rt.alloc(), builder, folder, start, steps) {
+        Ok(run) => run.roller.into_folder(),
+        Err(_) => rt.panic("a log that is not opened"),
     }
 }
 
-// The folder in memory of a script after it was carried out.
-fn folder_after(alloc: Global, script: Script) -> Option<MemoryFolder> {
+// What a folder in memory holds after a script, as `Disk::shown` tells it.
+fn play_in_memory(rt: &impl Host, script: Script) -> String {
     let Script {
         builder,
         folder,
         start,
         plan,
     } = script;
-    carry_out(alloc, &builder, folder, start, &plan)
+    let folder = carry_out(rt, &builder, folder, start, &plan);
+    shown_disk(rt, &copied(rt, &folder))
 }
 
-// What a folder in memory holds after a script, as `Disk::shown` tells it.
-fn play_in_memory(rt: &impl Abort, alloc: Global, script: Script) -> io::Result<String> {
-    let folder = folder_after(alloc, script).expect(rt, "a run");
-    copied(alloc, &folder)?.shown()
+fn shown_disk(rt: &impl Abort, disk: &Disk) -> String {
+    disk.shown().expect(rt, "a folder")
 }
 
 // A disk as a script finds it, which holds what this folder does or has no folder.
-fn disk_before(alloc: Global, script: &str, folder: &MemoryFolder) -> io::Result<Disk> {
-    let disk = copied(alloc, folder)?;
+fn disk_before(rt: &impl Host, script: &str, folder: &MemoryFolder) -> Disk {
+    let disk = copied(rt, folder);
     if script.starts_with("absent\n") {
-        disk.remove_folder()?;
+        disk.remove_folder().expect(rt, "a folder");
     }
-    Ok(disk)
-}
-
-// Carries a script out on a disk, and tells whether the log was opened.
-fn carry_out_on_disk(rt: &impl Abort, alloc: Global, disk: &Disk, script: &Script) -> bool {
-    let folder = DirFolder::new(Fake::new(disk), FOLDER).expect(rt, "memory");
-    carry_out(alloc, &script.builder, folder, script.start, &script.plan).is_some()
+    disk
 }
 
 // What a fake disk holds after a script.
-fn play_on_disk(rt: &impl Abort, alloc: Global, text: &str, script: &Script) -> io::Result<String> {
-    let disk = disk_before(alloc, text, &script.folder)?;
-    expect_eq(rt, carry_out_on_disk(rt, alloc, &disk, script), true);
-    disk.shown()
+fn play_on_disk(rt: &impl Host, text: &str, script: &Script) -> String {
+    let disk = disk_before(rt, text, &script.folder);
+    let folder = folder_of(rt, &disk);
+    carry_out(rt, &script.builder, folder, script.start, &script.plan);
+    shown_disk(rt, &disk)
 }
 
 // A disk that holds what a folder in memory does.
-fn copied(alloc: Global, folder: &MemoryFolder) -> io::Result<Disk> {
-    let disk = Disk::new(alloc);
-    for name in &folder.names()? {
-        copy_entry(&disk, folder, name.as_str())?;
+fn copied(rt: &impl Host, folder: &MemoryFolder) -> Disk {
+    let disk = Disk::new(rt.alloc());
+    for name in &folder.names().expect(rt, "memory") {
+        copy_entry(rt, &disk, folder, name.as_str());
     }
-    Ok(disk)
+    disk
 }
 
-fn copy_entry(disk: &Disk, folder: &MemoryFolder, name: &str) -> io::Result<()> {
-    match folder.kind(name) {
+fn copy_entry(rt: &impl Abort, disk: &Disk, folder: &MemoryFolder, name: &str) {
+    let put = match folder.kind(name) {
         Some(Kind::Folder) => disk.put_folder(name),
         Some(Kind::Link) => disk.put_link(name, folder.target(name).unwrap_or("")),
         _ => disk.put_file(name.as_bytes(), folder.bytes(name).unwrap_or(b"")),
-    }
+    };
+    put.expect(rt, "an entry");
 }
 
-fn check_script(rt: &impl Abort, alloc: Global, text: &str) {
-    let script = read(alloc, text).expect(rt, "a script");
-    let on_disk = play_on_disk(rt, alloc, text, &script).expect(rt, "a play");
-    let in_memory = play_in_memory(rt, alloc, script).expect(rt, "a play");
-    expect_eq_of(rt, text, &on_disk, &in_memory);
+fn check_script(rt: &impl Host, text: &str) {
+    let script = read(rt, text);
+    let on_disk = play_on_disk(rt, text, &script);
+    let in_memory = play_in_memory(rt, script);
+    expect_eq_of(rt, text, on_disk.as_str(), in_memory.as_str());
 }
 
 #[test]
@@ -119,7 +107,7 @@ fn a_disk_comes_to_hold_what_memory_does(rt: HostRuntime) {
     for _ in 0..PLAYED.rows {
         let (script, _, behind) = first_row(rest).expect(&rt, "a row");
         if !needs_memory(script) {
-            check_script(&rt, rt.alloc(), script);
+            check_script(&rt, script);
             compared = compared.saturating_add(1);
         }
         rest = behind;

@@ -1,31 +1,34 @@
 // Appenders that are written to by std's `Write`, over real folders and over one in memory.
 
-use crate::expect::{expect_eq, expect_eq_of, shown};
+use crate::expect::{expect_eq, expect_eq_of, expect_shown_start};
 use crate::scene::{
     ELEVEN, Host, START, TWELVE, TestClock, at, clear, expect_bytes, expect_files,
-    expect_shown_appender, expect_target, expect_text, folder_at, fresh, hourly_log, names_in,
-    opened,
+    expect_shown_appender, expect_target, expect_text, expect_write, folder_at, fresh,
+    fresh_current, hourly_log, names_in, opened, place_of,
 };
 use appender_rolling::rolling::{
-    Builder, Clock, RollingFileAppender, SystemClock, daily, hourly, minutely, never, weekly,
+    Builder, Clock, InitError, RollingFileAppender, SystemClock, daily, hourly, minutely, never,
+    weekly,
 };
 use appender_store::store::{Folder, MemoryFolder};
+use std::fmt::Debug;
 use std::io::Write;
 use std::process::Abort;
 use std::rt::Env;
 use std::sync::Wait;
 use std::time::Duration;
-use std::{env, io, time};
+use std::{io, time};
 
 // What the system's clock reads, in whole minutes.
 fn minute(rt: impl time::Clock + Drop) -> i64 {
     SystemClock::new(rt).now().div_euclid(60)
 }
 
-// Writes `Hello`.
-fn say_hello(rt: &impl Abort, log: &mut impl Write) {
-    put(rt, log, "Hello");
-    flush(rt, log);
+// Writes `Hello` to a log that has to be opened.
+fn say_hello(rt: &impl Abort, opened: Result<impl Write + Drop, InitError>) {
+    let mut writer = opened.expect(rt, "an appender");
+    writer.write_all(b"Hello").expect(rt, "a write");
+    writer.flush().expect(rt, "a flush");
 }
 
 static ROTATIONS: [&str; 5] = ["minutely", "hourly", "daily", "weekly", "never"];
@@ -39,7 +42,7 @@ fn say_hello_at<R: Host + time::Clock>(rt: R, rotation: &str, path: &str) {
         "weekly" => weekly(rt, path, "app"),
         _ => never(rt, path, "app"),
     };
-    say_hello(&rt, &mut opened.expect(&rt, "an appender"));
+    say_hello(&rt, opened);
 }
 
 // A log of each rotation, each in a directory of its own.
@@ -84,16 +87,20 @@ fn is_within_a_minute<R: Host + time::Clock>(rt: R, directory: &str) -> bool {
     within
 }
 
-#[test]
-fn a_log_of_each_rotation_is_one_file(rt: HostRuntime) {
-    // Once more where a minute ended in between.
+// Writes a log of each rotation, and once more where a minute ended in between.
+fn expect_rotations<R: Host + time::Clock>(rt: R, place: io::Result<String>) {
+    let directory = fresh(&rt, place);
     for _ in 0..3 {
-        let directory = fresh(rt, "rotations").expect(&rt, "a directory");
         if is_within_a_minute(rt, directory.as_str()) {
             return;
         }
     }
     rt.panic("the clock runs on");
+}
+
+#[test]
+fn a_log_of_each_rotation_is_one_file(rt: HostRuntime) {
+    expect_rotations(rt, place_of(rt, "rotations"));
 }
 
 // What is done with an appender.
@@ -108,17 +115,13 @@ enum Step {
 }
 
 // Writes a line.
-fn put(rt: &impl Abort, log: &mut impl Write, line: &str) {
-    log.write_all(line.as_bytes()).expect(rt, "a line");
+fn put(rt: &impl Abort, writer: &mut impl Write, line: &str) {
+    writer.write_all(line.as_bytes()).expect(rt, "a line");
 }
 
-// Writes by one call, and checks how many bytes it takes.
-fn write_once(rt: &impl Abort, log: &mut impl Write, bytes: &[u8], wanted: usize) {
-    expect_eq(rt, log.write(bytes).expect(rt, "a write"), wanted);
-}
-
-fn flush(rt: &impl Abort, log: &mut impl Write) {
-    log.flush().expect(rt, "a flush");
+// Flushes what was written.
+fn flush(rt: &impl Abort, writer: &mut impl Write) {
+    writer.flush().expect(rt, "a flush");
 }
 
 // Takes a step.
@@ -135,7 +138,7 @@ fn take<S: Folder, R: Host>(
         }
         Step::Write(moment, bytes, wanted) => {
             clock.set(moment);
-            write_once(rt, appender, bytes, wanted);
+            expect_write(rt, appender, bytes, wanted);
         }
         Step::Flush => flush(rt, appender),
         Step::Reads(wanted) => expect_eq(rt, clock.reads(), wanted),
@@ -154,35 +157,43 @@ fn take_all<S: Folder, R: Host>(
     }
 }
 
-// Takes these steps with an appender that is opened at 10:01, and answers its folder.
-fn write_log<S: Folder>(rt: impl Host, builder: &Builder, folder: S, steps: &[Step]) -> S {
+// Takes these steps with an appender that is opened at 10:01, checks how many calls of its folder
+// fail, and answers that.
+fn write_log<S: Folder>(
+    rt: impl Host,
+    builder: &Builder,
+    folder: S,
+    steps: &[Step],
+    failures: u64,
+) -> S {
     let clock = TestClock::new(START);
     let mut appender = opened(rt, builder, folder, &clock);
     take_all(&rt, &mut appender, &clock, steps);
-    appender.into_parts().0
+    let folder = appender.into_parts().0;
+    expect_eq(&rt, folder.failures(), failures);
+    folder
 }
 
 // Takes these steps with an appender at a path, and checks how many calls of its folder fail.
 fn write_at(rt: &impl Host, builder: &Builder, path: &str, steps: &[Step], failures: u64) {
-    let folder = write_log(*rt, builder, folder_at(*rt, path), steps);
-    expect_eq_of(rt, path, folder.failures(), failures);
+    write_log(*rt, builder, folder_at(*rt, path), steps, failures);
 }
 
-// Takes these steps in memory, and checks which files come of them.
+// Takes these steps in memory, where no call fails, and checks which files come of them.
 fn write_in_memory(rt: &impl Host, builder: &Builder, steps: &[Step], files: &[(&str, &str)]) {
-    let folder = write_log(*rt, builder, MemoryFolder::new(rt.alloc()), steps);
+    let folder = write_log(*rt, builder, MemoryFolder::new(rt.alloc()), steps, 0);
     expect_bytes(rt, &folder, files);
 }
 
 // Takes these steps in a fresh directory, where no call fails, and checks which files come of them.
 fn write_in(
     rt: &impl Host,
-    directory: io::Result<String>,
+    place: io::Result<String>,
     builder: &Builder,
     steps: &[Step],
     files: &[(&str, &str)],
 ) {
-    let directory = directory.expect(rt, "a directory");
+    let directory = fresh(rt, place);
     let directory = directory.as_str();
     write_at(rt, builder, directory, steps, 0);
     expect_files(rt, directory, files);
@@ -200,13 +211,13 @@ static ACROSS_ELEVEN: [Step; 4] = [
 static BOTH_BYTES: [(&str, &str); 2] = [("app.2020-02-01-10", ""), ("app.2020-02-01-11", "ab")];
 
 // Writes both bytes in memory.
-fn write_both(rt: &impl Host) {
+fn write_both_bytes(rt: &impl Host) {
     write_in_memory(rt, &hourly_log(rt, "app"), &ACROSS_ELEVEN, &BOTH_BYTES);
 }
 
 #[test]
 fn each_write_reads_the_clock_once(rt: HostRuntime) {
-    write_both(&rt);
+    write_both_bytes(&rt);
 }
 
 // Two lines, and an hour later two more.
@@ -224,14 +235,14 @@ static TWO_FILES: [(&str, &str); 2] = [
 ];
 
 // Writes to two hours in a fresh directory.
-fn write_two_hours(rt: &impl Host, directory: io::Result<String>) {
+fn write_two_hours(rt: &impl Host, place: io::Result<String>) {
     let builder = hourly_log(rt, "test_make_writer");
-    write_in(rt, directory, &builder, &TWO_HOURS, &TWO_FILES);
+    write_in(rt, place, &builder, &TWO_HOURS, &TWO_FILES);
 }
 
 #[test]
 fn the_next_hour_goes_to_the_next_file(rt: HostRuntime) {
-    write_two_hours(&rt, fresh(rt, "hours"));
+    write_two_hours(&rt, place_of(rt, "hours"));
 }
 
 // Two lines in each of three hours.
@@ -253,15 +264,15 @@ static KEPT: [(&str, &str); 2] = [
 ];
 
 // Writes to three hours in memory and in a fresh directory, where two files are kept.
-fn write_three_hours(rt: &impl Host, directory: io::Result<String>) {
+fn write_three_hours(rt: &impl Host, place: io::Result<String>) {
     let builder = hourly_log(rt, "test_max_log_files").max_log_files(2);
     write_in_memory(rt, &builder, &THREE_HOURS, &KEPT);
-    write_in(rt, directory, &builder, &THREE_HOURS, &KEPT);
+    write_in(rt, place, &builder, &THREE_HOURS, &KEPT);
 }
 
 #[test]
 fn two_files_are_kept(rt: HostRuntime) {
-    write_three_hours(&rt, fresh(rt, "kept"));
+    write_three_hours(&rt, place_of(rt, "kept"));
 }
 
 // A line in each of two hours.
@@ -279,59 +290,63 @@ static LINKED: [(&str, &str); 3] = [
     (NEWEST, "file 2\n"),
 ];
 
+// A log with a link.
+fn linked_log(rt: &impl Host) -> Builder {
+    hourly_log(rt, "test_latest_symlink")
+        .latest_symlink(rt.alloc(), "latest.log")
+        .expect(rt, "memory")
+}
+
 // Writes a log with a link at a path, and checks what then stands in a directory.
 fn expect_linked(rt: &impl Host, path: &str, directory: &str) {
-    let builder = hourly_log(rt, "test_latest_symlink")
-        .latest_symlink(rt.alloc(), "latest.log")
-        .expect(rt, "memory");
     // At first there is neither the directory nor a link to remove.
-    write_at(rt, &builder, path, &LINE_AN_HOUR, 2);
+    write_at(rt, &linked_log(rt), path, &LINE_AN_HOUR, 2);
     expect_target(rt, directory, "latest.log", NEWEST);
     expect_files(rt, directory, &LINKED);
+}
+
+// The same where the path is that of the directory.
+fn expect_linked_whole(rt: &impl Host, directory: &str) {
+    expect_linked(rt, directory, directory);
 }
 
 // Relative paths, and where they lead to.
 static RELATIVE: [(&str, &str); 2] = [("relative", "relative"), ("./deep/logs", "deep/logs")];
 
-// Writes logs with links at a whole path and at two relative ones.
-fn expect_links(rt: &(impl Host + Env), parent: &str) {
-    env::set_current_dir(rt, parent).expect(rt, "a directory");
-    let whole = at(rt, parent, "whole");
-    expect_linked(rt, whole.as_str(), whole.as_str());
+// Writes logs with links at a whole path and at two relative ones, which begin at the current
+// directory.
+fn expect_links(rt: &(impl Host + Env), place: io::Result<String>) {
+    let current = fresh_current(rt, place);
+    let current = current.as_str();
+    expect_linked_whole(rt, at(rt, current, "whole").as_str());
     for (path, place) in &RELATIVE {
-        expect_linked(rt, path, at(rt, parent, place).as_str());
+        expect_linked(rt, path, at(rt, current, place).as_str());
     }
-    clear(rt, parent);
+    clear(rt, current);
 }
 
 #[test]
 fn the_link_leads_to_the_newest_file(rt: HostRuntime) {
-    let parent = fresh(rt, "link").expect(&rt, "a directory");
-    expect_links(&rt, parent.as_str());
+    expect_links(&rt, place_of(rt, "link"));
 }
 
-// Checks what an hourly log shows.
-fn expect_shown_hourly<R: Host + Wait>(rt: R) {
+// Shows an appender and the clock that one is given.
+fn expect_appender_and_clock_shown<R: Host + Wait + time::Clock + Debug>(rt: R) {
     expect_shown_appender(
         rt,
         &hourly_log(&rt, "app"),
         "RollingFileAppender { open_name: \"app.2020-02-01-10\", boundary: Some(1580554800) }",
     );
+    expect_shown_start(&rt, &SystemClock::new(rt), "SystemClock");
 }
 
 #[test]
 fn an_appender_shows_its_file_and_boundary(rt: HostRuntime) {
-    expect_shown_hourly(rt);
-}
-
-#[test]
-fn the_system_clock_shows_itself(rt: HostRuntime) {
-    let clock = shown(&rt, &SystemClock::new(Stopped { seconds: None }));
-    assert!(rt; clock.as_str().starts_with("SystemClock"));
+    expect_appender_and_clock_shown(rt);
 }
 
 // A system whose clock tells so many seconds since 1970, if it can be read.
-#[derive(Clone, Copy, Debug)]
+#[derive(Drop)]
 struct Stopped {
     seconds: Option<u64>,
 }

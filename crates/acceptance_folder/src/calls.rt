@@ -2,8 +2,8 @@
 
 use crate::expect::{expect_eq, expect_eq_of};
 use crate::scene::{
-    Entry, Host, at, clear, expect_entries, expect_target, expect_text, fill, folder_at, fresh,
-    kind_of_error,
+    Entry, Host, at, clear, expect_entries, expect_kind, expect_target, expect_text, fill, fresh,
+    fresh_current, kind_of_error, place_of,
 };
 use crate::swapping::Swapping;
 use appender_folder::folder::DirFolder;
@@ -11,8 +11,8 @@ use appender_store::store::{Folder, Kind, Listed};
 use std::cell::Cell;
 use std::io::ErrorKind;
 use std::process::Abort;
-use std::rt::Env;
-use std::{env, fs, io};
+use std::rt::{Env, Files};
+use std::{fs, io};
 
 // A call of a folder by a name.
 #[derive(Clone, Copy, Debug)]
@@ -62,12 +62,12 @@ fn link_to<S: Folder>(rt: &impl Host, folder: &mut S, directory: &str, target: &
     folder.remove_link("link").expect(rt, "a link");
 }
 
-// Opens a file and appends to it, and tells how much it took.
-fn append_to<S: Folder>(rt: &impl Abort, folder: &mut S, name: &str, bytes: &[u8]) -> usize {
+// Opens a file and appends to it, and checks how much it takes.
+fn append_to<S: Folder>(rt: &impl Abort, folder: &mut S, name: &str, bytes: &[u8], wanted: usize) {
     let mut file = folder.open(name).expect(rt, "a file");
     let taken = folder.append(&mut file, bytes).expect(rt, "bytes taken");
     folder.flush(&mut file).expect(rt, "a flush");
-    taken
+    expect_eq_of(rt, name, taken, wanted);
 }
 
 // Checks one entry of a listing.
@@ -139,17 +139,15 @@ fn take<S: Folder>(rt: &impl Host, folder: &mut S, directory: &str, step: &Step)
     match *step {
         Step::Fill(entries) => fill(rt, directory, entries),
         Step::Clear => clear(rt, directory),
-        Step::MakeFolder => expect_eq(rt, kind_of_error(folder.make_folder()), None),
+        Step::MakeFolder => expect_kind(rt, folder.make_folder(), None),
         Step::NoFolder => expect_eq(rt, folder.make_folder().is_err(), true),
         Step::Refused(calls, names, wanted) => expect_refusals(rt, folder, calls, names, wanted),
-        Step::Append(name, bytes, wanted) => {
-            expect_eq_of(rt, name, append_to(rt, folder, name, bytes), wanted);
-        }
-        Step::Remove(name) => expect_eq(rt, refusal_of(folder, Call::Remove, name), None),
+        Step::Append(name, bytes, wanted) => append_to(rt, folder, name, bytes, wanted),
+        Step::Remove(name) => expect_kind(rt, folder.remove(name), None),
         Step::Link(target) => link_to(rt, folder, directory, target),
         Step::Lists(wanted) => expect_listed(rt, folder, wanted),
         Step::Kinds => expect_kinds(rt, folder, directory),
-        Step::NoList(wanted) => expect_eq(rt, kind_of_error(folder.list()), Some(wanted)),
+        Step::NoList(wanted) => expect_kind(rt, folder.list(), Some(wanted)),
         Step::Failed(wanted) => expect_eq_of(rt, directory, folder.failures(), wanted),
         Step::Reads(name, text) => expect_text(rt, directory, name, text),
         Step::Holds(entries) => expect_entries(rt, directory, entries),
@@ -163,12 +161,23 @@ fn take_all<S: Folder>(rt: &impl Host, mut folder: S, directory: &str, steps: &[
     }
 }
 
-// Takes these steps with the folder at a place in a fresh directory.
-fn take_in(rt: &impl Host, directory: io::Result<String>, place: &str, steps: &[Step]) {
-    let directory = directory.expect(rt, "a directory");
+// Takes these steps with the folder at a path of a file system.
+fn take_at<F: Files + AllocGlobal + Eprint + Clone + Drop>(
+    rt: &impl Host,
+    files: F,
+    path: &str,
+    directory: &str,
+    steps: &[Step],
+) {
+    let folder = DirFolder::new(files, path).expect(rt, "memory");
+    take_all(rt, folder, directory, steps);
+}
+
+// Takes these steps with the folder at an entry of a fresh directory.
+fn take_in(rt: &impl Host, place: io::Result<String>, entry: &str, steps: &[Step]) {
+    let directory = fresh(rt, place);
     let directory = directory.as_str();
-    let path = at(rt, directory, place);
-    take_all(rt, folder_at(*rt, path.as_str()), directory, steps);
+    take_at(rt, *rt, at(rt, directory, entry).as_str(), directory, steps);
     clear(rt, directory);
 }
 
@@ -205,7 +214,7 @@ static LEAVING: [Step; 5] = [
 
 #[test]
 fn a_name_that_leaves_the_folder_is_refused(rt: HostRuntime) {
-    take_in(&rt, fresh(rt, "leaves"), "inside", &LEAVING);
+    take_in(&rt, place_of(rt, "leaves"), "inside", &LEAVING);
 }
 
 // Links, also one that leads to a file, and a folder are neither opened nor removed.
@@ -239,7 +248,7 @@ static PLAIN_FILES: [Step; 7] = [
 
 #[test]
 fn plain_files_alone_are_opened_and_removed(rt: HostRuntime) {
-    take_in(&rt, fresh(rt, "plain"), "", &PLAIN_FILES);
+    take_in(&rt, place_of(rt, "plain"), "", &PLAIN_FILES);
 }
 
 // A file and a folder are not removed as links, and no link takes their place.
@@ -261,7 +270,7 @@ static LINKS: [Step; 9] = [
 
 #[test]
 fn links_alone_are_removed_as_links(rt: HostRuntime) {
-    take_in(&rt, fresh(rt, "links"), "", &LINKS);
+    take_in(&rt, place_of(rt, "links"), "", &LINKS);
 }
 
 // A file that stands, and one that the first append to it makes.
@@ -279,7 +288,7 @@ static APPENDS: [Step; 6] = [
 
 #[test]
 fn appends_go_behind_what_stands(rt: HostRuntime) {
-    take_in(&rt, fresh(rt, "appends"), "", &APPENDS);
+    take_in(&rt, place_of(rt, "appends"), "", &APPENDS);
 }
 
 // The second time the folder is there already.
@@ -299,26 +308,27 @@ static NOT_MADE: [Step; 3] = [
     Step::Reads("plain", "text"),
 ];
 
-// Takes these steps with the folder at a path.
-fn take_at(rt: &impl Host, path: &str, steps: &[Step]) {
-    take_all(rt, folder_at(*rt, path), path, steps);
+// Makes a folder at a path twice.
+fn make_twice(rt: &impl Host, path: &str) {
+    take_at(rt, *rt, path, path, &MADE_TWICE);
 }
 
 static WITH_PARENTS: [&str; 4] = ["a/b/c", "a/b/d/", "a", "e//f"];
 
-// Makes folders in a directory, whose parents are not there yet.
-fn make_with_parents(rt: &impl Host, directory: &str) {
+// Makes folders in a fresh directory, whose parents are not there yet.
+fn make_with_parents(rt: &impl Host, place: io::Result<String>) {
+    let directory = fresh(rt, place);
+    let directory = directory.as_str();
     for path in &WITH_PARENTS {
-        take_at(rt, at(rt, directory, path).as_str(), &MADE_TWICE);
+        make_twice(rt, at(rt, directory, path).as_str());
     }
     clear(rt, directory);
 }
 
 #[test]
 fn a_folder_is_made_with_its_parents(rt: HostRuntime) {
-    let parent = fresh(rt, "parents").expect(&rt, "a directory");
-    make_with_parents(&rt, parent.as_str());
-    take_in(&rt, fresh(rt, "parents"), "plain", &NOT_MADE);
+    make_with_parents(&rt, place_of(rt, "parents"));
+    take_in(&rt, place_of(rt, "parents"), "plain", &NOT_MADE);
 }
 
 // A byte more in the only file.
@@ -330,20 +340,23 @@ static ONE_MORE: [Step; 3] = [
 
 static CURRENT: [&str; 3] = ["", ".", "./"];
 
+// What they come to.
+static THREE_MORE: [Entry; 1] = [Entry::File("file", "xxx")];
+
 // Writes to a file of the current directory by three of its paths.
-fn append_in_current(rt: &(impl Host + Env), directory: &str) {
-    env::set_current_dir(rt, directory).expect(rt, "a directory");
+fn append_in_current(rt: &(impl Host + Env), place: io::Result<String>) {
+    let current = fresh_current(rt, place);
+    let current = current.as_str();
     for path in &CURRENT {
-        take_at(rt, path, &ONE_MORE);
+        take_at(rt, *rt, path, current, &ONE_MORE);
     }
-    expect_entries(rt, directory, &[Entry::File("file", "xxx")]);
-    clear(rt, directory);
+    expect_entries(rt, current, &THREE_MORE);
+    clear(rt, current);
 }
 
 #[test]
 fn an_empty_path_is_the_current_directory(rt: HostRuntime) {
-    let directory = fresh(rt, "current").expect(&rt, "a directory");
-    append_in_current(&rt, directory.as_str());
+    append_in_current(&rt, place_of(rt, "current"));
 }
 
 // An empty folder, one of every kind of entry, and one that is gone.
@@ -363,7 +376,7 @@ static LISTING: [Step; 6] = [
 
 #[test]
 fn a_listing_tells_kinds_and_creation(rt: HostRuntime) {
-    take_in(&rt, fresh(rt, "listing"), "", &LISTING);
+    take_in(&rt, place_of(rt, "listing"), "", &LISTING);
 }
 
 // The link is in place of `log` at the first opening alone.
@@ -375,13 +388,25 @@ static SWAPPED: [Step; 5] = [
     Step::Holds(&[Entry::File("victim", "kept"), Entry::File("log", "new")]),
 ];
 
+// Opens and writes to a file of a fresh directory by these files.
+fn open_swapped<F: Files + AllocGlobal + Eprint + Clone + Drop>(
+    rt: &impl Host,
+    files: F,
+    place: io::Result<String>,
+) {
+    let directory = fresh(rt, place);
+    let directory = directory.as_str();
+    take_at(rt, files, directory, directory, &SWAPPED);
+    clear(rt, directory);
+}
+
 // The name leads to a plain file before and after, but not to the one that was opened.
 #[test]
 fn a_link_that_comes_and_goes_is_not_followed(rt: HostRuntime) {
-    let directory = fresh(rt, "comes_and_goes").expect(&rt, "a directory");
-    let directory = directory.as_str();
     let target = Cell::new(Some("victim"));
-    let folder = DirFolder::new(Swapping::new(rt, &target), directory).expect(&rt, "memory");
-    take_all(&rt, folder, directory, &SWAPPED);
-    clear(&rt, directory);
+    open_swapped(
+        &rt,
+        Swapping::new(rt, &target),
+        place_of(rt, "comes_and_goes"),
+    );
 }

@@ -29,7 +29,16 @@ pub(crate) fn expect_shown<T: Copy + Debug>(
     expect_eq(rt, shown(rt, value).as_str(), wanted);
 }
 
-/// The `Debug` text of a value.
-pub(crate) fn shown<T: Copy + Debug>(rt: &(impl AllocGlobal + Abort), value: T) -> String {
+/// Ends the test where the `Debug` text of a value doesn't begin with this.
+pub(crate) fn expect_shown_start<T: Copy + Debug>(
+    rt: &(impl AllocGlobal + Abort),
+    value: T,
+    start: &str,
+) {
+    expect_eq(rt, shown(rt, value).as_str().starts_with(start), true);
+}
+
+// The `Debug` text of a value.
+fn shown<T: Copy + Debug>(rt: &(impl AllocGlobal + Abort), value: T) -> String {
     format!(in rt.alloc(); "{value:?}").expect(rt, "memory")
 }

@@ -2,13 +2,13 @@
 
 use crate::expect::{expect_eq, expect_eq_of};
 use crate::scene::{
-    Host, START, clear, expect_target, folder_at, fresh, hourly_log, names_in, opened, text_of,
+    Host, START, clear, expect_target, folder_at, fresh, hourly_log, names_in, opened, place_of,
+    text_of,
 };
 use crate::threads::SteppingClock;
 use appender_names::names::Names;
 use appender_rolling::rolling::{Builder, MakeWriter, RollingFileAppender};
 use appender_store::store::Folder;
-use std::alloc::AllocError;
 use std::io::Write;
 use std::process::Abort;
 use std::sync::Wait;
@@ -20,8 +20,23 @@ const THREADS: usize = 8;
 /// How many lines a thread writes, and the last of them once all threads have written the others.
 const LINES: i64 = 51;
 
-// Writes these lines of one thread. A line says which thread wrote it, how many it had written, and
-// what the clock was to tell before its writer was made and while it was held.
+// Writes a line of a thread. It says which thread wrote it, how many that had written, and what the
+// clock was to tell before its writer was made and while it was held.
+fn write_line<S: Folder, R: Wait + AllocGlobal + Drop>(
+    rt: &R,
+    appender: &RollingFileAppender<S, &SteppingClock, R>,
+    clock: &SteppingClock,
+    thread: usize,
+    number: i64,
+) -> io::Result<()> {
+    let before = clock.next();
+    let mut writer = appender.make_writer()?;
+    let after = clock.next();
+    let line = format!(in rt.alloc(); "{thread} {number} {before} {after}\n")?;
+    writer.write_all(line.as_bytes())
+}
+
+// Writes these lines of one thread.
 fn write_lines<S: Folder, R: Wait + AllocGlobal + Drop>(
     rt: &R,
     appender: &RollingFileAppender<S, &SteppingClock, R>,
@@ -30,22 +45,18 @@ fn write_lines<S: Folder, R: Wait + AllocGlobal + Drop>(
     numbers: (i64, i64),
 ) -> io::Result<()> {
     for number in numbers.0..numbers.1 {
-        let before = clock.next();
-        let mut writer = appender.make_writer()?;
-        let after = clock.next();
-        let line = format!(in rt.alloc(); "{thread} {number} {before} {after}\n")?;
-        writer.write_all(line.as_bytes())?;
+        write_line(rt, appender, clock, thread, number)?;
     }
     Ok(())
 }
 
-// Writes these lines of each thread, and answers whether all of them were taken.
-fn write_in_threads<S: Folder + Send, R: Threads + Wait + AllocGlobal + Sync + Drop>(
+// Writes these lines of each thread, all of which are taken.
+fn write_in_threads<S: Folder + Send, R: Threads + Wait + AllocGlobal + Abort + Sync + Drop>(
     rt: &R,
     appender: &RollingFileAppender<S, &SteppingClock, R>,
     clock: &SteppingClock,
     numbers: (i64, i64),
-) -> Result<bool, AllocError>
+)
 where
     S::File: Send,
 {
@@ -54,8 +65,9 @@ where
         rt.alloc(),
         THREADS,
         &|i| { write_lines(rt, appender, clock, i, numbers).is_ok() },
-    )?;
-    Ok(!wrote.contains(&false))
+    )
+    .expect(rt, "memory");
+    expect_eq(rt, wrote.contains(&false), false);
 }
 
 // Reads the four numbers of a line.
@@ -110,17 +122,22 @@ fn log_of_five(rt: &impl Host) -> Builder {
         .max_log_files(5)
 }
 
+// Checks the files of these names, which end with the last line of each thread.
+fn check_all_named(rt: &impl Host, directory: &str, names: &Names, found: &[String]) {
+    let mut last = [-1i64; THREADS];
+    for name in found {
+        check_named(rt, directory, names, name.as_str(), &mut last);
+    }
+    expect_eq(rt, last, [LINES - 1; THREADS]);
+}
+
 // Checks the five files that stand, and the link, whose name comes last.
 fn check_files(rt: &impl Host, directory: &str, names: &Names) {
     let mut found = names_in(rt, directory);
     let link = found.pop().expect(rt, "a link");
     expect_eq(rt, link.as_str(), "latest.log");
     expect_eq(rt, found.len(), 5);
-    let mut last = [-1i64; THREADS];
-    for name in &found {
-        check_named(rt, directory, names, name.as_str(), &mut last);
-    }
-    expect_eq(rt, last, [LINES - 1; THREADS]);
+    check_all_named(rt, directory, names, found.as_slice());
     let newest = found.last().expect(rt, "a file");
     expect_target(rt, directory, "latest.log", newest.as_str());
 }
@@ -143,8 +160,7 @@ where
     let clock = SteppingClock::new(START, 900);
     let appender = opened(rt, &log_of_five(&rt), folder, &clock);
     for numbers in [(0, LINES - 1), (LINES - 1, LINES)] {
-        let wrote = write_in_threads(&rt, &appender, &clock, numbers).expect(&rt, "memory");
-        expect_eq(&rt, wrote, true);
+        write_in_threads(&rt, &appender, &clock, numbers);
     }
     appender.into_parts().0
 }
@@ -152,7 +168,7 @@ where
 // A hundred hours go by.
 #[test]
 fn no_line_of_a_hundred_hours_is_lost(rt: HostRuntime) {
-    let directory = fresh(rt, "hundred_hours").expect(&rt, "a directory");
+    let directory = fresh(&rt, place_of(rt, "hundred_hours"));
     let folder = write_all_in_threads(rt, folder_at(rt, directory.as_str()));
     check_log(&rt, directory.as_str(), folder.failures());
 }

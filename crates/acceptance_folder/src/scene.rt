@@ -5,10 +5,10 @@ use appender_folder::folder::DirFolder;
 use appender_rolling::rolling::{Builder, Clock, MakeWriter, RollingFileAppender, Rotation};
 use appender_store::store::{Folder, MemoryFolder};
 use std::cell::Cell;
-use std::io::ErrorKind;
+use std::io::{ErrorKind, Write};
 use std::os::unix::fs::symlink;
 use std::process::Abort;
-use std::rt::Files;
+use std::rt::{Env, Files};
 use std::sync::Wait;
 use std::{env, fs, io, process};
 
@@ -60,15 +60,27 @@ pub(crate) trait Host: Files + AllocGlobal + Eprint + Abort + Copy + Drop {}
 
 impl<R: Files + AllocGlobal + Eprint + Abort + Copy + Drop> Host for R {}
 
-/// An empty directory of the test's own.
-pub(crate) fn fresh(rt: HostRuntime, test: &str) -> io::Result<String> {
+/// Where a directory of the test's own lies.
+pub(crate) fn place_of(rt: HostRuntime, test: &str) -> io::Result<String> {
     let temp = env::temp_dir(&rt)?;
     let parent = temp.as_str();
     let process = process::id(rt.process());
-    let path = format!(in rt.alloc(); "{parent}/acceptance_folder-{process}-{test}")?;
-    let _ = fs::remove_dir_all(&rt, path.as_str());
-    fs::create_dir(&rt, path.as_str())?;
-    Ok(path)
+    Ok(format!(in rt.alloc(); "{parent}/acceptance_folder-{process}-{test}")?)
+}
+
+/// The directory at a place, made anew.
+pub(crate) fn fresh(rt: &impl Host, place: io::Result<String>) -> String {
+    let path = place.expect(rt, "a place");
+    clear(rt, path.as_str());
+    fs::create_dir(rt, path.as_str()).expect(rt, "a directory");
+    path
+}
+
+/// The same, which becomes the current directory.
+pub(crate) fn fresh_current(rt: &(impl Host + Env), place: io::Result<String>) -> String {
+    let path = fresh(rt, place);
+    env::set_current_dir(rt, path.as_str()).expect(rt, "a directory");
+    path
 }
 
 /// Removes a directory of a test, if it is there.
@@ -102,19 +114,27 @@ pub(crate) enum Entry {
     Folder(&'static str),
 }
 
-/// Makes these entries.
-pub(crate) fn fill(rt: &impl Host, directory: &str, entries: &[Entry]) {
-    for entry in entries {
-        make(rt, directory, *entry);
+impl Entry {
+    fn name(&self) -> &'static str {
+        match *self {
+            Entry::File(name, _) | Entry::Link(name, _) | Entry::Folder(name) => name,
+        }
     }
 }
 
-// Makes an entry.
-fn make(rt: &impl Host, directory: &str, entry: Entry) {
-    let made = match entry {
-        Entry::File(name, text) => fs::write(rt, at(rt, directory, name), text),
-        Entry::Link(name, target) => symlink(rt, target, at(rt, directory, name)),
-        Entry::Folder(name) => fs::create_dir(rt, at(rt, directory, name)),
+/// Makes these entries.
+pub(crate) fn fill(rt: &impl Host, directory: &str, entries: &[Entry]) {
+    for entry in entries {
+        make(rt, at(rt, directory, entry.name()).as_str(), entry);
+    }
+}
+
+// Makes an entry at a path.
+fn make(rt: &impl Host, path: &str, entry: &Entry) {
+    let made = match *entry {
+        Entry::File(_, text) => fs::write(rt, path, text),
+        Entry::Link(_, target) => symlink(rt, target, path),
+        Entry::Folder(_) => fs::create_dir(rt, path),
     };
     made.expect(rt, "an entry");
 }
@@ -138,12 +158,6 @@ pub(crate) fn text_of(rt: &impl Host, directory: &str, name: &str) -> String {
     fs::read_to_string(rt, at(rt, directory, name)).expect(rt, "a text")
 }
 
-/// What a link says.
-pub(crate) fn target_of(rt: &impl Host, directory: &str, name: &str) -> String {
-    let target = fs::read_link(rt, at(rt, directory, name)).expect(rt, "a link");
-    owned(rt, target.as_str())
-}
-
 /// Checks what can be read under a name, through links too.
 pub(crate) fn expect_text(rt: &impl Host, directory: &str, name: &str, wanted: &str) {
     let text = text_of(rt, directory, name);
@@ -152,7 +166,7 @@ pub(crate) fn expect_text(rt: &impl Host, directory: &str, name: &str, wanted: &
 
 /// Checks what a link says.
 pub(crate) fn expect_target(rt: &impl Host, directory: &str, name: &str, wanted: &str) {
-    let target = target_of(rt, directory, name);
+    let target = fs::read_link(rt, at(rt, directory, name)).expect(rt, "a link");
     expect_eq_of(rt, name, target.as_str(), wanted);
 }
 
@@ -221,19 +235,25 @@ pub(crate) fn opened<S: Folder, C: Clock, R: Host>(
     }
 }
 
-/// Checks what an appender shows that is opened in memory at 10:01, and a writer of it.
-pub(crate) fn expect_shown_appender<R: Host + Wait>(rt: R, builder: &Builder, wanted: &str) {
-    let folder = MemoryFolder::new(rt.alloc());
-    let appender = opened(rt, builder, folder, TestClock::new(START));
-    expect_shown(&rt, &appender, wanted);
-    expect_shown_writer(&rt, &appender);
+/// Checks how many of these bytes one call of `write` takes.
+pub(crate) fn expect_write(rt: &impl Abort, writer: &mut impl Write, bytes: &[u8], wanted: usize) {
+    expect_eq(rt, writer.write(bytes).expect(rt, "a write"), wanted);
 }
 
-// Checks what a writer shows.
-fn expect_shown_writer<S: Folder, C: Clock, R: Host + Wait>(
+/// Checks what an appender shows that is opened in memory at 10:01, and a writer of it.
+pub(crate) fn expect_shown_appender<R: Host + Wait>(rt: R, builder: &Builder, wanted: &str) {
+    let clock = TestClock::new(START);
+    let appender = opened(rt, builder, MemoryFolder::new(rt.alloc()), &clock);
+    expect_appender_and_writer_shown(&rt, &appender, wanted);
+}
+
+// Checks what an appender shows, and a writer of it.
+fn expect_appender_and_writer_shown<S: Folder, C: Clock, R: Host + Wait>(
     rt: &R,
     appender: &RollingFileAppender<S, C, R>,
+    wanted: &str,
 ) {
+    expect_shown(rt, appender, wanted);
     let writer = appender.make_writer().expect(rt, "a writer");
     expect_shown(rt, &writer, "RollingWriter { .. }");
 }
@@ -244,4 +264,13 @@ pub(crate) fn kind_of_error<T: Drop>(answer: io::Result<T>) -> Option<ErrorKind>
         Ok(_) => None,
         Err(error) => Some(error.kind()),
     }
+}
+
+/// Checks that a call is refused so, or is not refused.
+pub(crate) fn expect_kind(
+    rt: &impl Abort,
+    answer: io::Result<impl Drop>,
+    wanted: Option<ErrorKind>,
+) {
+    expect_eq(rt, kind_of_error(answer), wanted);
 }

@@ -1,9 +1,9 @@
 // Ten threads, and a folder in memory.
 
-use crate::expect::{expect_eq, expect_shown, shown};
+use crate::expect::{expect_eq, expect_shown, expect_shown_start};
 use crate::scene::{
-    ELEVEN, Host, START, expect_bytes, expect_held, expect_shown_appender, hourly_log,
-    kind_of_error, opened,
+    ELEVEN, Host, START, expect_bytes, expect_held, expect_kind, expect_shown_appender,
+    expect_write, hourly_log, opened,
 };
 use crate::threads::{
     Crowded, SteppingClock, Turning, expect_lines, in_memory, write_in_threads, writes,
@@ -21,34 +21,34 @@ use std::sync::atomic::Ordering::SeqCst;
 use std::test::Fail;
 use std::thread::Threads;
 use std::time::Duration;
-use std::{io, thread, time};
+use std::{thread, time};
 
-// Ten threads write to the log of this folder, which is answered.
-fn folder_of_threads<C: Clock + Sync, R: Host + Threads + Wait + Sync>(
-    rt: R,
-    appender: RollingFileAppender<MemoryFolder, C, R>,
-) -> MemoryFolder {
-    let wrote = write_in_threads(&rt, &appender).expect(&rt, "memory");
-    expect_eq(&rt, wrote, true);
+// A folder of which the call behind an opening, a switch of two calls, and ten lines fails.
+fn failing_folder(alloc: Global) -> Result<MemoryFolder, AllocError> {
+    let mut folder = MemoryFolder::new(alloc);
+    folder.fail_call(14)?;
+    Ok(folder)
+}
+
+// Opens a log over this folder, to which ten threads write, and answers the folder.
+fn begin_one_file<R: Host + Threads + Wait + Sync>(rt: R, folder: MemoryFolder) -> MemoryFolder {
+    let appender = opened(rt, &hourly_log(&rt, "app"), folder, Crowded::new());
+    write_in_threads(&rt, &appender);
     appender.into_parts().0
 }
 
-// Opens a log over this folder, to which ten threads write.
-fn begin_one_file<R: Host + Threads + Wait + Sync>(rt: R, folder: MemoryFolder) -> MemoryFolder {
-    let appender = opened(rt, &hourly_log(&rt, "app"), folder, Crowded::new());
-    folder_of_threads(rt, appender)
-}
-
-#[test]
-fn ten_threads_begin_one_file(rt: HostRuntime) -> Result<(), Fail> {
-    let mut folder = MemoryFolder::new(rt.alloc());
-    // Behind the opening, a switch of two calls, and ten lines.
-    folder.fail_call(14)?;
+// Ten threads write to a log over this folder, of which no call fails.
+fn expect_one_file<R: Host + Threads + Wait + Sync>(rt: R, folder: MemoryFolder) {
     let folder = begin_one_file(rt, folder);
     expect_eq(&rt, folder.failures(), 0);
     expect_held(&rt, &folder, "app.2020-02-01-10", "");
     expect_lines(&rt, &[folder.bytes("app.2020-02-01-11").unwrap_or(b"")]);
     expect_eq(&rt, folder.body(2), None);
+}
+
+#[test]
+fn ten_threads_begin_one_file(rt: HostRuntime) -> Result<(), Fail> {
+    expect_one_file(rt, failing_folder(rt.alloc())?);
     Ok(())
 }
 
@@ -63,27 +63,38 @@ fn comes_soon(rt: &impl time::Clock, flag: &AtomicBool) -> bool {
     false
 }
 
+// Writes `c` by a writer of its own, and then sets the flag. Answers whether all of it was taken.
+fn write_and_tell<C: Clock, R: Wait + Drop>(
+    appender: &RollingFileAppender<MemoryFolder, C, R>,
+    flag: &AtomicBool,
+) -> bool {
+    let wrote = writes(appender, "c");
+    flag.store(true, SeqCst);
+    wrote
+}
+
+// Writes `b` by this writer, and answers whether it was taken and the flag was not set before.
+fn write_first(rt: &impl time::Clock, mut writer: impl Write + Drop, flag: &AtomicBool) -> bool {
+    let waited = !comes_soon(rt, flag);
+    let wrote = matches!(writer.write(b"b"), Ok(1)) && writer.flush().is_ok();
+    wrote && waited
+}
+
 // Writes `b` by this writer, while another thread writes `c` by one of its own, and answers whether
 // that thread waited for this writer to be dropped.
 fn write_beside<C: Clock + Sync, R: Threads + Wait + time::Clock + Sync + Drop>(
     rt: &R,
     appender: &RollingFileAppender<MemoryFolder, C, R>,
-    mut writer: RollingWriter<'_, MemoryFolder, R>,
+    writer: RollingWriter<'_, MemoryFolder, R>,
 ) -> bool {
     let done = AtomicBool::new(false);
     let flag = &done;
     thread::scope(thread::scope_env(), rt, |scope| {
-        let Ok(other) = scope.spawn(move || {
-            let wrote = writes(appender, "c");
-            flag.store(true, SeqCst);
-            wrote
-        }) else {
+        let Ok(other) = scope.spawn(move || write_and_tell(appender, flag)) else {
             return false;
         };
-        let waited = !comes_soon(rt, flag);
-        let wrote = matches!(writer.write(b"b"), Ok(1)) && writer.flush().is_ok();
-        drop(writer);
-        other.join(rt) && wrote && waited
+        let wrote = write_first(rt, writer, flag);
+        other.join(rt) && wrote
     })
 }
 
@@ -94,9 +105,9 @@ fn write_across_hours<R: Host + Threads + Wait + time::Clock + Sync>(
     clock: &SteppingClock,
 ) {
     let mut writer = appender.make_writer().expect(rt, "a writer");
-    expect_eq(rt, writer.write(b"a").expect(rt, "a write"), 1);
+    expect_write(rt, &mut writer, b"a", 1);
     clock.set(ELEVEN);
-    assert!(rt; write_beside(rt, appender, writer));
+    expect_eq(rt, write_beside(rt, appender, writer), true);
 }
 
 // Writes a log across two hours, and answers its folder.
@@ -107,10 +118,16 @@ fn folder_across_hours<R: Host + Threads + Wait + time::Clock + Sync>(rt: R) -> 
     appender.into_parts().0
 }
 
+static ACROSS_HOURS: [(&str, &str); 2] = [("app.2020-02-01-10", "ab"), ("app.2020-02-01-11", "c")];
+
+// Writes a log across two hours, and checks its files.
+fn expect_across_hours<R: Host + Threads + Wait + time::Clock + Sync>(rt: R) {
+    expect_bytes(&rt, &folder_across_hours(rt), &ACROSS_HOURS);
+}
+
 #[test]
 fn a_writer_keeps_its_file(rt: HostRuntime) {
-    let files = [("app.2020-02-01-10", "ab"), ("app.2020-02-01-11", "c")];
-    expect_bytes(&rt, &folder_across_hours(rt), &files);
+    expect_across_hours(rt);
 }
 
 // A folder in which, behind the opening, the first and the fourth append take less than the line,
@@ -123,37 +140,38 @@ fn short_folder(alloc: Global) -> Result<MemoryFolder, AllocError> {
     Ok(folder)
 }
 
-// Writes three lines by one writer, and answers why the third is refused.
-fn write_three<C: Clock, R: Wait + Drop>(
-    appender: &RollingFileAppender<MemoryFolder, C, R>,
-) -> io::Result<Option<ErrorKind>> {
-    let mut writer = appender.make_writer()?;
-    writer.write_all(b"hello ")?;
-    writer.write_all(b"all ")?;
-    Ok(kind_of_error(writer.write_all(b"bye")))
+// Writes three lines by one writer, of which the third is refused.
+fn write_three(rt: &impl Abort, mut writer: impl Write + Drop) {
+    writer.write_all(b"hello ").expect(rt, "a line");
+    writer.write_all(b"all ").expect(rt, "a line");
+    expect_kind(rt, writer.write_all(b"bye"), Some(ErrorKind::WriteZero));
 }
 
-// Writes three lines to a log over this folder, of which the third is refused, and answers the folder.
+// Writes three lines to a log over this folder, and answers the folder.
 fn folder_of_three<R: Host + Wait>(rt: R, folder: MemoryFolder) -> MemoryFolder {
     let clock = SteppingClock::new(START, 0);
-    let appender = opened(rt, &hourly_log(&rt, "app"), folder, &clock);
-    let refusal = write_three(&appender).expect(&rt, "two lines");
-    expect_eq(&rt, refusal, Some(ErrorKind::WriteZero));
+    let appender = opened(rt, &hourly_log(&rt, "app"), folder, clock);
+    write_three(&rt, appender.make_writer().expect(&rt, "a writer"));
     appender.into_parts().0
+}
+
+static OF_THREE: [(&str, &str); 1] = [("app.2020-02-01-10", "hello all b")];
+
+// Writes three lines to a log over this folder, and checks its file.
+fn expect_of_three<R: Host + Wait>(rt: R, folder: MemoryFolder) {
+    expect_bytes(&rt, &folder_of_three(rt, folder), &OF_THREE);
 }
 
 #[test]
 fn a_line_goes_on_behind_a_short_append(rt: HostRuntime) -> Result<(), Fail> {
-    let folder = folder_of_three(rt, short_folder(rt.alloc())?);
-    expect_bytes(&rt, &folder, &[("app.2020-02-01-10", "hello all b")]);
+    expect_of_three(rt, short_folder(rt.alloc())?);
     Ok(())
 }
 
 // Ten threads write to a log whose clock turns back and forth. Answers its folder.
 fn folder_of_turns<R: Host + Threads + Wait + Sync>(rt: R) -> MemoryFolder {
     let appender = in_memory(rt, Turning::new());
-    let wrote = write_in_threads(&rt, &appender).expect(&rt, "memory");
-    expect_eq(&rt, wrote, true);
+    write_in_threads(&rt, &appender);
     expect_shown(
         &rt,
         &appender,
@@ -162,8 +180,8 @@ fn folder_of_turns<R: Host + Threads + Wait + Sync>(rt: R) -> MemoryFolder {
     appender.into_parts().0
 }
 
-#[test]
-fn the_latest_moment_decides(rt: HostRuntime) {
+// Checks the files of a log whose clock turns back and forth.
+fn expect_turns<R: Host + Threads + Wait + Sync>(rt: R) {
     let folder = folder_of_turns(rt);
     expect_held(&rt, &folder, "app.2020-02-01-10", "");
     // Where the first look was at 12:00, no file begins at 11:00.
@@ -172,10 +190,14 @@ fn the_latest_moment_decides(rt: HostRuntime) {
     expect_lines(&rt, &[eleven, twelve]);
 }
 
+#[test]
+fn the_latest_moment_decides(rt: HostRuntime) {
+    expect_turns(rt);
+}
+
 // Shows a builder, and an appender of it, which has no rotation.
 fn expect_default<R: Host + Wait>(rt: R, builder: Builder) {
-    let shown = shown(&rt, &builder);
-    expect_eq(&rt, shown.as_str().starts_with("Builder {"), true);
+    expect_shown_start(&rt, &builder, "Builder {");
     expect_shown_appender(
         rt,
         &builder,

@@ -4,7 +4,6 @@ use crate::expect::{expect_eq, expect_eq_of};
 use crate::scene::{ELEVEN, Host, START, TWELVE, hourly_log, opened};
 use appender_rolling::rolling::{Clock, MakeWriter, RollingFileAppender};
 use appender_store::store::{Folder, MemoryFolder};
-use std::alloc::AllocError;
 use std::io::Write;
 use std::process::Abort;
 use std::sync::Wait;
@@ -123,9 +122,14 @@ pub(crate) fn writes<S: Folder, C: Clock, R: Wait + Drop>(
     line: &str,
 ) -> bool {
     match appender.make_writer() {
-        Ok(mut writer) => writer.write_all(line.as_bytes()).is_ok(),
+        Ok(writer) => takes(writer, line),
         Err(_) => false,
     }
+}
+
+// Writes a line by this writer, and answers whether all of it was taken.
+fn takes(mut writer: impl Write + Drop, line: &str) -> bool {
+    writer.write_all(line.as_bytes()).is_ok()
 }
 
 /// The lines of ten threads.
@@ -134,11 +138,11 @@ pub(crate) const LINES: [&str; 10] = [
     "line 8\n", "line 9\n",
 ];
 
-/// Writes the ten lines, each in a thread of its own, and answers whether all of them were taken.
-pub(crate) fn write_in_threads<C: Clock + Sync, R: Threads + Wait + AllocGlobal + Sync + Drop>(
-    rt: &R,
-    appender: &RollingFileAppender<MemoryFolder, C, R>,
-) -> Result<bool, AllocError> {
+/// Writes the ten lines, each in a thread of its own. All of them are taken.
+pub(crate) fn write_in_threads<
+    C: Clock + Sync,
+    R: Threads + Wait + AllocGlobal + Abort + Sync + Drop,
+>(rt: &R, appender: &RollingFileAppender<MemoryFolder, C, R>) {
     let wrote = thread::map_indices(
         rt,
         rt.alloc(),
@@ -147,8 +151,9 @@ pub(crate) fn write_in_threads<C: Clock + Sync, R: Threads + Wait + AllocGlobal 
             Some(line) => writes(appender, line),
             None => false,
         },
-    )?;
-    Ok(!wrote.contains(&false))
+    )
+    .expect(rt, "memory");
+    expect_eq(rt, wrote.contains(&false), false);
 }
 
 /// Checks that these files together hold the ten lines, each once and whole.

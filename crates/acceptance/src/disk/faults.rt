@@ -1,23 +1,18 @@
 // Full disks, short writes, links that come in between, and a folder that goes.
 
 use crate::disk::runs::{Outcome, Step};
-use crate::disk::scene::{ELEVEN, START, TWELVE, disk_of, expect_texts, write_log};
-use crate::expect::expect_eq;
+use crate::disk::scene::{ELEVEN, START, TWELVE, disk_of, expect_texts, put_file, write_log};
+use crate::expect::{Host, expect_eq_of, joined};
 use fake_files::disk::{Call, Disk};
-use std::alloc::Global;
-use std::io;
-use std::process::Abort;
-use std::test::Fail;
 
 // A disk that holds `other.txt` alone.
-fn kept_disk(alloc: Global) -> io::Result<Disk> {
-    disk_of(alloc, &[("other.txt", "kept")])
+fn kept_disk(rt: &impl Host) -> Disk {
+    disk_of(rt, &[("other.txt", "kept")])
 }
 
 // Writes a log without a link on such a disk, and answers what came of it.
-fn write_unlinked(alloc: Global, steps: &[Step]) -> Result<Outcome, Fail> {
-    let disk = kept_disk(alloc)?;
-    write_log(alloc, &disk, 0, "", steps)
+fn write_unlinked(rt: &impl Host, steps: &[Step]) -> Outcome {
+    write_log(rt, &kept_disk(rt), 0, "", steps)
 }
 
 // Steps with what they answer, the files at the end, and what is told.
@@ -96,20 +91,18 @@ static WRITES: [(&[Step], &str, &str, &str); 5] = [
 ];
 
 // Behind what the disk held at first stands what puts counted.
-fn expect_counted(rt: &(impl AllocGlobal + Abort), outcome: &Outcome) -> Result<(), Fail> {
-    let counted = format!(in rt.alloc(); "kept{}", outcome.counted)?;
-    expect_eq(rt, outcome.appended.as_str(), counted.as_str());
-    Ok(())
+fn expect_counted(rt: &impl Host, outcome: &Outcome, of: &[Step]) {
+    let counted = joined(rt, "kept", outcome.counted.as_str());
+    expect_eq_of(rt, of, outcome.appended.as_str(), counted.as_str());
 }
 
 #[test]
-fn what_is_counted_stands(rt: HostRuntime) -> Result<(), Fail> {
+fn what_is_counted_stands(rt: HostRuntime) {
     for (steps, answers, files, printed) in &WRITES {
-        let outcome = write_unlinked(rt.alloc(), steps)?;
+        let outcome = write_unlinked(&rt, steps);
         expect_texts(&rt, &outcome, (*answers, *files, *printed), steps);
-        expect_counted(&rt, &outcome)?;
+        expect_counted(&rt, &outcome, steps);
     }
-    Ok(())
 }
 
 const LOG: &str = "app.2020-02-01-10";
@@ -152,24 +145,19 @@ static LINKS: [(bool, usize, &str, &str, &str, &str); 6] = [
 static TWO_LINES: [Step; 2] = [Step::Put(START, "one"), Step::Put(ELEVEN, "two")];
 
 // Writes two lines where this name becomes a link before this call.
-fn write_linked(
-    alloc: Global,
-    stands: bool,
-    call: usize,
-    name: &'static str,
-) -> Result<Outcome, Fail> {
-    let disk = kept_disk(alloc)?;
+fn write_linked(rt: &impl Host, stands: bool, call: usize, name: &'static str) -> Outcome {
+    let disk = kept_disk(rt);
     if stands {
-        disk.put_file(LOG.as_bytes(), b"x")?;
+        put_file(rt, &disk, LOG.as_bytes(), "x");
     }
     disk.link_comes.set(Some((call, name)));
-    write_log(alloc, &disk, 0, "", &TWO_LINES)
+    write_log(rt, &disk, 0, "", &TWO_LINES)
 }
 
 #[test]
-fn a_link_that_comes_in_between_is_not_followed(rt: HostRuntime) -> Result<(), Fail> {
+fn a_link_that_comes_in_between_is_not_followed(rt: HostRuntime) {
     for (stands, call, name, answers, files, printed) in &LINKS {
-        let outcome = write_linked(rt.alloc(), *stands, *call, *name)?;
+        let outcome = write_linked(&rt, *stands, *call, *name);
         expect_texts(
             &rt,
             &outcome,
@@ -177,5 +165,4 @@ fn a_link_that_comes_in_between_is_not_followed(rt: HostRuntime) -> Result<(), F
             &(*call, *stands),
         );
     }
-    Ok(())
 }

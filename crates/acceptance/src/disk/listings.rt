@@ -1,14 +1,10 @@
 // What retention does with a folder that tells less than it should.
 
 use crate::disk::runs::list_folder;
-use crate::disk::scene::{disk_of, write_log};
-use crate::expect::{expect_eq, expect_eq_of};
+use crate::disk::scene::{disk_of, put_file, write_log};
+use crate::expect::{Host, expect_eq, expect_eq_of, joined};
 use fake_files::disk::{Disk, Fault};
-use std::alloc::Global;
-use std::io;
 use std::io::ErrorKind;
-use std::process::Abort;
-use std::test::Fail;
 
 // Logs of three hours, put there in this order.
 static LOGS: [(&str, &str); 3] = [
@@ -17,14 +13,19 @@ static LOGS: [(&str, &str); 3] = [
     ("app.2020-02-01-08", "b"),
 ];
 
-fn three_logs(alloc: Global) -> io::Result<Disk> {
-    disk_of(alloc, &LOGS)
+fn three_logs(rt: &impl Host) -> Disk {
+    disk_of(rt, &LOGS)
 }
 
 // Opens a log of which so many files are kept, and answers the files and what is told.
-fn open_log(disk: &Disk, alloc: Global, max: usize) -> Result<String, Fail> {
-    let outcome = write_log(alloc, disk, max, "", &[])?;
-    Ok(format!(in alloc; "{}{}", outcome.files, outcome.printed)?)
+fn open_log(rt: &impl Host, disk: &Disk, max: usize) -> String {
+    let outcome = write_log(rt, disk, max, "", &[]);
+    joined(rt, outcome.files.as_str(), outcome.printed.as_str())
+}
+
+// Opens such a log, and checks the files and what is told.
+fn expect_opened(rt: &impl Host, disk: &Disk, max: usize, wanted: &str) {
+    expect_eq(rt, open_log(rt, disk, max).as_str(), wanted);
 }
 
 // Faults with their texts: that of a kind, and those of numbers that Linux gives.
@@ -35,91 +36,87 @@ static FAULTS: [(Fault, &str); 3] = [
 ];
 
 // Opens a log that keeps one file where this call fails so, and answers the files and what is told.
-fn break_off(alloc: Global, fault: Fault, number: usize) -> Result<String, Fail> {
-    let disk = three_logs(alloc)?;
+fn break_off(rt: &impl Host, fault: Fault, number: usize) -> String {
+    let disk = three_logs(rt);
     disk.fault.set(fault);
     disk.fails_at.set(Some(number));
-    open_log(&disk, alloc, 1)
+    open_log(rt, &disk, 1)
 }
 
-fn expect_all_logs(
-    rt: &(impl AllocGlobal + Abort),
-    fault: Fault,
-    wanted: &str,
-) -> Result<(), Fail> {
+// The three logs and that of the opening, and that this fault is told.
+fn all_logs(rt: &impl Host, text: &str) -> String {
+    format!(in rt.alloc();
+        "app.2020-02-01-07 a\napp.2020-02-01-08 b\napp.2020-02-01-09 c\napp.2020-02-01-10 \n\
+         Error reading the log directory/files: {text}\nfailures 1\n"
+    )
+    .expect(rt, "memory")
+}
+
+fn expect_all_logs(rt: &impl Host, fault: Fault, wanted: &str) {
     // The opening of the folder, then each reading, between which an entry is looked at.
     for number in [1, 2, 4, 6, 8] {
-        let found = break_off(rt.alloc(), fault, number)?;
+        let found = break_off(rt, fault, number);
         expect_eq_of(rt, number, found.as_str(), wanted);
     }
-    Ok(())
 }
 
 #[test]
-fn a_listing_that_breaks_off_removes_nothing(rt: HostRuntime) -> Result<(), Fail> {
+fn a_listing_that_breaks_off_removes_nothing(rt: HostRuntime) {
     for (fault, text) in &FAULTS {
-        let wanted = format!(in rt.alloc();
-            "app.2020-02-01-07 a\napp.2020-02-01-08 b\napp.2020-02-01-09 c\napp.2020-02-01-10 \n\
-             Error reading the log directory/files: {text}\nfailures 1\n"
-        )?;
-        expect_all_logs(&rt, *fault, wanted.as_str())?;
+        expect_all_logs(&rt, *fault, all_logs(&rt, text).as_str());
     }
-    Ok(())
 }
 
 // The same logs, one of them hidden, and one whose name is no text.
-fn hidden_logs(alloc: Global) -> io::Result<Disk> {
-    let disk = three_logs(alloc)?;
-    disk.put_file(b"app.2020-02-01-05\xff", b"x")?;
+fn hidden_logs(rt: &impl Host) -> Disk {
+    let disk = three_logs(rt);
+    put_file(rt, &disk, b"app.2020-02-01-05\xff", "x");
     disk.hides.set(Some("/app.2020-02-01-07"));
-    Ok(disk)
+    disk
 }
 
 #[test]
-fn what_cannot_be_told_stays(rt: HostRuntime) -> Result<(), Fail> {
-    let alloc = rt.alloc();
-    let disk = hidden_logs(alloc)?;
+fn what_cannot_be_told_stays(rt: HostRuntime) {
+    let disk = hidden_logs(&rt);
     expect_eq(
         &rt,
-        list_folder(&disk)?.as_str(),
-        "Listed { name: Some(\"app.2020-02-01-09\"), kind: File, created: None }\n\
-         Listed { name: None, kind: Other, created: None }\n\
-         Listed { name: Some(\"app.2020-02-01-08\"), kind: File, created: None }\n\
-         Listed { name: None, kind: Other, created: None }\n",
+        list_folder(&rt, &disk).as_str(),
+        "[Listed { name: Some(\"app.2020-02-01-09\"), kind: File, created: None }, \
+         Listed { name: None, kind: Other, created: None }, \
+         Listed { name: Some(\"app.2020-02-01-08\"), kind: File, created: None }, \
+         Listed { name: None, kind: Other, created: None }]",
     );
-    expect_eq(
+    expect_opened(
         &rt,
-        open_log(&disk, alloc, 1)?.as_str(),
+        &disk,
+        1,
         "(no text) x\napp.2020-02-01-07 a\napp.2020-02-01-10 \nfailures 0\n",
     );
-    Ok(())
 }
 
 #[test]
-fn a_link_is_not_removed_as_a_file(rt: HostRuntime) -> Result<(), Fail> {
-    let alloc = rt.alloc();
-    let disk = three_logs(alloc)?;
+fn a_link_is_not_removed_as_a_file(rt: HostRuntime) {
+    let disk = three_logs(&rt);
     // The listing is eight calls; then the oldest log is looked at and removed.
     disk.link_comes.set(Some((9, "app.2020-02-01-07")));
-    expect_eq(
+    expect_opened(
         &rt,
-        open_log(&disk, alloc, 1)?.as_str(),
+        &disk,
+        1,
         "app.2020-02-01-07 -> other.txt\napp.2020-02-01-10 \n\
          Failed to remove old log file log/app.2020-02-01-07: not a plain file\nfailures 1\n",
     );
-    Ok(())
 }
 
 #[test]
-fn without_creation_moments_the_dates_decide(rt: HostRuntime) -> Result<(), Fail> {
-    let alloc = rt.alloc();
-    let disk = three_logs(alloc)?;
+fn without_creation_moments_the_dates_decide(rt: HostRuntime) {
+    let disk = three_logs(&rt);
     // No date stands in it, so that it is no log.
-    disk.put_file(b"app.notes", b"x")?;
-    expect_eq(
+    put_file(&rt, &disk, b"app.notes", "x");
+    expect_opened(
         &rt,
-        open_log(&disk, alloc, 2)?.as_str(),
+        &disk,
+        2,
         "app.2020-02-01-09 c\napp.2020-02-01-10 \napp.notes x\nfailures 0\n",
     );
-    Ok(())
 }

@@ -2,11 +2,9 @@
 
 use crate::disk::runs::{Outcome, Step};
 use crate::disk::scene::{ELEVEN, START, old_logs, write_log};
-use crate::expect::{expect_eq, expect_eq_of};
+use crate::expect::{Host, expect_eq, expect_eq_of};
 use fake_files::disk::Call;
-use std::alloc::Global;
 use std::process::Abort;
-use std::test::Fail;
 
 // The calls that fail at the boundary, the link if there is one, and what is told.
 static NOTICES: [(Call, &str, &str); 5] = [
@@ -40,15 +38,15 @@ static NOTICES: [(Call, &str, &str); 5] = [
 ];
 
 // Writes a log whose boundary meets calls that fail.
-fn write_failing(alloc: Global, call: Call, link: &str) -> Result<Outcome, Fail> {
-    let disk = old_logs(alloc)?;
+fn write_failing(rt: &impl Host, call: Call, link: &str) -> Outcome {
+    let disk = old_logs(rt);
     let steps = [
         Step::Put(START, "one"),
         Step::Fail(Some(call)),
         Step::Put(ELEVEN, "two"),
         Step::Put(ELEVEN, "three"),
     ];
-    write_log(alloc, &disk, 2, link, &steps)
+    write_log(rt, &disk, 2, link, &steps)
 }
 
 fn expect_told(rt: &impl Abort, outcome: &Outcome, call: Call, printed: &str) {
@@ -57,10 +55,9 @@ fn expect_told(rt: &impl Abort, outcome: &Outcome, call: Call, printed: &str) {
 }
 
 #[test]
-fn each_fault_of_a_boundary_is_told_once(rt: HostRuntime) -> Result<(), Fail> {
+fn each_fault_of_a_boundary_is_told_once(rt: HostRuntime) {
     for (call, link, printed) in &NOTICES {
-        let outcome = write_failing(rt.alloc(), *call, *link)?;
+        let outcome = write_failing(&rt, *call, *link);
         expect_told(&rt, &outcome, *call, *printed);
     }
-    Ok(())
 }

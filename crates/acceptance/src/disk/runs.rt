@@ -1,12 +1,12 @@
 // Runs of a log over a fake disk, told as texts.
 
+use crate::expect::{Host, joined, shown};
 use appender_folder::folder::DirFolder;
 use appender_rolling::rolling::{Builder, Clock, RollingFile, Switch, SystemClock};
 use appender_store::store::Folder;
 use fake_files::disk::{Call, Disk, FOLDER};
 use fake_files::fake::Fake;
-use std::alloc::Global;
-use std::fmt::Write as _;
+use std::fmt::{Display, Write as _};
 use std::io;
 use std::io::Write;
 
@@ -28,7 +28,7 @@ pub(crate) enum Step {
 }
 
 /// What came of a run.
-#[derive(Debug, Drop)]
+#[derive(Drop)]
 pub(crate) struct Outcome {
     /// What the opening and the steps answered, a line each.
     pub(crate) answers: String,
@@ -53,56 +53,43 @@ impl Outcome {
     }
 }
 
-// An open log, its disk, and what was told so far.
+// What was told so far: the answers, and the bytes that puts counted.
 #[derive(Drop)]
-struct Run<'a, S: Folder, C: Clock> {
-    log: RollingFile<S, C>,
-    disk: &'a Disk,
+struct Told {
     answers: String,
     counted: String,
 }
 
-impl<S: Folder, C: Clock> Run<'_, S, C> {
-    fn put(&mut self, moment: u64, text: &str) -> io::Result<()> {
-        self.disk.seconds.set(moment);
-        let (switch, written) = self.log.put(text.as_bytes());
-        let switch = word(switch);
-        match written {
-            Ok(count) => {
-                self.counted.push_str(text.get(..count).unwrap_or(text))?;
-                writeln!(self.answers, "{switch} ok {count}")?;
-            }
-            Err(_) => writeln!(self.answers, "{switch} err")?,
-        }
-        Ok(())
+// What is told at first.
+fn begun(rt: &impl Host, answer: impl Display + Copy) -> Told {
+    Told {
+        answers: joined(rt, answer, "\n"),
+        counted: String::new(rt.alloc()),
+    }
+}
+
+impl Told {
+    fn add(&mut self, rt: &impl Host, word: &str) {
+        self.answers.push_str(word).expect(rt, "memory");
     }
 
-    fn flush(&mut self) -> io::Result<()> {
-        let word = match self.log.flush() {
-            Ok(()) => "ok\n",
-            Err(_) => "err\n",
-        };
-        self.answers.push_str(word)?;
-        Ok(())
+    // Of a put that was taken, by how many bytes of its text.
+    fn add_count(&mut self, rt: &impl Host, text: &str, count: usize) {
+        let taken = text.get(..count).unwrap_or(text);
+        self.counted.push_str(taken).expect(rt, "memory");
+        writeln!(self.answers, " ok {count}").expect(rt, "memory");
     }
 
-    fn step(&mut self, step: Step) -> io::Result<()> {
-        match step {
-            Step::Put(moment, text) => self.put(moment, text)?,
-            Step::Flush => self.flush()?,
-            Step::Fail(call) => self.disk.fails_each.set(call),
-            Step::Take(most) => self.disk.takes.set(Some(most)),
-            Step::Room(room) => self.disk.room.set(Some(room)),
-            Step::RemoveFolder => self.disk.remove_folder()?,
+    fn add_put(&mut self, rt: &impl Host, text: &str, put: (Switch, io::Result<usize>)) {
+        self.add(rt, word(put.0));
+        match put.1 {
+            Ok(count) => self.add_count(rt, text, count),
+            Err(_) => self.add(rt, " err\n"),
         }
-        Ok(())
     }
 
-    fn steps(&mut self, steps: &[Step]) -> io::Result<()> {
-        for step in steps {
-            self.step(*step)?;
-        }
-        Ok(())
+    fn add_flush(&mut self, rt: &impl Host, flushed: io::Result<()>) {
+        self.add(rt, if flushed.is_ok() { "ok\n" } else { "err\n" });
     }
 }
 
@@ -114,72 +101,98 @@ fn word(switch: Switch) -> &'static str {
     }
 }
 
-// What is known of a run, and what its disk tells.
-fn told(
-    alloc: Global,
+fn do_step<S: Folder, C: Clock>(
+    rt: &impl Host,
+    log: &mut RollingFile<S, C>,
     disk: &Disk,
-    answers: String,
-    counted: String,
-    failures: u64,
-) -> io::Result<Outcome> {
+    step: Step,
+    told: &mut Told,
+) {
+    match step {
+        Step::Put(moment, text) => {
+            disk.seconds.set(moment);
+            told.add_put(rt, text, log.put(text.as_bytes()));
+        }
+        Step::Flush => told.add_flush(rt, log.flush()),
+        Step::Fail(call) => disk.fails_each.set(call),
+        Step::Take(most) => disk.takes.set(Some(most)),
+        Step::Room(room) => disk.room.set(Some(room)),
+        Step::RemoveFolder => disk.remove_folder().expect(rt, "a folder"),
+    }
+}
+
+// Does the steps, and answers how many calls of the folder failed.
+fn do_steps<S: Folder, C: Clock>(
+    rt: &impl Host,
+    mut log: RollingFile<S, C>,
+    disk: &Disk,
+    steps: &[Step],
+    told: &mut Told,
+) -> u64 {
+    for step in steps {
+        do_step(rt, &mut log, disk, *step, told);
+    }
+    log.into_parts().0.failures()
+}
+
+// What is known of a run, and what its disk tells.
+fn outcome_of(rt: &impl Host, disk: &Disk, told: Told, failures: u64) -> Outcome {
+    let Told { answers, counted } = told;
     let printed = disk.printed();
-    Ok(Outcome {
+    Outcome {
         answers,
-        files: disk.shown()?,
-        printed: format!(in alloc; "{printed}failures {failures}\n")?,
+        files: disk.shown().expect(rt, "a folder"),
+        printed: with_failures(rt, printed.as_str(), failures),
         counted,
-        appended: disk.appended()?,
-    })
+        appended: disk.appended().expect(rt, "bodies"),
+    }
+}
+
+fn with_failures(rt: &impl Host, printed: &str, failures: u64) -> String {
+    format!(in rt.alloc(); "{printed}failures {failures}\n").expect(rt, "memory")
 }
 
 fn run_over<S: Folder, C: Clock>(
-    alloc: Global,
+    rt: &impl Host,
     disk: &Disk,
     builder: &Builder,
     folder: S,
     clock: C,
     steps: &[Step],
-) -> io::Result<Outcome> {
-    match builder.open_in(alloc, folder, clock) {
+) -> Outcome {
+    match builder.open_in(rt.alloc(), folder, clock) {
         Ok(log) => {
-            let mut run = Run {
-                log,
-                disk,
-                answers: String::from_str(alloc, "open\n")?,
-                counted: String::new(alloc),
-            };
-            run.steps(steps)?;
-            let failures = run.log.into_parts().0.failures();
-            told(alloc, disk, run.answers, run.counted, failures)
+            let mut told = begun(rt, "open");
+            let failures = do_steps(rt, log, disk, steps, &mut told);
+            outcome_of(rt, disk, told, failures)
         }
         Err((error, folder, _)) => {
-            let answers = format!(in alloc; "{error}\n")?;
-            told(alloc, disk, answers, String::new(alloc), folder.failures())
+            let told = begun(rt, &error);
+            outcome_of(rt, disk, told, folder.failures())
         }
     }
+}
+
+/// The folder of a disk.
+pub(crate) fn folder_of<'a>(rt: &impl Host, disk: &'a Disk) -> DirFolder<Fake<'a>> {
+    DirFolder::new(Fake::new(disk), FOLDER).expect(rt, "memory")
 }
 
 /// Opens a log at a moment, in seconds since 1970, and does the steps.
 pub(crate) fn run_log(
+    rt: &impl Host,
     disk: &Disk,
     builder: &Builder,
     start: u64,
     steps: &[Step],
-) -> io::Result<Outcome> {
-    let system = Fake::new(disk);
+) -> Outcome {
     disk.seconds.set(start);
-    let folder = DirFolder::new(system, FOLDER)?;
-    let clock = SystemClock::new(system);
-    run_over(system.alloc(), disk, builder, folder, clock, steps)
+    let clock = SystemClock::new(Fake::new(disk));
+    run_over(rt, disk, builder, folder_of(rt, disk), clock, steps)
 }
 
-/// The entries of the folder as a listing tells them, a line each.
-pub(crate) fn list_folder(disk: &Disk) -> io::Result<String> {
-    let system = Fake::new(disk);
-    let mut folder = DirFolder::new(system, FOLDER)?;
-    let mut all = String::new(system.alloc());
-    for entry in &folder.list()? {
-        writeln!(all, "{entry:?}")?;
-    }
-    Ok(all)
+/// The entries of the folder as a listing tells them.
+pub(crate) fn list_folder(rt: &impl Host, disk: &Disk) -> String {
+    let listed = folder_of(rt, disk).list().expect(rt, "a listing");
+    shown(rt, &listed)
 }

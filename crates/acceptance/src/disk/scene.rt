@@ -1,14 +1,11 @@
 // The logs that the tests write, and what their disks hold at first.
 
 use crate::disk::runs::{Outcome, Step, run_log};
-use crate::expect::expect_eq_of;
-use appender_rolling::rolling::{Builder, Rotation};
+use crate::expect::{Host, expect_eq_of};
+use crate::logs::hourly_log;
 use fake_files::disk::Disk;
-use std::alloc::{AllocError, Global};
 use std::fmt::Debug;
-use std::io;
 use std::process::Abort;
-use std::test::Fail;
 
 /// 2020-02-01 10:01:00.
 pub(crate) const START: u64 = 1_580_551_260;
@@ -19,25 +16,17 @@ pub(crate) const ELEVEN: u64 = 1_580_554_800;
 /// 2020-02-01 12:00:00.
 pub(crate) const TWELVE: u64 = 1_580_558_400;
 
-/// A builder of an hourly log, of which so many files are kept. An empty link is none.
-fn hourly_log(alloc: Global, max: usize, link: &str) -> Result<Builder, AllocError> {
-    Builder::new()
-        .rotation(Rotation::HOURLY)
-        .max_log_files(max)
-        .filename_prefix(alloc, "app")?
-        .latest_symlink(alloc, link)
-}
-
-/// Writes such a log on a disk, and answers what came of it.
+/// Writes an hourly log on a disk, of which so many files are kept, and answers what came of it. An
+/// empty link is none.
 pub(crate) fn write_log(
-    alloc: Global,
+    rt: &impl Host,
     disk: &Disk,
     max: usize,
     link: &str,
     steps: &[Step],
-) -> Result<Outcome, Fail> {
-    let builder = hourly_log(alloc, max, link)?;
-    Ok(run_log(disk, &builder, START, steps)?)
+) -> Outcome {
+    let builder = hourly_log(rt, max, link);
+    run_log(rt, disk, &builder, START, steps)
 }
 
 /// Compares the answers, the files, and what is told.
@@ -51,12 +40,17 @@ pub(crate) fn expect_texts(
 }
 
 /// A disk with these files, put there in this order.
-pub(crate) fn disk_of(alloc: Global, files: &[(&str, &str)]) -> io::Result<Disk> {
-    let disk = Disk::new(alloc);
+pub(crate) fn disk_of(rt: &impl Host, files: &[(&str, &str)]) -> Disk {
+    let disk = Disk::new(rt.alloc());
     for (name, content) in files {
-        disk.put_file(name.as_bytes(), content.as_bytes())?;
+        put_file(rt, &disk, name.as_bytes(), content);
     }
-    Ok(disk)
+    disk
+}
+
+/// Puts a file into the folder of a disk.
+pub(crate) fn put_file(rt: &impl Abort, disk: &Disk, name: &[u8], content: &str) {
+    disk.put_file(name, content.as_bytes()).expect(rt, "a file");
 }
 
 static OLD_LOGS: [(&str, &str); 3] = [
@@ -66,8 +60,8 @@ static OLD_LOGS: [(&str, &str); 3] = [
 ];
 
 /// A disk with the logs of two hours, a file that is no log, and a folder.
-pub(crate) fn old_logs(alloc: Global) -> io::Result<Disk> {
-    let disk = disk_of(alloc, &OLD_LOGS)?;
-    disk.put_folder("app.d")?;
-    Ok(disk)
+pub(crate) fn old_logs(rt: &impl Host) -> Disk {
+    let disk = disk_of(rt, &OLD_LOGS);
+    disk.put_folder("app.d").expect(rt, "a folder");
+    disk
 }

@@ -2,10 +2,8 @@
 
 use crate::disk::runs::{Outcome, Step};
 use crate::disk::scene::{ELEVEN, START, TWELVE, expect_texts, old_logs, write_log};
-use crate::expect::expect_eq_of;
-use std::alloc::{AllocError, Global};
+use crate::expect::{Host, expect_eq_of, joined};
 use std::process::Abort;
-use std::test::Fail;
 
 static STEPS: [Step; 4] = [
     Step::Put(START, "a"),
@@ -106,33 +104,27 @@ static TURNS: [(&[usize], &str, &str, &str); 18] = [
     ),
 ];
 
-// Writes the log on a disk whose call of this number fails.
-fn turn(alloc: Global, number: usize, steps: &[Step]) -> Result<(Outcome, usize), Fail> {
-    let disk = old_logs(alloc)?;
+// Writes the log on a disk whose call of this number fails, and answers how many calls there were.
+fn turn(rt: &impl Host, number: usize, steps: &[Step]) -> (Outcome, usize) {
+    let disk = old_logs(rt);
     disk.fails_at.set(Some(number));
-    let outcome = write_log(alloc, &disk, 2, "latest.log", steps)?;
-    Ok((outcome, disk.calls()))
+    let outcome = write_log(rt, &disk, 2, "latest.log", steps);
+    (outcome, disk.calls())
 }
 
 // Checks what comes of it where one of these calls fails.
-fn expect_turns(
-    rt: &(impl AllocGlobal + Abort),
-    numbers: &[usize],
-    wanted: (&str, &str, &str),
-) -> Result<(), Fail> {
+fn expect_turns(rt: &impl Host, numbers: &[usize], wanted: (&str, &str, &str)) {
     for number in numbers {
-        let (outcome, _) = turn(rt.alloc(), *number, &STEPS)?;
+        let (outcome, _) = turn(rt, *number, &STEPS);
         expect_texts(rt, &outcome, wanted, number);
     }
-    Ok(())
 }
 
 #[test]
-fn each_call_fails_in_its_turn(rt: HostRuntime) -> Result<(), Fail> {
+fn each_call_fails_in_its_turn(rt: HostRuntime) {
     for (numbers, answers, files, printed) in &TURNS {
-        expect_turns(&rt, numbers, (*answers, *files, *printed))?;
+        expect_turns(&rt, numbers, (*answers, *files, *printed));
     }
-    Ok(())
 }
 
 static LONG_STEPS: [Step; 8] = [
@@ -146,39 +138,28 @@ static LONG_STEPS: [Step; 8] = [
     Step::Flush,
 ];
 
-// What the disk holds at first, and then what puts counted.
-fn wanted(alloc: Global, outcome: &Outcome) -> Result<String, AllocError> {
-    format!(in alloc; "opkept{}", outcome.counted)
-}
-
-fn expect_whole(
-    rt: &(impl AllocGlobal + Abort),
-    outcome: &Outcome,
-    number: usize,
-) -> Result<(), Fail> {
-    let wanted = wanted(rt.alloc(), outcome)?;
+// Checks that the files hold what the disk did at first, and then what puts counted.
+fn expect_whole(rt: &impl Host, outcome: &Outcome, number: usize) {
+    let wanted = joined(rt, "opkept", outcome.counted.as_str());
     expect_eq_of(rt, number, outcome.appended.as_str(), wanted.as_str());
     let files = outcome.files.as_str();
-    assert!(rt;
-        files.contains("app.d/\n") && files.ends_with("other.txt kept\n"),
-        "{number}"
-    );
-    Ok(())
+    expect_eq_of(rt, number, files.contains("app.d/\n"), true);
+    expect_eq_of(rt, number, files.ends_with("other.txt kept\n"), true);
 }
 
 // Checks that no byte is lost where the call of this number fails, and answers how many calls there were.
-fn count_calls(rt: &(impl AllocGlobal + Abort), number: usize) -> Result<usize, Fail> {
-    let (outcome, calls) = turn(rt.alloc(), number, &LONG_STEPS)?;
-    expect_whole(rt, &outcome, number)?;
-    Ok(calls)
+fn count_calls(rt: &impl Host, number: usize) -> usize {
+    let (outcome, calls) = turn(rt, number, &LONG_STEPS);
+    expect_whole(rt, &outcome, number);
+    calls
 }
 
 #[test]
-fn no_counted_byte_is_lost_whichever_call_fails(rt: HostRuntime) -> Result<(), Fail> {
+fn no_counted_byte_is_lost_whichever_call_fails(rt: HostRuntime) {
     for number in 1..100usize {
-        if count_calls(&rt, number)? < number {
-            return Ok(());
+        if count_calls(&rt, number) < number {
+            return;
         }
     }
-    Err(Fail::new("more calls than there can be"))
+    rt.panic("more calls than there can be");
 }

@@ -1,9 +1,8 @@
 // Folders in memory: what may be put into them, and each call with ample memory.
 
-use crate::expect::{expect_eq, expect_eq_of};
+use crate::expect::{Host, expect_eq, expect_eq_of};
 use appender_core::error::InitError;
 use appender_core::store::{Folder, Kind, Listed, MemoryFolder, Notice, NoticeKind, PutError};
-use std::alloc::Global;
 use std::io;
 use std::process::Abort;
 
@@ -31,68 +30,68 @@ fn expect_names(rt: &impl Abort, folder: &MemoryFolder, wanted: &[&str]) {
     }
 }
 
+// What a put makes.
+#[derive(Clone, Copy)]
+enum Made {
+    File,
+    Folder,
+    Link,
+}
+
+fn put(folder: &mut MemoryFolder, name: &str, made: Made) -> Result<(), PutError> {
+    match made {
+        Made::File => folder.put_file(name, b"x"),
+        Made::Folder => folder.put_folder(name),
+        Made::Link => folder.put_link(name, "b"),
+    }
+}
+
+// Makes such a thing of each name.
+fn put_all(rt: &impl Host, made: Made) {
+    let mut folder = MemoryFolder::new(rt.alloc());
+    for (name, want) in &PUTS {
+        expect_eq_of(rt, name, put(&mut folder, name, made), *want);
+    }
+    expect_names(rt, &folder, &["...", ".a", "a", "a.2020-02-01"]);
+}
+
 #[test]
 fn puts_only_what_names_one_entry(rt: HostRuntime) {
-    let mut files = MemoryFolder::new(rt.alloc());
-    let mut folders = MemoryFolder::new(rt.alloc());
-    let mut links = MemoryFolder::new(rt.alloc());
-    for (name, want) in &PUTS {
-        expect_eq_of(&rt, name, files.put_file(name, b"x"), *want);
-        expect_eq_of(&rt, name, folders.put_folder(name), *want);
-        expect_eq_of(&rt, name, links.put_link(name, "a"), *want);
-    }
-    for folder in [&files, &folders, &links] {
-        expect_names(&rt, folder, &["...", ".a", "a", "a.2020-02-01"]);
-    }
+    put_all(&rt, Made::File);
+    put_all(&rt, Made::Folder);
+    put_all(&rt, Made::Link);
 }
 
-// Puts a file where no folder is.
-fn put_first_file(rt: &(impl AllocGlobal + Abort)) {
+// Puts something where no folder is, and checks what its name leads to.
+fn put_first(rt: &impl Host, made: Made, bytes: Option<&[u8]>, kind: Kind, target: Option<&str>) {
     let mut folder = MemoryFolder::absent(rt.alloc());
-    expect_eq(rt, folder.put_file("a", b"x"), Ok(()));
-    expect_eq(rt, folder.bytes("a"), Some(b"x".as_slice()));
-}
-
-// Puts a folder where none is.
-fn put_first_folder(rt: &(impl AllocGlobal + Abort)) {
-    let mut folder = MemoryFolder::absent(rt.alloc());
-    expect_eq(rt, folder.put_folder("a"), Ok(()));
-    expect_eq(rt, folder.kind("a"), Some(Kind::Folder));
-}
-
-// Puts a link where no folder is.
-fn put_first_link(rt: &(impl AllocGlobal + Abort)) {
-    let mut folder = MemoryFolder::absent(rt.alloc());
-    expect_eq(rt, folder.put_link("a", "b"), Ok(()));
-    expect_eq(rt, folder.target("a"), Some("b"));
+    expect_eq(rt, put(&mut folder, "a", made), Ok(()));
+    expect_eq(rt, folder.bytes("a"), bytes);
+    expect_eq(rt, folder.kind("a"), Some(kind));
+    expect_eq(rt, folder.target("a"), target);
 }
 
 #[test]
 fn a_put_makes_an_absent_folder(rt: HostRuntime) {
-    put_first_file(&rt);
-    put_first_folder(&rt);
-    put_first_link(&rt);
-}
-
-// Removes the old file and the link to it.
-fn remove_old<S: Folder>(folder: &mut S) -> io::Result<()> {
-    folder.remove("old")?;
-    folder.remove_link("latest")
+    put_first(&rt, Made::File, Some(b"x"), Kind::File, None);
+    put_first(&rt, Made::Folder, None, Kind::Folder, None);
+    put_first(&rt, Made::Link, None, Kind::Link, Some("b"));
 }
 
 // Makes the link lead to the new file in place of the old one, which goes.
-fn move_link<S: Folder>(folder: &mut S) -> io::Result<()> {
-    folder.make_folder()?;
-    remove_old(folder)?;
-    folder.make_link("latest", "new")
+fn move_link<S: Folder>(rt: &impl Abort, folder: &mut S) {
+    folder.make_folder().expect(rt, "a folder");
+    folder.remove("old").expect(rt, "a file");
+    folder.remove_link("latest").expect(rt, "a link");
+    folder.make_link("latest", "new").expect(rt, "a link");
 }
 
-// Writes the new file, and answers how many bytes were taken.
-fn write_hello<S: Folder>(folder: &mut S) -> io::Result<usize> {
-    let mut file = folder.open("new")?;
-    let taken = folder.append(&mut file, b"hello")?;
-    folder.flush(&mut file)?;
-    Ok(taken)
+// Writes the new file, and checks how many bytes were taken.
+fn write_hello<S: Folder>(rt: &impl Abort, folder: &mut S) {
+    let mut file = folder.open("new").expect(rt, "a file");
+    let taken = folder.append(&mut file, b"hello");
+    expect_eq(rt, taken.expect(rt, "a write"), 5);
+    folder.flush(&mut file).expect(rt, "a flush");
 }
 
 // Notes one thing of each kind, and an opening twice.
@@ -105,30 +104,23 @@ fn note_all<S: Folder>(folder: &mut S) {
     folder.note(Notice::Open(&InitError::Memory));
 }
 
-// Makes each call of a folder, and answers how many bytes were taken and what was listed.
-fn walk<S: Folder>(folder: &mut S) -> io::Result<(usize, Vec<Listed>)> {
-    move_link(folder)?;
-    let taken = write_hello(folder)?;
+// Makes each call of a folder, and answers what was listed.
+fn walk<S: Folder>(rt: &impl Abort, folder: &mut S) -> Vec<Listed> {
+    move_link(rt, folder);
+    write_hello(rt, folder);
     note_all(folder);
-    Ok((taken, folder.list()?))
+    folder.list().expect(rt, "a listing")
 }
 
-// A file, a folder and a link.
-fn put_each(folder: &mut MemoryFolder) -> Result<(), PutError> {
-    folder.put_file("old", b"o")?;
-    folder.put_folder("sub")?;
-    folder.put_link("latest", "old")
-}
-
-// A folder that was walked, and what it listed then.
-fn walked(rt: &impl Abort, alloc: Global) -> (MemoryFolder, Vec<Listed>) {
-    let mut folder = MemoryFolder::new(alloc);
+// A folder with a file, a folder and a link.
+fn filled(rt: &impl Host) -> MemoryFolder {
+    let mut folder = MemoryFolder::new(rt.alloc());
     folder.set_created(Some(-5));
-    put_each(&mut folder).expect(rt, "room");
+    folder.put_file("old", b"o").expect(rt, "room");
+    folder.put_folder("sub").expect(rt, "room");
+    folder.put_link("latest", "old").expect(rt, "room");
     folder.set_created(Some(7));
-    let (taken, listed) = walk(&mut folder).expect(rt, "a walk");
-    expect_eq(rt, taken, 5);
-    (folder, listed)
+    folder
 }
 
 // Checks the listing of a folder that was walked.
@@ -145,48 +137,51 @@ fn expect_listed(rt: &impl Abort, listed: &[Listed]) {
     }
 }
 
-// Checks what stands under each name of a folder that was walked.
+// What stands under each name of a folder that was walked.
+static FOUND: [(&str, Option<&[u8]>, Option<Kind>); 4] = [
+    ("latest", None, Some(Kind::Link)),
+    ("new", Some(b"hello"), Some(Kind::File)),
+    ("old", None, None),
+    ("sub", None, Some(Kind::Folder)),
+];
+
 fn expect_found(rt: &impl Abort, folder: &MemoryFolder) {
-    for (name, bytes, kind) in [
-        ("latest", None, Some(Kind::Link)),
-        ("new", Some(b"hello".as_slice()), Some(Kind::File)),
-        ("old", None, None),
-        ("sub", None, Some(Kind::Folder)),
-    ] {
-        expect_eq_of(rt, name, folder.bytes(name), bytes);
-        expect_eq_of(rt, name, folder.kind(name), kind);
+    for (name, bytes, kind) in &FOUND {
+        expect_eq_of(rt, name, folder.bytes(name), *bytes);
+        expect_eq_of(rt, name, folder.kind(name), *kind);
     }
     expect_eq(rt, folder.target("latest"), Some("new"));
 }
 
-// Checks the bodies of a folder that was walked, those without a name too.
+// The bodies of a folder that was walked, those without a name too.
+static BODIES: [(usize, Option<&[u8]>); 3] = [(0, Some(b"o")), (1, Some(b"hello")), (2, None)];
+
 fn expect_bodies(rt: &impl Abort, folder: &MemoryFolder) {
-    for (number, want) in [
-        (0, Some(b"o".as_slice())),
-        (1, Some(b"hello".as_slice())),
-        (2, None),
-    ] {
-        expect_eq_of(rt, number, folder.body(number), want);
+    for (number, want) in &BODIES {
+        expect_eq_of(rt, number, folder.body(*number), *want);
     }
 }
 
-// Checks what was noted in a folder that was walked, and that no call failed.
+// What was noted in a folder that was walked.
+static NOTED: [(NoticeKind, u64); 4] = [
+    (NoticeKind::List, 1),
+    (NoticeKind::Remove, 1),
+    (NoticeKind::Flush, 1),
+    (NoticeKind::Open, 2),
+];
+
+// Checks these notices, and that no call failed.
 fn expect_notices(rt: &impl Abort, folder: &MemoryFolder) {
-    for (kind, want) in [
-        (NoticeKind::List, 1),
-        (NoticeKind::Remove, 1),
-        (NoticeKind::Flush, 1),
-        (NoticeKind::Open, 2),
-    ] {
-        expect_eq_of(rt, kind, folder.notices(kind), want);
+    for (kind, want) in &NOTED {
+        expect_eq_of(rt, kind, folder.notices(*kind), *want);
     }
     expect_eq(rt, folder.failures(), 0);
 }
 
 #[test]
 fn makes_each_call(rt: HostRuntime) {
-    let (folder, listed) = walked(&rt, rt.alloc());
-    expect_listed(&rt, &listed);
+    let mut folder = filled(&rt);
+    expect_listed(&rt, &walk(&rt, &mut folder));
     expect_names(&rt, &folder, &["latest", "new", "sub"]);
     expect_found(&rt, &folder);
     expect_bodies(&rt, &folder);

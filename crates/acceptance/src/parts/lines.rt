@@ -1,5 +1,5 @@
 // The writing of one line.
-use crate::expect::{expect_eq, expect_eq_of};
+use crate::expect::{Host, bytes, expect_eq, expect_eq_of};
 use crate::parts::script::{Act, Script};
 use appender_core::worker::run_line;
 use std::io::ErrorKind;
@@ -66,27 +66,32 @@ static LINE_RUNS: [LineRun; 6] = [
     },
 ];
 
-#[test]
-fn lines_are_written_as_told(rt: HostRuntime) -> Result<(), Fail> {
-    let alloc = rt.alloc();
-    for (row, run) in LINE_RUNS.iter().enumerate() {
-        let mut writer = Script::new(alloc, run.interruptions, run.acts);
-        let fault = match run_line(&mut writer, run.line.as_bytes()) {
-            Ok(()) => None,
-            Err(fault) => Some((fault.taken, fault.error.kind())),
-        };
-        expect_eq_of(&rt, row, fault, run.fault);
-        expect_eq_of(&rt, row, writer.text.as_slice(), run.text.as_bytes());
-        expect_eq_of(&rt, row, writer.writes, run.writes);
-        expect_eq_of(&rt, row, writer.flushes, 0);
+// Writes the line of a run, and answers the fault.
+fn written(writer: &mut Script, line: &str) -> Option<(usize, ErrorKind)> {
+    match run_line(writer, line.as_bytes()) {
+        Ok(()) => None,
+        Err(fault) => Some((fault.taken, fault.error.kind())),
     }
-    Ok(())
+}
+
+fn check_run(rt: &impl Host, row: usize, run: &LineRun) {
+    let mut writer = Script::new(rt.alloc(), run.interruptions, run.acts);
+    expect_eq_of(rt, row, written(&mut writer, run.line), run.fault);
+    expect_eq_of(rt, row, writer.text.as_slice(), run.text.as_bytes());
+    expect_eq_of(rt, row, writer.writes, run.writes);
+    expect_eq_of(rt, row, writer.flushes, 0);
 }
 
 #[test]
-fn a_line_is_added_to_known_bytes(rt: HostRuntime) -> Result<(), Fail> {
-    let mut text: Vec<u8> = b"one\n".to_vec(rt.alloc())?;
-    assert!(rt; run_line(&mut text, b"two\n").is_ok());
+fn lines_are_written_as_told(rt: HostRuntime) {
+    for (row, run) in LINE_RUNS.iter().enumerate() {
+        check_run(&rt, row, run);
+    }
+}
+
+#[test]
+fn a_line_is_added_to_known_bytes(rt: HostRuntime) {
+    let mut text = bytes(&rt, "one\n");
+    expect_eq(&rt, run_line(&mut text, b"two\n").is_ok(), true);
     expect_eq(&rt, text.as_slice(), b"one\ntwo\n".as_slice());
-    Ok(())
 }

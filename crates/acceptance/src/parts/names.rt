@@ -1,10 +1,9 @@
 // Periods, names and readings, with the cases of the Rust crate's own tests, and the texts of errors.
 
-use crate::expect::{expect_eq, expect_eq_of};
+use crate::expect::{Host, expect_eq, expect_eq_of};
 use appender_core::error::InitError;
 use appender_core::names::Names;
 use appender_core::rotation::{Rotation, in_range};
-use std::alloc::Global;
 use std::io;
 use std::process::Abort;
 
@@ -44,19 +43,26 @@ static PERIODS: [(Rotation, i64, i64, i64); 12] = [
     (Rotation::WEEKLY, FIRST, -62_135_683_200, -62_135_078_400),
 ];
 
+fn expect_never(rt: &impl Abort) {
+    expect_eq(rt, Rotation::NEVER.next_date(MONDAY), None);
+    expect_eq(rt, Rotation::NEVER.is_never(), true);
+    expect_eq(rt, Rotation::WEEKLY.is_never(), false);
+}
+
+// Moments outside the range.
+static OUTSIDE: [i64; 4] = [FIRST - 1, LAST + 1, i64::MIN, i64::MAX];
+
 #[test]
 fn starts_of_periods(rt: HostRuntime) {
     for (rotation, moment, start, next) in &PERIODS {
         expect_eq_of(&rt, moment, in_range(*moment), true);
-        expect_eq(&rt, rotation.round_date(*moment), *start);
-        expect_eq(&rt, rotation.next_date(*moment), Some(*next));
+        expect_eq_of(&rt, moment, rotation.round_date(*moment), *start);
+        expect_eq_of(&rt, moment, rotation.next_date(*moment), Some(*next));
     }
-    expect_eq(&rt, Rotation::NEVER.next_date(MONDAY), None);
-    expect_eq(&rt, Rotation::NEVER.is_never(), true);
-    expect_eq(&rt, Rotation::WEEKLY.is_never(), false);
-    for moment in [FIRST - 1, LAST + 1, i64::MIN, i64::MAX] {
-        expect_eq_of(&rt, moment, in_range(moment), false);
+    for moment in &OUTSIDE {
+        expect_eq_of(&rt, moment, in_range(*moment), false);
     }
+    expect_never(&rt);
 }
 
 // A rotation, a prefix, a suffix, a moment and the name that it has.
@@ -155,8 +161,22 @@ static NAMES: [Name; 30] = [
     (Rotation::DAILY, "", "", LAST, "9998-12-31"),
 ];
 
-fn expect_name(rt: &impl Abort, names: &Names, moment: i64, wanted: &str) {
+/// What a log's files are called.
+pub(crate) fn names_of(rt: &impl Host, rotation: Rotation, prefix: &str, suffix: &str) -> Names {
+    Names::new(rt.alloc(), rotation, prefix, suffix).expect(rt, "names")
+}
+
+// Checks the name of a moment.
+fn expect_name(
+    rt: &impl Host,
+    rotation: Rotation,
+    prefix: &str,
+    suffix: &str,
+    moment: i64,
+    wanted: &str,
+) {
     assert!(rt; in_range(moment));
+    let names = names_of(rt, rotation, prefix, suffix);
     let named = names.file_name(moment).expect(rt, "memory");
     expect_eq(rt, named.as_str(), wanted);
 }
@@ -164,8 +184,7 @@ fn expect_name(rt: &impl Abort, names: &Names, moment: i64, wanted: &str) {
 #[test]
 fn names_of_moments(rt: HostRuntime) {
     for (rotation, prefix, suffix, moment, name) in &NAMES {
-        let names = Names::new(rt.alloc(), *rotation, prefix, suffix).expect(&rt, "names");
-        expect_name(&rt, &names, *moment, name);
+        expect_name(&rt, *rotation, prefix, suffix, *moment, name);
     }
 }
 
@@ -214,11 +233,23 @@ static READINGS: [Reading; 15] = [
     ),
 ];
 
+// Checks what a name reads as.
+fn expect_read(
+    rt: &impl Host,
+    rotation: Rotation,
+    prefix: &str,
+    suffix: &str,
+    name: &str,
+    wanted: Option<i64>,
+) {
+    let names = names_of(rt, rotation, prefix, suffix);
+    expect_eq_of(rt, name, names.read(name), wanted);
+}
+
 #[test]
 fn readings_of_names(rt: HostRuntime) {
     for (rotation, prefix, suffix, name, second) in &READINGS {
-        let names = Names::new(rt.alloc(), *rotation, prefix, suffix).expect(&rt, "names");
-        expect_eq_of(&rt, name, names.read(name), Some(*second));
+        expect_read(&rt, *rotation, prefix, suffix, name, Some(*second));
     }
 }
 
@@ -257,16 +288,14 @@ static NO_DAYS: [&str; 12] = [
 #[test]
 fn texts_that_are_no_names(rt: HostRuntime) {
     for (rotation, name) in &NO_NAMES {
-        let names = Names::new(rt.alloc(), *rotation, "app", "log").expect(&rt, "names");
-        expect_eq_of(&rt, name, names.read(name), None);
+        expect_read(&rt, *rotation, "app", "log", name, None);
     }
 }
 
 #[test]
 fn texts_that_are_no_days(rt: HostRuntime) {
-    let days = Names::new(rt.alloc(), Rotation::DAILY, "", "").expect(&rt, "names");
     for name in &NO_DAYS {
-        expect_eq_of(&rt, name, days.read(name), None);
+        expect_read(&rt, Rotation::DAILY, "", "", name, None);
     }
 }
 
@@ -287,58 +316,48 @@ static PARTS: [(Rotation, &'static str, &'static str, bool); 13] = [
     (Rotation::NEVER, "", "", true),
 ];
 
+// Checks that names were made, or that they are refused.
+fn expect_made(rt: &impl Abort, prefix: &str, made: &Result<Names, InitError>, allowed: bool) {
+    expect_eq_of(rt, prefix, made.is_ok(), allowed);
+    expect_eq_of(rt, prefix, matches!(made, Err(InitError::Name)), !allowed);
+}
+
 #[test]
 fn parts_of_names(rt: HostRuntime) {
     for (rotation, prefix, suffix, allowed) in &PARTS {
         expect_eq(&rt, Names::is_allowed(*rotation, prefix, suffix), *allowed);
         let made = Names::new(rt.alloc(), *rotation, prefix, suffix);
-        expect_eq_of(&rt, prefix, made.is_ok(), *allowed);
-        expect_eq_of(&rt, prefix, matches!(made, Err(InitError::Name)), !*allowed);
+        expect_made(&rt, prefix, &made, *allowed);
     }
 }
 
 // Checks the number of an error and its text, of which a part may be another's.
-fn expect_text(
-    rt: &impl Abort,
-    alloc: Global,
-    error: InitError,
-    code: u8,
-    begin: &str,
-    rest: &str,
-) {
+fn expect_text(rt: &impl Host, error: InitError, code: u8, begin: &str, rest: &str) {
     expect_eq(rt, error.code(), code);
-    let text = error.to_string(alloc).expect(rt, "memory");
+    let text = error.to_string(rt.alloc()).expect(rt, "memory");
     expect_eq(rt, text.strip_prefix(begin), Some(rest));
 }
 
 #[test]
 fn texts_of_errors(rt: HostRuntime) {
-    let alloc = rt.alloc();
-    expect_text(&rt, alloc, InitError::Moment, 4, "moment out of range", "");
-    expect_text(&rt, alloc, InitError::Name, 5, "name not allowed", "");
-    expect_text(&rt, alloc, InitError::Memory, 6, "out of memory", "");
+    expect_text(&rt, InitError::Moment, 4, "moment out of range", "");
+    expect_text(&rt, InitError::Name, 5, "name not allowed", "");
+    expect_text(&rt, InitError::Memory, 6, "out of memory", "");
+}
+
+// The fault's own text stands behind that of its case.
+fn expect_texts_with(rt: &impl Host, fault: io::ErrorKind, rest: &str) {
+    let begin = "failed to create log directory: ";
+    expect_text(rt, InitError::Directory(fault.into()), 1, begin, rest);
+    let begin = "failed to create log file: ";
+    expect_text(rt, InitError::File(fault.into()), 2, begin, rest);
+    let begin = "failed to create symlink to latest log file: ";
+    expect_text(rt, InitError::Symlink(fault.into()), 3, begin, rest);
 }
 
 #[test]
 fn texts_of_errors_with_a_fault(rt: HostRuntime) {
-    let alloc = rt.alloc();
-    // The fault's own text stands behind that of its case.
     let fault = io::ErrorKind::PermissionDenied;
-    let rest = io::Error::from(fault)
-        .to_string(alloc)
-        .expect(&rt, "memory");
-    let rest = rest.as_str();
-    let begin = "failed to create log directory: ";
-    expect_text(
-        &rt,
-        alloc,
-        InitError::Directory(fault.into()),
-        1,
-        begin,
-        rest,
-    );
-    let begin = "failed to create log file: ";
-    expect_text(&rt, alloc, InitError::File(fault.into()), 2, begin, rest);
-    let begin = "failed to create symlink to latest log file: ";
-    expect_text(&rt, alloc, InitError::Symlink(fault.into()), 3, begin, rest);
+    let rest = io::Error::from(fault).to_string(rt.alloc());
+    expect_texts_with(&rt, fault, rest.expect(&rt, "memory").as_str());
 }

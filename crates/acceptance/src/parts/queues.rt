@@ -1,12 +1,11 @@
 // Runs of a queue's calls.
-use crate::expect::{expect_eq, expect_eq_of, shown};
-use appender_core::queue::{Counts, LineQueue, Refused, Shut, Taken};
-use std::alloc::Global;
-use std::process::Abort;
+use crate::expect::{Host, bytes, expect_eq, expect_eq_of, expect_shown, owned, shown};
+use crate::parts::script::{line_text, numbered};
+use appender_core::queue::{Counts, LineQueue, Refused, Taken};
 use std::test::*;
 
 // One call of a queue.
-#[derive(Clone, Copy, Debug)]
+#[derive(Clone, Copy)]
 enum Call {
     Offer(&'static str),
     Shut,
@@ -147,123 +146,117 @@ static QUEUE_RUNS: [QueueRun; 9] = [
     },
 ];
 
-fn line_text(alloc: Global, word: &str, line: &[u8]) -> Result<String, Fail> {
-    Ok(format!(in alloc; "{word} {}", str::from_utf8(line)?)?)
-}
-
 // Offers a line, and tells the answer.
-fn offered(alloc: Global, queue: &mut LineQueue, line: &str) -> Result<String, Fail> {
-    match queue.offer(line.as_bytes().to_vec(alloc)?) {
-        Ok(ticket) => Ok(format!(in alloc; "accepted {ticket}")?),
-        Err(Refused::Full(line)) => line_text(alloc, "full", &line),
-        Err(Refused::Closed(line)) => line_text(alloc, "closed", &line),
+fn offered(rt: &impl Host, queue: &mut LineQueue, line: &str) -> String {
+    match queue.offer(bytes(rt, line)) {
+        Ok(ticket) => numbered(rt, "accepted", ticket),
+        Err(Refused::Full(line)) => line_text(rt, "full", &line),
+        Err(Refused::Closed(line)) => line_text(rt, "closed", &line),
     }
 }
 
 // What was taken, in words.
-fn taken_text(alloc: Global, taken: &Taken) -> Result<String, Fail> {
-    let word = match taken {
-        Taken::Line(ticket, line) => {
-            return Ok(format!(in alloc; "line {ticket} {}", str::from_utf8(line)?)?);
-        }
-        Taken::Shutdown => "shutdown",
-        Taken::Gone => "gone",
-        Taken::Empty => "empty",
-    };
-    Ok(String::from_str(alloc, word)?)
+fn taken_text(rt: &impl Host, taken: &Taken) -> String {
+    match taken {
+        Taken::Line(ticket, line) => line_text(rt, numbered(rt, "line", *ticket).as_str(), line),
+        Taken::Shutdown => owned(rt, "shutdown"),
+        Taken::Gone => owned(rt, "gone"),
+        Taken::Empty => owned(rt, "empty"),
+    }
 }
 
 // Makes the call, and tells its answer.
-fn answer(alloc: Global, queue: &mut LineQueue, call: Call) -> Result<String, Fail> {
+fn answer(rt: &impl Host, queue: &mut LineQueue, call: Call) -> String {
     match call {
-        Call::Offer(line) => offered(alloc, queue, line),
-        Call::Shut => Ok(format!(in alloc; "{:?}", queue.shut())?),
-        Call::Take { waits } => taken_text(alloc, &queue.take(waits)),
-        Call::AddSender => Ok(format!(in alloc; "senders {}", queue.add_sender())?),
-        Call::DropSender => Ok(format!(in alloc; "senders {}", queue.drop_sender())?),
+        Call::Offer(line) => offered(rt, queue, line),
+        Call::Shut => shown(rt, queue.shut()),
+        Call::Take { waits } => taken_text(rt, &queue.take(waits)),
+        Call::AddSender => numbered(rt, "senders", queue.add_sender()),
+        Call::DropSender => numbered(rt, "senders", queue.drop_sender()),
     }
+}
+
+// A queue with this limit.
+fn queue_of(rt: &impl Host, limit: usize, lossy: bool) -> LineQueue {
+    LineQueue::new(rt.alloc(), limit, lossy).expect(rt, "memory")
 }
 
 // Makes the calls of a run, and checks what they answer.
-fn check_calls(
-    rt: &(impl AllocGlobal + Abort),
-    row: usize,
-    queue: &mut LineQueue,
-    calls: &[(Call, &str)],
-) -> Result<(), Fail> {
+fn check_calls(rt: &impl Host, row: usize, queue: &mut LineQueue, calls: &[(Call, &str)]) {
     for (call, want) in calls {
-        let got = answer(rt.alloc(), queue, *call)?;
+        let got = answer(rt, queue, *call);
         expect_eq_of(rt, row, got.as_str(), *want);
     }
-    Ok(())
+}
+
+fn check_run(rt: &impl Host, row: usize, run: &QueueRun) {
+    let mut queue = queue_of(rt, run.limit, run.lossy);
+    check_calls(rt, row, &mut queue, run.calls);
+    let (accepted, handed, queued, left, dropped) = run.counts;
+    let want = Counts {
+        accepted,
+        handed,
+        queued,
+        left,
+        dropped,
+    };
+    expect_eq_of(rt, row, queue.counts(), want);
 }
 
 #[test]
-fn queues_answer_as_told(rt: HostRuntime) -> Result<(), Fail> {
-    let alloc = rt.alloc();
+fn queues_answer_as_told(rt: HostRuntime) {
     for (row, run) in QUEUE_RUNS.iter().enumerate() {
-        let mut queue = LineQueue::new(alloc, run.limit, run.lossy)?;
-        check_calls(&rt, row, &mut queue, run.calls)?;
-        let (accepted, handed, queued, left, dropped) = run.counts;
-        let want = Counts {
-            accepted,
-            handed,
-            queued,
-            left,
-            dropped,
-        };
-        expect_eq_of(&rt, row, queue.counts(), want);
+        check_run(&rt, row, run);
     }
-    Ok(())
 }
 
 #[test]
-fn queues_show_themselves(rt: HostRuntime) -> Result<(), Fail> {
-    let queue = LineQueue::new(rt.alloc(), 1, true)?;
-    assert!(rt; !shown(&rt, &queue).is_empty());
-    Ok(())
+fn queues_show_themselves(rt: HostRuntime) {
+    expect_shown(&rt, &queue_of(&rt, 1, true));
 }
 
 #[test]
-fn room_that_cannot_be_had_is_refused(rt: HostRuntime) -> Result<(), Fail> {
-    let alloc = rt.alloc();
-    expect_eq(&rt, LineQueue::new(alloc, usize::MAX, true).is_err(), true);
-    let mut queue = LineQueue::new(alloc, 1, true)?;
-    check_calls(&rt, 0, &mut queue, &[(Call::Offer("a"), "accepted 1")])
+fn room_that_cannot_be_had_is_refused(rt: HostRuntime) {
+    let refused = LineQueue::new(rt.alloc(), usize::MAX, true);
+    expect_eq(&rt, refused.is_err(), true);
+    let mut queue = queue_of(&rt, 1, true);
+    check_calls(&rt, 0, &mut queue, &[(Call::Offer("a"), "accepted 1")]);
 }
 
 // Offers a line with this number, which is its ticket.
-fn offer_number(rt: &(impl AllocGlobal + Abort), queue: &mut LineQueue, number: u64) {
+fn offer_number(rt: &impl Host, queue: &mut LineQueue, number: u64) {
     let line = number.to_le_bytes().to_vec(rt.alloc());
     let ticket = queue.offer(line.expect(rt, "memory"));
     expect_eq(rt, &ticket, &Ok(number));
 }
 
 // Takes the line with this number.
-fn take_number(rt: &(impl AllocGlobal + Abort), queue: &mut LineQueue, number: u64) {
+fn take_number(rt: &impl Host, queue: &mut LineQueue, number: u64) {
     let line = number.to_le_bytes().to_vec(rt.alloc());
     let wanted = Taken::Line(number, line.expect(rt, "memory"));
     expect_eq(rt, &queue.take(false), &wanted);
 }
 
 // Offers a line, for which there is no room.
-fn offer_too_much(rt: &(impl AllocGlobal + Abort), queue: &mut LineQueue) {
-    let line = b"none".to_vec(rt.alloc()).expect(rt, "memory");
-    let back = b"none".to_vec(rt.alloc()).expect(rt, "memory");
-    expect_eq(rt, &queue.offer(line), &Err(Refused::Full(back)));
+fn offer_too_much(rt: &impl Host, queue: &mut LineQueue) {
+    let back = Refused::Full(bytes(rt, "none"));
+    expect_eq(rt, &queue.offer(bytes(rt, "none")), &Err(back));
+}
+
+// Offers lines. From the second half on the queue is full, and each offer has the place that a take left.
+fn fill_twice(rt: &impl Host, queue: &mut LineQueue) {
+    for ticket in 1..=256_000u64 {
+        if ticket > 128_000 {
+            take_number(rt, queue, ticket - 128_000);
+        }
+        offer_number(rt, queue, ticket);
+    }
 }
 
 #[test]
-fn every_place_of_a_long_queue_serves(rt: HostRuntime) -> Result<(), Fail> {
-    let mut queue = LineQueue::new(rt.alloc(), 128_000, true)?;
-    // From the second half on the queue is full, and each offer has the place that a take left.
-    for ticket in 1..=256_000u64 {
-        if ticket > 128_000 {
-            take_number(&rt, &mut queue, ticket - 128_000);
-        }
-        offer_number(&rt, &mut queue, ticket);
-    }
+fn every_place_of_a_long_queue_serves(rt: HostRuntime) {
+    let mut queue = queue_of(&rt, 128_000, true);
+    fill_twice(&rt, &mut queue);
     offer_too_much(&rt, &mut queue);
     expect_eq(&rt, queue.counts().queued, 128_000);
-    Ok(())
 }

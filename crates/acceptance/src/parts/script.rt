@@ -1,4 +1,5 @@
-// A writer that does what it is told.
+// A writer that does what it is told, and lines as texts.
+use crate::expect::Host;
 use std::alloc::Global;
 use std::io;
 use std::io::{ErrorKind, Write};
@@ -66,4 +67,15 @@ impl Write for Script {
         }
         Ok(())
     }
+}
+
+/// A word, and behind it a line.
+pub(crate) fn line_text(rt: &impl Host, word: &str, line: &[u8]) -> String {
+    let line = str::from_utf8(line).expect(rt, "a text");
+    format!(in rt.alloc(); "{word} {line}").expect(rt, "memory")
+}
+
+/// A word, and behind it a number.
+pub(crate) fn numbered(rt: &impl Host, word: &str, number: u64) -> String {
+    format!(in rt.alloc(); "{word} {number}").expect(rt, "memory")
 }

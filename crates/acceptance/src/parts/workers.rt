@@ -1,12 +1,9 @@
 // Runs of a worker between a queue and a writer.
-use crate::expect::{expect_eq_of, shown};
-use crate::parts::script::{Act, Script};
+use crate::expect::{Host, bytes, expect_eq_of, expect_shown, owned};
+use crate::parts::script::{Act, Script, line_text};
 use appender_core::queue::{LineQueue, Shut, Taken};
 use appender_core::worker::{Want, WorkerCore};
-use std::alloc::Global;
-use std::io;
 use std::io::{ErrorKind, Write};
-use std::process::Abort;
 use std::test::*;
 
 // Lines that a worker finds, whether a shutdown stands behind them, its writer, what it does, and
@@ -79,17 +76,20 @@ static WORKER_RUNS: [WorkerRun; 6] = [
 ];
 
 // What is wanted, in words.
-fn said(alloc: Global, want: Want) -> Result<String, Fail> {
-    let word = match want {
-        Want::Take { waits: true } => "wait, ",
-        Want::Take { waits: false } => "take, ",
-        Want::Write(rest) => {
-            return Ok(format!(in alloc; "write {}, ", str::from_utf8(rest)?)?);
-        }
-        Want::Flush => "flush, ",
-        Want::Ended => "ended, ",
-    };
-    Ok(String::from_str(alloc, word)?)
+fn said(rt: &impl Host, want: Want) -> String {
+    match want {
+        Want::Take { waits: true } => owned(rt, "wait"),
+        Want::Take { waits: false } => owned(rt, "take"),
+        Want::Write(rest) => line_text(rt, "write", rest),
+        Want::Flush => owned(rt, "flush"),
+        Want::Ended => owned(rt, "ended"),
+    }
+}
+
+fn add_said(rt: &impl Host, wants: &mut String, want: Want) {
+    let said = said(rt, want);
+    wants.push_str(said.as_str()).expect(rt, "memory");
+    wants.push_str(", ").expect(rt, "memory");
 }
 
 // Does what the worker wants, and tells whether it would do more.
@@ -116,24 +116,28 @@ fn step(core: &mut WorkerCore, queue: &mut LineQueue, writer: &mut Script) -> bo
 
 // Does what the worker wants, until a take that waits finds nothing or the worker has ended, and
 // tells what that was.
-fn work(alloc: Global, queue: &mut LineQueue, writer: &mut Script) -> Result<String, Fail> {
-    let mut wants = String::new(alloc);
+fn work(rt: &impl Host, queue: &mut LineQueue, writer: &mut Script) -> String {
+    let mut wants = String::new(rt.alloc());
     let mut core = WorkerCore::new();
     for _ in 0..1000 {
-        wants.push_str(said(alloc, core.want())?.as_str())?;
+        add_said(rt, &mut wants, core.want());
         if !step(&mut core, queue, writer) {
             break;
         }
     }
-    Ok(wants)
+    wants
+}
+
+// Offers a line, which has this ticket.
+fn offer(rt: &impl Host, row: usize, queue: &mut LineQueue, line: &str, ticket: u64) {
+    expect_eq_of(rt, row, &queue.offer(bytes(rt, line)), &Ok(ticket));
 }
 
 // A queue with the lines of a run, and its shutdown.
-fn queue_of(rt: &(impl AllocGlobal + Abort), row: usize, run: &WorkerRun) -> LineQueue {
+fn queue_of(rt: &impl Host, row: usize, run: &WorkerRun) -> LineQueue {
     let mut queue = LineQueue::new(rt.alloc(), 8, false).expect(rt, "memory");
     for (n, line) in run.lines.iter().enumerate() {
-        let line = line.as_bytes().to_vec(rt.alloc()).expect(rt, "memory");
-        expect_eq_of(rt, row, &queue.offer(line), &Ok(n as u64 + 1));
+        offer(rt, row, &mut queue, line, n as u64 + 1);
     }
     if run.shuts {
         expect_eq_of(rt, row, queue.shut(), Shut::Sent);
@@ -142,32 +146,24 @@ fn queue_of(rt: &(impl AllocGlobal + Abort), row: usize, run: &WorkerRun) -> Lin
 }
 
 // Does what the worker of a run wants, and checks what that was and what it came to.
-fn check_run(
-    rt: &(impl AllocGlobal + Abort),
-    row: usize,
-    run: &WorkerRun,
-    queue: &mut LineQueue,
-) -> Result<(), Fail> {
+fn check_run(rt: &impl Host, row: usize, run: &WorkerRun) {
+    let mut queue = queue_of(rt, row, run);
     let mut writer = Script::new(rt.alloc(), run.interruptions, run.acts);
     writer.flushes_fail = run.flushes_fail;
-    let wants = work(rt.alloc(), queue, &mut writer)?;
+    let wants = work(rt, &mut queue, &mut writer);
     expect_eq_of(rt, row, wants.as_str(), run.wants);
     expect_eq_of(rt, row, writer.text.as_slice(), run.text.as_bytes());
     expect_eq_of(rt, row, queue.counts().handed, run.lines.len() as u64);
-    Ok(())
 }
 
 #[test]
-fn workers_do_as_told(rt: HostRuntime) -> Result<(), Fail> {
+fn workers_do_as_told(rt: HostRuntime) {
     for (row, run) in WORKER_RUNS.iter().enumerate() {
-        let mut queue = queue_of(&rt, row, run);
-        check_run(&rt, row, run, &mut queue)?;
+        check_run(&rt, row, run);
     }
-    Ok(())
 }
 
 #[test]
 fn workers_show_themselves(rt: HostRuntime) {
-    let core = WorkerCore::new();
-    assert!(rt; !shown(&rt, &core).is_empty());
+    expect_shown(&rt, &WorkerCore::new());
 }
