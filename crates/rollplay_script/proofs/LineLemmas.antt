@@ -1,11 +1,13 @@
 -- A line is read in one way.
-use Rattle.std.proofs.Common.{◌≡◌, ℕ, List, [], ◌++◌, Option, None, Some, codes, if◌then◌else◌, refl, ap, sym, subst, ◌∙◌, inl, inr, unwrap_or}
+use Rattle.std.proofs.Common.{◌≡◌, ℕ, List, [], ◌∷◌, ◌++◌, ◌≢◌, get_or, lit<, Option, None, Some, codes, if◌then◌else◌, refl, ap, sym, subst, ◌∙◌, inl, inr, unwrap_or}
+use Rattle.std.specs.List.{All, AllByRecursion}
 use Rattle.std.specs.Str.{bytes_eq}
 use Rattle.std.proofs.lemmas.List.{append_cancel_left}
+use Rattle.std.proofs.lemmas.List.Elements.{All-cons}
 use Rattle.rollplay_script.specs.declared.line.ScriptLine.{ScriptLine}
 use Rattle.rollplay_words.specs.Words.{tail_of, TakesWord, HasNoWord, Takes, TakesNo}
 use Rattle.rollplay_words.specs.Text.{StandsForNone}
-use Rattle.rollplay_script.specs.Line.{LineKind, rotation, prefix, suffix, link, maximum, created, file, folder, link_at, absent, failing, shortened, start, see, put, write, flush, queue, offer, shut, add, drop, work, first_word, HasArguments, BeginsWith, ContinuesWith, TakesText}
+use Rattle.rollplay_script.specs.Line.{LineKind, rotation, prefix, suffix, link, maximum, created, file, folder, link_at, absent, failing, shortened, start, see, put, write, flush, queue, offer, shut, add, drop, work, first_word, log_kinds, folder_kinds, run_kinds, queue_kinds, HasArguments, IsNotOf, BeginsWith, ContinuesWith, TakesText}
 
 -- what stands behind a word tells what is left
 tail_of-once : (r s : Option (List ℕ)) → tail_of r ≡ tail_of s → r ≡ s
@@ -84,9 +86,49 @@ one_kind j k e =
     ap (λ (o : Option LineKind). unwrap_or o j) some
 
 -- what stands behind a first word belongs to the one kind that has this word
-pub goes_on_as : (word : List ℕ) (rest : Option (List ℕ)) (line : ScriptLine) (left : Option (List ℕ)) (j k : LineKind) → word ≡ first_word j → word ≡ first_word k → HasArguments k rest line left → HasArguments j rest line left
+goes_on_as : (word : List ℕ) (rest : Option (List ℕ)) (line : ScriptLine) (left : Option (List ℕ)) (j k : LineKind) → word ≡ first_word j → word ≡ first_word k → HasArguments k rest line left → HasArguments j rest line left
 goes_on_as word rest line left j k own other arguments =
     subst (λ (i : LineKind). HasArguments i rest line left) (one_kind k j (sym other ∙ own)) arguments
+
+module _ (word : List ℕ) (rest : Option (List ℕ)) where
+  -- where the word is that of a kind, but nothing of this kind stands behind it, nothing of any kind does
+  pub none_behind : (kinds : List LineKind) (j : LineKind) → word ≡ first_word j
+      → ((line : ScriptLine) (left : Option (List ℕ)) → ¬ HasArguments j rest line left) → All (IsNotOf word rest) kinds
+  none_behind kinds j own none n d lt = λ other line left arguments.
+      none line left (goes_on_as word rest line left j (get_or kinds n d) own other arguments)
+
+  -- where the word is of none of these kinds, the others tell
+  pub none_unless : (kinds others : List LineKind) → AllByRecursion (λ k. word ≢ first_word k) kinds → All (IsNotOf word rest) others
+      → All (IsNotOf word rest) (kinds ++ others)
+  none_unless [] others not none = none
+  none_unless (k ∷ kinds) others not none =
+      All-cons (IsNotOf word rest) k (kinds ++ others) (λ own. absurd (not.0 own)) (none_unless kinds others not.1 none)
+
+  -- these are all kinds there are
+  pub none_at_all : All (IsNotOf word rest) (log_kinds ++ folder_kinds ++ run_kinds ++ queue_kinds) → (k : LineKind) → IsNotOf word rest k
+  none_at_all none rotation = none 0 rotation (lit< tt)
+  none_at_all none prefix = none 1 prefix (lit< tt)
+  none_at_all none suffix = none 2 suffix (lit< tt)
+  none_at_all none link = none 3 link (lit< tt)
+  none_at_all none maximum = none 4 maximum (lit< tt)
+  none_at_all none created = none 5 created (lit< tt)
+  none_at_all none file = none 6 file (lit< tt)
+  none_at_all none folder = none 7 folder (lit< tt)
+  none_at_all none link_at = none 8 link_at (lit< tt)
+  none_at_all none absent = none 9 absent (lit< tt)
+  none_at_all none failing = none 10 failing (lit< tt)
+  none_at_all none shortened = none 11 shortened (lit< tt)
+  none_at_all none start = none 12 start (lit< tt)
+  none_at_all none see = none 13 see (lit< tt)
+  none_at_all none put = none 14 put (lit< tt)
+  none_at_all none write = none 15 write (lit< tt)
+  none_at_all none flush = none 16 flush (lit< tt)
+  none_at_all none queue = none 17 queue (lit< tt)
+  none_at_all none offer = none 18 offer (lit< tt)
+  none_at_all none shut = none 19 shut (lit< tt)
+  none_at_all none add = none 20 add (lit< tt)
+  none_at_all none drop = none 21 drop (lit< tt)
+  none_at_all none work = none 22 work (lit< tt)
 
 pub continues_with : (word : List ℕ) (rest : Option (List ℕ)) (k : LineKind) → word ≡ first_word k → (line : ScriptLine) (left : Option (List ℕ)) → HasArguments k rest line left → ContinuesWith word rest line left
 continues_with word rest k is line left arguments = record { kind = k; is = is; arguments = arguments }

@@ -1,5 +1,5 @@
 -- The lines of a script, each by itself.
-use Rattle.std.specs.Prelude.{◌≡◌, ℕ, ℤ, Bool, true, false, List, [], Option, None, Some, String, string_bytes, unwrap_or, codes}
+use Rattle.std.specs.Prelude.{◌≡◌, ℕ, ℤ, Bool, true, false, List, [], ◌∷◌, Option, None, Some, String, string_bytes, unwrap_or, codes}
 use Rattle.std.specs.declared.alloc.Global.{Global}
 use Rattle.appender_names.specs.declared.rotation.Rotation.{Rotation}
 use Rattle.appender_names.specs.declared.rotation.RotationKind.{RotationKind}
@@ -81,38 +81,21 @@ first_word add = codes "add"
 first_word drop = codes "drop"
 first_word work = codes "work"
 
--- the lines that are of queues alone
-abbrev pub is_of_queue : LineKind → Bool
-is_of_queue queue = true
-is_of_queue offer = true
-is_of_queue shut = true
-is_of_queue add = true
-is_of_queue drop = true
-is_of_queue work = true
-is_of_queue kind = false
+-- the kinds of lines in the order in which they are looked for: how the log is kept
+abbrev pub log_kinds : List LineKind
+log_kinds = rotation ∷ prefix ∷ suffix ∷ link ∷ maximum ∷ []
 
--- these, the start, and the steps of runs without a queue
-abbrev pub is_of_run : LineKind → Bool
-is_of_run start = true
-is_of_run see = true
-is_of_run put = true
-is_of_run write = true
-is_of_run flush = true
-is_of_run kind = is_of_queue kind
+-- what stands in the folder, and which of its calls go wrong
+abbrev pub folder_kinds : List LineKind
+folder_kinds = created ∷ file ∷ folder ∷ link_at ∷ absent ∷ failing ∷ shortened ∷ []
 
--- these, and what is said of the folder
-abbrev pub is_of_folder_or_run : LineKind → Bool
-is_of_folder_or_run created = true
-is_of_folder_or_run file = true
-is_of_folder_or_run folder = true
-is_of_folder_or_run link_at = true
-is_of_folder_or_run absent = true
-is_of_folder_or_run failing = true
-is_of_folder_or_run shortened = true
-is_of_folder_or_run kind = is_of_run kind
+-- the start, and the steps of a run without a queue
+abbrev pub run_kinds : List LineKind
+run_kinds = start ∷ see ∷ put ∷ write ∷ flush ∷ []
 
-abbrev pub is_any : LineKind → Bool
-is_any kind = true
+-- the queue, and the steps of a run with one
+abbrev pub queue_kinds : List LineKind
+queue_kinds = queue ∷ offer ∷ shut ∷ add ∷ drop ∷ work ∷ []
 
 -- all that is left of a line is a text, which may be missing where it is empty
 pub record TakesText (old : Option (List ℕ)) (plain : List ℕ) (new : Option (List ℕ)) : Type 0 where
@@ -175,11 +158,10 @@ pub record ContinuesWith (word : List ℕ) (rest : Option (List ℕ)) (line : Sc
   pub is : word ≡ first_word kind
   pub arguments : HasArguments kind rest line left
 
--- with this first word, it goes on as no line of these kinds
-abbrev pub IsNoneOf : (LineKind → Bool) → List ℕ → Option (List ℕ) → Type 0
-IsNoneOf is_of word rest =
-    (kind : LineKind) → is_of kind ≡ true → word ≡ first_word kind → (line : ScriptLine) → (left : Option (List ℕ))
-    → ¬ HasArguments kind rest line left
+-- behind this first word, it goes on as no line of this kind
+abbrev pub IsNotOf : List ℕ → Option (List ℕ) → LineKind → Type 0
+IsNotOf word rest kind =
+    word ≡ first_word kind → (line : ScriptLine) → (left : Option (List ℕ)) → ¬ HasArguments kind rest line left
 
 -- a line begins with the word of its kind, and its arguments follow
 pub record BeginsWith (old : Option (List ℕ)) (line : ScriptLine) (new : Option (List ℕ)) : Type 0 where

@@ -1,9 +1,10 @@
 //! A line of a script: what is set up, the start, or a step.
 
-ghost use Rattle.std.specs.Prelude.{◌≡◌, ◌≢◌, Option, List, ℕ, Bool, None, Some, Err, IfOk, IfErr};
+ghost use Rattle.std.specs.Prelude.{◌≡◌, ◌≢◌, ◌++◌, Option, List, ℕ, Bool, None, Some, Err, IfOk, IfErr};
+ghost use Rattle.std.specs.List.{All};
 ghost use Rattle.appender_names.specs.declared.rotation.Rotation.{Rotation};
-ghost use Rattle.rollplay_script.specs.Line.{rotation_word, mode_word, BeginsWith, ContinuesWith, IsNoneOf};
-ghost use Rattle.rollplay_script.specs.Line.{is_any, is_of_folder_or_run, is_of_run, is_of_queue};
+ghost use Rattle.rollplay_script.specs.Line.{rotation_word, mode_word, BeginsWith, ContinuesWith, IsNotOf};
+ghost use Rattle.rollplay_script.specs.Line.{log_kinds, folder_kinds, run_kinds, queue_kinds};
 ghost use Rattle.rollplay_script.specs.Line.{IsLine, IsNoLine};
 
 use appender_names::rotation::Rotation;
@@ -93,7 +94,8 @@ impl<'a> ScriptLine<'a> {
         words: &mut Words<'a>,
     ) -> Result<ScriptLine<'a>, LineError>
         ensures ok { IfOk result (λ line. ContinuesWith word.now words.old line words.new) }
-        ensures fault { result ≡ Err LineError.Fault → IsNoneOf is_any word.now words.old }
+        ensures fault { result ≡ Err LineError.Fault →
+            All (IsNotOf word.now words.old) (log_kinds ++ folder_kinds ++ run_kinds ++ queue_kinds) }
     {
         Ok(ScriptLine::Setting(match word {
             "rotation" => Setting::Rotation(read_rotation(words.word()?)?),
@@ -112,7 +114,8 @@ impl<'a> ScriptLine<'a> {
         words: &mut Words<'a>,
     ) -> Result<ScriptLine<'a>, LineError>
         ensures ok { IfOk result (λ line. ContinuesWith word.now words.old line words.new) }
-        ensures fault { result ≡ Err LineError.Fault → IsNoneOf is_of_folder_or_run word.now words.old }
+        ensures fault { result ≡ Err LineError.Fault →
+            All (IsNotOf word.now words.old) (folder_kinds ++ run_kinds ++ queue_kinds) }
     {
         Ok(ScriptLine::Setting(match word {
             "created" => Setting::Created(words.created()?),
@@ -133,7 +136,7 @@ impl<'a> ScriptLine<'a> {
         words: &mut Words<'a>,
     ) -> Result<ScriptLine<'a>, LineError>
         ensures ok { IfOk result (λ line. ContinuesWith word.now words.old line words.new) }
-        ensures fault { result ≡ Err LineError.Fault → IsNoneOf is_of_run word.now words.old }
+        ensures fault { result ≡ Err LineError.Fault → All (IsNotOf word.now words.old) (run_kinds ++ queue_kinds) }
     {
         Ok(match word {
             "start" => ScriptLine::Start(words.seconds()?),
@@ -155,7 +158,7 @@ impl<'a> ScriptLine<'a> {
         words: &mut Words<'a>,
     ) -> Result<ScriptLine<'a>, LineError>
         ensures ok { IfOk result (λ line. ContinuesWith word.now words.old line words.new) }
-        ensures fault { result ≡ Err LineError.Fault → IsNoneOf is_of_queue word.now words.old }
+        ensures fault { result ≡ Err LineError.Fault → All (IsNotOf word.now words.old) queue_kinds }
     {
         Ok(match word {
             "queue" => ScriptLine::Setting(Setting::Queue(Queueing {

@@ -1,68 +1,40 @@
-use Rattle.std.proofs.Common.{◌≡◌, true, refl, subst, Option, List, [], ℕ, unwrap_or, rules}
+use Rattle.std.proofs.Common.{refl, subst, Option, List, [], ◌++◌, ℕ, unwrap_or, rules}
 use Rattle.std.specs.Int.{w64}
 use Rattle.std.proofs.lemmas.Int.{to_z-of_z}
 use Rattle.rollplay_words.specs.Text.{IsEscaped, StandsForNone}
-use Rattle.rollplay_script.proofs.LineLemmas.{continues_with, goes_on_as, no_text, takes_no, takes_once}
-use Rattle.rollplay_script.specs.Line.{LineKind, first_word, is_of_run, is_of_queue, rotation, prefix, suffix, link, maximum, created, file, folder, link_at, absent, failing, shortened, start, see, put, write, flush, queue, offer, shut, add, drop, work}
+use Rattle.rollplay_script.proofs.LineLemmas.{continues_with, none_behind, none_unless, no_text, takes_no, takes_once}
+use Rattle.rollplay_script.specs.Line.{run_kinds, queue_kinds, start, see, put, write, flush}
 use Rattle.rollplay_script.proofs.line.ScriptLine.read_run_words.Goals.{in-start+in_ok-seconds-in-start, in-see+in_ok-seconds-in-see, in-put+in_ok-seconds-in-put+in_ok-text-in-put, in-write+in_ok-text-in-write, in-flush}
 use Rattle.rollplay_script.proofs.line.ScriptLine.read_run_words.Goals as goal
 
 pub returns-in_err-seconds-in-start-clause-fault : goal.returns-in_err-seconds-in-start-clause-fault
-returns-in_err-seconds-in-start-clause-fault c = λ e k of is line left arguments.
-    let h = goes_on_as _ _ line left start k c.in-start.is is arguments in
-    takes_no _ _ _ _ _ h.2 c.in_err-seconds-in-start.ensures.err.1 (λ w is. (h.0, is))
+returns-in_err-seconds-in-start-clause-fault c = λ e. none_behind c.args.word.now c.args.words.now (run_kinds ++ queue_kinds) start c.in-start.is (λ line left h.
+    takes_no _ _ _ _ _ h.2 c.in_err-seconds-in-start.ensures.err.1 (λ w is. (h.0, is)))
 
 pub returns-in_err-seconds-in-see-clause-fault : goal.returns-in_err-seconds-in-see-clause-fault
-returns-in_err-seconds-in-see-clause-fault c = λ e k of is line left arguments.
-    let h = goes_on_as _ _ line left see k c.in-see.is is arguments in
-    takes_no _ _ _ _ _ h.2 c.in_err-seconds-in-see.ensures.err.1 (λ w is. (h.0, is))
+returns-in_err-seconds-in-see-clause-fault c = λ e. none_behind c.args.word.now c.args.words.now (run_kinds ++ queue_kinds) see c.in-see.is (λ line left h.
+    takes_no _ _ _ _ _ h.2 c.in_err-seconds-in-see.ensures.err.1 (λ w is. (h.0, is)))
 
 pub returns-in_err-seconds-in-put-clause-fault : goal.returns-in_err-seconds-in-put-clause-fault
-returns-in_err-seconds-in-put-clause-fault c = λ e k of is line left arguments.
-    let h = goes_on_as _ _ line left put k c.in-put.is is arguments in
-    takes_no _ _ _ _ _ h.3.1 c.in_err-seconds-in-put.ensures.err.1 (λ w is. (h.0, is))
+returns-in_err-seconds-in-put-clause-fault c = λ e. none_behind c.args.word.now c.args.words.now (run_kinds ++ queue_kinds) put c.in-put.is (λ line left h.
+    takes_no _ _ _ _ _ h.3.1 c.in_err-seconds-in-put.ensures.err.1 (λ w is. (h.0, is)))
 
 pub returns-in_err-text-in-put-clause-fault : goal.returns-in_err-text-in-put-clause-fault
-returns-in_err-text-in-put-clause-fault c = λ e k of is line left arguments.
-    let h = goes_on_as _ _ line left put k c.in-put.is is arguments in
+returns-in_err-text-in-put-clause-fault c = λ e. none_behind c.args.word.now c.args.words.now (run_kinds ++ queue_kinds) put c.in-put.is (λ line left h.
     let behind = (takes_once _ _ _ _ _ h.3.1.taken c.in_ok-seconds-in-put.ensures.ok.taken).1 in
     let none : StandsForNone (unwrap_or c.seconds-in-put.new.self []) = c.in_err-text-in-put.ensures.fault (search rules) in
-    none h.1.items (subst (λ (r : Option (List ℕ)). IsEscaped h.1.items (unwrap_or r [])) behind h.3.2.text)
+    none h.1.items (subst (λ (r : Option (List ℕ)). IsEscaped h.1.items (unwrap_or r [])) behind h.3.2.text))
 
 pub returns-in_err-text-in-write-clause-fault : goal.returns-in_err-text-in-write-clause-fault
-returns-in_err-text-in-write-clause-fault c = λ e k of is line left arguments.
-    let h = goes_on_as _ _ line left write k c.in-write.is is arguments in
+returns-in_err-text-in-write-clause-fault c = λ e. none_behind c.args.word.now c.args.words.now (run_kinds ++ queue_kinds) write c.in-write.is (λ line left h.
     let none : StandsForNone (unwrap_or c.args.words.now []) = c.in_err-text-in-write.ensures.fault (search rules) in
-    no_text _ _ _ h.2 none
+    no_text _ _ _ h.2 none)
 
 pub returns-in_default-clause-fault : goal.returns-in_default-clause-fault
-returns-in_default-clause-fault c = λ e k of is line left arguments.
-    let goes_on = elim k as (λ (k : LineKind). is_of_run k ≡ true → c.args.word.now ≡ first_word k → is_of_queue k ≡ true) [
-      | rotation ↦ λ of own. of
-      | prefix ↦ λ of own. of
-      | suffix ↦ λ of own. of
-      | link ↦ λ of own. of
-      | maximum ↦ λ of own. of
-      | created ↦ λ of own. of
-      | file ↦ λ of own. of
-      | folder ↦ λ of own. of
-      | link_at ↦ λ of own. of
-      | absent ↦ λ of own. of
-      | failing ↦ λ of own. of
-      | shortened ↦ λ of own. of
-      | start ↦ λ of own. absurd (c.in_default.not-start own)
-      | see ↦ λ of own. absurd (c.in_default.not-see own)
-      | put ↦ λ of own. absurd (c.in_default.not-put own)
-      | write ↦ λ of own. absurd (c.in_default.not-write own)
-      | flush ↦ λ of own. absurd (c.in_default.not-flush own)
-      | queue ↦ λ of own. refl
-      | offer ↦ λ of own. refl
-      | shut ↦ λ of own. refl
-      | add ↦ λ of own. refl
-      | drop ↦ λ of own. refl
-      | work ↦ λ of own. refl
-    ] of is in
-    c.read_queue_words.ensures.fault e k goes_on is line left arguments
+returns-in_default-clause-fault c = λ e.
+    none_unless c.args.word.now c.args.words.now run_kinds queue_kinds
+    (c.in_default.not-start, (c.in_default.not-see, (c.in_default.not-put, (c.in_default.not-write, (c.in_default.not-flush, tt)))))
+    (c.read_queue_words.ensures.fault e)
 
 pub returns-clause-ok : goal.returns-clause-ok
 returns-clause-ok c = elim c.match-word.branch [

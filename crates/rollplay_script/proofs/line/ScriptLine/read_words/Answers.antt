@@ -1,6 +1,6 @@
-use Rattle.std.proofs.Common.{refl, sym}
+use Rattle.std.proofs.Common.{sym}
 use Rattle.std.proofs.lemmas.Result.{IfOk-weaker}
-use Rattle.rollplay_script.proofs.LineLemmas.{arguments_of, begins_with, takes_once}
+use Rattle.rollplay_script.proofs.LineLemmas.{arguments_of, begins_with, none_at_all, takes_once}
 use Rattle.rollplay_script.proofs.line.ScriptLine.read_words.Goals as goal
 
 pub returns-clause-ok : goal.returns-clause-ok
@@ -13,4 +13,4 @@ pub returns-clause-fault : goal.returns-clause-fault
 returns-clause-fault c = λ e line left begins.
     let is = sym (takes_once _ _ _ _ _ begins.word c.in_ok-word.ensures.ok).0 in
     let arguments = arguments_of _ _ _ c.in_ok-word.ensures.ok line left begins begins.kind is in
-    c.read_log_words.ensures.fault e begins.kind refl is line left arguments
+    none_at_all _ _ (c.read_log_words.ensures.fault e) begins.kind is line left arguments
