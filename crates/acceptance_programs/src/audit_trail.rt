@@ -4,12 +4,12 @@ use audit_trail_core::gather::{Host, Trails, keep_all};
 use audit_trail_core::trail::{Fault, keep, write_lines};
 use std::alloc::{AllocError, Global};
 use std::cell::Cell;
-use std::io::Read;
+use std::io::{Read, Write};
 use std::process::Abort;
 use std::rt::{Files, Runtime};
 use std::test::Fail;
 use std::{env, fs, io, process};
-use tracing_appender::rolling::{Builder, Clock, RollingFile, Rotation};
+use tracing_appender::rolling::{Builder, Clock, InitError, RollingFile, Rotation};
 use tracing_appender::store::MemoryFolder;
 
 // An input that can't be read.
@@ -167,19 +167,17 @@ fn faults_of(alloc: Global, sources: &[String; 4]) -> Result<String, AllocError>
 }
 
 // Runs the program over these sources, and checks what it tells.
-fn check_account<R: Host + Trails + Abort>(
+fn check_account<R: Host + Abort, T: Trails>(
     rt: R,
+    trails: &T,
     directory: &str,
     sources: &[String],
+    account: &str,
     faults: &str,
 ) {
     let (mut output, mut errors) = (Vec::new(rt.alloc()), Vec::new(rt.alloc()));
-    let status = keep_all(rt, &rt, directory, sources, &mut output, &mut errors);
-    expect_eq(
-        &rt,
-        output.as_slice(),
-        b"accepted 5 handed 5 left 0 dropped 0\n".as_slice(),
-    );
+    let status = keep_all(rt, trails, directory, sources, &mut output, &mut errors);
+    expect_eq(&rt, output.as_slice(), account.as_bytes());
     expect_eq(&rt, errors.as_slice(), faults.as_bytes());
     expect_eq(&rt, status, 1);
 }
@@ -211,9 +209,68 @@ fn gives_an_account_of_all_sources(rt: HostRuntime) -> Result<(), Fail> {
     let directory = fresh(&rt, "sources")?;
     let sources = sources(&rt)?;
     let faults = faults_of(rt.alloc(), &sources)?;
-    check_account(rt, directory.as_str(), sources.as_slice(), faults.as_str());
+    check_account(
+        rt,
+        &rt,
+        directory.as_str(),
+        sources.as_slice(),
+        "accepted 5 handed 5 left 0 dropped 0\n",
+        faults.as_str(),
+    );
     check_written(&rt, written_in(&rt, directory.as_str()).as_str());
     clear(&rt, directory.as_str());
+    Ok(())
+}
+
+// A log that takes a byte at a time, and so many bytes in all.
+#[derive(Drop)]
+struct Filling {
+    room: u32,
+}
+
+impl Write for Filling {
+    fn write(&mut self, buf: &[u8]) -> io::Result<usize> {
+        if self.room == 0 {
+            return Err(io::Error::from(io::ErrorKind::StorageFull));
+        }
+        self.room -= 1;
+        Ok(buf.len().min(1))
+    }
+
+    fn flush(&mut self) -> io::Result<()> {
+        Ok(())
+    }
+}
+
+// A log with room for seven bytes, and sources of two lines of two bytes.
+struct Narrow;
+
+impl Trails for Narrow {
+    type Log = Filling;
+
+    type Source = &'static [u8];
+
+    fn open_trail(&self, _directory: &str) -> Result<Filling, InitError> {
+        Ok(Filling { room: 7 })
+    }
+
+    fn open_source(&self, _path: &str) -> io::Result<&'static [u8]> {
+        Ok(b"x\ny\n".as_slice())
+    }
+}
+
+#[test]
+fn tells_lines_that_found_no_room(rt: HostRuntime) -> Result<(), Fail> {
+    let (first, second) = (fresh(&rt, "one")?, fresh(&rt, "two")?);
+    let sources = Vec::from_array(rt.alloc(), [first, second])?;
+    check_account(
+        rt,
+        &Narrow,
+        "",
+        sources.as_slice(),
+        "accepted 4 handed 4 left 0 dropped 0\n",
+        "lines not written whole: 1\n",
+    );
     Ok(())
 }
 

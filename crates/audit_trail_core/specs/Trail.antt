@@ -11,7 +11,7 @@ use Rattle.appender_rolling.specs.declared.rolling.clock.Clock.{Ghosts as Readin
 use Rattle.appender_rolling.specs.Appender.{Appending, OpensSome, PutsNow}
 use Rattle.appender_rolling.specs.Config.{Config}
 use Rattle.audit_trail_core.specs.declared.trail.Fault.{Fault}
-use Rattle.audit_trail_core.specs.declared.trail.Fault.TheVariants.{Usage, Open, Read, Write, Cut, Thread, Unsettled, Memory}
+use Rattle.audit_trail_core.specs.declared.trail.Fault.TheVariants.{Usage, Open, Read, Write, Cut, Lost, Thread, Unsettled, Memory}
 
 -- the line was put, whole, at the moment that the clock told
 pub record PutsLine {S F C : Type 0} (kind : Ghosts S F) (time : Readings C) (line : List ℕ) (old new : Appending S F C) : Type 0 where
@@ -32,11 +32,11 @@ trail_config = record { rotation = rotation_of Daily; prefix = codes "audit"; su
 
 -- the log was opened, and then all lines of the text were put into it
 pub record KeepsLines {S F C : Type 0} (kind : Ghosts S F) (time : Readings C) (text : List ℕ) : Type 0 where
-  pub opened : Appending S F C
-  pub opens : OpensSome kind time trail_config opened
+  pub begun : Appending S F C
+  pub opens : OpensSome kind time trail_config begun
   pub count : ℕ
-  pub written : Appending S F C
-  pub puts : PutsLines kind time count text opened [] written
+  pub ended : Appending S F C
+  pub puts : PutsLines kind time count text begun [] ended
 
 -- the status of a process whose log was not opened
 abbrev pub opening_status : InitError → ℕ
@@ -50,6 +50,7 @@ status_of (Open error) = opening_status error
 status_of (Read fault) = 1
 status_of (Write fault) = 1
 status_of Cut = 1
+status_of (Lost count) = 1
 status_of Thread = 1
 status_of Unsettled = 1
 status_of Memory = 3

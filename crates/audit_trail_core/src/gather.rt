@@ -7,8 +7,10 @@ use std::alloc::{AllocError, Global};
 use std::fs::File;
 use std::io::{BufRead, BufReader, Read, Write};
 use std::marker::Brand;
-use std::sync::Wait;
+use std::sync::atomic::AtomicU64;
+use std::sync::atomic::Ordering::SeqCst;
 use std::sync::ledger::{Blank, Ledger};
+use std::sync::{Arc, Wait};
 use std::thread::{JoinHandle, Threads};
 use std::time::Clock;
 use std::{io, thread};
@@ -58,8 +60,8 @@ impl Trails for HostRuntime {
 
 /// Writes the lines of each source, which is a file, to the log of the day in a folder, and the account
 /// of all lines to `output`. A source that can't be read to its end keeps no other from it, and is told
-/// on `errors` with its path. The answer is the status of the process, as of `trail::keep`: the greatest
-/// of those of all faults.
+/// on `errors` with its path; so is how many lines the log didn't take whole, if it didn't take all. The
+/// answer is the status of the process, as of `trail::keep`: the greatest of those of all faults.
 pub fn keep_all<R: Host, T: Trails, O: Write, E: Write>(
     rt: R,
     trails: &T,
@@ -86,13 +88,51 @@ fn gather_files<R: Host, T: Trails, O: Write, E: Write>(
 ) -> Result<u8, Fault>
     ensures { IfOk result (λ status. status ≤ 3) }
 {
-    let log = trails.open_trail(directory)?;
+    let written = Arc::new(rt.alloc(), AtomicU64::new(0)).map_err(AllocError::from)?;
+    let log = Counting {
+        log: trails.open_trail(directory)?,
+        written: written.clone()?,
+    };
     let (mut sources, mut opened) = (Vec::new(rt.alloc()), Vec::new(rt.alloc()));
     let unopened = open_sources(trails, paths, &mut sources, &mut opened, errors)?;
     let (account, sent) = gather(rt, log, sources)?;
     let ended = tell_ends(opened, sent, errors);
+    let lost = account.handed.saturating_sub(written.load(SeqCst));
+    let wrote = tell_lost(lost, errors);
     write_account(account, output)?;
-    Ok(unopened.max(ended))
+    Ok(unopened.max(ended).max(wrote))
+}
+
+// A log, and how many lines it took whole. The worker gives it what is left of a line until it takes
+// that, or gives the line up; no line of a source is empty.
+#[derive(Drop)]
+struct Counting<L: Write> {
+    log: L,
+    written: Arc<AtomicU64, Global>,
+}
+
+impl<L: Write> Write for Counting<L> {
+    fn write(&mut self, rest: &[u8]) -> io::Result<usize> {
+        let taken = self.log.write(rest)?;
+        if taken == rest.len() {
+            self.written.fetch_add(1, SeqCst);
+        }
+        Ok(taken)
+    }
+
+    fn flush(&mut self) -> io::Result<()> {
+        self.log.flush()
+    }
+}
+
+// Tells of so many lines that were not written whole, if there are any, and answers the status of that.
+fn tell_lost<E: Write>(lost: u64, errors: &mut E) -> u8
+    ensures { result ≤ 3 }
+{
+    if lost == 0 {
+        return 0;
+    }
+    tell(&Fault::Lost(lost), errors)
 }
 
 // The sources that can be opened, each with its path. The others are told, and the answer is the

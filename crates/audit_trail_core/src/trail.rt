@@ -34,6 +34,9 @@ pub enum Fault {
     /// The beginning of a line was written, and the rest was not.
     #[error("line cut short")]
     Cut,
+    /// So many lines of sources came to the log, which didn't take the whole of them.
+    #[error("lines not written whole: {0}")]
+    Lost(u64),
     /// A source got no thread of its own.
     #[error("no thread")]
     Thread,
