@@ -27,16 +27,16 @@ pub(crate) fn expect_eq_of<P: Copy + Debug, T: Copy + PartialEq + Debug>(
 
 /// Ends the test where a value has no `Debug` text.
 pub(crate) fn expect_shown<T: Copy + Debug>(rt: &impl Host, value: T) {
-    expect_eq(rt, shown(rt, value).is_empty(), false);
+    expect_eq(rt, debug_text(rt, value).is_empty(), false);
 }
 
 /// The `Debug` text of a value.
-pub(crate) fn shown<T: Copy + Debug>(rt: &impl Host, value: T) -> String {
+pub(crate) fn debug_text<T: Copy + Debug>(rt: &impl Host, value: T) -> String {
     format!(in rt.alloc(); "{value:?}").expect(rt, "memory")
 }
 
 /// Two values, one behind the other.
-pub(crate) fn joined<A: Copy + Display, B: Copy + Display>(
+pub(crate) fn pair_text<A: Copy + Display, B: Copy + Display>(
     rt: &impl Host,
     first: A,
     second: B,
@@ -45,7 +45,7 @@ pub(crate) fn joined<A: Copy + Display, B: Copy + Display>(
 }
 
 /// A copy of a text.
-pub(crate) fn owned(rt: &impl Host, text: &str) -> String {
+pub(crate) fn copy_of(rt: &impl Host, text: &str) -> String {
     String::from_str(rt.alloc(), text).expect(rt, "memory")
 }
 

@@ -55,13 +55,13 @@ fn bytes_told(replies: &[RollReply]) -> usize {
     told
 }
 
-fn played(run: RollRun<MemoryFolder>) -> Played {
+fn end_of_run(run: RollRun<MemoryFolder>) -> Played {
     let told = bytes_told(&run.replies);
     (run.roller.into_folder(), told)
 }
 
 // What a run leaves whose log isn't opened.
-fn unopened(rt: &impl Abort, error: ReplayError<MemoryFolder>) -> Played {
+fn end_of_refusal(rt: &impl Abort, error: ReplayError<MemoryFolder>) -> Played {
     match error {
         ReplayError::Init(_, folder) => (folder, 0),
         ReplayError::Memory(_) => rt.panic("no memory"),
@@ -71,8 +71,8 @@ fn unopened(rt: &impl Abort, error: ReplayError<MemoryFolder>) -> Played {
 fn play(rt: &impl Host, folder: MemoryFolder, steps: &[RollStep]) -> Played {
     let builder = hourly_log(rt, 2, "latest.log");
     match replay_rolling(rt.alloc(), &builder, folder, START, steps) {
-        Ok(run) => played(run),
-        Err(error) => unopened(rt, error),
+        Ok(run) => end_of_run(run),
+        Err(error) => end_of_refusal(rt, error),
     }
 }
 
@@ -87,7 +87,7 @@ fn queued_bytes_told(replies: &[Reply]) -> usize {
     told
 }
 
-fn played_queued(run: Run<MemoryFolder>) -> Played {
+fn end_of_queued_run(run: Run<MemoryFolder>) -> Played {
     let told = queued_bytes_told(&run.replies);
     (run.roller.into_folder(), told)
 }
@@ -95,8 +95,8 @@ fn played_queued(run: Run<MemoryFolder>) -> Played {
 fn play_queued(rt: &impl Host, folder: MemoryFolder, steps: &[Step]) -> Played {
     let builder = hourly_log(rt, 2, "latest.log");
     match replay(rt.alloc(), &builder, 4, false, folder, START, steps) {
-        Ok(run) => played_queued(run),
-        Err(error) => unopened(rt, error),
+        Ok(run) => end_of_queued_run(run),
+        Err(error) => end_of_refusal(rt, error),
     }
 }
 
@@ -120,7 +120,7 @@ fn queued_steps(rt: &impl Host) -> Vec<Step> {
 }
 
 // How many bytes the bodies hold that came after the first two.
-fn held(folder: &MemoryFolder) -> usize {
+fn bytes_held(folder: &MemoryFolder) -> usize {
     let mut count = 0usize;
     for number in 2..8 {
         if let Some(body) = folder.body(number) {
@@ -154,7 +154,7 @@ static NOTED: [(u64, [u64; 4], usize); 16] = [
 ];
 
 // How many notices of each sort were taken.
-fn noted_in(folder: &MemoryFolder) -> [u64; 4] {
+fn notices_in(folder: &MemoryFolder) -> [u64; 4] {
     [
         folder.notices(NoticeKind::List),
         folder.notices(NoticeKind::Remove),
@@ -166,9 +166,9 @@ fn noted_in(folder: &MemoryFolder) -> [u64; 4] {
 // Plays while this call fails, and checks what is noted and what is told as written.
 fn check_noted(rt: &impl Host, call: u64, steps: &[RollStep], noted: [u64; 4], bytes: usize) {
     let (left, told) = play(rt, folder(rt, call, call), steps);
-    expect_eq_of(rt, call, noted_in(&left), noted);
+    expect_eq_of(rt, call, notices_in(&left), noted);
     expect_eq_of(rt, call, left.failures(), u64::from(call < 16));
-    expect_eq_of(rt, call, (told, held(&left)), (bytes, bytes));
+    expect_eq_of(rt, call, (told, bytes_held(&left)), (bytes, bytes));
 }
 
 #[test]
@@ -182,13 +182,13 @@ fn each_call_that_fails_is_noted(rt: HostRuntime) {
 // Plays while this call and all behind it fail, and checks that the folder holds what is told as written.
 fn check_kept(rt: &impl Host, first: u64, steps: &[RollStep]) {
     let (left, told) = play(rt, folder(rt, first, LAST), steps);
-    expect_eq_of(rt, first, held(&left), told);
+    expect_eq_of(rt, first, bytes_held(&left), told);
 }
 
 // The same of a run behind a queue; answers how many bytes are told.
 fn check_queued_kept(rt: &impl Host, first: u64, steps: &[Step]) -> usize {
     let (left, told) = play_queued(rt, folder(rt, first, LAST), steps);
-    expect_eq_of(rt, first, held(&left), told);
+    expect_eq_of(rt, first, bytes_held(&left), told);
     told
 }
 

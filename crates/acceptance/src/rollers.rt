@@ -19,7 +19,7 @@ fn with_suffix(rt: &impl Host, suffix: &str) -> Builder {
     builder.expect(rt, "memory")
 }
 
-fn opened(rt: &impl Host, builder: &Builder, folder: MemoryFolder) -> Roller<MemoryFolder> {
+fn open_roller(rt: &impl Host, builder: &Builder, folder: MemoryFolder) -> Roller<MemoryFolder> {
     match Roller::open(rt.alloc(), builder, folder, START) {
         Ok(roller) => roller,
         Err((error, _folder)) => rt.panic(error),
@@ -49,7 +49,7 @@ fn write_at_twelve(rt: &impl Abort, roller: &mut Roller<MemoryFolder>) {
 // Opens a log in an empty folder, and writes its second file.
 fn write_second(rt: &impl Host) -> MemoryFolder {
     let builder = with_suffix(rt, "log");
-    let mut roller = opened(rt, &builder, MemoryFolder::new(rt.alloc()));
+    let mut roller = open_roller(rt, &builder, MemoryFolder::new(rt.alloc()));
     expect_first(rt, &roller);
     write_at_twelve(rt, &mut roller);
     roller.into_folder()
@@ -114,7 +114,7 @@ fn write_at_eleven(rt: &impl Abort, roller: &mut Roller<MemoryFolder>) {
 
 // Opens a log that keeps one file in such a folder, and writes to it at eleven.
 fn write_failing(rt: &impl Host) -> MemoryFolder {
-    let mut roller = opened(rt, &hourly_log(rt, 1, ""), failing_folder(rt));
+    let mut roller = open_roller(rt, &hourly_log(rt, 1, ""), failing_folder(rt));
     // The restart that keeps one file began anew.
     expect_bodies(rt, roller.folder(), &[b"x", b""]);
     write_at_eleven(rt, &mut roller);

@@ -51,16 +51,16 @@ fn play_in_memory(rt: &impl Host, script: Script) -> String {
         plan,
     } = script;
     let folder = carry_out(rt, &builder, folder, start, &plan);
-    shown_disk(rt, &copied(rt, &folder))
+    shown_disk(rt, &disk_with(rt, &folder))
 }
 
 fn shown_disk(rt: &impl Abort, disk: &Disk) -> String {
-    disk.shown().expect(rt, "a folder")
+    disk.contents().expect(rt, "a folder")
 }
 
 // A disk as a script finds it, which holds what this folder does or has no folder.
 fn disk_before(rt: &impl Host, script: &str, folder: &MemoryFolder) -> Disk {
-    let disk = copied(rt, folder);
+    let disk = disk_with(rt, folder);
     if script.starts_with("absent\n") {
         disk.remove_folder().expect(rt, "a folder");
     }
@@ -76,7 +76,7 @@ fn play_on_disk(rt: &impl Host, text: &str, script: &Script) -> String {
 }
 
 // A disk that holds what a folder in memory does.
-fn copied(rt: &impl Host, folder: &MemoryFolder) -> Disk {
+fn disk_with(rt: &impl Host, folder: &MemoryFolder) -> Disk {
     let disk = Disk::new(rt.alloc());
     for name in &folder.names().expect(rt, "memory") {
         copy_entry(rt, &disk, folder, name.as_str());

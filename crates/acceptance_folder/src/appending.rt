@@ -4,7 +4,7 @@ use crate::expect::{expect_eq, expect_eq_of, expect_shown_start};
 use crate::scene::{
     ELEVEN, Host, START, TWELVE, TestClock, at, clear, expect_bytes, expect_files,
     expect_shown_appender, expect_target, expect_text, expect_write, folder_at, fresh,
-    fresh_current, hourly_log, names_in, opened, place_of,
+    fresh_current, hourly_log, names_in, open_appender, place_of,
 };
 use appender_rolling::rolling::{
     Builder, Clock, InitError, RollingFileAppender, SystemClock, daily, hourly, minutely, never,
@@ -167,7 +167,7 @@ fn write_log<S: Folder>(
     failures: u64,
 ) -> S {
     let clock = TestClock::new(START);
-    let mut appender = opened(rt, builder, folder, &clock);
+    let mut appender = open_appender(rt, builder, folder, &clock);
     take_all(&rt, &mut appender, &clock, steps);
     let folder = appender.into_parts().0;
     expect_eq(&rt, folder.failures(), failures);

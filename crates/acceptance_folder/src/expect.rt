@@ -26,7 +26,7 @@ pub(crate) fn expect_shown<T: Copy + Debug>(
     value: T,
     wanted: &str,
 ) {
-    expect_eq(rt, shown(rt, value).as_str(), wanted);
+    expect_eq(rt, debug_text(rt, value).as_str(), wanted);
 }
 
 /// Ends the test where the `Debug` text of a value doesn't begin with this.
@@ -35,10 +35,10 @@ pub(crate) fn expect_shown_start<T: Copy + Debug>(
     value: T,
     start: &str,
 ) {
-    expect_eq(rt, shown(rt, value).as_str().starts_with(start), true);
+    expect_eq(rt, debug_text(rt, value).as_str().starts_with(start), true);
 }
 
 // The `Debug` text of a value.
-fn shown<T: Copy + Debug>(rt: &(impl AllocGlobal + Abort), value: T) -> String {
+fn debug_text<T: Copy + Debug>(rt: &(impl AllocGlobal + Abort), value: T) -> String {
     format!(in rt.alloc(); "{value:?}").expect(rt, "memory")
 }

@@ -2,8 +2,8 @@
 
 use crate::expect::{expect_eq, expect_eq_of};
 use crate::scene::{
-    Host, START, clear, expect_target, folder_at, fresh, hourly_log, names_in, opened, place_of,
-    text_of,
+    Host, START, clear, expect_target, folder_at, fresh, hourly_log, names_in, open_appender,
+    place_of, text_of,
 };
 use crate::threads::SteppingClock;
 use appender_names::names::Names;
@@ -158,7 +158,7 @@ where
     S::File: Send,
 {
     let clock = SteppingClock::new(START, 900);
-    let appender = opened(rt, &log_of_five(&rt), folder, &clock);
+    let appender = open_appender(rt, &log_of_five(&rt), folder, &clock);
     for numbers in [(0, LINES - 1), (LINES - 1, LINES)] {
         write_in_threads(&rt, &appender, &clock, numbers);
     }

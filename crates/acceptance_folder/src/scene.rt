@@ -92,7 +92,7 @@ pub(crate) fn clear(rt: &impl Host, path: &str) {
 }
 
 // A copy of a text.
-fn owned(rt: &impl Host, text: &str) -> String {
+fn copy_of(rt: &impl Host, text: &str) -> String {
     String::from_str(rt.alloc(), text).expect(rt, "memory")
 }
 
@@ -176,7 +176,7 @@ pub(crate) fn names_in(rt: &impl Host, directory: &str) -> Vec<String> {
     for entry in fs::read_dir(rt, directory).expect(rt, "a directory") {
         let entry = entry.expect(rt, "an entry");
         names
-            .push(owned(rt, entry.file_name()))
+            .push(copy_of(rt, entry.file_name()))
             .expect(rt, "memory");
     }
     names.sort_unstable();
@@ -223,7 +223,7 @@ pub(crate) fn hourly_log(rt: &impl Host, prefix: &str) -> Builder {
 }
 
 /// An appender that has to be opened.
-pub(crate) fn opened<S: Folder, C: Clock, R: Host>(
+pub(crate) fn open_appender<S: Folder, C: Clock, R: Host>(
     rt: R,
     builder: &Builder,
     folder: S,
@@ -243,7 +243,7 @@ pub(crate) fn expect_write(rt: &impl Abort, writer: &mut impl Write, bytes: &[u8
 /// Checks what an appender shows that is opened in memory at 10:01, and a writer of it.
 pub(crate) fn expect_shown_appender<R: Host + Wait>(rt: R, builder: &Builder, wanted: &str) {
     let clock = TestClock::new(START);
-    let appender = opened(rt, builder, MemoryFolder::new(rt.alloc()), &clock);
+    let appender = open_appender(rt, builder, MemoryFolder::new(rt.alloc()), &clock);
     expect_appender_and_writer_shown(&rt, &appender, wanted);
 }
 

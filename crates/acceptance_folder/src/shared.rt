@@ -3,7 +3,7 @@
 use crate::expect::{expect_eq, expect_shown, expect_shown_start};
 use crate::scene::{
     ELEVEN, Host, START, expect_bytes, expect_held, expect_kind, expect_shown_appender,
-    expect_write, hourly_log, opened,
+    expect_write, hourly_log, open_appender,
 };
 use crate::threads::{
     Crowded, SteppingClock, Turning, expect_lines, in_memory, write_in_threads, writes,
@@ -32,7 +32,7 @@ fn failing_folder(alloc: Global) -> Result<MemoryFolder, AllocError> {
 
 // Opens a log over this folder, to which ten threads write, and answers the folder.
 fn begin_one_file<R: Host + Threads + Wait + Sync>(rt: R, folder: MemoryFolder) -> MemoryFolder {
-    let appender = opened(rt, &hourly_log(&rt, "app"), folder, Crowded::new());
+    let appender = open_appender(rt, &hourly_log(&rt, "app"), folder, Crowded::new());
     write_in_threads(&rt, &appender);
     appender.into_parts().0
 }
@@ -150,7 +150,7 @@ fn write_three(rt: &impl Abort, mut writer: impl Write + Drop) {
 // Writes three lines to a log over this folder, and answers the folder.
 fn folder_of_three<R: Host + Wait>(rt: R, folder: MemoryFolder) -> MemoryFolder {
     let clock = SteppingClock::new(START, 0);
-    let appender = opened(rt, &hourly_log(&rt, "app"), folder, clock);
+    let appender = open_appender(rt, &hourly_log(&rt, "app"), folder, clock);
     write_three(&rt, appender.make_writer().expect(&rt, "a writer"));
     appender.into_parts().0
 }

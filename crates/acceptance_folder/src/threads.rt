@@ -1,7 +1,7 @@
 // What tests with many threads share: a log in memory, clocks that many threads read, and lines.
 
 use crate::expect::{expect_eq, expect_eq_of};
-use crate::scene::{ELEVEN, Host, START, TWELVE, hourly_log, opened};
+use crate::scene::{ELEVEN, Host, START, TWELVE, hourly_log, open_appender};
 use appender_rolling::rolling::{Clock, MakeWriter, RollingFileAppender};
 use appender_store::store::{Folder, MemoryFolder};
 use std::io::Write;
@@ -108,7 +108,7 @@ pub(crate) fn in_memory<C: Clock, R: Host>(
     rt: R,
     clock: C,
 ) -> RollingFileAppender<MemoryFolder, C, R> {
-    opened(
+    open_appender(
         rt,
         &hourly_log(&rt, "app"),
         MemoryFolder::new(rt.alloc()),

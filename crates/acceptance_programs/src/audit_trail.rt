@@ -73,13 +73,13 @@ fn latest(rt: &impl Disk, directory: &str) -> String {
 }
 
 // What the newest log holds.
-fn written_in(rt: &impl Disk, directory: &str) -> String {
+fn newest_text(rt: &impl Disk, directory: &str) -> String {
     fs::read_to_string(rt, latest(rt, directory)).expect(rt, "a log")
 }
 
 // Checks what the newest log holds, and that it is the log of a day.
 fn check_newest(rt: &impl Disk, directory: &str, wanted: &str) {
-    expect_eq(rt, written_in(rt, directory).as_str(), wanted);
+    expect_eq(rt, newest_text(rt, directory).as_str(), wanted);
     let target = fs::read_link(rt, latest(rt, directory)).expect(rt, "a link");
     expect_eq(rt, target.as_str().len(), "audit.2020-02-01.log".len());
 }
@@ -217,7 +217,7 @@ fn gives_an_account_of_all_sources(rt: HostRuntime) -> Result<(), Fail> {
         "accepted 5 handed 5 left 0 dropped 0\n",
         faults.as_str(),
     );
-    check_written(&rt, written_in(&rt, directory.as_str()).as_str());
+    check_written(&rt, newest_text(&rt, directory.as_str()).as_str());
     clear(&rt, directory.as_str());
     Ok(())
 }

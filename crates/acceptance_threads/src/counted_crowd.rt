@@ -30,7 +30,7 @@ fn tell_one<T: Told, R: Host>(rt: R, sender: &mut T, number: usize, line: usize)
 }
 
 // Writes a hundred lines, and gives back the sender with the tickets that it was told.
-fn hundred<T: Told, R: Host>(rt: R, number: usize, mut sender: T) -> (T, Vec<u64>) {
+fn write_hundred<T: Told, R: Host>(rt: R, number: usize, mut sender: T) -> (T, Vec<u64>) {
     let mut tickets = Vec::new(rt.alloc());
     for line in 0..100usize {
         if let Some(ticket) = tell_one(rt, &mut sender, number, line) {
@@ -45,7 +45,7 @@ fn start_one<T: Told, R: Host>(
     number: usize,
     sender: T,
 ) -> io::Result<JoinHandle<(T, Vec<u64>)>> {
-    Ok(thread::spawn(&rt, move || hundred(rt, number, sender))?)
+    Ok(thread::spawn(&rt, move || write_hundred(rt, number, sender))?)
 }
 
 // Starts ten senders, the last one first.

@@ -147,7 +147,7 @@ fn play<R: Host + Abort>(rt: R, crowd: Crowd, came: Arc<AtomicUsize, Global>) ->
 
 // How many lines the worker left, if it ended. On a machine that is busy otherwise it may not get on within
 // the time of a guard that closes early. No thread was left asleep: all of them were joined.
-fn left_by(rt: &impl Abort, closing: Closing, closes_early: bool) -> Option<u64> {
+fn lines_left(rt: &impl Abort, closing: Closing, closes_early: bool) -> Option<u64> {
     match closing {
         Closing::Done { left } => Some(left),
         Closing::Full | Closing::Pending if closes_early => None,
@@ -162,7 +162,7 @@ fn expect_all<R: Abort>(rt: &R, crowd: Crowd, outcome: Outcome, came: usize) {
         queued,
         dropped,
     } = outcome;
-    if let Some(left) = left_by(rt, closing, crowd.closes_early) {
+    if let Some(left) = lines_left(rt, closing, crowd.closes_early) {
         expect_eq(rt, came.saturating_add(left as usize), queued);
         let all = crowd.senders.saturating_mul(crowd.lines).saturating_add(1);
         expect_eq(rt, crowd.closes_early || (left == 0 && queued == all), true);

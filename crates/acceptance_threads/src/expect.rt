@@ -15,11 +15,11 @@ pub(crate) fn expect_shown<T: Copy + Debug>(
     value: T,
     wanted: &str,
 ) {
-    expect_eq(rt, shown(rt, value).as_str(), wanted);
+    expect_eq(rt, debug_text(rt, value).as_str(), wanted);
 }
 
 /// The `Debug` text of a value.
-pub(crate) fn shown<T: Copy + Debug>(rt: &(impl AllocGlobal + Abort), value: T) -> String {
+pub(crate) fn debug_text<T: Copy + Debug>(rt: &(impl AllocGlobal + Abort), value: T) -> String {
     format!(in rt.alloc(); "{value:?}").expect(rt, "memory")
 }
 

@@ -1,5 +1,5 @@
 // What becomes of lines.
-use crate::expect::{expect_eq, shown};
+use crate::expect::{debug_text, expect_eq};
 use crate::gate::{Gate, Host, new_gate};
 use crate::scene::{Queue, Step, expect_taken, play, play_over};
 use appender_non_blocking::non_blocking::{
@@ -175,7 +175,7 @@ fn a_writer_that_fails_ends_too(rt: HostRuntime) -> Result<(), Fail> {
 
 // The `Debug` text of a builder tells the limit.
 fn expect_limit_shown<R: Host + Abort>(rt: R) {
-    let text = shown(&rt, &NonBlockingBuilder::default());
+    let text = debug_text(&rt, &NonBlockingBuilder::default());
     assert!(rt; text.as_str().contains("128000"));
     expect_eq(&rt, DEFAULT_BUFFERED_LINES_LIMIT, 128_000);
 }

@@ -183,10 +183,10 @@ impl<R: Host + Abort> Scene<R> {
             Step::DropsSender => self.drops_sender(),
             Step::Comes(count) => self.comes(count),
             Step::HasCome(count) => self.has_come(count),
-            Step::Came(lines) => self.came(lines),
+            Step::Came(lines) => self.expect_lines(lines),
             Step::EveryByteCame => self.every_byte_came(),
             Step::LastFlushes(least) => self.last_flushes(least),
-            Step::Dropped(count) => self.dropped(count),
+            Step::Dropped(count) => self.expect_dropped(count),
             Step::CanBeShown => self.can_be_shown(),
         }
     }
@@ -269,11 +269,11 @@ impl<R: Host + Abort> Scene<R> {
         expect_eq(&self.rt, self.seen.count(), count);
     }
 
-    fn came(&self, lines: &[u8]) {
+    fn expect_lines(&self, lines: &[u8]) {
         expect_text(self.rt, &self.seen, lines);
     }
 
-    fn dropped(&self, count: usize) {
+    fn expect_dropped(&self, count: usize) {
         expect_eq(&self.rt, self.counter.dropped_lines(), count);
     }
 

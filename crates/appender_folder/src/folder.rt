@@ -70,7 +70,7 @@ impl<R: Files + AllocGlobal + Eprint + Clone + Drop> DirFolder<R> {
     }
 
     // Counts a call that fails.
-    fn counted<T: Drop>(&mut self, answer: io::Result<T>) -> io::Result<T>
+    fn count_failure<T: Drop>(&mut self, answer: io::Result<T>) -> io::Result<T>
         ensures same { result ≡ answer }
         ensures failures { CountsFailure (self.old.failures % 2 ^ 64) (self.new.failures % 2 ^ 64) answer }
         ensures noted { self.new.noted ≡ self.old.noted }
@@ -153,42 +153,42 @@ impl<R: Files + AllocGlobal + Eprint + Clone + Drop> Folder for DirFolder<R> {
 
     fn list(&mut self) -> io::Result<Vec<Listed>> {
         let answer = list_entries(&self.rt, self.path.as_str());
-        self.counted(answer)
+        self.count_failure(answer)
     }
 
     fn remove(&mut self, name: &str) -> io::Result<()> {
         let answer = remove_plain(&self.rt, self.path.as_str(), name);
-        self.counted(answer)
+        self.count_failure(answer)
     }
 
     fn open(&mut self, name: &str) -> io::Result<R::File> {
         let answer = open_plain(&self.rt, self.path.as_str(), name);
-        self.counted(answer)
+        self.count_failure(answer)
     }
 
     fn make_folder(&mut self) -> io::Result<()> {
         let answer = fs::create_dir_all(&self.rt, self.path.as_str());
-        self.counted(answer)
+        self.count_failure(answer)
     }
 
     fn remove_link(&mut self, name: &str) -> io::Result<()> {
         let answer = remove_link(&self.rt, self.path.as_str(), name);
-        self.counted(answer)
+        self.count_failure(answer)
     }
 
     fn make_link(&mut self, name: &str, target: &str) -> io::Result<()> {
         let answer = make_link(&self.rt, self.path.as_str(), name, target);
-        self.counted(answer)
+        self.count_failure(answer)
     }
 
     fn append(&mut self, file: &mut R::File, bytes: &[u8]) -> io::Result<usize> {
         let answer = file.write(bytes);
-        self.counted(answer)
+        self.count_failure(answer)
     }
 
     fn flush(&mut self, file: &mut R::File) -> io::Result<()> {
         let answer = file.flush();
-        self.counted(answer)
+        self.count_failure(answer)
     }
 
     fn note(&mut self, notice: Notice<'_>) {

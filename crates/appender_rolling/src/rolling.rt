@@ -195,7 +195,7 @@ impl<S: Folder> Roller<S> {
 
     /// The name of the open file and the second at which the next one begins, as they stand together
     /// in every roller, and so in one under a lock each time the lock is taken.
-    pub fn standing(&self) -> (&str, Option<i64>)
+    pub fn name_and_boundary(&self) -> (&str, Option<i64>)
         ensures { Stands self.now.config result.0.now self.now.opened result.1 }
     {
         (self.name.as_str(), self.boundary)

@@ -308,7 +308,12 @@ impl<A: Ledger, H: Ledger, S: Ledger, C: Ledger> State<FourBooks<A, H, S, C>> {
     ghost use Rattle.std.specs.Prelude.{◌+◌};
 
     /// What all shares together say of the queue, once the worker has closed it.
-    pub fn settled(&mut self, accepted: Share<A>, shutdowns: Share<S>, done: Done<H, C>) -> Counts
+    pub fn final_counts(
+        &mut self,
+        accepted: Share<A>,
+        shutdowns: Share<S>,
+        done: Done<H, C>,
+    ) -> Counts
         requires { (accepted.parts ≡ A.parts) × (H.parts ≡ 1) × (shutdowns.parts ≡ S.parts) × (C.parts ≡ 1) }
         ensures accepted { result.accepted ≡ accepted.amount }
         ensures handed { result.handed ≡ done.handed.amount }

@@ -53,9 +53,9 @@ pub(crate) fn compare<R: Files + Threads + Wait + Clock + Print + Eprint + Copy 
         lossy: true,
     };
     for round in 0..rounds {
-        through(&rt, alloc, start_ours(rt, alloc, limit)?, case, round)?;
-        through(&rt, alloc, start_channel(rt, alloc, limit)?, case, round)?;
-        through(&rt, alloc, start_plain(rt, alloc, limit)?, case, round)?;
+        send_through(&rt, alloc, start_ours(rt, alloc, limit)?, case, round)?;
+        send_through(&rt, alloc, start_channel(rt, alloc, limit)?, case, round)?;
+        send_through(&rt, alloc, start_plain(rt, alloc, limit)?, case, round)?;
         let file = OpenOptions::new()
             .create(true)
             .append(true)
@@ -66,7 +66,7 @@ pub(crate) fn compare<R: Files + Threads + Wait + Clock + Print + Eprint + Copy 
     Ok(())
 }
 
-fn through<S: LineSender + Drop, E: Ending + Drop, R: Threads + Wait + Clock + Print>(
+fn send_through<S: LineSender + Drop, E: Ending + Drop, R: Threads + Wait + Clock + Print>(
     rt: &R,
     alloc: Global,
     queue: Queue<S, E>,

@@ -214,7 +214,7 @@ impl Disk {
     }
 
     /// The names in byte order, a line each with what they hold.
-    pub fn shown(&self) -> io::Result<String> {
+    pub fn contents(&self) -> io::Result<String> {
         let mut lines = Vec::new(self.alloc);
         for entry in self.entries()?.iter() {
             if !entry.name.is_empty() {
@@ -226,17 +226,17 @@ impl Disk {
     }
 
     /// What all files hold, one behind the other as they were made, those whose names are gone too.
-    pub fn appended(&self) -> io::Result<String> {
+    pub fn all_bodies(&self) -> io::Result<String> {
         Ok(all_files(self.alloc, &self.entries()?)?)
     }
 
     /// What was printed on standard error since this was last asked.
-    pub fn printed(&self) -> String {
+    pub fn take_printed(&self) -> String {
         self.printed.replace(String::new(self.alloc))
     }
 
     pub(crate) fn print<D: Display + Drop>(&self, value: D, end: &str) -> io::Result<()> {
-        let mut printed = self.printed();
+        let mut printed = self.take_printed();
         let written = write!(printed, "{value}{end}");
         self.printed.set(printed);
         written?;

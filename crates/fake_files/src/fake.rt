@@ -9,7 +9,7 @@ use std::rt::Files;
 use std::time::Duration;
 use std::{io, time};
 
-fn unsupported() -> Error {
+fn unsupported_error() -> Error {
     Error::from(ErrorKind::Unsupported)
 }
 
@@ -83,7 +83,7 @@ impl<'a> Files for Fake<'a> {
         if self.disk.name_in(path)?.is_empty() {
             Ok(Metadata::of_dir())
         } else {
-            Err(unsupported())
+            Err(unsupported_error())
         }
     }
 
@@ -100,11 +100,11 @@ impl<'a> Files for Fake<'a> {
     }
 
     fn copy(&self, _from: &str, _to: &str) -> io::Result<u64> {
-        Err(unsupported())
+        Err(unsupported_error())
     }
 
     fn rename(&self, _from: &str, _to: &str) -> io::Result<()> {
-        Err(unsupported())
+        Err(unsupported_error())
     }
 
     fn remove_file(&self, path: &str) -> io::Result<()> {
@@ -120,7 +120,7 @@ impl<'a> Files for Fake<'a> {
         let disk = self.disk;
         disk.begin(Call::CreateDir)?;
         if path != FOLDER {
-            return Err(unsupported());
+            return Err(unsupported_error());
         }
         if disk.has_folder.replace(true) {
             return Err(Error::from(ErrorKind::AlreadyExists));
@@ -129,11 +129,11 @@ impl<'a> Files for Fake<'a> {
     }
 
     fn remove_dir(&self, _path: &str) -> io::Result<()> {
-        Err(unsupported())
+        Err(unsupported_error())
     }
 
     fn remove_dir_all<B: Allocator>(&self, _alloc: B, _path: &str) -> io::Result<()> {
-        Err(unsupported())
+        Err(unsupported_error())
     }
 
     fn symlink(&self, original: &str, link: &str) -> io::Result<()> {
@@ -151,7 +151,7 @@ pub struct FakeFile<'a> {
 
 impl Read for FakeFile<'_> {
     fn read(&mut self, _buf: &mut [u8]) -> io::Result<usize> {
-        Err(unsupported())
+        Err(unsupported_error())
     }
 }
 
@@ -181,7 +181,7 @@ impl Write for FakeFile<'_> {
 
 impl Seek for FakeFile<'_> {
     fn seek(&mut self, _to: SeekFrom) -> io::Result<u64> {
-        Err(unsupported())
+        Err(unsupported_error())
     }
 }
 
@@ -195,15 +195,15 @@ impl OpenFile for FakeFile<'_> {
     }
 
     fn set_len(&self, _size: u64) -> io::Result<()> {
-        Err(unsupported())
+        Err(unsupported_error())
     }
 
     fn sync_all(&self) -> io::Result<()> {
-        Err(unsupported())
+        Err(unsupported_error())
     }
 
     fn sync_data(&self) -> io::Result<()> {
-        Err(unsupported())
+        Err(unsupported_error())
     }
 }
 

@@ -118,7 +118,7 @@ impl<'a> ScriptLine<'a> {
             All (IsNotOf word.now words.old) (folder_kinds ++ run_kinds ++ queue_kinds) }
     {
         Ok(ScriptLine::Setting(match word {
-            "created" => Setting::Created(words.created()?),
+            "created" => Setting::Created(words.creation()?),
             "file" => Setting::File(words.word()?, words.text(alloc)?),
             "folder" => Setting::Folder(words.word()?),
             "link-at" => Setting::LinkAt(words.word()?, words.word()?),

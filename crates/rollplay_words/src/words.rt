@@ -79,7 +79,7 @@ impl<'a> Words<'a> {
     }
 
     /// The next word as a creation moment, in nanoseconds since the epoch, or `none`.
-    pub fn created(&mut self) -> Result<Option<i128>, LineError>
+    pub fn creation(&mut self) -> Result<Option<i128>, LineError>
         ensures ok { IfOk result (λ created. Takes (λ word. IsCreated word created) self.old self.new) }
         ensures err { IfErr result (λ e. (e ≡ LineError.Fault)
             × TakesNo (λ word. (created : Option ℤ) × IsCreated word created) self.old self.new) }

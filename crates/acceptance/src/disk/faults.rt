@@ -2,7 +2,7 @@
 
 use crate::disk::runs::{Outcome, Step};
 use crate::disk::scene::{ELEVEN, START, TWELVE, disk_of, expect_texts, put_file, write_log};
-use crate::expect::{Host, expect_eq_of, joined};
+use crate::expect::{Host, expect_eq_of, pair_text};
 use fake_files::disk::{Call, Disk};
 
 // A disk that holds `other.txt` alone.
@@ -92,7 +92,7 @@ static WRITES: [(&[Step], &str, &str, &str); 5] = [
 
 // Behind what the disk held at first stands what puts counted.
 fn expect_counted(rt: &impl Host, outcome: &Outcome, of: &[Step]) {
-    let counted = joined(rt, "kept", outcome.counted.as_str());
+    let counted = pair_text(rt, "kept", outcome.counted.as_str());
     expect_eq_of(rt, of, outcome.appended.as_str(), counted.as_str());
 }
 

@@ -2,7 +2,7 @@
 
 use crate::disk::runs::list_folder;
 use crate::disk::scene::{disk_of, put_file, write_log};
-use crate::expect::{Host, expect_eq, expect_eq_of, joined};
+use crate::expect::{Host, expect_eq, expect_eq_of, pair_text};
 use fake_files::disk::{Disk, Fault};
 use std::io::ErrorKind;
 
@@ -20,7 +20,7 @@ fn three_logs(rt: &impl Host) -> Disk {
 // Opens a log of which so many files are kept, and answers the files and what is told.
 fn open_log(rt: &impl Host, disk: &Disk, max: usize) -> String {
     let outcome = write_log(rt, disk, max, "", &[]);
-    joined(rt, outcome.files.as_str(), outcome.printed.as_str())
+    pair_text(rt, outcome.files.as_str(), outcome.printed.as_str())
 }
 
 // Opens such a log, and checks the files and what is told.

@@ -1,6 +1,6 @@
 // Runs of a log over a fake disk, told as texts.
 
-use crate::expect::{Host, joined, shown};
+use crate::expect::{Host, debug_text, pair_text};
 use appender_folder::folder::DirFolder;
 use appender_rolling::rolling::{Builder, Clock, RollingFile, Switch, SystemClock};
 use appender_store::store::Folder;
@@ -61,9 +61,9 @@ struct Told {
 }
 
 // What is told at first.
-fn begun(rt: &impl Host, answer: impl Display + Copy) -> Told {
+fn first_told(rt: &impl Host, answer: impl Display + Copy) -> Told {
     Told {
-        answers: joined(rt, answer, "\n"),
+        answers: pair_text(rt, answer, "\n"),
         counted: String::new(rt.alloc()),
     }
 }
@@ -138,13 +138,13 @@ fn do_steps<S: Folder, C: Clock>(
 // What is known of a run, and what its disk tells.
 fn outcome_of(rt: &impl Host, disk: &Disk, told: Told, failures: u64) -> Outcome {
     let Told { answers, counted } = told;
-    let printed = disk.printed();
+    let printed = disk.take_printed();
     Outcome {
         answers,
-        files: disk.shown().expect(rt, "a folder"),
+        files: disk.contents().expect(rt, "a folder"),
         printed: with_failures(rt, printed.as_str(), failures),
         counted,
-        appended: disk.appended().expect(rt, "bodies"),
+        appended: disk.all_bodies().expect(rt, "bodies"),
     }
 }
 
@@ -162,12 +162,12 @@ fn run_over<S: Folder, C: Clock>(
 ) -> Outcome {
     match builder.open_in(rt.alloc(), folder, clock) {
         Ok(log) => {
-            let mut told = begun(rt, "open");
+            let mut told = first_told(rt, "open");
             let failures = do_steps(rt, log, disk, steps, &mut told);
             outcome_of(rt, disk, told, failures)
         }
         Err((error, folder, _)) => {
-            let told = begun(rt, &error);
+            let told = first_told(rt, &error);
             outcome_of(rt, disk, told, folder.failures())
         }
     }
@@ -194,5 +194,5 @@ pub(crate) fn run_log(
 /// The entries of the folder as a listing tells them.
 pub(crate) fn list_folder(rt: &impl Host, disk: &Disk) -> String {
     let listed = folder_of(rt, disk).list().expect(rt, "a listing");
-    shown(rt, &listed)
+    debug_text(rt, &listed)
 }

@@ -2,7 +2,7 @@
 
 use crate::disk::runs::{Outcome, Step};
 use crate::disk::scene::{ELEVEN, START, TWELVE, expect_texts, old_logs, write_log};
-use crate::expect::{Host, expect_eq_of, joined};
+use crate::expect::{Host, expect_eq_of, pair_text};
 use std::process::Abort;
 
 static STEPS: [Step; 4] = [
@@ -140,7 +140,7 @@ static LONG_STEPS: [Step; 8] = [
 
 // Checks that the files hold what the disk did at first, and then what puts counted.
 fn expect_whole(rt: &impl Host, outcome: &Outcome, number: usize) {
-    let wanted = joined(rt, "opkept", outcome.counted.as_str());
+    let wanted = pair_text(rt, "opkept", outcome.counted.as_str());
     expect_eq_of(rt, number, outcome.appended.as_str(), wanted.as_str());
     let files = outcome.files.as_str();
     expect_eq_of(rt, number, files.contains("app.d/\n"), true);

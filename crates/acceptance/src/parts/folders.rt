@@ -113,7 +113,7 @@ fn walk<S: Folder>(rt: &impl Abort, folder: &mut S) -> Vec<Listed> {
 }
 
 // A folder with a file, a folder and a link.
-fn filled(rt: &impl Host) -> MemoryFolder {
+fn mixed_folder(rt: &impl Host) -> MemoryFolder {
     let mut folder = MemoryFolder::new(rt.alloc());
     folder.set_created(Some(-5));
     folder.put_file("old", b"o").expect(rt, "room");
@@ -180,7 +180,7 @@ fn expect_notices(rt: &impl Abort, folder: &MemoryFolder) {
 
 #[test]
 fn makes_each_call(rt: HostRuntime) {
-    let mut folder = filled(&rt);
+    let mut folder = mixed_folder(&rt);
     expect_listed(&rt, &walk(&rt, &mut folder));
     expect_names(&rt, &folder, &["latest", "new", "sub"]);
     expect_found(&rt, &folder);

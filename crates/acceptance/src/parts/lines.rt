@@ -67,7 +67,7 @@ static LINE_RUNS: [LineRun; 6] = [
 ];
 
 // Writes the line of a run, and answers the fault.
-fn written(writer: &mut Script, line: &str) -> Option<(usize, ErrorKind)> {
+fn fault_of_line(writer: &mut Script, line: &str) -> Option<(usize, ErrorKind)> {
     match run_line(writer, line.as_bytes()) {
         Ok(()) => None,
         Err(fault) => Some((fault.taken, fault.error.kind())),
@@ -76,7 +76,7 @@ fn written(writer: &mut Script, line: &str) -> Option<(usize, ErrorKind)> {
 
 fn check_run(rt: &impl Host, row: usize, run: &LineRun) {
     let mut writer = Script::new(rt.alloc(), run.interruptions, run.acts);
-    expect_eq_of(rt, row, written(&mut writer, run.line), run.fault);
+    expect_eq_of(rt, row, fault_of_line(&mut writer, run.line), run.fault);
     expect_eq_of(rt, row, writer.text.as_slice(), run.text.as_bytes());
     expect_eq_of(rt, row, writer.writes, run.writes);
     expect_eq_of(rt, row, writer.flushes, 0);

@@ -1,6 +1,6 @@
 // Runs of a queue's calls.
-use crate::expect::{Host, bytes, expect_eq, expect_eq_of, expect_shown, owned, shown};
-use crate::parts::script::{line_text, numbered};
+use crate::expect::{Host, bytes, copy_of, debug_text, expect_eq, expect_eq_of, expect_shown};
+use crate::parts::script::{line_text, word_and_number};
 use appender_core::queue::{Counts, LineQueue, Refused, Taken};
 use std::test::*;
 
@@ -147,9 +147,9 @@ static QUEUE_RUNS: [QueueRun; 9] = [
 ];
 
 // Offers a line, and tells the answer.
-fn offered(rt: &impl Host, queue: &mut LineQueue, line: &str) -> String {
+fn offer_text(rt: &impl Host, queue: &mut LineQueue, line: &str) -> String {
     match queue.offer(bytes(rt, line)) {
-        Ok(ticket) => numbered(rt, "accepted", ticket),
+        Ok(ticket) => word_and_number(rt, "accepted", ticket),
         Err(Refused::Full(line)) => line_text(rt, "full", &line),
         Err(Refused::Closed(line)) => line_text(rt, "closed", &line),
     }
@@ -158,21 +158,25 @@ fn offered(rt: &impl Host, queue: &mut LineQueue, line: &str) -> String {
 // What was taken, in words.
 fn taken_text(rt: &impl Host, taken: &Taken) -> String {
     match taken {
-        Taken::Line(ticket, line) => line_text(rt, numbered(rt, "line", *ticket).as_str(), line),
-        Taken::Shutdown => owned(rt, "shutdown"),
-        Taken::Gone => owned(rt, "gone"),
-        Taken::Empty => owned(rt, "empty"),
+        Taken::Line(ticket, line) => line_text(
+            rt,
+            word_and_number(rt, "line", *ticket).as_str(),
+            line,
+        ),
+        Taken::Shutdown => copy_of(rt, "shutdown"),
+        Taken::Gone => copy_of(rt, "gone"),
+        Taken::Empty => copy_of(rt, "empty"),
     }
 }
 
 // Makes the call, and tells its answer.
 fn answer(rt: &impl Host, queue: &mut LineQueue, call: Call) -> String {
     match call {
-        Call::Offer(line) => offered(rt, queue, line),
-        Call::Shut => shown(rt, queue.shut()),
+        Call::Offer(line) => offer_text(rt, queue, line),
+        Call::Shut => debug_text(rt, queue.shut()),
         Call::Take { waits } => taken_text(rt, &queue.take(waits)),
-        Call::AddSender => numbered(rt, "senders", queue.add_sender()),
-        Call::DropSender => numbered(rt, "senders", queue.drop_sender()),
+        Call::AddSender => word_and_number(rt, "senders", queue.add_sender()),
+        Call::DropSender => word_and_number(rt, "senders", queue.drop_sender()),
     }
 }
 

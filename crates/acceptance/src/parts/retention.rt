@@ -1,6 +1,6 @@
 // Which log files go, over listings and over a folder in memory.
 
-use crate::expect::{Host, expect_eq, expect_eq_of, owned};
+use crate::expect::{Host, copy_of, expect_eq, expect_eq_of};
 use crate::logs::{expect_count, folder_with};
 use crate::parts::names::names_of;
 use appender_core::names::Names;
@@ -24,7 +24,7 @@ fn push(rt: &impl Abort, listed: &mut Vec<Listed>, name: Option<String>, of: &En
 fn listing(rt: &impl Host, entries: &[Entry]) -> Vec<Listed> {
     let mut listed = Vec::new(rt.alloc());
     for entry in entries {
-        push(rt, &mut listed, Some(owned(rt, entry.0)), entry);
+        push(rt, &mut listed, Some(copy_of(rt, entry.0)), entry);
     }
     listed
 }

@@ -76,6 +76,6 @@ pub(crate) fn line_text(rt: &impl Host, word: &str, line: &[u8]) -> String {
 }
 
 /// A word, and behind it a number.
-pub(crate) fn numbered(rt: &impl Host, word: &str, number: u64) -> String {
+pub(crate) fn word_and_number(rt: &impl Host, word: &str, number: u64) -> String {
     format!(in rt.alloc(); "{word} {number}").expect(rt, "memory")
 }

@@ -1,5 +1,5 @@
 // Runs of a worker between a queue and a writer.
-use crate::expect::{Host, bytes, expect_eq_of, expect_shown, owned};
+use crate::expect::{Host, bytes, copy_of, expect_eq_of, expect_shown};
 use crate::parts::script::{Act, Script, line_text};
 use appender_core::queue::{LineQueue, Shut, Taken};
 use appender_core::worker::{Want, WorkerCore};
@@ -76,18 +76,18 @@ static WORKER_RUNS: [WorkerRun; 6] = [
 ];
 
 // What is wanted, in words.
-fn said(rt: &impl Host, want: Want) -> String {
+fn want_text(rt: &impl Host, want: Want) -> String {
     match want {
-        Want::Take { waits: true } => owned(rt, "wait"),
-        Want::Take { waits: false } => owned(rt, "take"),
+        Want::Take { waits: true } => copy_of(rt, "wait"),
+        Want::Take { waits: false } => copy_of(rt, "take"),
         Want::Write(rest) => line_text(rt, "write", rest),
-        Want::Flush => owned(rt, "flush"),
-        Want::Ended => owned(rt, "ended"),
+        Want::Flush => copy_of(rt, "flush"),
+        Want::Ended => copy_of(rt, "ended"),
     }
 }
 
 fn add_said(rt: &impl Host, wants: &mut String, want: Want) {
-    let said = said(rt, want);
+    let said = want_text(rt, want);
     wants.push_str(said.as_str()).expect(rt, "memory");
     wants.push_str(", ").expect(rt, "memory");
 }

@@ -26,16 +26,16 @@ fn list_entry<R: Files + Clone + Drop>(
 ) -> io::Result<Listed> {
     let entry = match entry {
         Ok(entry) => entry,
-        Err(fault) if is_no_text(&fault) => return Ok(unreadable()),
+        Err(fault) if is_no_text(&fault) => return Ok(unreadable_entry()),
         Err(fault) => return Err(fault),
     };
     match entry.metadata() {
         Ok(metadata) => Ok(Listed {
             name: Some(String::from_str(alloc, entry.file_name())?),
             kind: kind_of(&metadata),
-            created: created(&metadata),
+            created: creation_of(&metadata),
         }),
-        Err(_) => Ok(unreadable()),
+        Err(_) => Ok(unreadable_entry()),
     }
 }
 
@@ -44,7 +44,7 @@ fn is_no_text(fault: &io::Error) -> bool {
     fault.kind() == io::ErrorKind::InvalidFilename && fault.raw_os_error().is_none()
 }
 
-fn unreadable() -> Listed {
+fn unreadable_entry() -> Listed {
     Listed {
         name: None,
         kind: Kind::Other,
@@ -65,7 +65,7 @@ fn kind_of(metadata: &Metadata) -> Kind {
 }
 
 // In nanoseconds since 1970-01-01 00:00:00 UTC, where the file system tells it and it is not earlier.
-fn created(metadata: &Metadata) -> Option<i128> {
+fn creation_of(metadata: &Metadata) -> Option<i128> {
     let since = metadata.created().ok()?.duration_since(UNIX_EPOCH).ok()?;
     i128::try_from(since.as_nanos()).ok()
 }

@@ -185,7 +185,7 @@ impl<
         let (accepted, dropped) = end_all(senders, part);
         shared.drop_sender(&rt);
         let done = worker.join(&rt);
-        Ok(settled(&rt, &*shared, accepted, shutdowns, done, dropped))
+        Ok(account_of(&rt, &*shared, accepted, shutdowns, done, dropped))
     }
 }
 
@@ -215,7 +215,7 @@ fn end_all<A: Ledger, H: Ledger, S: Ledger, C: Ledger, R: Wait + Drop>(
 }
 
 // Takes the lock once more, with all shares in hand.
-fn settled<A: Ledger, H: Ledger, S: Ledger, C: Ledger, R: Wait>(
+fn account_of<A: Ledger, H: Ledger, S: Ledger, C: Ledger, R: Wait>(
     rt: &R,
     shared: &Shared<FourBooks<A, H, S, C>>,
     accepted: Share<A>,
@@ -232,7 +232,7 @@ fn settled<A: Ledger, H: Ledger, S: Ledger, C: Ledger, R: Wait>(
 {
     let counts = shared
         .lock(rt, &mut Patience::NEW)
-        .settled(accepted, shutdowns, done);
+        .final_counts(accepted, shutdowns, done);
     Account {
         accepted: counts.accepted,
         handed: counts.handed,

@@ -185,7 +185,7 @@ fn start<W: Write + Send + Drop + 'static, R: Threads + Wait + Eprint + Copy + S
     shared: &Arc<Shared<NoBooks>, Global>,
     writer: W,
 ) -> io::Result<()> {
-    let name = named(alloc, name)?;
+    let name = name_or_default(alloc, name)?;
     let shared = Arc::try_clone(shared)?;
     let mut writer = writer;
     let _worker = thread::Builder::new()
@@ -213,7 +213,7 @@ fn start_counted<
     requires { (pass.handed.parts ≡ 1) × (H.parts ≡ 1) × (pass.closings.parts ≡ 1) × (C.parts ≡ 1)
         × (pass.closings.amount ≡ 0) }
 {
-    let name = named(alloc, name)?;
+    let name = name_or_default(alloc, name)?;
     let shared = Arc::try_clone(shared)?;
     let mut writer = writer;
     let job = move || -> Done<H, C>
@@ -224,7 +224,7 @@ fn start_counted<
 }
 
 // The name of a worker's thread.
-fn named(alloc: Global, name: Option<String>) -> Result<String, AllocError> {
+fn name_or_default(alloc: Global, name: Option<String>) -> Result<String, AllocError> {
     match name {
         Some(name) => Ok(name),
         None => DEFAULT_NAME.to_string(alloc),

@@ -5,7 +5,7 @@ ghost use Rattle.appender_non_blocking.specs.Account.{Sums, new_sender};
 ghost use Rattle.appender_non_blocking.specs.Refusal.{IsRefusal};
 ghost use Rattle.appender_non_blocking.specs.Told.{after_line};
 
-use super::sender::{Sent, copied, send};
+use super::sender::{Sent, copy_of, send};
 use super::shared::Shared;
 use appender_state::books::FourBooks;
 use appender_sync::sync::Patience;
@@ -90,7 +90,7 @@ impl<A: Ledger, H: Ledger, S: Ledger, C: Ledger, R: Wait + Drop> CountedSender<A
             queued,
             dropped,
         } = self;
-        let copy = match copied(*alloc, spare, line) {
+        let copy = match copy_of(*alloc, spare, line) {
             Ok(copy) => copy,
             Err(kind) => return Err(io::Error::from(kind)),
         };

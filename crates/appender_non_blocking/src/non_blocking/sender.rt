@@ -107,7 +107,7 @@ impl<R: Wait + Drop> NonBlocking<R> {
             spare,
             patience,
         } = self;
-        let line = copied(*alloc, spare, buf)?;
+        let line = copy_of(*alloc, spare, buf)?;
         match send(rt, &**shared, *lossy, line, spare, patience, &mut ()) {
             Some(_) => Ok(()),
             None => Err(ErrorKind::Other),
@@ -149,7 +149,7 @@ fn fault(kind: ErrorKind) -> io::Result<usize>
 
 /// A copy of a line, in the spare buffer.
 #[inline(always)]
-pub(super) fn copied(alloc: Global, spare: &mut Vec<u8>, buf: &[u8]) -> Result<Vec<u8>, ErrorKind>
+pub(super) fn copy_of(alloc: Global, spare: &mut Vec<u8>, buf: &[u8]) -> Result<Vec<u8>, ErrorKind>
     ensures copy { IfOk result (λ line. line.items ≡ buf.now) }
     ensures kind { IfErr result (λ kind. kind ≡ ErrorKind.OutOfMemory) }
 {

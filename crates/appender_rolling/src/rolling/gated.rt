@@ -83,7 +83,7 @@ impl<S: Folder> Gated<S> {
 
     pub(super) fn fmt<R: Wait, W: fmt::Write>(&self, rt: &R, f: &mut Formatter<W>) -> fmt::Result {
         let roller = lock(rt, &self.roller, &mut Patience::NEW);
-        let (open_name, boundary) = roller.standing();
+        let (open_name, boundary) = roller.name_and_boundary();
         f.debug_struct("RollingFileAppender")
             .field("open_name", &open_name)
             .field("boundary", &boundary)

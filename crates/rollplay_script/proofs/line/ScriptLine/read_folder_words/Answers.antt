@@ -3,12 +3,12 @@ use Rattle.rollplay_words.specs.Words.{TakesWord, Takes}
 use Rattle.rollplay_words.specs.Text.{IsEscaped, StandsForNone, IsCount}
 use Rattle.rollplay_script.proofs.LineLemmas.{continues_with, none_behind, none_unless, takes_no, takes_none, takes_once}
 use Rattle.rollplay_script.specs.Line.{folder_kinds, run_kinds, queue_kinds, created, file, folder, link_at, absent, failing, shortened}
-use Rattle.rollplay_script.proofs.line.ScriptLine.read_folder_words.Goals.{in-created+in_ok-created-in-created, in-file+in_ok-word-in-file+in_ok-text-in-file, in-folder+in_ok-word-in-folder, in-text+in_ok-word-in-text+in_ok-word-in-text-2, in-absent, in-fail+in_ok-call-in-fail, in-short+in_ok-call-in-short+in_ok-count-in-short}
+use Rattle.rollplay_script.proofs.line.ScriptLine.read_folder_words.Goals.{in-created+in_ok-creation-in-created, in-file+in_ok-word-in-file+in_ok-text-in-file, in-folder+in_ok-word-in-folder, in-text+in_ok-word-in-text+in_ok-word-in-text-2, in-absent, in-fail+in_ok-call-in-fail, in-short+in_ok-call-in-short+in_ok-count-in-short}
 use Rattle.rollplay_script.proofs.line.ScriptLine.read_folder_words.Goals as goal
 
-pub returns-in_err-created-in-created-clause-fault : goal.returns-in_err-created-in-created-clause-fault
-returns-in_err-created-in-created-clause-fault c = λ e. none_behind c.args.word.now c.args.words.now (folder_kinds ++ run_kinds ++ queue_kinds) created c.in-created.is (λ line left h.
-    takes_no _ _ _ _ _ h.2 c.in_err-created-in-created.ensures.err.1 (λ w is. (h.0, is)))
+pub returns-in_err-creation-in-created-clause-fault : goal.returns-in_err-creation-in-created-clause-fault
+returns-in_err-creation-in-created-clause-fault c = λ e. none_behind c.args.word.now c.args.words.now (folder_kinds ++ run_kinds ++ queue_kinds) created c.in-created.is (λ line left h.
+    takes_no _ _ _ _ _ h.2 c.in_err-creation-in-created.ensures.err.1 (λ w is. (h.0, is)))
 
 pub returns-in_err-call-in-fail-clause-fault : goal.returns-in_err-call-in-fail-clause-fault
 returns-in_err-call-in-fail-clause-fault c = λ e. none_behind c.args.word.now c.args.words.now (folder_kinds ++ run_kinds ++ queue_kinds) failing c.in-fail.is (λ line left h.
@@ -54,8 +54,8 @@ returns-in_default-clause-fault c = λ e.
 
 pub returns-clause-ok : goal.returns-clause-ok
 returns-clause-ok c = elim c.match-word.branch [
-  | in-created+in_ok-created-in-created w ↦
-      rw (w.words-is, w.result-is) (continues_with _ _ created w.in-created.is _ _ (_, refl, w.in_ok-created-in-created.ensures.ok))
+  | in-created+in_ok-creation-in-created w ↦
+      rw (w.words-is, w.result-is) (continues_with _ _ created w.in-created.is _ _ (_, refl, w.in_ok-creation-in-created.ensures.ok))
   | in-file+in_ok-word-in-file+in_ok-text-in-file w ↦
       rw (w.words-is, w.result-is) (continues_with _ _ file w.in-file.is _ _ (_, _, refl, (_, w.in_ok-word-in-file.ensures.ok, record { text = w.in_ok-text-in-file.ensures.ok; all = w.text.ensures.all })))
   | in-folder+in_ok-word-in-folder w ↦
