@@ -1,7 +1,8 @@
 // The whole program over a real folder, and its lines over a folder in memory.
 use crate::expect::{expect_eq, expect_eq_of};
-use audit_trail_core::gather::{Host, Trails, keep_all};
+use audit_trail_core::gather::{Trails, keep_all};
 use audit_trail_core::trail::{Fault, keep, write_lines};
+use program_input::Host;
 use std::alloc::{AllocError, Global};
 use std::cell::Cell;
 use std::io::{Read, Write};
@@ -93,9 +94,10 @@ fn clear(rt: &impl Disk, directory: &str) {
 fn keeps_all_lines_of_all_runs(rt: HostRuntime) -> Result<(), Fail> {
     let arguments = Vec::from_array(rt.alloc(), [fresh(&rt, "runs")?])?;
     check(&rt, arguments.as_slice(), b"first\n\nlast", 0, "");
-    check(&rt, arguments.as_slice(), b"\nagain\n", 0, "");
+    check(&rt, arguments.as_slice(), b"", 0, "");
+    check(&rt, arguments.as_slice(), b"again\n\n", 0, "");
     let directory = arguments[0].as_str();
-    check_newest(&rt, directory, "first\n\nlast\nagain\n");
+    check_newest(&rt, directory, "first\n\nlast\nagain\n\n");
     clear(&rt, directory);
     Ok(())
 }
@@ -308,7 +310,7 @@ fn each_line_is_put_at_its_moment(rt: HostRuntime) {
     assert!(rt; write_lines(alloc, &mut input, &mut log).is_ok());
     let (folder, _) = log.into_parts();
     expect_file(&rt, &folder, "app.2020-02-01-10", "a\n");
-    expect_file(&rt, &folder, "app.2020-02-01-11", "b\nc");
+    expect_file(&rt, &folder, "app.2020-02-01-11", "b\nc\n");
 }
 
 #[test]

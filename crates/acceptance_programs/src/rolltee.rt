@@ -1,6 +1,7 @@
 // The whole program over a real folder.
 use crate::expect::expect_eq;
-use rolltee_core::tee::{Host, Logs, tee};
+use program_input::Host;
+use rolltee_core::tee::{Logs, tee};
 use std::alloc::{AllocError, Global};
 use std::io::{Read, Write};
 use std::process::Abort;

@@ -7,12 +7,12 @@ use Rattle.appender_names.specs.Rotation.{IsMoment, period_of, next_of}
 use Rattle.appender_store.specs.Content.{Content, IsSound, body_at, after_append, after_make_folder}
 use Rattle.appender_store.specs.Folder.{Counts}
 use Rattle.appender_store.specs.NameLaws.{NameLaws}
+use Rattle.appender_store.proofs.Appends.{after_append_nothing, after_append_twice, after_append_at}
 use Rattle.appender_rolling.specs.Config.{Config, naming_of}
 use Rattle.appender_rolling.specs.Kept.{Keeps, KeepsFiles, KeepsOtherFiles, PartsKeep}
 use Rattle.appender_rolling.specs.Opening.{file_name_of, LeavesLittle}
 use Rattle.appender_rolling.specs.declared.rolling.Switch.TheVariants.{Opened as Switched, Failed as SwitchFailed}
-use Rattle.appender_replay.specs.Run.{Event, Attempt, time_of, times, carrier, passes, bytes_of_attempt, bytes_to_body, bytes_in_period, is_number, since, up_to, open_body, Carried, Succeeded, Tried, Leads, NamesLead, NotesLead, NoneFailed, FileLaw, FilesHoldTheirPeriods, latest_moment, period_at, arrives}
-use Rattle.appender_replay.proofs.Bodies.{after_append_nothing, after_append_twice, after_append_at}
+use Rattle.appender_replay.specs.Run.{Event, Attempt, time_of, times, carrier, passes, bytes_of_attempt, bytes_to_body, bytes_in_period, is_number, since, up_to, open_body, Carried, Succeeded, Tried, Leads, NamesLead, NotesLead, FileLaw, FilesHoldTheirPeriods, latest_moment, period_at, arrives}
 use Rattle.appender_replay.proofs.NamesLeft.{leads_to}
 use Rattle.appender_replay.proofs.Periods.{Laws, IsLater, later_differs, later_still}
 use Rattle.appender_replay.proofs.Owners.{AreOwners, OtherNames, each_holds, each_in_its_period, each_name, each_stands, each_holds_its_period, open_in_its_period, then_later, pieces_before, owners_stay, owners_kept, owners_with_piece, owners_with_failure, owners_with_success, owners_begin}

@@ -1,4 +1,3 @@
-pub mod Bodies
 pub mod NamesLeft
 pub mod Periods
 pub mod Turns

@@ -1,5 +1,5 @@
 -- What was written of the lines that the worker took.
-use Rattle.std.proofs.Common.{◌≡◌, ◌≢◌, ◌⊎◌, ℕ, suc, zero, ◌+◌, ◌-◌, ◌<◌, ◌≤◌, ◌==◌, nat_le, nat_lt, nat_eq, leb, Bool, true, false, if◌then◌else◌, List, [], ◌∷◌, ◌++◌, length, map, take, drop, length-drop, length-append, Option, Some, None, Result, Ok, Err, inl, inr, refl, ap, sym, ◌∙◌, subst, arith, append_assoc}
+use Rattle.std.proofs.Common.{◌≡◌, ℕ, suc, zero, ◌+◌, ◌-◌, ◌<◌, ◌≤◌, ◌==◌, nat_le, nat_lt, Bool, true, false, if◌then◌else◌, List, [], ◌∷◌, ◌++◌, length, map, take, drop, length-drop, length-append, Result, Ok, Err, inl, inr, refl, ap, sym, ◌∙◌, subst, arith, append_assoc}
 use Rattle.std.specs.Prelude.{ℤ, All}
 use Rattle.std.specs.declared.io.ErrorKind.{ErrorKind}
 use Rattle.std.proofs.lemmas.List.{append-nil, map-append, drop-drop, take_all}
@@ -8,8 +8,6 @@ use Rattle.std.proofs.Math.Seq.{take-add, length-take-le}
 use Rattle.appender_worker.specs.Core.{Core, Taking, Writing, Flushing, Ending, Over, Wrote as DidWrite, Interrupted, Failed, Line, after_took, after_wrote, is_writing, most_repeats}
 use Rattle.appender_worker.specs.CoreReplies.{is_interruption}
 use Rattle.appender_queue.specs.Queue.{Queue, has_line, is_sent}
-use Rattle.appender_rolling.specs.Roller.{count_of}
-use Rattle.appender_rolling.specs.declared.rolling.Switch.{Switch}
 use Rattle.appender_replay.specs.Record.{Answered, Offered, WrittenLine, taken_line, after_write, with_write, written_by, written_lines, text_of_lines, whole_lines, accepted_lines, handed_lines, handed_by, with_ticket, at_end, worker_event, worker_after, after_event, queue_after}
 use Rattle.appender_replay.specs.Answers.{StepAnswers, WorkAnswers, Answers, file_event, events, text_of_events}
 use Rattle.appender_replay.specs.Whole.{IsDone, AreDone, IsBegun}

@@ -6,12 +6,12 @@ use Rattle.std.specs.FinMap as fin
 use Rattle.appender_names.specs.declared.rotation.Rotation.{Rotation}
 use Rattle.appender_names.specs.Rotation.{IsMoment, period_of}
 use Rattle.appender_store.specs.Content.{Content, Entry, File, IsSound, body_at, after_append, Opens}
+use Rattle.appender_store.proofs.Appends.{after_append_at}
 use Rattle.appender_rolling.specs.Config.{Config}
 use Rattle.appender_rolling.specs.Kept.{Keeps, KeepsOtherFiles, FileStays}
 use Rattle.appender_rolling.specs.Opening.{file_name_of}
 use Rattle.appender_rolling.specs.declared.rolling.Switch.TheVariants.{Failed as SwitchFailed}
 use Rattle.appender_replay.specs.Run.{Event, Attempt, is_same, period_at, carrier, passes, bytes_where, bytes_of_attempt, bytes_in_period, NoneFailed, OpensNoneOf, AreApart, HoldsItsOwn, HasItsName, NamesItsBody, CarriesItsPeriod, HoldsItsPeriod, EachOf}
-use Rattle.appender_replay.proofs.Bodies.{after_append_at}
 use Rattle.appender_replay.proofs.Periods.{IsLater, same_is_same, later_differs, later_still}
 
 same_body : (a b : ℕ) → ◌≡◌ {A = Option ℕ} (Some a) (Some b) → a ≡ b

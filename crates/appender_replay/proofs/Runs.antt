@@ -1,6 +1,6 @@
 -- A run of steps over a roller keeps to the laws of the clock and of the files.
 use Rattle.std.proofs.lemmas.Int.{ints}
-use Rattle.std.proofs.Common.{◌≡◌, ◌≢◌, ℕ, ℤ, true, false, inl, inr, List, [], ◌∷◌, ◌++◌, length, map, Option, None, Some, IsTrue, arith, refl, ap, sym, ◌∙◌, subst, suc}
+use Rattle.std.proofs.Common.{◌≡◌, ◌≢◌, ℕ, ℤ, true, false, inl, inr, List, [], ◌∷◌, ◌++◌, length, Option, None, Some, IsTrue, arith, refl, ap, sym, ◌∙◌, subst, suc}
 use Rattle.appender_names.specs.declared.rotation.Rotation.{Rotation}
 use Rattle.appender_names.specs.Name.{NamesArePeriods}
 use Rattle.appender_names.specs.Rotation.{IsMoment, period_of, next_of}

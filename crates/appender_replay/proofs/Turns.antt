@@ -4,7 +4,7 @@ use Rattle.std.specs.declared.io.Error.{Error}
 use Rattle.std.specs.declared.io.ErrorKind.{ErrorKind}
 use Rattle.appender_store.specs.Content.{after_append}
 use Rattle.appender_store.specs.declared.store.Folder.{Ghosts}
-use Rattle.appender_replay.proofs.Bodies.{after_append_nothing}
+use Rattle.appender_store.proofs.Appends.{after_append_nothing}
 use Rattle.appender_rolling.specs.Roller.{Rolling, Sees, Writes, StaysOpen, count_of}
 use Rattle.appender_replay.specs.Run.{Event}
 use Rattle.appender_replay.specs.Replay.{Told, StepDoes, kind_told, event_of}

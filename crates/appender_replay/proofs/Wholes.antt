@@ -4,6 +4,7 @@ use Rattle.std.specs.Prelude.{◌==◌}
 use Rattle.appender_worker.specs.Core.{Core, Taking, Writing, Flushing, Ending, Over}
 use Rattle.appender_queue.specs.Queue.{Queue, has_line, is_sent, fresh}
 use Rattle.appender_store.specs.declared.store.Folder.{Ghosts}
+use Rattle.appender_store.proofs.Appends.{after_append_nothing}
 use Rattle.appender_rolling.specs.Config.{Config}
 use Rattle.appender_rolling.specs.Roller.{Rolling, OpensRoller, StaysOpen}
 use Rattle.appender_rolling.specs.declared.rolling.Switch.TheVariants.{None as Stayed}
@@ -15,7 +16,6 @@ use Rattle.appender_replay.specs.Inside.Steps.{Parts, StepDoes, WorkDoes}
 use Rattle.appender_replay.specs.declared.replay.whole.Step.TheVariants.{Offer, Shut, AddSender, DropSender, Work}
 use Rattle.appender_replay.specs.declared.replay.whole.Reply.{Reply}
 use Rattle.appender_replay.specs.declared.replay.whole.Reply.TheVariants.{Took, TookShutdown, TookGone, TookEmpty, Wrote, Flushed}
-use Rattle.appender_replay.proofs.Bodies.{after_append_nothing}
 use Rattle.appender_replay.proofs.Turns.{Turns, stays_same, count_told, written_piece}
 use Rattle.appender_replay.proofs.Runs.{Grounds, RunSoFar, run_law}
 use Rattle.appender_replay.proofs.Records.{Stands, stands_on}

@@ -10,6 +10,7 @@ use Rattle.appender_rolling.specs.declared.rolling.Switch.{Switch}
 use Rattle.appender_rolling.specs.declared.rolling.clock.Clock.{Ghosts as Readings}
 use Rattle.appender_rolling.specs.Appender.{Appending, OpensSome, PutsNow}
 use Rattle.appender_rolling.specs.Config.{Config}
+use Rattle.program_input.specs.Line.{ended}
 use Rattle.audit_trail_core.specs.declared.trail.Fault.{Fault}
 use Rattle.audit_trail_core.specs.declared.trail.Fault.TheVariants.{Usage, Open, Read, Write, Cut, Lost, Thread, Unsettled, Memory}
 
@@ -18,13 +19,13 @@ pub record PutsLine {S F C : Type 0} (kind : Ghosts S F) (time : Readings C) (li
   pub switch : Switch
   pub puts : PutsNow kind time line switch (Ok (length line)) old new
 
--- So many lines of a text were put, each whole and one after another, each through its newline, and this rest of the text is left.
--- Where nothing is left there is no line.
+-- So many lines of a text were put, each whole and one after another, each through its newline, which a last line without one is
+-- given, and this rest of the text is left. Where nothing is left there is no line.
 abbrev pub PutsLines : {S F C : Type 0} → Ghosts S F → Readings C → ℕ → List ℕ → Appending S F C → List ℕ → Appending S F C → Type 0
 PutsLines kind time zero text start rest now = (rest ≡ text) × (now ≡ start)
 PutsLines {S} {F} {C} kind time (suc count) text start rest now =
     (left : List ℕ) × (last : Appending S F C) × PutsLines kind time count text start left last × (left ≢ [])
-    × PutsLine kind time (take_through 10 left) last now × (rest ≡ drop_through 10 left)
+    × PutsLine kind time (ended (take_through 10 left)) last now × (rest ≡ drop_through 10 left)
 
 -- the trail's log: a file a day, `audit.yyyy-MM-dd.log`, of which 366 are kept, and a link to the newest
 abbrev pub trail_config : Config

@@ -2,7 +2,7 @@
 ghost use Rattle.std.specs.Prelude.{◌≡◌, ◌+◌, ◌≤◌, IfOk, vec_len};
 
 use crate::trail::{Fault, open_log, tell};
-use program_input::read_line;
+use program_input::{Host, end_line, read_line};
 use std::alloc::{AllocError, Global};
 use std::fs::File;
 use std::io::{BufRead, BufReader, Read, Write};
@@ -11,8 +11,7 @@ use std::sync::atomic::AtomicU64;
 use std::sync::atomic::Ordering::SeqCst;
 use std::sync::ledger::{Blank, Ledger};
 use std::sync::{Arc, Wait};
-use std::thread::{JoinHandle, Threads};
-use std::time::Clock;
+use std::thread::JoinHandle;
 use std::{io, thread};
 use tracing_appender::folder::DirFolder;
 use tracing_appender::non_blocking::{Account, CountedGuard, CountedSender, NonBlockingBuilder};
@@ -20,11 +19,6 @@ use tracing_appender::rolling::{InitError, RollingFile, SystemClock};
 
 /// How many lines may wait to be written; behind them the sources wait.
 const WAITING_LINES: usize = 1024;
-
-/// What the program asks of its runtime.
-pub trait Host: AllocGlobal + Threads + Wait + Clock + Print + Eprint + Copy + Send + 'static {}
-
-impl<R: AllocGlobal + Threads + Wait + Clock + Print + Eprint + Copy + Send + 'static> Host for R {}
 
 /// Opens the trail and its sources: those of the file system, or a test's own.
 pub trait Trails {
@@ -356,15 +350,8 @@ fn send_lines<S: LineSender, I: BufRead>(
         if !read_line(input, &mut line)? {
             return Ok(());
         }
-        send_line(sender, &mut line)?;
+        end_line(&mut line)?;
+        sender.send(line.as_slice()).map_err(Fault::Write)?;
     }
     Err(Fault::Read(io::Error::other("too many lines")))
-}
-
-// Sends a line with its newline. A last line without one gets it, since lines of other sources follow.
-fn send_line<S: LineSender>(sender: &mut S, line: &mut Vec<u8>) -> Result<(), Fault> {
-    if line.last() != Some(&b'\n') {
-        line.push(b'\n').map_err(AllocError::from)?;
-    }
-    sender.send(line.as_slice()).map_err(Fault::Write)
 }

@@ -3,7 +3,7 @@ ghost use Rattle.std.specs.Prelude.{◌≡◌, ◌≢◌, ◌≤◌, ℕ, List, 
 ghost use Rattle.audit_trail_core.specs.Trail.{PutsLine, PutsLines, KeepsLines, trail_config, status_of};
 ghost use Rattle.appender_rolling.specs.Appender.{OpensSome};
 
-use program_input::read_line;
+use program_input::{end_line, read_line};
 use std::alloc::{AllocError, Global};
 use std::io::{BufRead, BufReader, Read, Write};
 use std::rt::Runtime;
@@ -159,7 +159,7 @@ fn settings(alloc: Global) -> Result<Builder, AllocError>
     Ok(linked.max_log_files(KEPT_DAYS))
 }
 
-/// Writes each line of `input`, with its newline, if it has one.
+/// Writes each line of `input` with its newline, which a last line without one is given.
 pub fn write_lines<I: BufRead, S: Folder, C: Clock>(
     alloc: Global,
     input: &mut I,
@@ -173,6 +173,7 @@ pub fn write_lines<I: BufRead, S: Folder, C: Clock>(
         if !read_line(input, &mut line)? {
             return Ok(());
         }
+        end_line(&mut line)?;
         write_line(line.as_slice(), log)?;
     }
     Err(Fault::Read(io::Error::other("too many lines")))

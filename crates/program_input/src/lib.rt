@@ -1,14 +1,23 @@
-//! What programs are given: their arguments, and an input of lines, which may go to a writer.
+//! What programs are given: a runtime, arguments, and an input of lines, which may go to a writer.
 #![tactic(auto)]
 
-ghost use Rattle.std.specs.Prelude.{◌≡◌, ◌≢◌, ℕ, List, [], Some, Ok, OnOk, true, false};
+ghost use Rattle.std.specs.Prelude.{◌≡◌, ◌≢◌, ℕ, List, [], Some, Ok, OnOk, OnErr, true, false};
 ghost use Rattle.std.specs.Io.BufRead.{take_through, drop_through};
 ghost use Rattle.std.specs.Io.KnownBytes.{Appends, IsAtEnd};
+ghost use Rattle.program_input.specs.Line.{ended};
 
 use std::alloc::{AllocError, Global};
 use std::io::{BufRead, Write};
 use std::rt::Env;
+use std::sync::Wait;
+use std::thread::Threads;
+use std::time::Clock;
 use std::{env, io};
+
+/// What a program that starts threads asks of its runtime.
+pub trait Host: AllocGlobal + Threads + Wait + Clock + Print + Eprint + Copy + Send + 'static {}
+
+impl<R: AllocGlobal + Threads + Wait + Clock + Print + Eprint + Copy + Send + 'static> Host for R {}
 
 /// What stands behind the program's name. The error is that of the runtime where one of them is no
 /// UTF-8, or `OutOfMemory`.
@@ -33,6 +42,19 @@ pub fn read_line<I: BufRead>(input: &mut I, line: &mut Vec<u8>) -> io::Result<bo
     line.clear();
     let length = input.read_until(b'\n', line)?;
     Ok(length > 0)
+}
+
+/// Puts a newline behind a line that has none at its end. The error is that memory was refused, and
+/// then the line is as it was.
+pub fn end_line(line: &mut Vec<u8>) -> Result<(), AllocError>
+    ensures ended { OnOk result (line.new.items ≡ ended line.old.items) }
+    ensures refused { OnErr result (line.new.items ≡ line.old.items) }
+{
+    let length = line.len();
+    if length == 0 || line[length - 1] != b'\n' {
+        line.push(b'\n').map_err(AllocError::from)?;
+    }
+    Ok(())
 }
 
 /// Why lines were not copied to the end.

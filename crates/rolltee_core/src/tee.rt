@@ -2,12 +2,11 @@
 ghost use Rattle.std.specs.Prelude.{◌≡◌, ◌≢◌, ◌≤◌, length, Err};
 ghost use Rattle.rolltee_core.specs.Status.{status_of};
 
-use program_input::{CopyFault, copy_lines};
+use program_input::{CopyFault, Host, copy_lines};
 use std::alloc::{AllocError, Global};
 use std::io;
 use std::io::{BufReader, Read, Write};
 use std::sync::Wait;
-use std::thread::Threads;
 use std::time::Clock;
 use thiserror::Error;
 use tracing_appender::non_blocking::{Closing, NonBlocking, NonBlockingBuilder, WorkerGuard};
@@ -15,11 +14,6 @@ use tracing_appender::rolling::{FileAppender, InitError, RollingFileAppender, Ro
 
 /// How many lines may wait to be written; behind them the reading waits.
 const LIMIT: usize = 1024;
-
-/// What the program asks of its runtime.
-pub trait Host: AllocGlobal + Threads + Wait + Clock + Print + Eprint + Copy + Send + 'static {}
-
-impl<R: AllocGlobal + Threads + Wait + Clock + Print + Eprint + Copy + Send + 'static> Host for R {}
 
 /// Opens logs: those of the file system, or a test's own.
 pub trait Logs {

@@ -1,6 +1,7 @@
 use Rattle.std.proofs.Common.{◌≡◌, ℕ, List, [], refl, subst, ◌∙◌, ap, suc, Ok}
 use Rattle.std.specs.Io.BufRead.{take_through, drop_through}
 use Rattle.std.specs.Io.KnownBytes.{IsAtEnd}
+use Rattle.program_input.specs.Line.{ended}
 use Rattle.audit_trail_core.specs.Trail.{PutsLine, PutsLines}
 use Rattle.audit_trail_core.proofs.trail.write_lines.Goals as goal
 
@@ -18,7 +19,7 @@ pub loop-preserved : goal.loop-preserved
 loop-preserved g c = λ text told.
     let t = c.loop.invariant text told in
     let read = c.in_ok-read_line.ensures in
-    let line = c.as_slice.ensures.value ∙ read.line t.1 t.2 in
+    let line = c.as_slice.ensures.value ∙ c.in_ok-end_line.ensures.ended ∙ ap ended (read.line t.1 t.2) in
     let puts = subst (λ line. PutsLine g.S.Folder g.C.Clock line c.loop.log c.write_line.new.log) line c.in_ok-write_line.ensures in
     let found = read.some (ap Ok c.if-not-branch.false) in
     let some = λ (none : t.1 ≡ []). found (◌∙◌ {A = List ℕ} (read.line t.1 t.2) (ap (take_through 10) none)) in

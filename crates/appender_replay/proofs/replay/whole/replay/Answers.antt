@@ -4,7 +4,6 @@ use Rattle.std.proofs.Math.Seq.{length-take-le}
 use Rattle.std.proofs.lemmas.Int.{to_z-of_z}
 use Rattle.std.proofs.lemmas.List.{take_more, take_all}
 use Rattle.appender_replay.specs.Replay.{told_of}
-use Rattle.appender_replay.specs.Answers.{events}
 use Rattle.appender_replay.specs.Inside.Steps.{parts}
 use Rattle.appender_replay.proofs.Files.{law_so_far, periods_so_far}
 use Rattle.appender_replay.proofs.Orders.{in_order, hands, labels}

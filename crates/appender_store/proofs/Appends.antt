@@ -1,4 +1,4 @@
--- What bodies hold after an append.
+-- What bodies hold after appends. The proofs of the crates above cite it.
 use Rattle.std.proofs.Common.{◌≡◌, ◌≢◌, ℕ, ◌<◌, Bool, true, false, List, [], ◌∷◌, ◌++◌, length, get_or, set, cond, ◌==◌, if◌then◌else◌, arith, refl, ap, sym, ◌∙◌, subst, zero, suc, append_assoc}
 use Rattle.std.proofs.lemmas.List.{get_or-set_same, get_or-set_other, append-nil, set-get_or}
 use Rattle.appender_store.specs.Content.{Content, body_at, after_append}
