@@ -177,7 +177,7 @@ fn write_account<O: Write>(account: Account, output: &mut O) -> Result<(), Fault
         output,
         "accepted {accepted} handed {handed} left {left} dropped {dropped}"
     )
-    .map_err(Fault::Write)
+    .map_err(Fault::of_write)
 }
 
 // Tells the fault of a source on `errors`, and answers its status.
@@ -188,8 +188,8 @@ fn tell_of<E: Write>(path: &str, fault: &Fault, errors: &mut E) -> u8
     tell(fault, errors)
 }
 
-/// The account of the lines of all sources, each read by a thread of its own, and how the sending of
-/// each source ended. Every line that was queued was handed to the log, and none is left.
+/// The account of the lines of all sources, each read by a thread of its own if one can be made, and how
+/// the sending of each source ended. Every line that was queued was handed to the log, and none is left.
 pub fn gather<L: Write + Send + Drop + 'static, I: Read + Send + Drop + 'static, R: Host>(
     rt: R,
     log: L,
@@ -247,7 +247,8 @@ fn gather_by<
             handed,
             shutdowns,
             closings,
-        )?;
+        )
+        .map_err(|fault| Fault::of_start(&fault))?;
     let (back, sent) = send_all(rt, senders, sources)?;
     match guard.settle(back) {
         Ok(account) => Ok((account, sent)),
@@ -269,51 +270,69 @@ impl<A: Ledger, H: Ledger, S: Ledger, C: Ledger, R: Wait + Drop> LineSender
     }
 }
 
-// The senders, once each has sent the lines of its source, and how that ended.
+// The lines of a source: a thread sends them, or they were sent.
+#[derive(Drop)]
+enum Sending<S: Drop> {
+    Runs(JoinHandle<(S, Result<(), Fault>)>),
+    Ended(S, Result<(), Fault>),
+}
+
+// The senders, once each has sent the lines of its source, and how that ended. There is room for all of
+// them before the first line is sent, so that no account is lost for want of it.
 fn send_all<S: LineSender + Send + Drop + 'static, I: Read + Send + Drop + 'static, R: Host>(
     rt: R,
     senders: Vec<S>,
     sources: Vec<I>,
 ) -> Result<(Vec<S>, Vec<Result<(), Fault>>), Fault> {
-    let mut running = Vec::new(rt.alloc());
-    for (sender, source) in senders.into_iter().zip(sources) {
-        let thread = start(rt, sender, source)?;
-        running.push(thread).map_err(AllocError::from)?;
-    }
-    join_all(rt, running)
+    let count = sources.len();
+    let (mut back, mut sent) = (
+        Vec::with_capacity(rt.alloc(), count)?,
+        Vec::with_capacity(rt.alloc(), count)?,
+    );
+    let sending = start_all(rt, senders, sources)?;
+    end_each(rt, sending, &mut back, &mut sent)?;
+    Ok((back, sent))
 }
 
-// A thread that sends the lines of a source.
+fn start_all<S: LineSender + Send + Drop + 'static, I: Read + Send + Drop + 'static, R: Host>(
+    rt: R,
+    senders: Vec<S>,
+    sources: Vec<I>,
+) -> Result<Vec<Sending<S>>, AllocError> {
+    let mut all = Vec::with_capacity(rt.alloc(), sources.len())?;
+    for (sender, source) in senders.into_iter().zip(sources) {
+        all.push(start(rt, sender, source))?;
+    }
+    Ok(all)
+}
+
+// A thread that sends the lines of a source. Where none can be made, this one sends them.
 fn start<S: LineSender + Send + Drop + 'static, I: Read + Send + Drop + 'static, R: Host>(
     rt: R,
     sender: S,
     source: I,
-) -> Result<JoinHandle<(S, Result<(), Fault>)>, Fault> {
+) -> Sending<S> {
     match thread::spawn(&rt, move || send_source(rt.alloc(), sender, source)) {
-        Ok(thread) => Ok(thread),
-        Err(_) => Err(Fault::Thread),
+        Ok(thread) => Sending::Runs(thread),
+        Err(refused) => {
+            let (sender, sent) = (refused.value)();
+            Sending::Ended(sender, sent)
+        }
     }
 }
 
-// What the threads give back.
-fn join_all<S: Drop, R: Host>(
+// Waits for the threads; senders and ends go to the ends of these two.
+fn end_each<S: Drop, R: Host>(
     rt: R,
-    running: Vec<JoinHandle<(S, Result<(), Fault>)>>,
-) -> Result<(Vec<S>, Vec<Result<(), Fault>>), Fault> {
-    let (mut back, mut sent) = (Vec::new(rt.alloc()), Vec::new(rt.alloc()));
-    join_each(rt, running, &mut back, &mut sent)?;
-    Ok((back, sent))
-}
-
-// The same at the ends of these two.
-fn join_each<S: Drop, R: Host>(
-    rt: R,
-    running: Vec<JoinHandle<(S, Result<(), Fault>)>>,
+    sending: Vec<Sending<S>>,
     back: &mut Vec<S>,
     sent: &mut Vec<Result<(), Fault>>,
 ) -> Result<(), AllocError> {
-    for thread in running {
-        let (sender, ended) = thread.join(&rt);
+    for one in sending {
+        let (sender, ended) = match one {
+            Sending::Runs(thread) => thread.join(&rt),
+            Sending::Ended(sender, ended) => (sender, ended),
+        };
         back.push(sender)?;
         sent.push(ended)?;
     }
@@ -351,7 +370,7 @@ fn send_lines<S: LineSender, I: BufRead>(
             return Ok(());
         }
         end_line(&mut line)?;
-        sender.send(line.as_slice()).map_err(Fault::Write)?;
+        sender.send(line.as_slice()).map_err(Fault::of_write)?;
     }
     Err(Fault::Read(io::Error::other("too many lines")))
 }

@@ -37,7 +37,7 @@ pub enum Fault {
     /// So many lines of sources came to the log, which didn't take the whole of them.
     #[error("lines not written whole: {0}")]
     Lost(u64),
-    /// A source got no thread of its own.
+    /// The thread that writes was not made.
     #[error("no thread")]
     Thread,
     /// A sender didn't come back.
@@ -59,6 +59,29 @@ impl Fault {
             _ => 1,
         }
     }
+
+    /// A fault of writing.
+    pub(crate) fn of_write(fault: io::Error) -> Fault {
+        if lacks_memory(&fault) {
+            Fault::Memory
+        } else {
+            Fault::Write(fault)
+        }
+    }
+
+    /// A fault of making the thread that writes.
+    pub(crate) fn of_start(fault: &io::Error) -> Fault {
+        if lacks_memory(fault) {
+            Fault::Memory
+        } else {
+            Fault::Thread
+        }
+    }
+}
+
+// Whether memory was refused.
+fn lacks_memory(fault: &io::Error) -> bool {
+    matches!(fault.kind(), io::ErrorKind::OutOfMemory)
 }
 
 impl From<AllocError> for Fault {
@@ -70,9 +93,10 @@ impl From<AllocError> for Fault {
 /// A fault of reading.
 impl From<io::Error> for Fault {
     fn from(fault: io::Error) -> Fault {
-        match fault.kind() {
-            io::ErrorKind::OutOfMemory => Fault::Memory,
-            _ => Fault::Read(fault),
+        if lacks_memory(&fault) {
+            Fault::Memory
+        } else {
+            Fault::Read(fault)
         }
     }
 }
@@ -133,7 +157,7 @@ fn log_lines<R: Runtime + AllocGlobal, I: BufRead>(
 {
     let mut log = open_log(rt, directory)?;
     write_lines(rt.alloc(), input, &mut log)?;
-    log.flush().map_err(Fault::Write)
+    log.flush().map_err(Fault::of_write)
 }
 
 /// Opens the log of the day in a folder, which is made where it isn't there.
@@ -186,6 +210,6 @@ fn write_line<S: Folder, C: Clock>(line: &[u8], log: &mut RollingFile<S, C>) -> 
     match log.put(line).1 {
         Ok(taken) if taken < line.len() => Err(Fault::Cut),
         Ok(_) => Ok(()),
-        Err(fault) => Err(Fault::Write(fault)),
+        Err(fault) => Err(Fault::of_write(fault)),
     }
 }

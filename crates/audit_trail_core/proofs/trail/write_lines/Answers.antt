@@ -19,7 +19,8 @@ pub loop-preserved : goal.loop-preserved
 loop-preserved g c = λ text told.
     let t = c.loop.invariant text told in
     let read = c.in_ok-read_line.ensures in
-    let line = c.as_slice.ensures.value ∙ c.in_ok-end_line.ensures.ended ∙ ap ended (read.line t.1 t.2) in
+    let put = ◌∙◌ {A = List ℕ} c.in_ok-end_line.ensures.ended (ap ended (read.line t.1 t.2)) in
+    let line = ◌∙◌ {A = List ℕ} c.as_slice.ensures.value put in
     let puts = subst (λ line. PutsLine g.S.Folder g.C.Clock line c.loop.log c.write_line.new.log) line c.in_ok-write_line.ensures in
     let found = read.some (ap Ok c.if-not-branch.false) in
     let some = λ (none : t.1 ≡ []). found (◌∙◌ {A = List ℕ} (read.line t.1 t.2) (ap (take_through 10) none)) in
