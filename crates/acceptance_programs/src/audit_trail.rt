@@ -1,7 +1,7 @@
 // The whole program over a real folder, and its lines over a folder in memory.
 use crate::expect::{expect_eq, expect_eq_of};
 use audit_trail_core::gather::{Trails, keep_all};
-use audit_trail_core::trail::{Fault, keep, write_lines};
+use audit_trail_core::trail::{Fault, keep, tell, write_lines};
 use program_input::Host;
 use std::alloc::{AllocError, Global};
 use std::cell::Cell;
@@ -112,6 +112,22 @@ fn tells_its_usage(rt: HostRuntime) -> Result<(), Fail> {
         "usage: audit_trail DIRECTORY [SOURCE..]\n",
     );
     Ok(())
+}
+
+// What the system says of arguments, and what the program makes of it.
+static ARGUMENTS: [(io::ErrorKind, &str, u8); 2] = [
+    (io::ErrorKind::InvalidData, "an argument is not UTF-8\n", 2),
+    (io::ErrorKind::OutOfMemory, "out of memory\n", 3),
+];
+
+#[test]
+fn tells_arguments_that_are_not_read(rt: HostRuntime) {
+    for (kind, told, status) in &ARGUMENTS {
+        let mut errors = Vec::new(rt.alloc());
+        let fault = Fault::of_arguments(&io::Error::from(*kind));
+        expect_eq(&rt, tell(&fault, &mut errors), *status);
+        expect_eq(&rt, errors.as_slice(), told.as_bytes());
+    }
 }
 
 #[test]

@@ -16,7 +16,7 @@ fn main(rt: HostRuntime) -> ExitCode {
             gather::keep_all(rt, &rt, directory, paths, &mut output, &mut errors)
         }
         Ok(arguments) => trail::keep(&rt, arguments.as_slice(), &mut rt.stdin(), &mut errors),
-        Err(fault) => trail::tell(&fault.into(), &mut errors),
+        Err(fault) => trail::tell(&trail::Fault::of_arguments(&fault), &mut errors),
     };
     ExitCode::from(status)
 }

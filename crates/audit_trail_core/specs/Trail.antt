@@ -12,7 +12,7 @@ use Rattle.appender_rolling.specs.Appender.{Appending, OpensSome, PutsNow}
 use Rattle.appender_rolling.specs.Config.{Config}
 use Rattle.program_input.specs.Line.{ended}
 use Rattle.audit_trail_core.specs.declared.trail.Fault.{Fault}
-use Rattle.audit_trail_core.specs.declared.trail.Fault.TheVariants.{Usage, Open, Read, Write, Cut, Lost, Thread, Unsettled, Memory}
+use Rattle.audit_trail_core.specs.declared.trail.Fault.TheVariants.{Usage, Argument, Open, Read, Write, Cut, Lost, Thread, Unsettled, Memory}
 
 -- the line was put, whole, at the moment that the clock told
 pub record PutsLine {S F C : Type 0} (kind : Ghosts S F) (time : Readings C) (line : List ℕ) (old new : Appending S F C) : Type 0 where
@@ -47,6 +47,7 @@ opening_status other = 1
 -- the status of a process that a fault ended
 abbrev pub status_of : Fault → ℕ
 status_of Usage = 2
+status_of Argument = 2
 status_of (Open error) = opening_status error
 status_of (Read fault) = 1
 status_of (Write fault) = 1

@@ -22,6 +22,9 @@ pub enum Fault {
     /// There was no argument.
     #[error("usage: audit_trail DIRECTORY [SOURCE..]")]
     Usage,
+    /// An argument was no UTF-8.
+    #[error("an argument is not UTF-8")]
+    Argument,
     /// No log was opened.
     #[error("{0}")]
     Open(#[from] InitError),
@@ -54,9 +57,18 @@ impl Fault {
         ensures { result ≡ status_of self.now }
     {
         match self {
-            Fault::Usage => 2,
+            Fault::Usage | Fault::Argument => 2,
             Fault::Memory | Fault::Open(InitError::Memory) => 3,
             _ => 1,
+        }
+    }
+
+    /// A fault of reading the arguments.
+    pub fn of_arguments(fault: &io::Error) -> Fault {
+        if lacks_memory(fault) {
+            Fault::Memory
+        } else {
+            Fault::Argument
         }
     }
 
