@@ -49,14 +49,13 @@ fn fresh(rt: &HostRuntime, name: &str) -> io::Result<String> {
 }
 
 // Runs the program, and compares the status and what it tells.
-fn check<R: Runtime + AllocGlobal + Abort>(
+fn check<R: Runtime + AllocGlobal + Abort, I: Read + Drop>(
     rt: &R,
     arguments: &[String],
-    input: &[u8],
+    mut input: I,
     status: u8,
     told: &str,
 ) {
-    let mut input = input;
     let mut errors = Vec::new(rt.alloc());
     let answer = keep(rt, arguments, &mut input, &mut errors);
     expect_eq(rt, errors.as_slice(), told.as_bytes());
@@ -93,9 +92,15 @@ fn clear(rt: &impl Disk, directory: &str) {
 #[test]
 fn keeps_all_lines_of_all_runs(rt: HostRuntime) -> Result<(), Fail> {
     let arguments = Vec::from_array(rt.alloc(), [fresh(&rt, "runs")?])?;
-    check(&rt, arguments.as_slice(), b"first\n\nlast", 0, "");
-    check(&rt, arguments.as_slice(), b"", 0, "");
-    check(&rt, arguments.as_slice(), b"again\n\n", 0, "");
+    check(
+        &rt,
+        arguments.as_slice(),
+        b"first\n\nlast".as_slice(),
+        0,
+        "",
+    );
+    check(&rt, arguments.as_slice(), b"".as_slice(), 0, "");
+    check(&rt, arguments.as_slice(), b"again\n\n".as_slice(), 0, "");
     let directory = arguments[0].as_str();
     check_newest(&rt, directory, "first\n\nlast\nagain\n\n");
     clear(&rt, directory);
@@ -107,7 +112,7 @@ fn tells_its_usage(rt: HostRuntime) -> Result<(), Fail> {
     check(
         &rt,
         &[],
-        b"a\n",
+        b"a\n".as_slice(),
         2,
         "usage: audit_trail DIRECTORY [SOURCE..]\n",
     );
@@ -136,7 +141,7 @@ fn tells_a_folder_that_is_none(rt: HostRuntime) -> Result<(), Fail> {
     let path = arguments[0].as_str();
     fs::write(&rt, path, "here")?;
     let told = "failed to create log directory: File exists (os error 17)\n";
-    check(&rt, arguments.as_slice(), b"a\n", 1, told);
+    check(&rt, arguments.as_slice(), b"a\n".as_slice(), 1, told);
     expect_eq(&rt, fs::read_to_string(&rt, path)?.as_str(), "here");
     fs::remove_file(&rt, path)?;
     Ok(())
@@ -145,18 +150,48 @@ fn tells_a_folder_that_is_none(rt: HostRuntime) -> Result<(), Fail> {
 #[test]
 fn tells_an_input_that_is_not_read(rt: HostRuntime) -> Result<(), Fail> {
     let arguments = Vec::from_array(rt.alloc(), [fresh(&rt, "read")?])?;
-    let mut errors = Vec::new(rt.alloc());
-    expect_eq(
-        &rt,
-        keep(&rt, arguments.as_slice(), &mut Broken, &mut errors),
-        1,
-    );
-    expect_eq(
-        &rt,
-        errors.as_slice(),
-        b"read failed: permission denied\n".as_slice(),
-    );
-    fs::remove_dir_all(&rt, arguments[0].as_str())?;
+    let told = "read failed: permission denied\n";
+    check(&rt, arguments.as_slice(), Broken, 1, told);
+    clear(&rt, arguments[0].as_str());
+    Ok(())
+}
+
+// Two lines, and then, unless it ends there, one that never does.
+#[derive(Drop)]
+struct Given {
+    left: &'static [u8],
+    ends: bool,
+}
+
+impl Given {
+    fn new(ends: bool) -> Given {
+        Given {
+            left: b"x\ny\n",
+            ends,
+        }
+    }
+}
+
+impl Read for Given {
+    fn read(&mut self, buf: &mut [u8]) -> io::Result<usize> {
+        if self.ends || !self.left.is_empty() {
+            return self.left.read(buf);
+        }
+        for byte in buf.iter_mut() {
+            *byte = b'z';
+        }
+        Ok(buf.len())
+    }
+}
+
+#[test]
+fn tells_a_line_that_never_ends(rt: HostRuntime) -> Result<(), Fail> {
+    let arguments = Vec::from_array(rt.alloc(), [fresh(&rt, "endless")?])?;
+    let told = "read failed: line too long\n";
+    check(&rt, arguments.as_slice(), Given::new(false), 1, told);
+    let directory = arguments[0].as_str();
+    check_newest(&rt, directory, "x\ny\n");
+    clear(&rt, directory);
     Ok(())
 }
 
@@ -260,36 +295,51 @@ impl Write for Filling {
     }
 }
 
-// A log with room for seven bytes, and sources of two lines of two bytes.
-struct Narrow;
+// A log with room for so many bytes, and sources of two lines of two bytes, of which one never ends.
+#[derive(Drop)]
+struct Narrow {
+    room: u32,
+}
 
 impl Trails for Narrow {
     type Log = Filling;
 
-    type Source = &'static [u8];
+    type Source = Given;
 
     fn open_trail(&self, _directory: &str) -> Result<Filling, InitError> {
-        Ok(Filling { room: 7 })
+        Ok(Filling { room: self.room })
     }
 
-    fn open_source(&self, _path: &str) -> io::Result<&'static [u8]> {
-        Ok(b"x\ny\n".as_slice())
+    fn open_source(&self, path: &str) -> io::Result<Given> {
+        Ok(Given::new(path != "endless"))
     }
+}
+
+// Runs the program over two sources of such, and checks what it tells.
+fn check_narrow<R: Host + Abort>(
+    rt: R,
+    room: u32,
+    first: &str,
+    faults: &str,
+) -> Result<(), AllocError> {
+    let (first, second) = (
+        String::from_str(rt.alloc(), first)?,
+        String::from_str(rt.alloc(), "short")?,
+    );
+    let account = "accepted 4 handed 4 left 0 dropped 0\n";
+    check_account(rt, &Narrow { room }, "", &[first, second], account, faults);
+    Ok(())
 }
 
 #[test]
 fn tells_lines_that_found_no_room(rt: HostRuntime) -> Result<(), Fail> {
-    let (first, second) = (fresh(&rt, "one")?, fresh(&rt, "two")?);
-    let sources = Vec::from_array(rt.alloc(), [first, second])?;
-    check_account(
-        rt,
-        &Narrow,
-        "",
-        sources.as_slice(),
-        "accepted 4 handed 4 left 0 dropped 0\n",
-        "lines not written whole: 1\n",
-    );
-    Ok(())
+    Ok(check_narrow(rt, 7, "long", "lines not written whole: 1\n")?)
+}
+
+#[test]
+fn a_line_that_never_ends_keeps_no_other_from_the_log(rt: HostRuntime) -> Result<(), Fail> {
+    let faults = "endless: read failed: line too long\n";
+    Ok(check_narrow(rt, 8, "endless", faults)?)
 }
 
 // A log over a folder in memory, opened at 2020-02-01 10:01:00.

@@ -1,5 +1,5 @@
 -- What the answers about a run have in common.
-use Rattle.std.proofs.Common.{◌≡◌, ℕ, ◌==◌, List, [], Option, None, Some, Result, Ok, Err, IfOk, OnOk, if◌then◌else◌, MutBor, subst, sym, ◌∙◌, ap}
+use Rattle.std.proofs.Common.{◌≡◌, ℕ, ◌==◌, List, [], Option, None, Some, Result, Ok, Err, IfOk, OnOk, if◌then◌else◌, subst, sym, ◌∙◌, ap}
 use Rattle.std.specs.Io.KnownBytes.{prepend_known}
 use Rattle.std.specs.Io.Buffered.{reader_buffer, reader_capacity, reader_inner, reader_remaining}
 use Rattle.std.specs.declared.io.buffered.BufReader.{BufReader}
@@ -23,12 +23,12 @@ pub on_ok_by : {T E P Q : Type 0} (result : Result T E) → (P → Q) → OnOk r
 on_ok_by (Ok value) step p = step p
 on_ok_by (Err error) step p = tt
 
--- a new buffer has the bytes of the reader that it borrows
-pub buffers_all : {I A : Type 0} (remaining : I → Option (List ℕ)) (buffered : BufReader (MutBor I) A) (input : MutBor I) (text : List ℕ)
-    → reader_inner buffered ≡ input → reader_buffer buffered ≡ [] → reader_capacity buffered ≡ 8192 → remaining input.now ≡ Some text
-    → reader_remaining (λ lent. remaining lent.now) buffered ≡ Some text
+-- a new buffer has the bytes of the reader that it is made of
+pub buffers_all : {R A : Type 0} (remaining : R → Option (List ℕ)) (buffered : BufReader R A) (input : R) (text : List ℕ)
+    → reader_inner buffered ≡ input → reader_buffer buffered ≡ [] → reader_capacity buffered ≡ 8192 → remaining input ≡ Some text
+    → reader_remaining remaining buffered ≡ Some text
 buffers_all remaining buffered input text inner empty capacity told =
-    let behind = ap (λ (lent : MutBor _). remaining lent.now) inner ∙ told in
-    let ahead = subst (λ bytes. prepend_known bytes (remaining buffered.inner.now) ≡ Some text) (sym empty) (ap (prepend_known []) behind) in
-    subst (λ room. (if room == 0 then None else prepend_known (reader_buffer buffered) (remaining buffered.inner.now)) ≡ Some text)
+    let behind = ap remaining inner ∙ told in
+    let ahead = subst (λ bytes. prepend_known bytes (remaining buffered.inner) ≡ Some text) (sym empty) (ap (prepend_known []) behind) in
+    subst (λ room. (if room == 0 then None else prepend_known (reader_buffer buffered) (remaining buffered.inner)) ≡ Some text)
     (sym capacity) ahead

@@ -2,7 +2,7 @@
 ghost use Rattle.std.specs.Prelude.{◌≡◌, ◌+◌, ◌≤◌, IfOk, vec_len};
 
 use crate::trail::{Fault, open_log, tell};
-use program_input::{Host, end_line, read_line};
+use program_input::{Host, ShortLines, end_line, read_line};
 use std::alloc::{AllocError, Global};
 use std::fs::File;
 use std::io::{BufRead, BufReader, Read, Write};
@@ -355,7 +355,7 @@ fn send_buffered<S: LineSender, I: Read>(
     sender: &mut S,
     source: &mut I,
 ) -> Result<(), Fault> {
-    let mut input = BufReader::new(alloc, source)?;
+    let mut input = BufReader::new(alloc, ShortLines::new(source))?;
     send_lines(alloc, sender, &mut input)
 }
 

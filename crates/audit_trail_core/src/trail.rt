@@ -3,7 +3,7 @@ ghost use Rattle.std.specs.Prelude.{◌≡◌, ◌≢◌, ◌≤◌, ℕ, List, 
 ghost use Rattle.audit_trail_core.specs.Trail.{PutsLine, PutsLines, KeepsLines, trail_config, status_of};
 ghost use Rattle.appender_rolling.specs.Appender.{OpensSome};
 
-use program_input::{end_line, read_line};
+use program_input::{ShortLines, end_line, read_line};
 use std::alloc::{AllocError, Global};
 use std::io::{BufRead, BufReader, Read, Write};
 use std::rt::Runtime;
@@ -154,7 +154,7 @@ fn copy_lines<R: Runtime + AllocGlobal, I: Read>(
     let [directory] = arguments else {
         return Err(Fault::Usage);
     };
-    let mut input = BufReader::new(rt.alloc(), input)?;
+    let mut input = BufReader::new(rt.alloc(), ShortLines::new(input))?;
     log_lines(rt, directory.as_str(), &mut input)
 }
 

@@ -7,7 +7,7 @@ ghost use Rattle.std.specs.Io.KnownBytes.{Appends, IsAtEnd};
 ghost use Rattle.program_input.specs.Line.{ended};
 
 use std::alloc::{AllocError, Global};
-use std::io::{BufRead, Write};
+use std::io::{BufRead, ErrorKind, Read, Write};
 use std::rt::Env;
 use std::sync::Wait;
 use std::thread::Threads;
@@ -27,6 +27,49 @@ pub fn arguments(rt: &(impl Env + AllocGlobal)) -> io::Result<Vec<String>> {
         arguments.push(argument).map_err(AllocError::from)?;
     }
     Ok(arguments)
+}
+
+/// An input whose lines have a greatest length, so that one which never ends fills no memory.
+#[derive(Drop)]
+pub struct ShortLines<R> {
+    input: R,
+    // How many bytes came behind the last newline.
+    open: usize,
+}
+
+/// The length in bytes from which on a line is too long.
+pub const TOO_LONG: usize = 1 << 20;
+
+impl<R> ShortLines<R> {
+    /// The input from here on.
+    pub fn new(input: R) -> ShortLines<R>
+        ensures { result.input ≡ input }
+    {
+        ShortLines { input, open: 0 }
+    }
+}
+
+impl<R: Read> Read for ShortLines<R> {
+    ghost remaining = { λ lines. R.remaining lines.input };
+
+    /// Reads on, unless `TOO_LONG` bytes came behind the last newline: then the error is InvalidData,
+    /// and nothing is read.
+    fn read(&mut self, buf: &mut [u8]) -> io::Result<usize> {
+        if self.open >= TOO_LONG {
+            return Err(io::Error::new(ErrorKind::InvalidData, "line too long"));
+        }
+        let length = self.input.read(buf)?;
+        self.open = open_bytes(self.open, &buf[..length]);
+        Ok(length)
+    }
+}
+
+// How many bytes stand behind the last newline, where there were so many before these.
+fn open_bytes(open: usize, bytes: &[u8]) -> usize {
+    match bytes.iter().rposition(|byte| *byte == b'\n') {
+        Some(place) => bytes.len() - place - 1,
+        None => open.saturating_add(bytes.len()),
+    }
 }
 
 /// Reads the next line with its newline, if it has one, in place of what `line` holds, and tells
