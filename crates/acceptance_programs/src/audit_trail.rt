@@ -129,7 +129,7 @@ static ARGUMENTS: [(io::ErrorKind, &str, u8); 2] = [
 fn tells_arguments_that_are_not_read(rt: HostRuntime) {
     for (kind, told, status) in &ARGUMENTS {
         let mut errors = Vec::new(rt.alloc());
-        let fault = Fault::of_arguments(&io::Error::from(*kind));
+        let fault = Fault::Argument.unless_memory(*kind);
         expect_eq(&rt, tell(&fault, &mut errors), *status);
         expect_eq(&rt, errors.as_slice(), told.as_bytes());
     }

@@ -4,6 +4,7 @@
 //! account says what became of their lines.
 #![tactic(auto)]
 
+use audit_trail_core::trail::Fault;
 use audit_trail_core::{gather, trail};
 use program_input::arguments;
 use std::process::ExitCode;
@@ -16,7 +17,7 @@ fn main(rt: HostRuntime) -> ExitCode {
             gather::keep_all(rt, &rt, directory, paths, &mut output, &mut errors)
         }
         Ok(arguments) => trail::keep(&rt, arguments.as_slice(), &mut rt.stdin(), &mut errors),
-        Err(fault) => trail::tell(&trail::Fault::of_arguments(&fault), &mut errors),
+        Err(fault) => trail::tell(&Fault::Argument.unless_memory(fault.kind()), &mut errors),
     };
     ExitCode::from(status)
 }

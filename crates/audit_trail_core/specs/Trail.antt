@@ -1,8 +1,6 @@
 -- What becomes of a line, and of a run. `kind` has what folders of one kind tell, and `time` what clocks do.
 use Rattle.std.specs.Prelude.{◌≡◌, ◌≢◌, ℕ, zero, suc, List, [], length, Ok, codes}
 use Rattle.std.specs.Io.BufRead.{take_through, drop_through}
-use Rattle.appender_names.specs.declared.error.InitError.{InitError}
-use Rattle.appender_names.specs.declared.error.InitError.TheVariants.{Memory as NoRoom}
 use Rattle.appender_names.specs.declared.rotation.RotationKind.TheVariants.{Daily}
 use Rattle.appender_names.specs.Rotation.{rotation_of}
 use Rattle.appender_store.specs.declared.store.Folder.{Ghosts}
@@ -11,8 +9,6 @@ use Rattle.appender_rolling.specs.declared.rolling.clock.Clock.{Ghosts as Readin
 use Rattle.appender_rolling.specs.Appender.{Appending, OpensSome, PutsNow}
 use Rattle.appender_rolling.specs.Config.{Config}
 use Rattle.program_input.specs.Line.{ended}
-use Rattle.audit_trail_core.specs.declared.trail.Fault.{Fault}
-use Rattle.audit_trail_core.specs.declared.trail.Fault.TheVariants.{Usage, Argument, Open, Read, Write, Cut, Lost, Thread, Unsettled, Memory}
 
 -- the line was put, whole, at the moment that the clock told
 pub record PutsLine {S F C : Type 0} (kind : Ghosts S F) (time : Readings C) (line : List ℕ) (old new : Appending S F C) : Type 0 where
@@ -38,21 +34,3 @@ pub record KeepsLines {S F C : Type 0} (kind : Ghosts S F) (time : Readings C) (
   pub count : ℕ
   pub ended : Appending S F C
   pub puts : PutsLines kind time count text begun [] ended
-
--- the status of a process whose log was not opened
-abbrev pub opening_status : InitError → ℕ
-opening_status NoRoom = 3
-opening_status other = 1
-
--- the status of a process that a fault ended
-abbrev pub status_of : Fault → ℕ
-status_of Usage = 2
-status_of Argument = 2
-status_of (Open error) = opening_status error
-status_of (Read fault) = 1
-status_of (Write fault) = 1
-status_of Cut = 1
-status_of (Lost count) = 1
-status_of Thread = 1
-status_of Unsettled = 1
-status_of Memory = 3

@@ -248,7 +248,7 @@ fn gather_by<
             shutdowns,
             closings,
         )
-        .map_err(|fault| Fault::of_start(&fault))?;
+        .map_err(|fault| Fault::Thread.unless_memory(fault.kind()))?;
     let (back, sent) = send_all(rt, senders, sources)?;
     match guard.settle(back) {
         Ok(account) => Ok((account, sent)),

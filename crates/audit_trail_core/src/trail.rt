@@ -1,11 +1,14 @@
 //! An audit trail of lines.
 ghost use Rattle.std.specs.Prelude.{◌≡◌, ◌≢◌, ◌≤◌, ℕ, List, [], length, Some, Err, OnOk, IfOk};
-ghost use Rattle.audit_trail_core.specs.Trail.{PutsLine, PutsLines, KeepsLines, trail_config, status_of};
+ghost use Rattle.audit_trail_core.specs.Fault.{opening_fault, status_of, unless_memory};
+ghost use Rattle.audit_trail_core.specs.Trail.{PutsLine, PutsLines, KeepsLines, trail_config};
 ghost use Rattle.appender_rolling.specs.Appender.{OpensSome};
+ghost use Rattle.std.specs.IoError.{error_kind};
+ghost use Rattle.audit_trail_core.specs.declared.trail.Fault.TheVariants.{Read, Write};
 
 use program_input::{ShortLines, end_line, read_line};
 use std::alloc::{AllocError, Global};
-use std::io::{BufRead, BufReader, Read, Write};
+use std::io::{BufRead, BufReader, ErrorKind, Read, Write};
 use std::rt::Runtime;
 use std::{fs, io};
 use thiserror::Error;
@@ -27,7 +30,7 @@ pub enum Fault {
     Argument,
     /// No log was opened.
     #[error("{0}")]
-    Open(#[from] InitError),
+    Open(InitError),
     /// Standard input was not read.
     #[error("read failed: {0}")]
     Read(io::Error),
@@ -58,42 +61,28 @@ impl Fault {
     {
         match self {
             Fault::Usage | Fault::Argument => 2,
-            Fault::Memory | Fault::Open(InitError::Memory) => 3,
+            Fault::Memory => 3,
             _ => 1,
         }
     }
 
-    /// A fault of reading the arguments.
-    pub fn of_arguments(fault: &io::Error) -> Fault {
-        if lacks_memory(fault) {
-            Fault::Memory
-        } else {
-            Fault::Argument
+    /// This fault, or that memory was refused, where the error behind it is of that kind.
+    pub fn unless_memory(self, kind: ErrorKind) -> Fault
+        ensures { result ≡ unless_memory kind self }
+    {
+        match kind {
+            ErrorKind::OutOfMemory => Fault::Memory,
+            _ => self,
         }
     }
 
     /// A fault of writing.
-    pub(crate) fn of_write(fault: io::Error) -> Fault {
-        if lacks_memory(&fault) {
-            Fault::Memory
-        } else {
-            Fault::Write(fault)
-        }
+    pub(crate) fn of_write(error: io::Error) -> Fault
+        ensures { result ≡ unless_memory (error_kind error) (Write error) }
+    {
+        let kind = error.kind();
+        Fault::Write(error).unless_memory(kind)
     }
-
-    /// A fault of making the thread that writes.
-    pub(crate) fn of_start(fault: &io::Error) -> Fault {
-        if lacks_memory(fault) {
-            Fault::Memory
-        } else {
-            Fault::Thread
-        }
-    }
-}
-
-// Whether memory was refused.
-fn lacks_memory(fault: &io::Error) -> bool {
-    matches!(fault.kind(), io::ErrorKind::OutOfMemory)
 }
 
 impl From<AllocError> for Fault {
@@ -102,14 +91,25 @@ impl From<AllocError> for Fault {
     }
 }
 
+/// A fault of opening the log.
+impl From<InitError> for Fault {
+    ghost from_gives = { λ error fault. fault ≡ opening_fault error };
+
+    fn from(error: InitError) -> Fault {
+        match error {
+            InitError::Memory => Fault::Memory,
+            _ => Fault::Open(error),
+        }
+    }
+}
+
 /// A fault of reading.
 impl From<io::Error> for Fault {
-    fn from(fault: io::Error) -> Fault {
-        if lacks_memory(&fault) {
-            Fault::Memory
-        } else {
-            Fault::Read(fault)
-        }
+    ghost from_gives = { λ error fault. fault ≡ unless_memory (error_kind error) (Read error) };
+
+    fn from(error: io::Error) -> Fault {
+        let kind = error.kind();
+        Fault::Read(error).unless_memory(kind)
     }
 }
 

@@ -4,6 +4,7 @@
 
 use program_input::arguments;
 use rolltee_core::tee;
+use rolltee_core::tee::Fault;
 use std::process::ExitCode;
 
 fn main(rt: HostRuntime) -> ExitCode {
@@ -11,7 +12,7 @@ fn main(rt: HostRuntime) -> ExitCode {
     let status = match arguments(&rt) {
         Ok(arguments) => tee::tee(rt, &rt, arguments.as_slice(), &mut input, &mut errors),
         // One of them is no UTF-8, or memory was refused.
-        Err(fault) => tee::tell(&tee::Fault::Usage.of(&fault), &mut errors),
+        Err(fault) => tee::tell(&Fault::Usage.unless_memory(fault.kind()), &mut errors),
     };
     ExitCode::from(status)
 }

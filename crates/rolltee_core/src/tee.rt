@@ -1,11 +1,12 @@
 //! Lines from an input to a rolling log, through a non-blocking writer.
 ghost use Rattle.std.specs.Prelude.{◌≡◌, ◌≢◌, ◌≤◌, length, Err};
-ghost use Rattle.rolltee_core.specs.Status.{status_of};
+ghost use Rattle.std.specs.IoError.{error_kind};
+ghost use Rattle.rolltee_core.specs.Fault.{status_of, unless_memory};
 
 use program_input::{CopyFault, Host, copy_lines};
 use std::alloc::{AllocError, Global};
 use std::io;
-use std::io::{BufReader, Read, Write};
+use std::io::{BufReader, ErrorKind, Read, Write};
 use std::sync::Wait;
 use std::time::Clock;
 use thiserror::Error;
@@ -83,10 +84,12 @@ impl Fault {
         }
     }
 
-    /// This fault, or that memory was refused.
-    pub fn of(self, error: &io::Error) -> Fault {
-        match error.kind() {
-            io::ErrorKind::OutOfMemory => Fault::Memory,
+    /// This fault, or that memory was refused, where the error behind it is of that kind.
+    pub fn unless_memory(self, kind: ErrorKind) -> Fault
+        ensures { result ≡ unless_memory kind self }
+    {
+        match kind {
+            ErrorKind::OutOfMemory => Fault::Memory,
             _ => self,
         }
     }
@@ -100,16 +103,20 @@ impl From<AllocError> for Fault {
 
 /// A fault of reading.
 impl From<io::Error> for Fault {
+    ghost use Rattle.rolltee_core.specs.declared.tee.Fault.TheVariants.{Read};
+
+    ghost from_gives = { λ error fault. fault ≡ unless_memory (error_kind error) Read };
+
     fn from(error: io::Error) -> Fault {
-        Fault::Read.of(&error)
+        Fault::Read.unless_memory(error.kind())
     }
 }
 
 impl From<CopyFault> for Fault {
     fn from(fault: CopyFault) -> Fault {
         match fault {
-            CopyFault::Read(error) => Fault::Read.of(&error),
-            CopyFault::Write(error) => Fault::Write.of(&error),
+            CopyFault::Read(error) => Fault::Read.unless_memory(error.kind()),
+            CopyFault::Write(error) => Fault::Write.unless_memory(error.kind()),
             CopyFault::Cut => Fault::Write,
         }
     }
@@ -188,7 +195,7 @@ fn start<R: Host, W: Write + Send + Drop + 'static>(
         .buffered_lines_limit(LIMIT);
     match builder.finish(rt, rt.alloc(), log) {
         Ok(made) => Ok(made),
-        Err(error) => Err(Fault::Thread.of(&error)),
+        Err(error) => Err(Fault::Thread.unless_memory(error.kind())),
     }
 }
 

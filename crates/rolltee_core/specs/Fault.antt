@@ -1,7 +1,14 @@
--- What a process ends with.
+-- Which fault is told, and what a process ends with.
 use Rattle.std.specs.Prelude.{ℕ}
+use Rattle.std.specs.declared.io.ErrorKind.{ErrorKind}
+use Rattle.std.specs.declared.io.ErrorKind.TheVariants.{OutOfMemory}
 use Rattle.rolltee_core.specs.declared.tee.Fault.{Fault}
 use Rattle.rolltee_core.specs.declared.tee.Fault.TheVariants.{Usage, Open, Thread, Read, Write, Pending, Full, Memory}
+
+-- the fault, but want of memory where the error behind it is of that kind
+abbrev pub unless_memory : ErrorKind → Fault → Fault
+unless_memory OutOfMemory fault = Memory
+unless_memory kind fault = fault
 
 -- the status of a process that a fault ended
 abbrev pub status_of : Fault → ℕ
