@@ -9,7 +9,7 @@ use std::sync::atomic::AtomicUsize;
 use std::sync::atomic::Ordering::SeqCst;
 use std::sync::{Arc, Wait};
 use std::thread::JoinHandle;
-use std::time::Duration;
+use std::time::{Duration, Instant};
 use std::{io, thread};
 
 // Counts its lines, and takes its time for the first one.
@@ -177,7 +177,8 @@ fn run<R: Host + Abort>(rt: R, crowd: Crowd) {
     expect_all(&rt, crowd, outcome, came.load(SeqCst));
 }
 
-// Plays a crowd whose guard closes early, ten thousand times.
+// Plays a crowd whose guard closes early, ten thousand times, or for 20 seconds where other processes keep
+// its threads waiting.
 fn run_often<R: Host + Abort>(rt: R, limit: usize) {
     let crowd = Crowd {
         limit,
@@ -185,8 +186,13 @@ fn run_often<R: Host + Abort>(rt: R, limit: usize) {
         lines: 1,
         closes_early: true,
     };
+    let longest = Duration::from_secs(20);
+    let start = Instant::now(&rt).expect(&rt, "clock");
     for _ in 0..10_000u32 {
         run(rt, crowd);
+        if start.elapsed(&rt).expect(&rt, "clock") > longest {
+            break;
+        }
     }
 }
 
