@@ -9,6 +9,7 @@ use Rattle.std.proofs.lemmas.Slice.Eq.{text_from_reads, HasBytesAt}
 use Rattle.jiff_core.proofs.CalendarLemmas.{days_in_month_bounds}
 use Rattle.appender_names.specs.Calendar.{CivilDate, date_of}
 use Rattle.appender_names.specs.DateText.{IsDated, second_of, two_digits, day_text, unit_of, BeginsMinute, IsReadAt, IsDateText}
+use Rattle.appender_names.specs.Name.{number_text}
 use Rattle.appender_names.proofs.Dates.{date_of_is}
 use Rattle.appender_names.proofs.Clock.{second_is}
 use Rattle.appender_names.proofs.Instants.{same_date}
@@ -185,3 +186,35 @@ hour_read text h (Some s) room dash hour w =
       whole = over Hourly s w.years ∙ ap pos whole;
       same = ends_with text (45 ∷ two_digits h) n (omega arith) tail ∙ (rw (w.text_is, w.hour_is) refl);
     }
+
+-- six digits behind a dot
+pub number_read : (text : List ℕ) (a b c : ℕ) → 7 ≤ length text → a < 100 → b < 100 → c < 100
+    → 46 ≡ get_or text (length text - 7) 0 → two_digits a ≡ get_or text (length text - 6) 0 ∷ get_or text (length text - 5) 0 ∷ []
+    → two_digits b ≡ get_or text (length text - 4) 0 ∷ get_or text (length text - 3) 0 ∷ []
+    → two_digits c ≡ get_or text (length text - 2) 0 ∷ get_or text (length text - 1) 0 ∷ []
+    → text ≡ take (length text - 7) text ++ (46 ∷ number_text (a * 10000 + b * 100 + c))
+number_read text a b c room la lb lc dot high middle low =
+    let n = length text - 7 in
+    let tail : HasBytesAt text n (46 ∷ two_digits a ++ two_digits b ++ two_digits c) = (
+      sym dot,
+      (
+        stands text _ _ _ (omega arith) (ap (λ xs. get_or xs 0 0) high),
+        (
+          stands text _ _ _ (omega arith) (ap (λ xs. get_or xs 1 0) high),
+          (
+            stands text _ _ _ (omega arith) (ap (λ xs. get_or xs 0 0) middle),
+            (
+              stands text _ _ _ (omega arith) (ap (λ xs. get_or xs 1 0) middle),
+              (
+                stands text _ _ _ (omega arith) (ap (λ xs. get_or xs 0 0) low),
+                (stands text _ _ _ (omega arith) (ap (λ xs. get_or xs 1 0) low), tt),
+              ),
+            ),
+          ),
+        ),
+      ),
+    ) in
+    let first : (a * 10000 + b * 100 + c) / 10000 ≡ a = omega arith in
+    let second : (a * 10000 + b * 100 + c) / 100 % 100 ≡ b = omega arith in
+    let third : (a * 10000 + b * 100 + c) % 100 ≡ c = omega arith in
+    ends_with text (46 ∷ two_digits a ++ two_digits b ++ two_digits c) n (omega arith) tail ∙ rw (first, second, third) refl

@@ -1,11 +1,11 @@
 -- A name is that of one entry of a folder.
-use Rattle.std.proofs.Common.{◌≡◌, ◌≢◌, ℕ, ◌+◌, ◌/◌, ◌≤◌, List, [], ◌∷◌, ◌++◌, length, arith, refl, ap, inl, inr, length-append, lit≤}
+use Rattle.std.proofs.Common.{Bool, true, false, ◌≡◌, ◌≢◌, ℕ, ◌+◌, ◌/◌, ◌≤◌, List, [], ◌∷◌, ◌++◌, length, arith, refl, ap, inl, inr, length-append, lit≤}
 use Rattle.std.proofs.lemmas.List.Elements.{All-append, All-from_recursion}
 use Rattle.appender_names.specs.declared.rotation.RotationKind.{RotationKind}
 use Rattle.appender_names.specs.declared.rotation.RotationKind.TheVariants.{Minutely, Hourly, Daily, Weekly, Never}
 use Rattle.appender_names.specs.Calendar.{CivilDate, date_of}
-use Rattle.appender_names.specs.DateText.{day_text, day_at, hour_at, minute_at, text_at, second_of}
-use Rattle.appender_names.specs.Name.{Naming, IsPart, IsDots, IsEntry, NamesAreEntries, behind, before, dated_name, undated_name, name_by, named_moment}
+use Rattle.appender_names.specs.DateText.{day_text, day_at, hour_at, minute_at, text_at, date_text, second_of}
+use Rattle.appender_names.specs.Name.{Naming, IsPart, IsDots, IsEntry, NamesAreEntries, behind, before, dated_name, undated_name, name_by, named_moment, marked, number_text}
 
 -- a byte that may stand in a name
 abbrev pub IsNameByte : ℕ → Type 0
@@ -74,13 +74,25 @@ dated_is_entry p s date a b c long =
     long_is_entry (dated_name p s date) (behind_is_part p (before date s) a (before_is_part date s c b))
     (omega (arith, behind_is_long p (before date s), before_is_long date s))
 
-by_kind : (k : RotationKind) (p s : List ℕ) (second : ℕ) → IsPart p → IsPart s → (k ≡ Never → ¬ (IsDots (undated_name p s []))) → IsEntry (name_by k p s (text_at k second))
-by_kind Never p s second a b d = undated_is_entry p s (text_at Never second) a b (d refl) (long_is_entry _ (text_is_part Never second) (text_is_long Never second))
-by_kind Minutely p s second a b d = dated_is_entry p s (text_at Minutely second) a b (text_is_part Minutely second) (text_is_long Minutely second)
-by_kind Hourly p s second a b d = dated_is_entry p s (text_at Hourly second) a b (text_is_part Hourly second) (text_is_long Hourly second)
-by_kind Daily p s second a b d = dated_is_entry p s (text_at Daily second) a b (text_is_part Daily second) (text_is_long Daily second)
-by_kind Weekly p s second a b d = dated_is_entry p s (text_at Weekly second) a b (text_is_part Weekly second) (text_is_long Weekly second)
+by_kind : (k : RotationKind) (p s mark : List ℕ) → IsPart p → IsPart s → (k ≡ Never → ¬ (IsDots (undated_name p s []))) → IsPart mark → 10 ≤ length mark → IsEntry (name_by k p s mark)
+by_kind Never p s mark a b d c long = undated_is_entry p s mark a b (d refl) (long_is_entry mark c long)
+by_kind Minutely p s mark a b d c long = dated_is_entry p s mark a b c long
+by_kind Hourly p s mark a b d c long = dated_is_entry p s mark a b c long
+by_kind Daily p s mark a b d c long = dated_is_entry p s mark a b c long
+by_kind Weekly p s mark a b d c long = dated_is_entry p s mark a b c long
+
+marked_is_part : (b : Bool) (t : List ℕ) (k : ℕ) → IsPart t → IsPart (marked b t k)
+marked_is_part false t k a = a
+marked_is_part true t k a = All-append IsNameByte t (46 ∷ number_text k) a (All-from_recursion IsNameByte (46 ∷ number_text k) (((λ e. absurd (omega arith)), (λ e. absurd (omega arith))), (digit _, (digit _, (digit _, (digit _, (digit _, (digit _, tt))))))))
+
+marked_is_long : (b : Bool) (t : List ℕ) (k : ℕ) → length t ≤ length (marked b t k)
+marked_is_long false t k = omega arith
+marked_is_long true t k = omega (arith, length-append t (46 ∷ number_text k))
 
 -- each name is that of one entry of a folder, where prefix and suffix are allowed
 pub entries : (n : Naming) → NamesAreEntries n
-entries n allowed m = by_kind n.rotation.kind n.prefix n.suffix (second_of (named_moment n.rotation m)) allowed.prefix_is_part allowed.suffix_is_part allowed.no_dots
+entries n allowed m k =
+    let date = date_text n.rotation.kind (named_moment n.rotation m) in
+    by_kind n.rotation.kind n.prefix n.suffix (marked n.numbered date k) allowed.prefix_is_part allowed.suffix_is_part allowed.no_dots
+    (marked_is_part n.numbered date k (text_is_part n.rotation.kind (second_of (named_moment n.rotation m))))
+    (omega (arith, marked_is_long n.numbered date k, text_is_long n.rotation.kind (second_of (named_moment n.rotation m))))

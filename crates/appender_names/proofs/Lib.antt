@@ -5,6 +5,7 @@ pub mod Entries
 pub mod Instants
 pub mod Joins
 pub mod KnownDates
+pub mod Marks
 pub mod NameLaws
 pub mod Order
 pub mod Periods

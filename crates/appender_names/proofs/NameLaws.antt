@@ -11,13 +11,14 @@ use Rattle.appender_names.specs.declared.rotation.RotationKind.TheVariants.{Minu
 use Rattle.appender_names.specs.declared.rotation.Rotation.{Rotation}
 use Rattle.appender_names.specs.Rotation.{IsMoment, period_of, period_of_kind, step_of, StartsItself}
 use Rattle.appender_names.specs.DateText.{IsDated, second_of, date_text, text_at, unit_of}
-use Rattle.appender_names.specs.Name.{Naming, name_of, dated_name, behind, before, Reads, NamesRise, NamesArePeriods, NamesReadAsStarts, NamesReadOnce}
+use Rattle.appender_names.specs.Name.{Naming, name_at, mark_of, dated_name, behind, before, ReadsAt, NamesRise, NamesArePeriods, NamesReadAsStarts, NamesReadOnce}
 use Rattle.appender_names.proofs.Periods.{floor, floor_whole, whole_is, period_is, start_is}
 use Rattle.appender_names.proofs.Clock.{second_is}
 use Rattle.appender_names.proofs.Digits.{over}
-use Rattle.appender_names.proofs.Joins.{name_of-dated_name}
+use Rattle.appender_names.proofs.Joins.{name_at-dated_name}
 use Rattle.appender_names.proofs.Reading.{reads_once}
-use Rattle.appender_names.proofs.Order.{cmp_front, cmp_behind, text_less}
+use Rattle.appender_names.proofs.Order.{cmp_front, cmp_behind}
+use Rattle.appender_names.proofs.Marks.{same_length, marked_length, mark_less}
 
 -- a period with a start is one of a rotation with boundaries
 rotates : (k : RotationKind) (m p : ℤ) → period_of_kind k m ≡ Some p → k ≢ Never
@@ -56,26 +57,20 @@ start_named r m p g e =
     record { rotates_is = h; years = years; whole = rw second (whole_start r.kind from.second) }
 
 pub reads_as_start : (n : Naming) → NamesReadAsStarts n
-reads_as_start n m p g e =
+reads_as_start n m p k g e low =
     let start = start_named n.rotation m p g e in
     record {
       dated_second = start.years;
       whole = over n.rotation.kind p start.years ∙ ap pos start.whole;
-      text = name_of-dated_name n m p start.rotates_is e;
+      number_is = low;
+      text = name_at-dated_name n m p k start.rotates_is e;
     }
 
 pub one_name : (n : Naming) → NamesArePeriods n
-one_name n a b p q ga gb ea eb = (
-  λ e. reads_once n (name_of n b) p q (subst (λ (name : List ℕ). Reads n name p) e (reads_as_start n a p ga ea)) (reads_as_start n b q gb eb),
-  λ e. name_of-dated_name n a p (start_named n.rotation a p ga ea).rotates_is ea ∙ ap (λ s. dated_name n.prefix n.suffix (date_text n.rotation.kind s)) e ∙ sym (name_of-dated_name n b q (start_named n.rotation b q gb eb).rotates_is eb),
+one_name n a b p q j k ga gb ea eb low top = (
+  λ e. reads_once n (name_at n b k) p q j k (subst (λ (name : List ℕ). ReadsAt n name p j) e (reads_as_start n a p j ga ea low)) (reads_as_start n b q k gb eb top),
+  λ e. name_at-dated_name n a p j (start_named n.rotation a p ga ea).rotates_is ea ∙ ap (λ s. dated_name n.prefix n.suffix (mark_of n s j)) e.0 ∙ ap (λ i. dated_name n.prefix n.suffix (mark_of n q i)) e.1 ∙ sym (name_at-dated_name n b q k (start_named n.rotation b q gb eb).rotates_is eb),
 )
-
-same_length : (k : RotationKind) (a b : ℕ) → length (text_at k a) ≡ length (text_at k b)
-same_length Minutely a b = refl
-same_length Hourly a b = refl
-same_length Daily a b = refl
-same_length Weekly a b = refl
-same_length Never a b = refl
 
 before_less : (a b s : List ℕ) → length a ≡ length b → slice_cmp nat_cmp a b ≡ Less → slice_cmp nat_cmp (before a s) (before b s) ≡ Less
 before_less a b [] len h = h
@@ -86,16 +81,16 @@ behind_less [] a b h = h
 behind_less (x ∷ xs) a b h = cmp_front (x ∷ xs) (46 ∷ a) (46 ∷ b) ∙ cmp_front (46 ∷ []) a b ∙ h
 
 pub rise : (n : Naming) → NamesRise n
-rise n a b p q ga gb ea eb lt =
+rise n a b p q j k ga gb ea eb low top later =
     let x = start_named n.rotation a p ga ea in
     let y = start_named n.rotation b q gb eb in
-    let text = text_less n.rotation.kind p q x.years y.years x.whole y.whole lt in
-    rw (name_of-dated_name n a p x.rotates_is ea, name_of-dated_name n b q y.rotates_is eb)
-    (behind_less n.prefix (before (date_text n.rotation.kind p) n.suffix) (before (date_text n.rotation.kind q) n.suffix)
-    (before_less (date_text n.rotation.kind p) (date_text n.rotation.kind q) n.suffix (same_length n.rotation.kind (second_of p) (second_of q)) text))
+    let less = mark_less n.numbered n.rotation.kind p q j k (record { years = x.years; whole = x.whole }) (record { years = y.years; whole = y.whole }) top later in
+    rw (name_at-dated_name n a p j x.rotates_is ea, name_at-dated_name n b q k y.rotates_is eb)
+    (behind_less n.prefix (before (mark_of n p j) n.suffix) (before (mark_of n q k) n.suffix)
+    (before_less (mark_of n p j) (mark_of n q k) n.suffix (marked_length n.numbered (date_text n.rotation.kind p) (date_text n.rotation.kind q) j k (same_length n.rotation.kind (second_of p) (second_of q))) less))
 
 pub read_once : (n : Naming) → NamesReadOnce n
-read_once n name s t a b = reads_once n name s t a b
+read_once = reads_once
 
 pub starts_itself : (r : Rotation) → StartsItself r
 starts_itself r m p gm gp e =

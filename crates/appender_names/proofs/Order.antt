@@ -47,7 +47,7 @@ first_less : (a b : ℕ) → a < b → IsLess (a ∷ []) (b ∷ [])
 first_less a b h xs ys = rw (less a b h) refl
 
 -- less in front, or the same there and less in the two digits behind
-digits_less : (f g : List ℕ) (a b : ℕ) → IsLess f g ⊎ ((f ≡ g) × (a < b)) → IsLess (f ++ two_digits a) (g ++ two_digits b)
+pub digits_less : (f g : List ℕ) (a b : ℕ) → IsLess f g ⊎ ((f ≡ g) × (a < b)) → IsLess (f ++ two_digits a) (g ++ two_digits b)
 digits_less f g a b (inl front) xs ys = rw (append_assoc f (two_digits a) xs, append_assoc g (two_digits b) ys) (front (two_digits a ++ xs) (two_digits b ++ ys))
 digits_less f g a b (inr (front, lt)) xs ys =
     rw (front, append_assoc g (two_digits a) xs, append_assoc g (two_digits b) ys)

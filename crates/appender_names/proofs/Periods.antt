@@ -1,12 +1,14 @@
 -- The boundaries of a rotation, and the two between which a moment lies.
-use Rattle.std.proofs.Common.{◌≡◌, ◌≢◌, ℕ, ◌+◌, ◌-◌, ◌*◌, ◌/◌, ◌%◌, ◌<◌, ◌≤◌, ℤ, pos, negsuc, ◌+ℤ◌, ◌-ℤ◌, ◌<ℤ◌, ◌≤ℤ◌, Option, Some, arith, refl, ap, sym, ◌∙◌, lit≤, lit<, None, subst}
-use Rattle.std.specs.Prelude.{unsigned_abs}
+use Rattle.std.proofs.Common.{◌≡◌, ◌≢◌, ℕ, ◌+◌, ◌-◌, ◌*◌, ◌/◌, ◌%◌, ◌<◌, ◌≤◌, ℤ, pos, negsuc, ◌+ℤ◌, ◌-ℤ◌, ◌<ℤ◌, ◌≤ℤ◌, Option, Some, arith, refl, ap, sym, ◌∙◌, lit≤, lit<, None, subst, Bool, true, false, inl, inr}
+use Rattle.std.specs.Prelude.{unsigned_abs, int_lt, not, ◌&&◌}
+use Rattle.std.proofs.lemmas.Bool.{cases_lt}
 use Rattle.std.specs.Int.{int_rem_euclid}
+use Rattle.std.specs.Option.{option_map}
 use Rattle.std.proofs.Math.Nat.{dvd-sub, dvd-mul_left, mul-le-mul_right, mul-add-mod_self_right, suc-mul, add-mod_right}
 use Rattle.std.proofs.lemmas.Nat.{div-add-mod', le-div, div_below, mod_below}
 use Rattle.std.proofs.lemmas.Nat.Gcd.{mod-eq-zero_of_dvd}
 use Rattle.std.proofs.lemmas.Int.{ints, int_rem_euclid_is}
-use Rattle.appender_names.specs.Rotation.{IsMoment, period_of_kind, period_of, next_of, step_of, anchor_of, IsGreatestBoundary, IsNextBoundary}
+use Rattle.appender_names.specs.Rotation.{IsMoment, is_same_start, is_in_period, period_of_kind, period_of, next_of, step_of, anchor_of, IsGreatestBoundary, IsNextBoundary}
 use Rattle.appender_names.specs.declared.rotation.RotationKind.{RotationKind}
 use Rattle.appender_names.specs.declared.rotation.RotationKind.TheVariants.{Minutely, Hourly, Daily, Weekly, Never}
 use Rattle.appender_names.specs.declared.rotation.Rotation.{Rotation}
@@ -161,3 +163,69 @@ start_in_range r m b h g e =
 pub has_start : (r : Rotation) (m b : ℤ) → period_of r m ≡ Some b → r.kind ≢ Never
 has_start r m b e never =
     let none : ◌≡◌ {A = Option ℤ} None (Some b) = subst (λ (k : RotationKind). period_of_kind k m ≡ Some b) never e in cc
+
+-- ---- the period of any second, by that of a moment
+
+below_rest : (z : ℤ) (n : ℕ) → 0 < n → (rest : ℕ) × (int_rem_euclid z (pos n) ≡ pos rest) × (rest < n)
+below_rest (pos a) n h = (a % n, refl, mod_below a n h)
+below_rest (negsuc a) n h = (n - 1 - a % n, refl, omega arith)
+
+-- a second lies between the start of its period and the next
+pub lies_in : (r : Rotation) (s : ℤ) → r.kind ≢ Never → (q : ℤ) × (period_of r s ≡ Some q) × (q ≤ℤ s) × (s <ℤ (q +ℤ pos (step_of r.kind)))
+lies_in r s h =
+    let rest = below_rest (s -ℤ pos (anchor_of r.kind)) (step_of r.kind) (step_is r.kind h).some in
+    let start = s -ℤ int_rem_euclid (s -ℤ pos (anchor_of r.kind)) (pos (step_of r.kind)) in
+    (start, period_by_kind r.kind s h, omega (arith, ints, rest.1, rest.2), omega (arith, ints, rest.1, rest.2))
+
+-- and what lies between these two of a moment lies in the moment's period
+pub same_period : (r : Rotation) (m s p : ℤ) → r.kind ≢ Never → IsMoment m → period_of r m ≡ Some p → p ≤ℤ s → s <ℤ (p +ℤ pos (step_of r.kind)) → period_of r s ≡ Some p
+same_period r m s p h g e low high =
+    let d = step_of r.kind in
+    let step = step_is r.kind h in
+    let from = start_is r m p h g e in
+    let first = floor d from.second in
+    let n = unsigned_abs (s +ℤ pos 62135683200) in
+    let here : s +ℤ pos 62135683200 ≡ pos n = omega (arith, ints, from.start) in
+    let after : first ≤ n = omega (arith, ints, from.start) in
+    let before : n < first + d = omega (arith, ints, from.start) in
+    let whole = floor_whole d from.second in
+    let up : first ≤ floor d n = whole_below d first n step.some whole after in
+    let same : floor d n ≡ first = elim (cases_lt first (floor d n)) [
+      | inl lt ↦ absurd (omega (arith, whole_above d (floor d n) first step.some (floor_whole d n) lt, whole_is d first whole, floor_le d n))
+      | inr back ↦ omega arith
+    ] in
+    period_is r s n h here ∙ ap Some (rw same (sym from.start))
+
+-- a period is one with itself, and with no other
+pub is_same_is : (o : Option ℤ) → is_same_start o o ≡ true
+is_same_is None = refl
+is_same_is (Some a) = grind (arith, ints)
+
+pub is_same_to : (a b : Option ℤ) → is_same_start a b ≡ true → a ≡ b
+is_same_to None None e = refl
+is_same_to None (Some b) e = absurd (let both : false ≡ true = e in cc)
+is_same_to (Some a) None e = absurd (let both : false ≡ true = e in cc)
+is_same_to (Some a) (Some b) e = let same : a ≡ b = grind (arith, ints) in rw same refl
+
+apart_starts : (q p s : ℤ) (d : ℕ) → q ≤ℤ s → s <ℤ (q +ℤ pos d) → (p ≤ℤ s → s <ℤ (p +ℤ pos d) → ⊥) → is_same_start (Some q) (Some p) ≡ false
+apart_starts q p s d low high never = by (is_same_start (Some q) (Some p)) refl
+  where
+    by : (b : Bool) → is_same_start (Some q) (Some p) ≡ b → b ≡ false
+    by false e = refl
+    by true e = absurd (let one : q ≡ p = grind (arith, ints) in never (omega (arith, ints)) (omega (arith, ints)))
+
+pub between : (r : Rotation) (m s p : ℤ) → r.kind ≢ Never → IsMoment m → period_of r m ≡ Some p
+    → is_in_period r m s ≡ (not (int_lt s p) && int_lt s (p +ℤ pos (step_of r.kind)))
+between r m s p h g e = by (int_lt s p) (int_lt s (p +ℤ pos (step_of r.kind))) refl refl
+  where
+    else_apart : ((p ≤ℤ s) → (s <ℤ (p +ℤ pos (step_of r.kind))) → ⊥) → is_in_period r m s ≡ false
+    else_apart never = let q = lies_in r s h in rw (q.1, e) (apart_starts q.0 p s (step_of r.kind) q.2 q.3 never)
+
+    by : (a b : Bool) → int_lt s p ≡ a → int_lt s (p +ℤ pos (step_of r.kind)) ≡ b → is_in_period r m s ≡ (not a && b)
+    by true b low high = else_apart (λ x y. absurd (grind (arith, ints)))
+    by false false low high = else_apart (λ x y. absurd (grind (arith, ints)))
+    by false true low high = rw (same_period r m s p h g e (grind (arith, ints)) (grind (arith, ints)), e) (is_same_is (Some p))
+
+-- the next start, a step later
+pub next_is : (r : Rotation) (m p n : ℤ) → period_of r m ≡ Some p → next_of r m ≡ Some n → p +ℤ pos (step_of r.kind) ≡ n
+next_is r m p n e f = same_some (p +ℤ pos (step_of r.kind)) n (sym (ap (option_map (λ (b : ℤ). b +ℤ pos (step_of r.kind))) e) ∙ f)

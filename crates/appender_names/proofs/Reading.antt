@@ -1,10 +1,10 @@
--- A name reads as one second at most.
-use Rattle.std.proofs.Common.{◌≡◌, ◌≢◌, ◌↔◌, ℕ, zero, suc, ◌<◌, ◌*◌, ◌/◌, ◌%◌, ℤ, pos, ◌+ℤ◌, ◌<ℤ◌, Bool, true, false, if◌then◌else◌, List, [], ◌∷◌, arith, refl, ap, sym, ◌∙◌, subst, inl, inr, Option, Some, None}
+-- A name reads as one second and one number at most.
+use Rattle.std.proofs.Common.{◌≡◌, ◌≢◌, ◌↔◌, ℕ, zero, suc, ◌<◌, ◌≤◌, ◌+◌, ◌*◌, ◌/◌, ◌%◌, ℤ, pos, ◌+ℤ◌, ◌<ℤ◌, Bool, true, false, if◌then◌else◌, List, [], ◌∷◌, arith, refl, ap, sym, ◌∙◌, subst, inl, inr, Option, Some, None}
 use Rattle.std.specs.Int.{int_rem_euclid}
 use Rattle.std.specs.Str.{bytes_eq}
 use Rattle.std.proofs.Math.Nat.{mul-mod_left}
 use Rattle.std.proofs.lemmas.Slice.Eq.{bytes_eq-Decides}
-use Rattle.std.specs.Prelude.{MatchOption}
+use Rattle.std.specs.Prelude.{MatchOption, unwrap_or}
 use Rattle.std.specs.Cmp.Lexicographic.{slice_cmp}
 use Rattle.std.specs.Ordering.{nat_cmp}
 use Rattle.std.specs.declared.cmp.Ordering.TheVariants.{Equal}
@@ -14,27 +14,11 @@ use Rattle.std.proofs.lemmas.List.{append_cancel_left, append_cancel_right}
 use Rattle.appender_names.specs.declared.rotation.RotationKind.{RotationKind}
 use Rattle.appender_names.specs.declared.rotation.RotationKind.TheVariants.{Minutely, Hourly, Daily, Weekly, Never}
 use Rattle.appender_names.specs.DateText.{IsDated, second_of, unit_of, IsDateText, date_text}
-use Rattle.appender_names.specs.Name.{Naming, Reads, behind, before, dated_name, unit_start, last_named, reading}
+use Rattle.appender_names.specs.Name.{Naming, Reads, ReadsAt, IsMark, NamesReadOnce, behind, before, dated_name, marked, mark_of, last_by, unit_start, numbers_of, second_in, number_in, last_named, reading_at}
+use Rattle.appender_names.proofs.Marks.{IsWhole, mark_once, place, place_low, unit_low}
+use Rattle.std.specs.Option.{option_map}
 use Rattle.appender_names.proofs.Clock.{second_is}
 use Rattle.appender_names.proofs.Digits.{over, whole_second}
-use Rattle.appender_names.proofs.Order.{cmp_same, text_less}
-
--- one date text, one second, since later ones have greater texts
-apart : (kind : RotationKind) (text : List ℕ) (s t : ℤ) → IsDateText kind text s → IsDateText kind text t → ¬ (s <ℤ t)
-apart kind text s t a b lt =
-    let less = text_less kind s t a.years b.years (whole_second kind s a.years a.whole) (whole_second kind t b.years b.whole) lt in
-    let same : slice_cmp nat_cmp (date_text kind s) (date_text kind t) ≡ Equal = rw (← a.same, ← b.same) (cmp_same text) in
-    cc
-
-once : (kind : RotationKind) (text : List ℕ) (s t : ℤ) → IsDateText kind text s → IsDateText kind text t → s ≡ t
-once kind text s t a b =
-    let here = (second_is s a.years).0 in
-    let there = (second_is t b.years).0 in
-    elim (cases_order (second_of s) (second_of t)) [
-      | inl same ↦ omega (arith, ints)
-      | inr (inl lt) ↦ absurd (apart kind text s t a b (omega (arith, ints)))
-      | inr (inr gt) ↦ absurd (apart kind text t s b a (omega (arith, ints)))
-    ]
 
 -- what is joined comes apart in one way
 pub behind_injective : (p a b : List ℕ) → behind p a ≡ behind p b → a ≡ b
@@ -45,33 +29,72 @@ pub before_injective : (a b s : List ℕ) → before a s ≡ before b s → a �
 before_injective a b [] e = e
 before_injective a b (x ∷ xs) e = append_cancel_right a b (46 ∷ x ∷ xs) e
 
--- a name reads as what the date in it does
-pub reads_date : (n : Naming) (name rest date : List ℕ) (s : ℤ) → name ≡ behind n.prefix rest → rest ≡ before date n.suffix → IsDateText n.rotation.kind date s → Reads n name s
-reads_date n name rest date s front back d = record { dated_second = d.years; whole = d.whole; text = front ∙ ap (behind n.prefix) (back ∙ ap (λ u. before u n.suffix) d.same) }
+whole_is : (kind : RotationKind) (text : List ℕ) (s : ℤ) → IsDateText kind text s → IsWhole kind s
+whole_is kind text s d = record { years = d.years; whole = whole_second kind s d.years d.whole }
 
-pub date_read : (n : Naming) (name rest date : List ℕ) (s : ℤ) → name ≡ behind n.prefix rest → rest ≡ before date n.suffix → Reads n name s → IsDateText n.rotation.kind date s
-date_read n name rest date s front back r =
-    let middle = behind_injective n.prefix rest (before (date_text n.rotation.kind s) n.suffix) (sym front ∙ r.text) in
-    record { years = r.dated_second; whole = r.whole; same = before_injective date (date_text n.rotation.kind s) n.suffix (sym back ∙ middle) }
+pub read_whole : (n : Naming) (name : List ℕ) (s : ℤ) (k : ℕ) → ReadsAt n name s k → IsWhole n.rotation.kind s
+read_whole n name s k r = record { years = r.dated_second; whole = whole_second n.rotation.kind s r.dated_second r.whole }
 
--- the one second that a name reads as
-pub reads_once : (n : Naming) (name : List ℕ) (s t : ℤ) → Reads n name s → Reads n name t → s ≡ t
-reads_once n name s t a b =
-    let date = date_text n.rotation.kind s in
-    once n.rotation.kind date s t (date_read n name (before date n.suffix) date s a.text refl a) (date_read n name (before date n.suffix) date t a.text refl b)
+-- a name reads as what stands in it between prefix and suffix
+pub reads_mark : (n : Naming) (name rest mark : List ℕ) (s : ℤ) (k : ℕ) → name ≡ behind n.prefix rest → rest ≡ before mark n.suffix → IsMark n.rotation.kind n.numbered mark s k → ReadsAt n name s k
+reads_mark n name rest mark s k front back d = record {
+  dated_second = d.is_date.years;
+  whole = d.is_date.whole;
+  number_is = d.number_is;
+  text = front ∙ ap (behind n.prefix) (back ∙ ap (λ u. before u n.suffix) (d.text ∙ ap (λ u. marked n.numbered u k) d.is_date.same));
+}
 
-pub reads_exactly : (n : Naming) (name rest date : List ℕ) (r : Option ℤ) → name ≡ behind n.prefix rest → rest ≡ before date n.suffix
-    → MatchOption r ((s : ℤ) → ¬ (IsDateText n.rotation.kind date s)) (IsDateText n.rotation.kind date) → (s : ℤ) → (r ≡ Some s) ↔ Reads n name s
-reads_exactly n name rest date None front back miss s = (λ e. cc, λ w. absurd (miss s (date_read n name rest date s front back w)))
-reads_exactly n name rest date (Some t) front back d s = (
-  λ e. (let same : t ≡ s = cc in subst (λ (z : ℤ). Reads n name z) same (reads_date n name rest date t front back d)),
-  λ w. ap Some (once n.rotation.kind date t s d (date_read n name rest date s front back w)),
+pub mark_read : (n : Naming) (name rest mark : List ℕ) (s : ℤ) (k : ℕ) → name ≡ behind n.prefix rest → rest ≡ before mark n.suffix → ReadsAt n name s k → IsMark n.rotation.kind n.numbered mark s k
+mark_read n name rest mark s k front back r =
+    let middle = behind_injective n.prefix rest (before (mark_of n s k) n.suffix) (sym front ∙ r.text) in
+    record {
+      date = date_text n.rotation.kind s;
+      is_date = record { years = r.dated_second; whole = r.whole; same = refl };
+      number_is = r.number_is;
+      text = before_injective mark (mark_of n s k) n.suffix (sym back ∙ middle);
+    }
+
+-- the one second and the one number that a name reads as
+pub reads_once : (n : Naming) → NamesReadOnce n
+reads_once n name s t j k a b =
+    let same = before_injective (mark_of n s j) (mark_of n t k) n.suffix (behind_injective n.prefix (before (mark_of n s j) n.suffix) (before (mark_of n t k) n.suffix) (sym a.text ∙ b.text)) in
+    mark_once n.numbered n.rotation.kind s t j k (read_whole n name s j a) (read_whole n name t k b) a.number_is b.number_is same
+
+same_key : (s t : ℤ) (j k : ℕ) → ◌≡◌ {A = Option (ℤ × ℕ)} (Some (t, j)) (Some (s, k)) → (t ≡ s) × (j ≡ k)
+same_key s t j k e = (ap (λ (o : Option (ℤ × ℕ)). (unwrap_or o (s, k)).0) e, ap (λ (o : Option (ℤ × ℕ)). (unwrap_or o (s, k)).1) e)
+
+pub reads_exactly : (n : Naming) (name rest mark : List ℕ) (r : Option (ℤ × ℕ)) → name ≡ behind n.prefix rest → rest ≡ before mark n.suffix
+    → MatchOption r ((s : ℤ) (k : ℕ) → ¬ (IsMark n.rotation.kind n.numbered mark s k)) (λ key. IsMark n.rotation.kind n.numbered mark key.0 key.1)
+    → (s : ℤ) (k : ℕ) → (r ≡ Some (s, k)) ↔ ReadsAt n name s k
+reads_exactly n name rest mark None front back miss s k = (λ e. cc, λ w. absurd (miss s k (mark_read n name rest mark s k front back w)))
+reads_exactly n name rest mark (Some (t, j)) front back d s k = (
+  λ e. (let key = same_key s t j k e in rw (← key.0, ← key.1) (reads_mark n name rest mark t j front back d)),
+  λ w. (let same = reads_once n name t s j k (reads_mark n name rest mark t j front back d) w in rw (same.0, same.1) refl),
 )
 
-pub reads_none : (n : Naming) (name rest : List ℕ) (r : Option ℤ) → name ≡ behind n.prefix rest → r ≡ None → ((date : List ℕ) → rest ≢ before date n.suffix) → (s : ℤ) → (r ≡ Some s) ↔ Reads n name s
-reads_none n name rest r front e miss s = (
+-- the same of what was read with this kind and with or without numbers
+pub reads_as : (n : Naming) (name rest mark : List ℕ) (r : Option (ℤ × ℕ)) (kind : RotationKind) (numbered : Bool) → kind ≡ n.rotation.kind → numbered ≡ n.numbered → name ≡ behind n.prefix rest → rest ≡ before mark n.suffix
+    → MatchOption r ((s : ℤ) (k : ℕ) → ¬ (IsMark kind numbered mark s k)) (λ key. IsMark kind numbered mark key.0 key.1)
+    → (s : ℤ) (k : ℕ) → (r ≡ Some (s, k)) ↔ ReadsAt n name s k
+reads_as n name rest mark r kind numbered e f front back d =
+    reads_exactly n name rest mark r front back
+    (subst (λ (x : RotationKind). MatchOption r ((s : ℤ) (k : ℕ) → ¬ (IsMark x n.numbered mark s k)) (λ key. IsMark x n.numbered mark key.0 key.1)) e
+    (subst (λ (b : Bool). MatchOption r ((s : ℤ) (k : ℕ) → ¬ (IsMark kind b mark s k)) (λ key. IsMark kind b mark key.0 key.1)) f d))
+
+pub reads_none : (n : Naming) (name rest : List ℕ) (r : Option (ℤ × ℕ)) → name ≡ behind n.prefix rest → r ≡ None → ((mark : List ℕ) → rest ≢ before mark n.suffix)
+    → (s : ℤ) (k : ℕ) → (r ≡ Some (s, k)) ↔ ReadsAt n name s k
+reads_none n name rest r front e miss s k = (
   λ some. cc,
-  λ w. absurd (miss (date_text n.rotation.kind s) (behind_injective n.prefix rest (before (date_text n.rotation.kind s) n.suffix) (sym front ∙ w.text))),
+  λ w. absurd (miss (mark_of n s k) (behind_injective n.prefix rest (before (mark_of n s k) n.suffix) (sym front ∙ w.text))),
+)
+
+-- the second alone
+pub seconds_exactly : (n : Naming) (name : List ℕ) (both : Option (ℤ × ℕ)) → ((s : ℤ) (k : ℕ) → (both ≡ Some (s, k)) ↔ ReadsAt n name s k)
+    → (s : ℤ) → (option_map (λ (key : ℤ × ℕ). key.0) both ≡ Some s) ↔ Reads n name s
+seconds_exactly n name None exact s = (λ e. cc, λ w. (let none : ◌≡◌ {A = Option (ℤ × ℕ)} None (Some (s, w.0)) = (exact s w.0).1 w.1 in cc))
+seconds_exactly n name (Some (t, j)) exact s = (
+  λ e. (j, (let second : t ≡ s = cc in (exact s j).0 (rw second refl))),
+  λ w. (let same : ◌≡◌ {A = Option (ℤ × ℕ)} (Some (t, j)) (Some (s, w.0)) = (exact s w.0).1 w.1 in cc),
 )
 
 -- ---- the same as a function
@@ -112,55 +135,66 @@ unit_number k s years whole = by k (second_of s) (whole_second k s years whole) 
     by Weekly n e h = record { number = n / 86400; low = omega (arith, h.1); is = omega (arith, ints, h.0) }
     by Never n e h = record { number = n / 86400; low = omega (arith, h.1); is = omega (arith, ints, h.0) }
 
-abbrev name_at : Naming → ℕ → List ℕ
-name_at n i = dated_name n.prefix n.suffix (date_text n.rotation.kind (unit_start n.rotation.kind i))
+abbrev name_in : Naming → ℕ → List ℕ
+name_in n i = dated_name n.prefix n.suffix (mark_of n (second_in n i) (number_in n i))
 
 -- what was tried and found
-found : (n : Naming) (name : List ℕ) (k : ℕ) (s : ℤ) → last_named n name k ≡ Some s → (i : ℕ) × (i < k) × (s ≡ unit_start n.rotation.kind i) × (name ≡ name_at n i)
+found : (n : Naming) (name : List ℕ) (k : ℕ) (key : ℤ × ℕ) → last_named n name k ≡ Some key → (i : ℕ) × (i < k) × (key ≡ (second_in n i, number_in n i)) × (name ≡ name_in n i)
 unfolding last_named
-found n name zero s h = absurd (let both : ◌≡◌ {A = Option ℤ} None (Some s) = h in cc)
-found n name (suc k) s h = by (bytes_eq name (name_at n k)) refl h (found n name k s)
+found n name zero key h = absurd (let both : ◌≡◌ {A = Option (ℤ × ℕ)} None (Some key) = h in cc)
+found n name (suc k) key h = by (bytes_eq name (name_in n k)) refl h (found n name k key)
   where
-    by : (t : Bool) → bytes_eq name (name_at n k) ≡ t → (if t then Some (unit_start n.rotation.kind k) else last_named n name k) ≡ Some s
-        → (last_named n name k ≡ Some s → (i : ℕ) × (i < k) × (s ≡ unit_start n.rotation.kind i) × (name ≡ name_at n i))
-        → (i : ℕ) × (i < suc k) × (s ≡ unit_start n.rotation.kind i) × (name ≡ name_at n i)
-    by true is some earlier = (k, omega arith, (cc), (bytes_eq-Decides name (name_at n k)).0 is)
+    by : (t : Bool) → bytes_eq name (name_in n k) ≡ t → (if t then Some (second_in n k, number_in n k) else last_named n name k) ≡ Some key
+        → (last_named n name k ≡ Some key → (i : ℕ) × (i < k) × (key ≡ (second_in n i, number_in n i)) × (name ≡ name_in n i))
+        → (i : ℕ) × (i < suc k) × (key ≡ (second_in n i, number_in n i)) × (name ≡ name_in n i)
+    by true is some earlier = (k, omega arith, (cc), (bytes_eq-Decides name (name_in n k)).0 is)
     by false is rest earlier = let w = earlier rest in (w.0, omega (arith, w.1), w.2, w.3)
 
 -- what has the name is found
-finds : (n : Naming) (name : List ℕ) (k i : ℕ) → i < k → name ≡ name_at n i → (s : ℤ) × (last_named n name k ≡ Some s)
+finds : (n : Naming) (name : List ℕ) (k i : ℕ) → i < k → name ≡ name_in n i → (key : ℤ × ℕ) × (last_named n name k ≡ Some key)
 unfolding last_named
 finds n name zero i low same = absurd (omega arith)
-finds n name (suc k) i low same = by (bytes_eq name (name_at n k)) refl (λ lt. finds n name k i lt same)
+finds n name (suc k) i low same = by (bytes_eq name (name_in n k)) refl (λ lt. finds n name k i lt same)
   where
-    by : (t : Bool) → bytes_eq name (name_at n k) ≡ t → (i < k → (s : ℤ) × (last_named n name k ≡ Some s))
-        → (s : ℤ) × ((if t then Some (unit_start n.rotation.kind k) else last_named n name k) ≡ Some s)
-    by true is earlier = (unit_start n.rotation.kind k, refl)
+    by : (t : Bool) → bytes_eq name (name_in n k) ≡ t → (i < k → (key : ℤ × ℕ) × (last_named n name k ≡ Some key))
+        → (key : ℤ × ℕ) × ((if t then Some (second_in n k, number_in n k) else last_named n name k) ≡ Some key)
+    by true is earlier = ((second_in n k, number_in n k), refl)
     by false is earlier = elim (cases_order i k) [
-      | inl e ↦ absurd (let both : false ≡ true = sym is ∙ (bytes_eq-Decides name (name_at n k)).1 (same ∙ ap (name_at n) e) in cc)
+      | inl e ↦ absurd (let both : false ≡ true = sym is ∙ (bytes_eq-Decides name (name_in n k)).1 (same ∙ ap (name_in n) e) in cc)
       | inr (inl lt) ↦ earlier lt
       | inr (inr gt) ↦ absurd (omega arith)
     ]
 
 -- a name reads as the function says
-reading_reads : (n : Naming) (name : List ℕ) (s : ℤ) → reading n name ≡ Some s → Reads n name s
-unfolding reading
-reading_reads n name s h =
-    let w = found n name (315569520000 / unit_of n.rotation.kind) s h in
-    let at = unit_starts n.rotation.kind w.0 w.1 in
-    rw w.2 (record { dated_second = at.years; whole = at.whole; text = w.3 })
+pub reading_reads : (n : Naming) (name : List ℕ) (key : ℤ × ℕ) → reading_at n name ≡ Some key → ReadsAt n name key.0 key.1
+unfolding reading_at
+reading_reads n name key h =
+    let units = 315569520000 / unit_of n.rotation.kind in
+    let w = found n name (units * numbers_of n) key h in
+    let low = unit_low n.numbered w.0 units w.1 in
+    let at = unit_starts n.rotation.kind (w.0 / numbers_of n) low.0 in
+    rw w.2 (record { dated_second = at.years; whole = at.whole; number_is = low.1; text = w.3 })
 
-reads_reading : (n : Naming) (name : List ℕ) (s : ℤ) → Reads n name s → reading n name ≡ Some s
-unfolding reading
-reads_reading n name s r =
+pair_is : (key : ℤ × ℕ) (s : ℤ) (k : ℕ) → key.0 ≡ s → key.1 ≡ k → key ≡ (s, k)
+pair_is key s k e f = rw (← e, ← f) refl
+
+pub reads_reading : (n : Naming) (name : List ℕ) (s : ℤ) (k : ℕ) → ReadsAt n name s k → reading_at n name ≡ Some (s, k)
+unfolding reading_at
+reads_reading n name s k r =
+    let units = 315569520000 / unit_of n.rotation.kind in
     let u = unit_number n.rotation.kind s r.dated_second r.whole in
-    let w = finds n name (315569520000 / unit_of n.rotation.kind) u.number u.low (r.text ∙ ap (λ t. dated_name n.prefix n.suffix (date_text n.rotation.kind t)) (sym u.is)) in
-    w.1 ∙ ap Some (reads_once n name w.0 s (reading_reads n name w.0 w.1) r)
+    let i = u.number * numbers_of n + k in
+    let in_place = place n.numbered u.number k r.number_is in
+    let second : second_in n i ≡ s = ap (unit_start n.rotation.kind) in_place.0 ∙ u.is in
+    let named : name ≡ name_in n i = r.text ∙ rw (second, in_place.1) refl in
+    let w = finds n name (units * numbers_of n) i (place_low n.numbered u.number k units u.low r.number_is) named in
+    let same = reads_once n name w.0.0 s w.0.1 k (reading_reads n name w.0 w.1) r in
+    w.1 ∙ ap Some (pair_is w.0 s k same.0 same.1)
 
-pub reading_is : (n : Naming) (name : List ℕ) (r : Option ℤ) → ((s : ℤ) → (r ≡ Some s) ↔ Reads n name s) → r ≡ reading n name
-reading_is n name (Some s) exact = sym (reads_reading n name s ((exact s).0 refl))
-reading_is n name None exact = by (reading n name) refl
+pub reading_is : (n : Naming) (name : List ℕ) (r : Option (ℤ × ℕ)) → ((s : ℤ) (k : ℕ) → (r ≡ Some (s, k)) ↔ ReadsAt n name s k) → r ≡ reading_at n name
+reading_is n name (Some (s, k)) exact = sym (reads_reading n name s k ((exact s k).0 refl))
+reading_is n name None exact = by (reading_at n name) refl
   where
-    by : (o : Option ℤ) → reading n name ≡ o → None ≡ o
+    by : (o : Option (ℤ × ℕ)) → reading_at n name ≡ o → None ≡ o
     by None e = refl
-    by (Some s) e = (exact s).1 (reading_reads n name s e)
+    by (Some key) e = (exact key.0 key.1).1 (reading_reads n name key e)

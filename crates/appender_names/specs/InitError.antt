@@ -1,7 +1,7 @@
 -- The number that stands for each cause of a refused opening.
 use Rattle.std.specs.Prelude.{ℕ}
 use Rattle.appender_names.specs.declared.error.InitError.{InitError}
-use Rattle.appender_names.specs.declared.error.InitError.TheVariants.{Directory, File, Symlink, Moment, Name, Memory}
+use Rattle.appender_names.specs.declared.error.InitError.TheVariants.{Directory, File, Symlink, Moment, Name, Memory, Limit}
 
 abbrev pub code_of : InitError → ℕ
 code_of (Directory e) = 1
@@ -10,3 +10,4 @@ code_of (Symlink e) = 3
 code_of Moment = 4
 code_of Name = 5
 code_of Memory = 6
+code_of Limit = 7

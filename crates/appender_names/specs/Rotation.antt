@@ -1,5 +1,5 @@
 -- Moments, and the boundaries at which the files of a rotation begin. A moment is in whole seconds of UTC since 1970-01-01 00:00:00, with days of 86400 seconds.
-use Rattle.std.specs.Prelude.{◌≡◌, ◌≢◌, ◌↔◌, ℕ, ℤ, pos, negsuc, ◌+ℤ◌, ◌-ℤ◌, ◌≤ℤ◌, ◌<ℤ◌, Option, None, Some, Bool, not, ◌&&◌, int_lt}
+use Rattle.std.specs.Prelude.{◌≡◌, ◌≢◌, ◌↔◌, ℕ, ℤ, pos, negsuc, ◌+ℤ◌, ◌-ℤ◌, ◌≤ℤ◌, ◌<ℤ◌, Option, None, Some, Bool, true, false, not, ◌&&◌, int_lt}
 use Rattle.std.specs.Int.{int_rem_euclid}
 use Rattle.std.specs.Option.{option_map}
 use Rattle.appender_names.specs.declared.rotation.RotationKind.{RotationKind}
@@ -66,6 +66,17 @@ period_of_kind k m = Some (m -ℤ int_rem_euclid (m -ℤ pos (anchor_of k)) (pos
 
 abbrev pub period_of : Rotation → ℤ → Option ℤ
 period_of r m = period_of_kind r.kind m
+
+-- one start, or none
+abbrev pub is_same_start : Option ℤ → Option ℤ → Bool
+is_same_start None None = true
+is_same_start None (Some b) = false
+is_same_start (Some a) None = false
+is_same_start (Some a) (Some b) = not (int_lt a b) && not (int_lt b a)
+
+-- both lie in one period
+abbrev pub is_in_period : Rotation → ℤ → ℤ → Bool
+is_in_period r m s = is_same_start (period_of r s) (period_of r m)
 
 -- the start of the next period as a number, a step later
 abbrev pub next_of : Rotation → ℤ → Option ℤ

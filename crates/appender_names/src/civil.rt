@@ -100,7 +100,7 @@ fn second_at(year: u16, month: u8, day: u8, hour: u8, minute: u8) -> Option<i64>
 }
 
 // The number that two digits write.
-fn number(tens: u8, ones: u8) -> Option<u8>
+pub(crate) fn number(tens: u8, ones: u8) -> Option<u8>
     ensures { MatchOption result ((n : ℕ) → n < 100 → two_digits n ≢ tens ∷ ones ∷ [])
         (λ n. (n < 100) × (two_digits n ≡ tens ∷ ones ∷ [])) }
 {

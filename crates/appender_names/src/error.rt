@@ -28,6 +28,9 @@ pub enum InitError {
     /// Memory was refused.
     #[error("out of memory")]
     Memory,
+    /// A limit of bytes is set under `NEVER`, whose names need have no date for the number to follow.
+    #[error("byte limit without a rotation")]
+    Limit,
 }
 
 impl InitError {
@@ -42,6 +45,7 @@ impl InitError {
             InitError::Moment => 4,
             InitError::Name => 5,
             InitError::Memory => 6,
+            InitError::Limit => 7,
         }
     }
 }

@@ -35,23 +35,23 @@ pub fn periods_lie_between_boundaries()
     ensures end { (r : Rotation) → PeriodsEndAtBoundaries r }
 {}
 
-/// Later periods have names that are greater byte by byte.
+/// Later periods have names that are greater byte by byte, and so have greater numbers in one period.
 pub fn names_rise()
     ensures { (n : Naming) → NamesRise n }
 {}
 
 /// Under each rotation but `NEVER`, which has no boundaries, moments share a name exactly where they
-/// share a period.
+/// share a period and have one number.
 pub fn names_are_periods()
     ensures { (n : Naming) → NamesArePeriods n }
 {}
 
-/// The name of a period reads as the period's start.
+/// The name of a period reads as the period's start, with its number.
 pub fn names_read_as_starts()
     ensures { (n : Naming) → NamesReadAsStarts n }
 {}
 
-/// A name reads as one second at most.
+/// A name reads as one second and one number at most.
 pub fn names_read_once()
     ensures { (n : Naming) → NamesReadOnce n }
 {}

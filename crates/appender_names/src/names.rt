@@ -1,13 +1,13 @@
 //! What the log files are called, as in the documentation of the crate tracing-appender: prefix,
 //! date and suffix, with a dot between. Dates are those of UTC in the proleptic Gregorian calendar
 //! of ISO 8601.
-ghost use Rattle.std.specs.Prelude.{◌≡◌, ◌≢◌, ◌↔◌, ℕ, ℤ, pos, negsuc, List, [], IsTrue, IsOk, IfOk, IfErr, MatchOption, Some, Err, string_bytes, ◌⊎◌};
+ghost use Rattle.std.specs.Prelude.{◌≡◌, ◌≢◌, ◌↔◌, ◌≤◌, true, ℕ, ℤ, pos, negsuc, List, [], ◌∷◌, IsTrue, IsOk, IfOk, IfErr, MatchOption, None, Some, Err, string_bytes, string_len, string_capacity, ◌⊎◌, ◌+◌, ◌++◌, ◌<◌, length, if◌then◌else◌};
 ghost use Rattle.appender_names.specs.declared.rotation.RotationKind.TheVariants.{Never};
 ghost use Rattle.appender_names.specs.Rotation.{IsMoment, IsNever};
-ghost use Rattle.appender_names.specs.DateText.{date_text};
+ghost use Rattle.appender_names.specs.DateText.{date_text, two_digits};
 ghost use Rattle.std.specs.List.{list_all};
 ghost use Rattle.appender_names.specs.Name as spec;
-ghost use Rattle.appender_names.specs.Name.{IsPart, IsDots, IsEntry, IsAllowed};
+ghost use Rattle.appender_names.specs.Name.{IsPart, IsDots, IsEntry, IsAllowed, IsMark, marked, last_by, number_text, back};
 
 use crate::civil;
 use crate::error::InitError;
@@ -22,11 +22,12 @@ pub struct Names {
     rotation: Rotation,
     prefix: String,
     suffix: String,
+    numbered: bool,
 }
 
 impl Model for Names {
     ghost use Rattle.std.specs.Prelude.{string_bytes};
-    ghost use Rattle.appender_names.specs.Name.{Naming, IsAllowed};
+    ghost use Rattle.appender_names.specs.Name.{Naming, IsAllowed, IsNumbering};
 
     ghost Value = { Naming };
 
@@ -34,13 +35,14 @@ impl Model for Names {
       rotation = n.rotation;
       prefix = string_bytes n.prefix;
       suffix = string_bytes n.suffix;
+      numbered = n.numbered;
     } };
 
-    ghost invariant = { λ n. IsAllowed n.rotation (string_bytes n.prefix) (string_bytes n.suffix) };
+    ghost invariant = { λ n. IsNumbering n.rotation (string_bytes n.prefix) (string_bytes n.suffix) n.numbered };
 }
 
 impl Names {
-    ghost use Rattle.appender_names.specs.Name.{Naming, name_of, naming, named_moment, Reads, reading};
+    ghost use Rattle.appender_names.specs.Name.{Naming, name_of, name_at, last_number, mark_of, naming, numbered_naming, named_moment, Reads, ReadsAt, reading, reading_at};
     ghost use Rattle.jiff.specs.Words.{IsBetween};
 
     /// Whether names may have this prefix and this suffix, where an empty text is none: neither has
@@ -72,7 +74,47 @@ impl Names {
             rotation,
             prefix: String::from_str(alloc, prefix)?,
             suffix: String::from_str(alloc, suffix)?,
+            numbered: false,
         })
+    }
+
+    /// Returns names like those of `new`, with a dot and a number of six digits after the date. `Name` if
+    /// `is_allowed` refuses prefix and suffix; else `Limit` if the rotation is `NEVER`, whose names need
+    /// have no date; else `Memory` if there is no room for a copy of both.
+    pub fn numbered(
+        alloc: Global,
+        rotation: Rotation,
+        prefix: &str,
+        suffix: &str,
+    ) -> Result<Names, InitError>
+        ensures ok { IfOk result (λ names. names ≡ numbered_naming rotation prefix.now suffix.now) }
+        ensures allowed { result ≢ Err InitError.Name → IsAllowed rotation prefix.now suffix.now }
+        ensures name { result ≡ Err InitError.Name → ¬ (IsAllowed rotation prefix.now suffix.now) }
+        ensures limit { result ≡ Err InitError.Limit → IsNever rotation }
+        ensures rotates { result ≢ Err InitError.Name → result ≢ Err InitError.Limit →
+            ¬ (IsNever rotation) }
+        ensures err { IfErr result (λ e. (e ≡ InitError.Name) ⊎ (e ≡ InitError.Limit) ⊎ (e ≡ InitError.Memory)) }
+    {
+        if !Names::is_allowed(rotation, prefix, suffix) {
+            return Err(InitError::Name);
+        }
+        if rotation.is_never() {
+            return Err(InitError::Limit);
+        }
+        Ok(Names {
+            alloc,
+            rotation,
+            prefix: String::from_str(alloc, prefix)?,
+            suffix: String::from_str(alloc, suffix)?,
+            numbered: true,
+        })
+    }
+
+    /// Returns whether a number follows the date in each name.
+    pub fn is_numbered(&self) -> bool
+        ensures { result ≡ self.now.numbered }
+    {
+        self.numbered
     }
 
     /// How often a new name begins.
@@ -96,20 +138,63 @@ impl Names {
         self.suffix.as_str()
     }
 
-    /// The name of the file that a moment belongs to. Its date is that of the start of the moment's
-    /// period, and under `NEVER` of the moment itself. The error is a refusal of memory.
+    /// Returns the name of the file that a moment belongs to: its number, if names are numbered, is 0. The
+    /// date is that of the start of the moment's period, and under `NEVER` of the moment itself.
+    /// `AllocError` if memory is refused.
     pub fn file_name(&self, moment: i64) -> Result<String, AllocError>
         requires { IsMoment moment }
         ensures { IfOk result (λ name. string_bytes name ≡ name_of self.now moment) }
+    {
+        self.file_name_at(moment, 0)
+    }
+
+    /// Puts another number into the name of a moment's file number 0. It takes no memory, since all
+    /// numbers have six digits.
+    pub fn renumber(&self, moment: i64, name: &mut String, number: u32)
+        requires number { number ≤ last_number self.now }
+        requires name { string_bytes name.old ≡ name_at self.now moment 0 }
+        requires room { string_len name.old ≤ string_capacity name.old }
+        ensures { string_bytes name.new ≡ name_at self.now moment number }
+    {
+        if !self.numbered {
+            return;
+        }
+        let suffix = self.suffix.as_str();
+        let len = name.as_bytes().len();
+        name.truncate(len - tail_len(suffix));
+        push_number(name, number);
+        push_suffix(name, suffix);
+    }
+
+    /// Returns the name of the file with this number in the period of a moment. The number is at most
+    /// 999,999, and 0 if names aren't numbered. `AllocError` if memory is refused.
+    pub fn file_name_at(&self, moment: i64, number: u32) -> Result<String, AllocError>
+        requires moment { IsMoment moment }
+        requires number { number ≤ last_number self.now }
+        ensures { IfOk result (λ name. string_bytes name ≡ name_at self.now moment number) }
     {
         let prefix = self.prefix.as_str();
         let suffix = self.suffix.as_str();
         if self.rotation.is_never() {
             return undated_name(self.alloc, prefix, suffix, moment);
         }
+        dated_name(self.alloc, prefix, suffix, self.mark(moment, number)?)
+    }
+
+    // What stands between prefix and suffix, where a date does.
+    fn mark(&self, moment: i64, number: u32) -> Result<String, AllocError>
+        requires rotates { ¬ (IsNever self.now.rotation) }
+        requires moment { IsMoment moment }
+        requires number { number ≤ last_number self.now }
+        ensures { IfOk result (λ mark.
+            string_bytes mark ≡ mark_of self.now (named_moment self.now.rotation moment) number) }
+    {
         let start = self.named_start(moment);
         let date = civil::date_text(self.alloc, self.rotation.kind(), start)?;
-        dated_name(self.alloc, prefix, suffix, date)
+        if !self.numbered {
+            return Ok(date);
+        }
+        numbered_date(date, number)
     }
 
     // The moment whose date stands in the name, where periods have a start: the start.
@@ -128,10 +213,126 @@ impl Names {
         ensures exact { (s : ℤ) → (result ≡ Some s) ↔ Reads self.now name.now s }
         ensures value { result ≡ reading self.now name.now }
     {
-        let rest = behind(name.as_bytes(), self.prefix.as_bytes())?;
-        let date = before(rest, self.suffix.as_bytes())?;
-        civil::read_date(self.rotation.kind(), date)
+        let (second, _) = self.read_both(name)?;
+        Some(second)
     }
+
+    /// Returns that moment and the number in the name, from 0 to 999,999; `None` also if names aren't
+    /// numbered. It takes no memory.
+    pub fn read_numbered(&self, name: &str) -> Option<(i64, u32)>
+        ensures exact { (s : ℤ) (k : ℕ) → (result ≡ Some (s, k)) ↔
+            ((self.now.numbered ≡ true) × ReadsAt self.now name.now s k) }
+        ensures value { result ≡ (if self.now.numbered then reading_at self.now name.now else None) }
+    {
+        if !self.numbered {
+            return None;
+        }
+        self.read_both(name)
+    }
+
+    // The second and the number that a name reads as; without numbers the number is 0.
+    fn read_both(&self, name: &str) -> Option<(i64, u32)>
+        ensures exact { (s : ℤ) (k : ℕ) → (result ≡ Some (s, k)) ↔ ReadsAt self.now name.now s k }
+        ensures value { result ≡ reading_at self.now name.now }
+    {
+        let rest = behind(name.as_bytes(), self.prefix.as_bytes())?;
+        let mark = before(rest, self.suffix.as_bytes())?;
+        read_mark(self.rotation.kind(), self.numbered, mark)
+    }
+}
+
+// The second and the number that stand between prefix and suffix.
+fn read_mark(kind: RotationKind, numbered: bool, mark: &[u8]) -> Option<(i64, u32)>
+    ensures { MatchOption result ((s : ℤ) (k : ℕ) → ¬ (IsMark kind numbered mark.now s k))
+        (λ key. IsMark kind numbered mark.now key.0 key.1) }
+{
+    let (date, number) = split_number(numbered, mark)?;
+    Some((civil::read_date(kind, date)?, number))
+}
+
+// The date, and the number after it and a dot, if names are numbered; else the number is 0.
+fn split_number(numbered: bool, mark: &[u8]) -> Option<(&[u8], u32)>
+    ensures { MatchOption result
+        ((date : List ℕ) (k : ℕ) → k ≤ last_by numbered → mark.now ≢ marked numbered date k)
+        (λ parts. (parts.1 ≤ last_by numbered) × (mark.now ≡ marked numbered parts.0.now parts.1)) }
+{
+    if !numbered {
+        return Some((mark, 0));
+    }
+    let [date @ .., b'.', a1, a0, b1, b0, c1, c0] = mark else {
+        return None;
+    };
+    let high = u32::from(civil::number(*a1, *a0)?);
+    let middle = u32::from(civil::number(*b1, *b0)?);
+    let low = u32::from(civil::number(*c1, *c0)?);
+    Some((date, high * 10_000 + middle * 100 + low))
+}
+
+// How many bytes a number and the suffix after it have.
+fn tail_len(suffix: &str) -> usize
+    ensures { result ≡ 6 + length (back suffix.now) }
+{
+    if suffix.is_empty() { 6 } else { suffix.len() + 7 }
+}
+
+// Adds a dot and the suffix, if one is set, for which there is room.
+fn push_suffix(text: &mut String, suffix: &str)
+    requires { string_len text.old + length (back suffix.now) ≤ string_capacity text.old }
+    ensures { string_bytes text.new ≡ string_bytes text.old ++ back suffix.now }
+{
+    if suffix.is_empty() {
+        return;
+    }
+    let _ = text.push('.');
+    let _ = text.push_str(suffix);
+}
+
+// Adds a number in six digits, for which there is room.
+fn push_number(text: &mut String, number: u32)
+    requires number { number ≤ 999_999 }
+    requires room { string_len text.old + 6 ≤ string_capacity text.old }
+    ensures bytes { string_bytes text.new ≡ string_bytes text.old ++ number_text number }
+    ensures len { string_len text.new ≡ string_len text.old + 6 }
+    ensures capacity { string_capacity text.old ≤ string_capacity text.new }
+{
+    push_two(text, number / 10_000);
+    push_two(text, number / 100 % 100);
+    push_two(text, number % 100);
+}
+
+// Adds a number in two digits, for which there is room.
+fn push_two(text: &mut String, number: u32)
+    requires number { number < 100 }
+    requires room { string_len text.old + 2 ≤ string_capacity text.old }
+    ensures bytes { string_bytes text.new ≡ string_bytes text.old ++ two_digits number }
+    ensures len { string_len text.new ≡ string_len text.old + 2 }
+    ensures capacity { string_capacity text.old ≤ string_capacity text.new }
+{
+    push_digit(text, number / 10);
+    push_digit(text, number % 10);
+}
+
+// Adds a digit, for which there is room.
+fn push_digit(text: &mut String, digit: u32)
+    requires digit { digit < 10 }
+    requires room { string_len text.old + 1 ≤ string_capacity text.old }
+    ensures bytes { string_bytes text.new ≡ string_bytes text.old ++ (48 + digit) ∷ [] }
+    ensures len { string_len text.new ≡ string_len text.old + 1 }
+    ensures capacity { string_capacity text.old ≤ string_capacity text.new }
+{
+    let _ = text.push(char::from(b'0' + digit as u8));
+}
+
+// A date, and after it a dot and a number.
+fn numbered_date(date: String, number: u32) -> Result<String, AllocError>
+    requires { number ≤ 999_999 }
+    ensures { IfOk result (λ mark. string_bytes mark ≡ marked true (string_bytes date) number) }
+{
+    let mut mark = date;
+    mark.reserve(7)?;
+    let _ = mark.push('.');
+    push_number(&mut mark, number);
+    Ok(mark)
 }
 
 /// Whether a text names one entry of a folder: it is not empty, `.` or `..`, and it has no `/` and no

@@ -1,7 +1,7 @@
 //! When a new log file begins, as in the documentation of the crate tracing-appender. A moment is
 //! in whole seconds of UTC since 1970-01-01 00:00:00, with days of 86,400 seconds.
 ghost use Rattle.std.specs.Prelude.{◌≡◌, ◌≢◌, ◌↔◌, negsuc, ◌≤ℤ◌, IsTrue, IsNone, IfSome};
-ghost use Rattle.appender_names.specs.Rotation.{IsMoment, IsNever, IsGreatestBoundary, IsNextBoundary, step_of, period_of, next_of};
+ghost use Rattle.appender_names.specs.Rotation.{IsMoment, IsNever, IsGreatestBoundary, IsNextBoundary, step_of, period_of, next_of, is_in_period};
 
 /// How often a new log file begins. Its boundaries are whole minutes, hours, days or weeks of UTC.
 #[derive(Clone, Copy, Debug, PartialEq, Eq)]
@@ -109,6 +109,23 @@ impl Rotation {
             return None;
         }
         Some(self.next_start(moment))
+    }
+
+    /// Returns whether a second is in the moment's period. The second may be out of range.
+    pub fn is_in_period(&self, moment: i64, second: i64) -> bool
+        requires { IsMoment moment }
+        ensures { result ≡ is_in_period self.now moment second }
+    {
+        self.is_never() || self.is_between(moment, second)
+    }
+
+    // The same, where periods have a start.
+    fn is_between(&self, moment: i64, second: i64) -> bool
+        requires rotates { ¬ (IsNever self.now) }
+        requires moment { IsMoment moment }
+        ensures { result ≡ is_in_period self.now moment second }
+    {
+        self.round_date(moment) <= second && second < self.next_start(moment)
     }
 
     // Where the next period starts.

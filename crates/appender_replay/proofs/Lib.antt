@@ -3,10 +3,15 @@ pub mod Periods
 pub mod Turns
 pub mod Clocks
 pub mod Owners
+pub mod Unlimited
+pub mod Left
 pub mod Files
 pub mod Runs
+pub mod Retention
 pub mod Records
 pub mod Orders
+pub mod Keys
 pub mod Lines
 pub mod Texts
 pub mod Wholes
+pub mod Bounds

@@ -8,7 +8,7 @@ use Rattle.appender_retain.specs.Pruning.{IsQuiet}
 use Rattle.appender_retain.specs.Survival.{TakesOnlyOld, LeavesSurvivors, name_survives}
 use Rattle.appender_rolling.specs.Config.{Config, naming_of}
 use Rattle.appender_rolling.specs.Opening.{file_name_of, MayRemoveLink, Linked}
-use Rattle.appender_replay.specs.Run.{Attempt, NamesAfter}
+use Rattle.appender_replay.specs.Run.{Attempt, IsOther, NamesAfter}
 
 -- a file's name is not that of a link that was made
 no_file : (target : List ℕ) (x : ℕ) (t : Option ℤ) → ¬ (◌≡◌ {A = Option Entry} (Some (Link target)) (Some (File x t)))
@@ -71,18 +71,18 @@ module _ (maps : NameLaws) where
       absurd (no_file removes.was_there.0 x t (sym removes.was_there.1 ∙ ap (fin.get old.names) (sym is) ∙ at))
 
   -- after an attempt that opened a body
-  pub names_after : (c : Config) (a : Attempt) (b : ℕ) (pruned unlinked : Content) → TakesOnlyOld (naming_of c) c.max_files a.before pruned → ((IsQuiet a.noted_before a.noted_after ⊎ (a.before.there ≡ false)) → LeavesSurvivors (naming_of c) c.max_files a.before pruned) → Opens (file_name_of c a.moment) (after_make_folder pruned) unlinked b → Linked c.link (file_name_of c a.moment) unlinked a.after → NamesAfter c a b
+  pub names_after : (c : Config) (a : Attempt) (b : ℕ) (pruned unlinked : Content) → TakesOnlyOld (naming_of c) c.max_files a.before pruned → ((IsQuiet a.noted_before a.noted_after ⊎ (a.before.there ≡ false)) → LeavesSurvivors (naming_of c) c.max_files a.before pruned) → Opens (file_name_of c a.stamp) (after_make_folder pruned) unlinked b → Linked c.link (file_name_of c a.stamp) unlinked a.after → NamesAfter c a b
   names_after c a b pruned unlinked only_old survivors opens links =
-      let name = file_name_of c a.moment in
+      let name = file_name_of c a.stamp in
       let to = leads_to name (after_make_folder pruned) unlinked b opens in
-      let as_pruned : (other : List ℕ) → other ≢ name → (other ≡ c.link → c.link ≡ []) → fin.get a.after.names other ≡ fin.get pruned.names other = λ other ne unset.
-      linked_other c.link name unlinked a.after other links unset ∙ opened_other name (after_make_folder pruned) unlinked b other opens ne in
+      let as_pruned : (other : List ℕ) → IsOther c a.stamp other → fin.get a.after.names other ≡ fin.get pruned.names other = λ other is.
+      linked_other c.link name unlinked a.after other links is.not_link ∙ opened_other name (after_make_folder pruned) unlinked b other opens is.not_own in
       record {
         own = (to.0, linked_other c.link name unlinked a.after name links (apart_from_link c.link name unlinked a.after name b to.0 links to.1) ∙ to.1);
         link = linked_name c.link name unlinked a.after links;
-        others = λ other ne unset. elim (only_old.names other) [
-          | inl same ↦ inl (as_pruned other ne unset ∙ same)
-          | inr gone ↦ inr (as_pruned other ne unset ∙ gone.0, gone.1)
+        others = λ other is. elim (only_old.names other) [
+          | inl same ↦ inl (as_pruned other is ∙ same)
+          | inr gone ↦ inr (as_pruned other is ∙ gone.0, gone.1)
         ];
-        survivors = λ quiet other ne unset. as_pruned other ne unset ∙ survivors quiet other;
+        survivors = λ quiet other is. as_pruned other is ∙ survivors quiet other;
       }

@@ -1,18 +1,18 @@
 -- Different attempts open different bodies, so that each of them has its own.
 use Rattle.std.proofs.Common.{◌≡◌, ◌≢◌, ◌⊎◌, ◌&&◌, is_some, ℕ, suc, ◌<◌, ◌≤◌, ◌==◌, ℤ, Bool, true, false, nat_le, if◌then◌else◌, List, [], ◌∷◌, ◌++◌, length, Option, None, Some, arith, inl, inr, refl, ap, sym, ◌∙◌, subst, append_assoc}
-use Rattle.std.proofs.lemmas.Int.{ints}
 use Rattle.std.proofs.lemmas.List.{append-nil, length-set}
 use Rattle.std.specs.FinMap as fin
-use Rattle.appender_names.specs.declared.rotation.Rotation.{Rotation}
-use Rattle.appender_names.specs.Rotation.{IsMoment, period_of}
 use Rattle.appender_store.specs.Content.{Content, Entry, File, IsSound, body_at, after_append, Opens}
 use Rattle.appender_store.proofs.Appends.{after_append_at}
-use Rattle.appender_rolling.specs.Config.{Config}
+use Rattle.appender_rolling.specs.Config.{Config, IsStamp}
+use Rattle.appender_rolling.specs.declared.rolling.setup.Stamp.{Stamp}
 use Rattle.appender_rolling.specs.Kept.{Keeps, KeepsOtherFiles, FileStays}
 use Rattle.appender_rolling.specs.Opening.{file_name_of}
 use Rattle.appender_rolling.specs.declared.rolling.Switch.TheVariants.{Failed as SwitchFailed}
-use Rattle.appender_replay.specs.Run.{Event, Attempt, is_same, period_at, carrier, passes, bytes_where, bytes_of_attempt, bytes_in_period, NoneFailed, OpensNoneOf, AreApart, HoldsItsOwn, HasItsName, NamesItsBody, CarriesItsPeriod, HoldsItsPeriod, EachOf}
-use Rattle.appender_replay.proofs.Periods.{IsLater, same_is_same, later_differs, later_still}
+use Rattle.appender_replay.specs.Run.{Event, Attempt, Key, is_same_key, key_of, key_at, carrier, passes, bytes_where, bytes_of_attempt, bytes_under, NoneFailed, OpensNoneOf, AreApart, HoldsItsOwn, HasItsName, NamesItsBody, CarriesItsNumber, HoldsItsNumber, EachOf}
+use Rattle.appender_names.specs.Rotation.{is_same_start}
+use Rattle.appender_names.proofs.Periods.{is_same_to}
+use Rattle.appender_replay.proofs.Periods.{IsLaterKey, same_key_is_same, later_key_differs, later_key_still}
 
 same_body : (a b : ℕ) → ◌≡◌ {A = Option ℕ} (Some a) (Some b) → a ≡ b
 same_body a b e = cc
@@ -28,19 +28,23 @@ equal x y e = grind arith
 
 -- ---- periods
 
--- one period isn't after another
-abbrev pub IsNotAfter : Option ℤ → Option ℤ → Type 0
-IsNotAfter p q = (p ≡ q) ⊎ IsLater p q
+-- one period and number aren't after others
+abbrev pub IsNotAfter : Key → Key → Type 0
+IsNotAfter a b = (a ≡ b) ⊎ IsLaterKey a b
 
-pub then_later : (p q s : Option ℤ) → IsNotAfter p q → IsLater q s → IsLater p s
-then_later p q s (inl e) later = rw e later
-then_later p q s (inr k) later = later_still p q s k later
+pub then_later : (a b c : Key) → IsNotAfter a b → IsLaterKey b c → IsLaterKey a c
+then_later a b c (inl e) later = rw e later
+then_later a b c (inr k) later = later_key_still a b c k later
 
-same_by_is_same : (p q : Option ℤ) → is_same p q ≡ true → q ≡ p
-same_by_is_same None None e = refl
-same_by_is_same None (Some q) e = absurd (let both : false ≡ true = e in cc)
-same_by_is_same (Some p) None e = absurd (let both : false ≡ true = e in cc)
-same_by_is_same (Some p) (Some q) e = let same : q ≡ p = grind (arith, ints) in rw same refl
+same_pair : (a b : Key) → a.0 ≡ b.0 → a.1 ≡ b.1 → a ≡ b
+same_pair a b e f = rw (e, f) refl
+
+same_by_is_same_key : (a b : Key) → is_same_key a b ≡ true → b ≡ a
+same_by_is_same_key a b e = by (is_same_start a.0 b.0) refl e
+  where
+    by : (t : Bool) → is_same_start a.0 b.0 ≡ t → (t && (a.1 == b.1)) ≡ true → b ≡ a
+    by true is both = same_pair b a (sym (is_same_to a.0 b.0 is)) (grind arith)
+    by false is both = absurd (let never : false ≡ true = both in cc)
 
 -- ---- lists of attempts
 
@@ -74,26 +78,26 @@ opens_nothing : (a : Attempt) (rest : List Attempt) → a.body ≡ None → Open
 opens_nothing a [] none = tt
 opens_nothing a (e ∷ rest) none = ((λ b is other. nothing_opened a b none is), opens_nothing a rest none)
 
--- names of later periods are others
-abbrev pub OtherNames : Rotation → (ℤ → List ℕ) → Type 0
-OtherNames r name = (m n : ℤ) → IsMoment m → IsMoment n → IsLater (period_of r m) (period_of r n) → name n ≢ name m
+-- names of later periods are others, and in one period those of greater numbers
+abbrev pub OtherNames : Config → Type 0
+OtherNames c = (s t : Stamp) → IsStamp c s → IsStamp c t → IsLaterKey (key_of c s) (key_of c t) → file_name_of c t ≢ file_name_of c s
 
-module _ (c : Config) (start : ℤ) where
+module _ (c : Config) (start : Stamp) where
   -- Of an attempt, after the switches of some events were told and the pieces of some were written: when it was made, and that
   -- what it opened is there, has no other name than the attempt's, is what stands under that name if a file does, is the open
   -- body exactly if the attempt is the carrier, and holds its own; and, unless a switch failed, that it is the carrier exactly
   -- in its period.
   pub record IsOwner (told h : List Event) (attempts : List Attempt) (now : Content) (file : Attempt) (b : ℕ) (a : Attempt) : Type 0 where
-    pub in_range : IsMoment a.moment
-    pub not_after : IsNotAfter (period_of c.rotation a.moment) (period_at c.rotation start told)
+    pub in_range : IsStamp c a.stamp
+    pub not_after : IsNotAfter (key_of c a.stamp) (key_at c start told)
     pub at_step : a.step ≤ length told
     pub there : (x : ℕ) → a.body ≡ Some x → x < length now.bodies
     pub own : HasItsName c now a
     pub stands : NamesItsBody c now a
     pub mine : (x : ℕ) → a.body ≡ Some x → (file.step == a.step) ≡ (b == x)
     pub holds : HoldsItsOwn attempts h now a
-    pub in_time : NoneFailed told → (x : ℕ) → a.body ≡ Some x → (file.step == a.step) ≡ is_same (period_at c.rotation start told) (period_of c.rotation a.moment)
-    pub in_its_period : NoneFailed told → CarriesItsPeriod c.rotation start attempts h a
+    pub in_time : NoneFailed told → (x : ℕ) → a.body ≡ Some x → (file.step == a.step) ≡ is_same_key (key_at c start told) (key_of c a.stamp)
+    pub in_its_number : NoneFailed told → CarriesItsNumber c start attempts h a
 
   -- What is known of all attempts.
   pub record AreOwners (told h : List Event) (attempts : List Attempt) (now : Content) (file : Attempt) (b : ℕ) : Type 0 where
@@ -109,52 +113,55 @@ module _ (c : Config) (start : ℤ) where
     pub each_holds : EachOf (HoldsItsOwn attempts h now) attempts
     each_holds = each_map Owner (HoldsItsOwn attempts h now) attempts (λ a o. o.holds) so.owners
 
+    pub each_stamp : EachOf (λ a. IsStamp c a.stamp) attempts
+    each_stamp = each_map Owner (λ a. IsStamp c a.stamp) attempts (λ a o. o.in_range) so.owners
+
     pub each_name : EachOf (HasItsName c now) attempts
     each_name = each_map Owner (HasItsName c now) attempts (λ a o. o.own) so.owners
 
     pub each_stands : EachOf (NamesItsBody c now) attempts
     each_stands = each_map Owner (NamesItsBody c now) attempts (λ a o. o.stands) so.owners
 
-    pub each_in_its_period : NoneFailed told → EachOf (CarriesItsPeriod c.rotation start attempts h) attempts
-    each_in_its_period fine = each_map Owner (CarriesItsPeriod c.rotation start attempts h) attempts (λ a o. o.in_its_period fine) so.owners
+    pub each_in_its_number : NoneFailed told → EachOf (CarriesItsNumber c start attempts h) attempts
+    each_in_its_number fine = each_map Owner (CarriesItsNumber c start attempts h) attempts (λ a o. o.in_its_number fine) so.owners
 
     -- what stands under its name is what the attempt opened, and holds what the attempt carries
-    pub each_holds_its_period : NoneFailed told → EachOf (HoldsItsPeriod c start h now) attempts
-    each_holds_its_period fine = each_map Owner (HoldsItsPeriod c start h now) attempts
+    pub each_holds_its_number : NoneFailed told → EachOf (HoldsItsNumber c start h now) attempts
+    each_holds_its_number fine = each_map Owner (HoldsItsNumber c start h now) attempts
         (λ a o x is y t at.
         let it : y ≡ x = o.stands x is y t at in
-        rw it (o.holds x is ∙ ap (λ w. body_at a.before x ++ w) (o.in_its_period fine x is))) so.owners
+        rw it (o.holds x is ∙ ap (λ w. body_at a.before x ++ w) (o.in_its_number fine x is))) so.owners
 
     -- unless a switch failed, the open file is that of the latest moment's period
-    pub open_in_its_period : (i : ℕ) → carrier attempts i ≡ Some file → file.body ≡ Some b → NoneFailed told → period_of c.rotation file.moment ≡ period_at c.rotation start told
-    open_in_its_period i here is fine =
+    pub open_in_its_number : (i : ℕ) → carrier attempts i ≡ Some file → file.body ≡ Some b → NoneFailed told → key_of c file.stamp ≡ key_at c start told
+    open_in_its_number i here is fine =
         let o = each_carrier Owner attempts i file so.owners here in
-        same_by_is_same (period_at c.rotation start told) (period_of c.rotation file.moment) (sym (o.in_time fine b is) ∙ equal file.step file.step refl)
+        same_by_is_same_key (key_at c start told) (key_of c file.stamp) (sym (o.in_time fine b is) ∙ equal file.step file.step refl)
 
   -- ---- no attempt more
 
   module _ (attempts : List Attempt) (file : Attempt) (b : ℕ) where
     -- a step that makes no attempt
-    pub owners_stay : (e : Event) (h : List Event) (now : Content) → period_at c.rotation start (e ∷ h) ≡ period_at c.rotation start h → AreOwners h h attempts now file b → AreOwners (e ∷ h) h attempts now file b
+    pub owners_stay : (e : Event) (h : List Event) (now : Content) → key_at c start (e ∷ h) ≡ key_at c start h → AreOwners h h attempts now file b → AreOwners (e ∷ h) h attempts now file b
     owners_stay e h now same so = record {
       apart = so.apart;
       owners = each_map (IsOwner h h attempts now file b) (IsOwner (e ∷ h) h attempts now file b) attempts
           (λ a o. record {
             in_range = o.in_range;
-            not_after = subst (λ (s : Option ℤ). IsNotAfter (period_of c.rotation a.moment) s) (sym same) o.not_after;
+            not_after = subst (λ (s : Key). IsNotAfter (key_of c a.stamp) s) (sym same) o.not_after;
             at_step = let le = o.at_step in omega arith;
             there = o.there;
             own = o.own;
             stands = o.stands;
             mine = o.mine;
             holds = o.holds;
-            in_time = λ fine x is. o.in_time fine.1 x is ∙ ap (λ (s : Option ℤ). is_same s (period_of c.rotation a.moment)) (sym same);
-            in_its_period = λ fine. o.in_its_period fine.1;
+            in_time = λ fine x is. o.in_time fine.1 x is ∙ ap (λ (s : Key). is_same_key s (key_of c a.stamp)) (sym same);
+            in_its_number = λ fine. o.in_its_number fine.1;
           }) so.owners;
     }
 
     -- a change that keeps every body and its name
-    pub owners_kept : (told h : List Event) (old new : Content) → Keeps old new → ((a : Attempt) → IsOwner told h attempts old file b a → FileStays (file_name_of c a.moment) old new) → AreOwners told h attempts old file b → AreOwners told h attempts new file b
+    pub owners_kept : (told h : List Event) (old new : Content) → Keeps old new → ((a : Attempt) → IsOwner told h attempts old file b a → FileStays (file_name_of c a.stamp) old new) → AreOwners told h attempts old file b → AreOwners told h attempts new file b
     owners_kept told h old new keeps stay so = record {
       apart = so.apart;
       owners = each_map (IsOwner told h attempts old file b) (IsOwner told h attempts new file b) attempts
@@ -168,7 +175,7 @@ module _ (c : Config) (start : ℤ) where
             mine = o.mine;
             holds = λ x is. keeps.bytes x ∙ o.holds x is;
             in_time = o.in_time;
-            in_its_period = o.in_its_period;
+            in_its_number = o.in_its_number;
           }) so.owners;
     }
 
@@ -192,16 +199,16 @@ module _ (c : Config) (start : ℤ) where
                 ∙ append_assoc (body_at a.before x) (bytes_of_attempt a.step attempts h) (if b == x then e.piece else [])
                 ∙ ap (λ t. body_at a.before x ++ (bytes_of_attempt a.step attempts h ++ (if t then e.piece else []))) (sym (carried ∙ o.mine x is));
             in_time = o.in_time;
-            in_its_period = λ fine x is.
-                ap (λ w. w ++ (if passes (λ f. f.step == a.step) (carrier attempts (suc (length h))) then e.piece else [])) (o.in_its_period fine x is)
-                ∙ ap (λ t. bytes_in_period c.rotation start (period_of c.rotation a.moment) h ++ (if t then e.piece else [])) (carried ∙ o.in_time fine x is);
+            in_its_number = λ fine x is.
+                ap (λ w. w ++ (if passes (λ f. f.step == a.step) (carrier attempts (suc (length h))) then e.piece else [])) (o.in_its_number fine x is)
+                ∙ ap (λ t. bytes_under c start (key_of c a.stamp) h ++ (if t then e.piece else [])) (carried ∙ o.in_time fine x is);
           }) so.owners;
     }
 
   -- ---- one attempt more
 
   -- one that fails
-  pub owners_with_failure : (rest : List Attempt) (e : Event) (h : List Event) (now : Content) (file : Attempt) (b : ℕ) (a : Attempt) → a.step ≡ suc (length h) → a.body ≡ None → IsMoment a.moment → period_of c.rotation a.moment ≡ period_at c.rotation start (e ∷ h) → IsLater (period_at c.rotation start h) (period_at c.rotation start (e ∷ h)) → e.switch ≡ SwitchFailed → AreOwners h h rest now file b → AreOwners (e ∷ h) h (a ∷ rest) now file b
+  pub owners_with_failure : (rest : List Attempt) (e : Event) (h : List Event) (now : Content) (file : Attempt) (b : ℕ) (a : Attempt) → a.step ≡ suc (length h) → a.body ≡ None → IsStamp c a.stamp → key_of c a.stamp ≡ key_at c start (e ∷ h) → IsLaterKey (key_at c start h) (key_at c start (e ∷ h)) → e.switch ≡ SwitchFailed → AreOwners h h rest now file b → AreOwners (e ∷ h) h (a ∷ rest) now file b
   owners_with_failure rest e h now file b a at none g here later failed so =
       let lt : length h < a.step = rw at (omega arith) in
       record {
@@ -217,12 +224,12 @@ module _ (c : Config) (start : ℤ) where
             mine = λ x is. absurd (nothing_opened a x none is);
             holds = λ x is. absurd (nothing_opened a x none is);
             in_time = λ fine. absurd (fine.0 failed);
-            in_its_period = λ fine. absurd (fine.0 failed);
+            in_its_number = λ fine. absurd (fine.0 failed);
           },
           each_map (IsOwner h h rest now file b) (IsOwner (e ∷ h) h (a ∷ rest) now file b) rest
               (λ f o. record {
                 in_range = o.in_range;
-                not_after = inr (then_later (period_of c.rotation f.moment) (period_at c.rotation start h) (period_at c.rotation start (e ∷ h)) o.not_after later);
+                not_after = inr (then_later (key_of c f.stamp) (key_at c start h) (key_at c start (e ∷ h)) o.not_after later);
                 at_step = let le = o.at_step in omega arith;
                 there = o.there;
                 own = o.own;
@@ -230,24 +237,24 @@ module _ (c : Config) (start : ℤ) where
                 mine = o.mine;
                 holds = λ x is. rw (pieces_before (λ g. g.step == f.step) a rest h lt) (o.holds x is);
                 in_time = λ fine. absurd (fine.0 failed);
-                in_its_period = λ fine. absurd (fine.0 failed);
+                in_its_number = λ fine. absurd (fine.0 failed);
               }) so.owners,
         );
       }
 
   -- one that opens the body x under its name, where what it changes keeps all other files
-  module _ (a : Attempt) (x : ℕ) (old new : Content) (sound : IsSound new) (is : a.body ≡ Some x) (was : (y : ℕ) → body_at old y ≡ body_at a.before y) (in_range : IsMoment a.moment) (opens : Opens (file_name_of c a.moment) old new x) (to : (t : Option ℤ) × (fin.get new.names (file_name_of c a.moment) ≡ Some (File x t))) (keeps : KeepsOtherFiles (file_name_of c a.moment) old new) (there : x < length new.bodies) where
+  module _ (a : Attempt) (x : ℕ) (old new : Content) (sound : IsSound new) (is : a.body ≡ Some x) (was : (y : ℕ) → body_at old y ≡ body_at a.before y) (in_range : IsStamp c a.stamp) (opens : Opens (file_name_of c a.stamp) old new x) (to : (t : Option ℤ) × (fin.get new.names (file_name_of c a.stamp) ≡ Some (File x t))) (keeps : KeepsOtherFiles (file_name_of c a.stamp) old new) (there : x < length new.bodies) where
     it : (y : ℕ) → a.body ≡ Some y → x ≡ y
     it y ay = same_body x y (sym is ∙ ay)
 
     has_its_name : HasItsName c new a
-    has_its_name y ay m t k = sound.one_name m (file_name_of c a.moment) x t to.0 (subst (λ (z : ℕ). fin.get new.names m ≡ Some (File z t)) (sym (it y ay)) k) to.1
+    has_its_name y ay m t k = sound.one_name m (file_name_of c a.stamp) x t to.0 (subst (λ (z : ℕ). fin.get new.names m ≡ Some (File z t)) (sym (it y ay)) k) to.1
 
     names_its_body : NamesItsBody c new a
     names_its_body y ay z t k = same_file z x t to.0 (sym k ∙ to.1) ∙ it y ay
 
     -- it owns what it opened
-    owner : (told h : List Event) (attempts : List Attempt) → period_of c.rotation a.moment ≡ period_at c.rotation start told → a.step ≤ length told → bytes_of_attempt a.step attempts h ≡ [] → bytes_in_period c.rotation start (period_at c.rotation start told) h ≡ [] → IsOwner told h attempts new a x a
+    owner : (told h : List Event) (attempts : List Attempt) → key_of c a.stamp ≡ key_at c start told → a.step ≤ length told → bytes_of_attempt a.step attempts h ≡ [] → bytes_under c start (key_at c start told) h ≡ [] → IsOwner told h attempts new a x a
     owner told h attempts here at none none_in = record {
       in_range = in_range;
       not_after = inl here;
@@ -257,29 +264,29 @@ module _ (c : Config) (start : ℤ) where
       stands = names_its_body;
       mine = λ y ay. equal a.step a.step refl ∙ sym (equal x y (it y ay));
       holds = λ y ay. rw none (keeps.keeps.bytes y ∙ was y ∙ sym (append-nil (body_at a.before y)));
-      in_time = λ fine y ay. equal a.step a.step refl ∙ sym (rw here (same_is_same (period_at c.rotation start told)));
-      in_its_period = λ fine y ay. none ∙ sym (rw here none_in);
+      in_time = λ fine y ay. equal a.step a.step refl ∙ sym (ap (λ (k : Key). is_same_key (key_at c start told) k) here ∙ same_key_is_same (key_at c start told));
+      in_its_number = λ fine y ay. none ∙ sym (ap (λ (k : Key). bytes_under c start k h) here ∙ none_in);
     }
 
     -- the opening
-    pub owners_begin : start ≡ a.moment → a.step ≡ 0 → AreOwners [] [] (a ∷ []) new a x
+    pub owners_begin : start ≡ a.stamp → a.step ≡ 0 → AreOwners [] [] (a ∷ []) new a x
     owners_begin same at = record {
       apart = (tt, tt);
-      owners = (owner [] [] (a ∷ []) (ap (period_of c.rotation) (sym same)) (rw at (omega arith)) refl refl, tt);
+      owners = (owner [] [] (a ∷ []) (ap (key_of c) (sym same)) (rw at (omega arith)) refl refl, tt);
     }
 
-    module _ (rest : List Attempt) (e : Event) (h : List Event) (file : Attempt) (b : ℕ) (others : OtherNames c.rotation (file_name_of c)) (at : a.step ≡ suc (length h)) (here : period_of c.rotation a.moment ≡ period_at c.rotation start (e ∷ h)) (later : IsLater (period_at c.rotation start h) (period_at c.rotation start (e ∷ h))) where
+    module _ (rest : List Attempt) (e : Event) (h : List Event) (file : Attempt) (b : ℕ) (others : OtherNames c) (at : a.step ≡ suc (length h)) (here : key_of c a.stamp ≡ key_at c start (e ∷ h)) (later : IsLaterKey (key_at c start h) (key_at c start (e ∷ h))) where
       abbrev Earlier : Attempt → Type 0
       Earlier = IsOwner h h rest old file b
 
-      earlier_name : (f : Attempt) → Earlier f → file_name_of c a.moment ≢ file_name_of c f.moment
-      earlier_name f o = others f.moment a.moment o.in_range in_range (rw here (then_later (period_of c.rotation f.moment) (period_at c.rotation start h) (period_at c.rotation start (e ∷ h)) o.not_after later))
+      earlier_name : (f : Attempt) → Earlier f → file_name_of c a.stamp ≢ file_name_of c f.stamp
+      earlier_name f o = others f.stamp a.stamp o.in_range in_range (subst (λ (k : Key). IsLaterKey (key_of c f.stamp) k) (sym here) (then_later (key_of c f.stamp) (key_at c start h) (key_at c start (e ∷ h)) o.not_after later))
 
       -- what is opened for another name is another body
       other_body : (f : Attempt) (y : ℕ) → Earlier f → f.body ≡ Some y → x ≢ y
       other_body f y o fy same =
           elim opens.1 [
-            | inl k ↦ earlier_name f o (o.own y fy (file_name_of c a.moment) k.0 (subst (λ (z : ℕ). fin.get old.names (file_name_of c a.moment) ≡ Some (File z k.0)) same k.1))
+            | inl k ↦ earlier_name f o (o.own y fy (file_name_of c a.stamp) k.0 (subst (λ (z : ℕ). fin.get old.names (file_name_of c a.stamp) ≡ Some (File z k.0)) same k.1))
             | inr k ↦ let below : y < length old.bodies = o.there y fy in absurd (omega (arith, k.2))
           ]
 
@@ -288,7 +295,7 @@ module _ (c : Config) (start : ℤ) where
       opens_no_other (f ∷ part) all = ((λ y ay fy. other_body f y all.0 fy (it y ay)), opens_no_other part all.1)
 
       -- a switch
-      pub owners_with_success : bytes_of_attempt a.step (a ∷ rest) h ≡ [] → bytes_in_period c.rotation start (period_at c.rotation start (e ∷ h)) h ≡ [] → AreOwners h h rest old file b → AreOwners (e ∷ h) h (a ∷ rest) new a x
+      pub owners_with_success : bytes_of_attempt a.step (a ∷ rest) h ≡ [] → bytes_under c start (key_at c start (e ∷ h)) h ≡ [] → AreOwners h h rest old file b → AreOwners (e ∷ h) h (a ∷ rest) new a x
       owners_with_success none none_in so =
           let lt : length h < a.step = rw at (omega arith) in
           record {
@@ -297,7 +304,7 @@ module _ (c : Config) (start : ℤ) where
               owner (e ∷ h) h (a ∷ rest) here (rw at (omega arith)) none none_in,
               each_map Earlier (IsOwner (e ∷ h) h (a ∷ rest) new a x) rest
                   (λ f o.
-                  let after = then_later (period_of c.rotation f.moment) (period_at c.rotation start h) (period_at c.rotation start (e ∷ h)) o.not_after later in
+                  let after = then_later (key_of c f.stamp) (key_at c start h) (key_at c start (e ∷ h)) o.not_after later in
                   let apart : (a.step == f.step) ≡ false = not_equal a.step f.step (let le = o.at_step in omega arith) in
                   record {
                     in_range = o.in_range;
@@ -305,11 +312,11 @@ module _ (c : Config) (start : ℤ) where
                     at_step = let le = o.at_step in omega arith;
                     there = λ y fy. keeps.keeps.more y (o.there y fy);
                     own = λ y fy m t k. o.own y fy m t (keeps.keeps.names y (o.there y fy) m t k);
-                    stands = λ y fy z t k. o.stands y fy z t (keeps.stay (file_name_of c f.moment) (λ same. earlier_name f o (sym same)) z t k);
+                    stands = λ y fy z t k. o.stands y fy z t (keeps.stay (file_name_of c f.stamp) (λ same. earlier_name f o (sym same)) z t k);
                     mine = λ y fy. apart ∙ sym (not_equal x y (other_body f y o fy));
                     holds = λ y fy. rw (pieces_before (λ g. g.step == f.step) a rest h lt) (keeps.keeps.bytes y ∙ o.holds y fy);
-                    in_time = λ fine y fy. apart ∙ sym (later_differs (period_of c.rotation f.moment) (period_at c.rotation start (e ∷ h)) after).0;
-                    in_its_period = λ fine y fy. rw (pieces_before (λ g. g.step == f.step) a rest h lt) (o.in_its_period fine.1 y fy);
+                    in_time = λ fine y fy. apart ∙ sym (later_key_differs (key_of c f.stamp) (key_at c start (e ∷ h)) after).0;
+                    in_its_number = λ fine y fy. rw (pieces_before (λ g. g.step == f.step) a rest h lt) (o.in_its_number fine.1 y fy);
                   }) so.owners,
             );
           }

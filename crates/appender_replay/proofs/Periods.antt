@@ -1,14 +1,15 @@
 -- When a moment comes into another period.
-use Rattle.std.proofs.Common.{◌≡◌, ◌⊎◌, ℤ, pos, ◌+ℤ◌, ◌≤ℤ◌, ◌<ℤ◌, Bool, true, false, int_lt, Option, None, Some, arith, inl, inr, refl, ap, sym, ◌∙◌, subst}
+use Rattle.std.proofs.Common.{◌≡◌, ◌⊎◌, ℕ, ◌<◌, ◌==◌, ◌&&◌, ℤ, pos, ◌+ℤ◌, ◌≤ℤ◌, ◌<ℤ◌, Bool, true, false, int_lt, Option, None, Some, arith, inl, inr, refl, ap, sym, ◌∙◌, subst}
 use Rattle.std.specs.Int.{int_max}
 use Rattle.std.specs.Option.{option_map}
 use Rattle.std.proofs.lemmas.Int.{ints}
 use Rattle.appender_names.specs.declared.rotation.RotationKind.{RotationKind}
 use Rattle.appender_names.specs.declared.rotation.RotationKind.TheVariants.{Minutely, Hourly, Daily, Weekly, Never}
 use Rattle.appender_names.specs.declared.rotation.Rotation.{Rotation}
-use Rattle.appender_names.specs.Rotation.{IsMoment, is_moment, period_of, period_of_kind, next_of, step_of, IsGreatestBoundary, IsNextBoundary, PeriodsBeginAtBoundaries, PeriodsEndAtBoundaries}
+use Rattle.appender_names.specs.Rotation.{IsMoment, is_moment, is_same_start, period_of, period_of_kind, next_of, step_of, IsGreatestBoundary, IsNextBoundary, PeriodsBeginAtBoundaries, PeriodsEndAtBoundaries}
 use Rattle.appender_rolling.specs.Roller.{is_due}
-use Rattle.appender_replay.specs.Run.{is_same}
+use Rattle.appender_names.proofs.Periods.{is_same_is}
+use Rattle.appender_replay.specs.Run.{Key, is_same_key}
 
 pub record Laws (r : Rotation) : Type 0 where
   pub begins : PeriodsBeginAtBoundaries r
@@ -55,12 +56,8 @@ later_start r l m p q n first second next le =
     let e : p ≤ℤ l = first.not_after in
     omega (arith, ints)
 
-later_is_other : (a b : ℤ) → a <ℤ b → (is_same (Some b) (Some a) ≡ false) × (is_same (Some a) (Some b) ≡ false)
+later_is_other : (a b : ℤ) → a <ℤ b → (is_same_start (Some b) (Some a) ≡ false) × (is_same_start (Some a) (Some b) ≡ false)
 later_is_other a b h = (grind (arith, ints), grind (arith, ints))
-
-pub same_is_same : (p : Option ℤ) → is_same p p ≡ true
-same_is_same None = refl
-same_is_same (Some a) = grind (arith, ints)
 
 -- What a moment m of the range does to the latest moment l.
 pub record Moves (r : Rotation) (l m : ℤ) (due : Bool) : Type 0 where
@@ -108,7 +105,7 @@ moves r l m laws h g = elim (starts_of r.kind) [
       }
 ]
 
-pub later_differs : (p q : Option ℤ) → IsLater p q → (is_same q p ≡ false) × (is_same p q ≡ false)
+pub later_differs : (p q : Option ℤ) → IsLater p q → (is_same_start q p ≡ false) × (is_same_start p q ≡ false)
 later_differs None q h = absurd h
 later_differs (Some p) None h = absurd h
 later_differs (Some p) (Some q) h = later_is_other p q h
@@ -118,3 +115,29 @@ later_still None q s h k = absurd h
 later_still (Some p) None s h k = absurd h
 later_still (Some p) (Some q) None h k = absurd k
 later_still (Some p) (Some q) (Some s) h k = omega (arith, ints)
+
+-- ---- a period and a number in it
+
+-- a later period, or in one period a greater number
+abbrev pub IsLaterKey : Key → Key → Type 0
+IsLaterKey a b = IsLater a.0 b.0 ⊎ ((a.0 ≡ b.0) × (a.1 < b.1))
+
+pub same_key_is_same : (a : Key) → is_same_key a a ≡ true
+same_key_is_same a = let number : (a.1 == a.1) ≡ true = grind arith in rw (is_same_is a.0, number) refl
+
+neither : (t : Bool) → (t && false) ≡ false
+neither true = refl
+neither false = refl
+
+pub later_key_differs : (a b : Key) → IsLaterKey a b → (is_same_key b a ≡ false) × (is_same_key a b ≡ false)
+later_key_differs a b (inl later) = let other = later_differs a.0 b.0 later in (rw other.0 refl, rw other.1 refl)
+later_key_differs a b (inr (same, lt)) =
+    let back : (b.1 == a.1) ≡ false = grind arith in
+    let front : (a.1 == b.1) ≡ false = grind arith in
+    (rw back (neither (is_same_start b.0 a.0)), rw front (neither (is_same_start a.0 b.0)))
+
+pub later_key_still : (a b c : Key) → IsLaterKey a b → IsLaterKey b c → IsLaterKey a c
+later_key_still a b c (inl k) (inl l) = inl (later_still a.0 b.0 c.0 k l)
+later_key_still a b c (inl k) (inr (same, lt)) = inl (subst (λ (q : Option ℤ). IsLater a.0 q) same k)
+later_key_still a b c (inr (same, lt)) (inl l) = inl (subst (λ (q : Option ℤ). IsLater q c.0) (sym same) l)
+later_key_still a b c (inr (same, lt)) (inr (equal, less)) = inr (same ∙ equal, omega (arith, lt, less))

@@ -1,25 +1,31 @@
 -- A run of steps over a roller keeps to the laws of the clock and of the files.
 use Rattle.std.proofs.lemmas.Int.{ints}
-use Rattle.std.proofs.Common.{◌≡◌, ◌≢◌, ℕ, ℤ, true, false, inl, inr, List, [], ◌∷◌, ◌++◌, length, Option, None, Some, IsTrue, arith, refl, ap, sym, ◌∙◌, subst, suc}
-use Rattle.appender_names.specs.declared.rotation.Rotation.{Rotation}
+use Rattle.std.proofs.Common.{◌≡◌, ◌≢◌, ◌⊎◌, ◌<◌, ◌≤◌, nat_le, Bool, ℕ, ℤ, true, false, inl, inr, List, [], ◌∷◌, ◌++◌, length, Option, None, Some, IsTrue, arith, refl, ap, sym, ◌∙◌, subst, suc}
 use Rattle.appender_names.specs.Name.{NamesArePeriods}
-use Rattle.appender_names.specs.Rotation.{IsMoment, period_of, next_of}
+use Rattle.appender_names.specs.Rotation.{IsMoment, period_of}
 use Rattle.appender_store.specs.declared.store.Folder.{Ghosts}
-use Rattle.appender_store.specs.Content.{IsSound}
+use Rattle.appender_store.specs.Content.{IsSound, after_append}
+use Rattle.appender_store.proofs.Appends.{after_append_nothing}
 use Rattle.appender_store.specs.Folder.{Counts}
 use Rattle.appender_store.specs.NameLaws.{NameLaws}
 use Rattle.appender_retain.specs.Pruning.{IsQuiet}
-use Rattle.appender_rolling.specs.Config.{Config, naming_of}
+use Rattle.appender_rolling.specs.Config.{Config, naming_of, IsStamp, MayLimit, is_limited, last_of, stamp}
+use Rattle.appender_names.specs.Name.{last_by}
+use Rattle.appender_names.specs.Rotation.{period_of_kind}
+use Rattle.appender_names.specs.declared.rotation.RotationKind.{RotationKind}
+use Rattle.appender_names.specs.declared.rotation.RotationKind.TheVariants.{Minutely, Hourly, Daily, Weekly, Never}
+use Rattle.appender_rolling.specs.declared.rolling.setup.Stamp.{Stamp}
+use Rattle.std.specs.Prelude.{unwrap_or}
 use Rattle.appender_rolling.specs.Kept.{PartsKeep}
 use Rattle.appender_rolling.specs.Opening.{file_name_of, OpensFile, LeavesLittle}
 use Rattle.appender_rolling.specs.Roller.{Rolling, OpensRoller}
 use Rattle.appender_rolling.specs.declared.rolling.Switch.{Switch}
 use Rattle.appender_rolling.specs.declared.rolling.Switch.TheVariants.{None as Stayed, Opened as Switched, Failed as SwitchFailed}
-use Rattle.appender_replay.specs.Run.{Event, Attempt, latest_moment, period_at, arrives, is_switch, last_opened, times, NotedAtAttempts}
-use Rattle.appender_replay.specs.Replay.{Told, LeadsTo, RunsFrom, RollDoes, event_of, events_by, told_onto}
-use Rattle.appender_replay.proofs.Periods.{Laws, IsLater}
-use Rattle.appender_replay.proofs.Turns.{Looks, Turns, step_turns}
-use Rattle.appender_replay.proofs.Clocks.{ClockSoFar, turn, Decides, due_by, clock_begins, clock_goes_on, turn_decides, turn_keeps}
+use Rattle.appender_replay.specs.Run.{Event, Attempt, period_at, stamp_at, last_stamp, last_opened, times, key_of, key_at, Seen, NotedAtAttempts, PiecesFit}
+use Rattle.appender_replay.specs.Replay.{Told, LeadsTo, RunsFrom, RollDoes, roll_event, events_by, told_onto, seen_of, seen_after, seen_in}
+use Rattle.appender_replay.proofs.Periods.{Laws, IsLater, IsLaterKey}
+use Rattle.appender_replay.proofs.Turns.{LooksBy, Turns, step_turns}
+use Rattle.appender_replay.proofs.Clocks.{ClockSoFar, Comes, Stays, Goes, comes, stamp_by, clock_begins, clock_goes_on, turn_decides, turn_keeps}
 use Rattle.appender_replay.proofs.Owners.{OtherNames}
 use Rattle.appender_replay.proofs.NamesLeft.{names_after, nothing_survives}
 use Rattle.appender_replay.proofs.Files.{FilesSoFar, Succeeds, no_attempt, a_failure, a_success, a_piece, files_begin}
@@ -27,24 +33,10 @@ use Rattle.appender_replay.proofs.Files.{FilesSoFar, Succeeds, no_attempt, a_fai
 same_moment : (a b : ℤ) → ◌≡◌ {A = Option ℤ} (Some a) (Some b) → a ≡ b
 same_moment a b e = cc
 
--- What a step does to the latest moment, by its switch.
-record Comes (r : Rotation) (start : ℤ) (e : Event) (h : List Event) : Type 0 where
-  stays : is_switch e.switch ≡ false → (arrives r start e h ≡ false) × (period_at r start (e ∷ h) ≡ period_at r start h)
-  goes : is_switch e.switch ≡ true → (arrives r start e h ≡ true) × IsLater (period_at r start h) (period_at r start (e ∷ h)) × (e.read ≡ Some (latest_moment start (e ∷ h)))
-
-comes : (r : Rotation) (start : ℤ) (e : Event) (h : List Event) (old new : Option ℤ) → Laws r → ClockSoFar r start h old → Decides r e old new → Comes r start e h
-comes r start e h old new laws so decides =
-    let t = turn r start e h laws so.in_range in
-    let due : is_switch e.switch ≡ due_by (next_of r (latest_moment start h)) e.read = decides.switches ∙ ap (λ b. due_by b e.read) so.boundary_is in
-    record {
-      stays = λ is. let no = sym due ∙ is in (t.arrived ∙ no, t.stays no);
-      goes = λ is. let now = sym due ∙ is in (t.arrived ∙ now, t.goes now, t.is_it now);
-    }
-
 -- What a run rests on: the laws of periods, of names and of openings, and that the content of a folder that tells is sound.
 pub record Grounds {S F : Type 0} (kind : Ghosts S F) (config : Config) : Type 0 where
   pub laws : Laws config.rotation
-  pub others : OtherNames config.rotation (file_name_of config)
+  pub others : OtherNames config
   pub maps : NameLaws
   pub parts : PartsKeep
   pub sound : (folder : S) → IsTrue kind.tells → IsSound (kind.content folder)
@@ -54,31 +46,55 @@ abbrev pub TurnsFrom : {S F : Type 0} → Ghosts S F → List Event → Rolling 
 TurnsFrom kind = LeadsTo (λ earlier. Turns kind)
 
 -- what leads from roller to roller step by step does so turn by turn
-turns_from : {S F T : Type 0} (kind : Ghosts S F) (does : List T → T → Rolling S F → Rolling S F → Type 0) (event : List T → T → Event) → ((earlier : List T) (t : T) (old new : Rolling S F) → does earlier t old new → Turns kind (event earlier t) old new)
+abbrev turns_from : {S F T : Type 0} (kind : Ghosts S F) (does : List T → T → Rolling S F → Rolling S F → Type 0) (event : List T → T → Event) → ((earlier : List T) (t : T) (old new : Rolling S F) → does earlier t old new → Turns kind (event earlier t) old new)
     → (told : List T) (old new : Rolling S F) → LeadsTo does told old new → TurnsFrom kind (events_by event told) old new
 turns_from kind does event turn [] old new runs = runs
 turns_from kind does event turn (t ∷ told) old new (between, earlier, is) = (between, turns_from kind does event turn told old between earlier, turn told t between new is)
 
-module _ {S F : Type 0} (kind : Ghosts S F) (config : Config) (start : ℤ) (first : S) where
+-- what is seen after each step of a run of turns
+abbrev IsSeen : {S F : Type 0} → (kind : Ghosts S F) → (ℕ → Seen) → (h : List Event) (old new : Rolling S F) → TurnsFrom kind h old new → Type 0
+IsSeen kind seen [] old new runs = seen 0 ≡ seen_of kind [] old
+IsSeen kind seen (e ∷ h) old new (between, runs, is) = (seen (suc (length h)) ≡ seen_of kind e.piece new) × IsSeen kind seen h old between runs
+
+length-events : {T : Type 0} (event : List T → T → Event) (told : List T) → length (events_by event told) ≡ length told
+length-events event [] = refl
+length-events event (t ∷ told) = ap suc (length-events event told)
+
+-- so it is of what was seen of the steps
+is_seen : {S F T : Type 0} (kind : Ghosts S F) (does : List T → T → Rolling S F → Rolling S F → Type 0) (event : List T → T → Event) (turn : (earlier : List T) (t : T) (old new : Rolling S F) → does earlier t old new → Turns kind (event earlier t) old new)
+    → (seen : ℕ → Seen) (told : List T) (old new : Rolling S F) (runs : LeadsTo does told old new) → ((n : ℕ) → n ≤ length told → seen n ≡ seen_after kind event does told old new runs n)
+    → IsSeen kind seen (events_by event told) old new (turns_from kind does event turn told old new runs)
+is_seen kind does event turn seen [] old new runs agree = agree 0 (omega arith)
+is_seen kind does event turn seen (t ∷ told) old new (between, runs, is) agree =
+    let yes : nat_le (suc (length told)) (suc (length told)) ≡ true = grind arith in (
+      ap (λ n. seen (suc n)) (length-events event told) ∙ agree (suc (length told)) (omega arith) ∙ rw yes refl,
+      is_seen kind does event turn seen told old between runs (λ n le. agree n (omega arith) ∙ (let no : nat_le (suc (length told)) n ≡ false = grind arith in rw no refl)),
+    )
+
+module _ {S F : Type 0} (kind : Ghosts S F) (config : Config) (start : Stamp) (first : S) (begin : Counts) (seen : ℕ → Seen) where
   -- the law of the files for a roller
   abbrev pub Holds : List Event → List Event → Rolling S F → Type 0
   Holds told h now =
-      FilesSoFar config start told h (kind.content first) (kind.content now.folder) (kind.noted first) (kind.noted now.folder) now.opened (kind.body now.file)
+      FilesSoFar config start seen told h (kind.content first) (kind.content now.folder) begin (kind.noted now.folder) now.opened (kind.body now.file)
 
   -- What is known after a run.
   pub record RunSoFar (h : List Event) (now : Rolling S F) : Type 0 where
     pub config_is : now.config ≡ config
-    pub clock : ClockSoFar config.rotation start h now.boundary
+    pub is_stamp : IsStamp config start
+    pub clock : ClockSoFar config start h now
     pub files : IsTrue kind.tells → Holds h h now
-    pub opened_is : now.opened ≡ last_opened start (times config.rotation start h)
-    pub noted : NotedAtAttempts config.rotation start h (kind.noted first) (kind.noted now.folder)
+    pub opened_is : now.opened ≡ last_opened start (times config start h)
+    pub noted : NotedAtAttempts config start seen h
+    pub seen_content : (seen (length h)).content ≡ kind.content now.folder
+    pub seen_noted : (seen (length h)).noted ≡ kind.noted now.folder
+    pub fit : PiecesFit h
 
   module _ (grounds : Grounds kind config) where
     -- an attempt that opened a file
-    abbrev attempted : ℕ → ℤ → S → S → F → Attempt
+    abbrev attempted : ℕ → Stamp → S → S → F → Attempt
     attempted step m old new file = record {
       step = step;
-      moment = m;
+      stamp = m;
       body = Some (kind.body file);
       before = kind.content old;
       after = kind.content new;
@@ -87,7 +103,7 @@ module _ {S F : Type 0} (kind : Ghosts S F) (config : Config) (start : ℤ) (fir
     }
 
     -- and what it did
-    succeeds : (step : ℕ) (m : ℤ) (old ready new : S) (file : F) → IsTrue kind.tells → OpensFile kind config (file_name_of config m) old file ready → kind.content new ≡ kind.content ready → (IsQuiet (kind.noted old) (kind.noted new) → IsQuiet (kind.noted old) (kind.noted ready)) → Succeeds config (attempted step m old new file) (kind.body file)
+    succeeds : (step : ℕ) (m : Stamp) (old ready new : S) (file : F) → IsTrue kind.tells → OpensFile kind config (file_name_of config m) old file ready → kind.content new ≡ kind.content ready → (IsQuiet (kind.noted old) (kind.noted new) → IsQuiet (kind.noted old) (kind.noted ready)) → Succeeds config (attempted step m old new file) (kind.body file)
     succeeds step m old ready new file tells o same quieter =
         let only_old = o.prunes.only_old tells in
         let survivors = λ (quiet : IsQuiet (kind.noted old) (kind.noted new)). o.prunes.survivors (subst (λ (n : Counts). IsQuiet (kind.noted old) n) o.noted (quieter quiet)) tells in
@@ -111,98 +127,141 @@ module _ {S F : Type 0} (kind : Ghosts S F) (config : Config) (start : ℤ) (fir
           there = rw same (o.body_is_there tells);
         }
 
-    run_begins : (now : Rolling S F) → OpensRoller kind config start first now → RunSoFar [] now
-    run_begins now o = record {
-      config_is = o.config_is;
-      clock = clock_begins config.rotation start now.boundary o.in_range o.boundary;
-      files = λ tells. rw o.opened (files_begin config start grounds.parts grounds.maps (attempted 0 start first now.folder now.file) (kind.body now.file) refl refl refl o.in_range (succeeds 0 start first now.folder now.folder now.file tells o.opens refl (λ quiet. quiet)));
-      opened_is = o.opened;
-      noted = record { counts = (kind.noted first, kind.noted now.folder) ∷ []; one_each = refl; chain = (refl, refl) };
-    }
+    run_begins : (now : Rolling S F) → (o : OpensRoller kind config start.moment first now) → o.number ≡ start.number → kind.noted o.listed ≡ begin → seen 0 ≡ seen_of kind [] now → RunSoFar [] now
+    run_begins now o number counts is_seen_now =
+        let same : stamp start.moment o.number ≡ start = rw number refl in
+        let is_stamp : IsStamp config start = record { in_range = o.in_range; number_is = rw (← number) o.finds.number_is } in
+        let opens : OpensFile kind config (file_name_of config start) o.listed now.file now.folder = rw (← number) o.opens in
+        record {
+          config_is = o.config_is;
+          is_stamp = is_stamp;
+          clock = clock_begins config start grounds.laws now is_stamp (o.last ∙ same) o.boundary o.room;
+          files = λ tells. subst (λ (x : Stamp). FilesSoFar config start seen [] [] (kind.content first) (kind.content now.folder) begin (kind.noted now.folder) x (kind.body now.file)) (sym (o.opened ∙ same))
+              (rw (← o.finds.content, ← counts) (files_begin config start seen grounds.parts grounds.maps (attempted 0 start o.listed now.folder now.file) (kind.body now.file) refl refl refl is_stamp (succeeds 0 start o.listed now.folder now.folder now.file tells opens refl (λ quiet. quiet))
+              (record { before = refl; noted_before = refl; after = rw is_seen_now (sym (after_append_nothing (kind.content now.folder) (kind.body now.file))); noted_after = sym (ap (λ (s : Seen). s.noted) is_seen_now) })));
+          opened_is = o.opened ∙ same;
+          noted = tt;
+          seen_content = ap (λ (s : Seen). s.content) is_seen_now;
+          seen_noted = ap (λ (s : Seen). s.noted) is_seen_now;
+          fit = tt;
+        }
 
-    module _ (starts : IsMoment start) where
+    module _ (starts : IsMoment start.moment) where
+      key : (s : Stamp) (e : Event) (h : List Event) → stamp_at config start (times config start h) e h ≡ Some s → period_of config.rotation s.moment ≡ period_at config.rotation start.moment (e ∷ h) → key_of config s ≡ key_at config start (e ∷ h)
+      key s e h some period = rw some (ap (λ (p : Option ℤ). (p, s.number)) period)
+
+      same_key : (e : Event) (h : List Event) → stamp_at config start (times config start h) e h ≡ None → period_at config.rotation start.moment (e ∷ h) ≡ period_at config.rotation start.moment h → key_at config start (e ∷ h) ≡ key_at config start h
+      same_key e h none same = rw none (ap (λ (p : Option ℤ). (p, (last_stamp start (times config start h)).number)) same)
+
+      later_key : (s : Stamp) (e : Event) (h : List Event) → stamp_at config start (times config start h) e h ≡ Some s
+          → IsLater (period_at config.rotation start.moment h) (period_at config.rotation start.moment (e ∷ h)) ⊎ ((period_at config.rotation start.moment h ≡ period_at config.rotation start.moment (e ∷ h)) × ((last_stamp start (times config start h)).number < s.number))
+          → IsLaterKey (key_at config start h) (key_at config start (e ∷ h))
+      later_key s e h some later = rw some later
+
+      same_stamp : (s t : Stamp) → ◌≡◌ {A = Option Stamp} (Some s) (Some t) → s ≡ t
+      same_stamp s t e = ap (λ (o : Option Stamp). unwrap_or o s) e
+
+      -- what is seen before and after a step whose look led to this roller
+      record AtStep (e : Event) (h : List Event) (old now : Rolling S F) : Type 0 where
+        before : kind.content old.folder ≡ (seen (length h)).content
+        noted_before : kind.noted old.folder ≡ (seen (length h)).noted
+        after : (seen (suc (length h))).content ≡ after_append (kind.content now.folder) (seen (suc (length h))).body (seen (suc (length h))).piece
+        noted_after : kind.noted now.folder ≡ (seen (suc (length h))).noted
+
       -- after the look at the clock of a step, and before its piece
-      looked : (read : Option ℤ) (switch : Switch) (piece : List ℕ) (h : List Event) (old now : Rolling S F) → IsTrue kind.tells → Comes config.rotation start (record { read = read; switch = switch; piece = piece }) h → old.config ≡ config → Holds h h old → Looks kind read switch old now → Holds (record { read = read; switch = switch; piece = piece } ∷ h) h now
-      looked None switch piece h old now tells come same so (stayed, is) =
-          let e : Event = record { read = None; switch = switch; piece = piece } in
-          let no = come.stays (ap is_switch stayed) in
-          rw is (no_attempt config start e h (kind.content first) (kind.content old.folder) (kind.noted first) (kind.noted old.folder) old.opened (kind.body old.file) no.0 no.1 so)
-      looked (Some m) Stayed piece h old now tells come same so sees =
-          let e : Event = record { read = Some m; switch = Stayed; piece = piece } in
-          let no = come.stays refl in
-          rw sees.1 (no_attempt config start e h (kind.content first) (kind.content old.folder) (kind.noted first) (kind.noted old.folder) old.opened (kind.body old.file) no.0 no.1 so)
-      looked (Some m) Switched piece h old now tells come same so sees =
-          let e : Event = record { read = Some m; switch = Switched; piece = piece } in
-          let is = come.goes refl in
-          let it : m ≡ latest_moment start (e ∷ h) = same_moment m (latest_moment start (e ∷ h)) is.2 in
-          let opens : OpensFile kind config (file_name_of config m) old.folder now.file sees.ready = rw (← same) sees.opens in
-          let did = succeeds (suc (length h)) m old.folder sees.ready now.folder now.file tells opens sees.content sees.quiet in
-          subst (λ (x : ℤ). FilesSoFar config start (e ∷ h) h (kind.content first) (kind.content now.folder) (kind.noted first) (kind.noted now.folder) x (kind.body now.file)) (sym sees.opened)
-          (a_success config start grounds.parts grounds.maps grounds.laws grounds.others starts e h (kind.content first) (kind.noted first) old.opened (kind.body old.file) is.0 is.1 (attempted (suc (length h)) m old.folder now.folder now.file) (kind.body now.file) refl refl it refl did so)
-      looked (Some m) SwitchFailed piece h old now tells come same so sees =
-          let e : Event = record { read = Some m; switch = SwitchFailed; piece = piece } in
-          let is = come.goes refl in
-          let it : m ≡ latest_moment start (e ∷ h) = same_moment m (latest_moment start (e ∷ h)) is.2 in
-          let little : LeavesLittle config (file_name_of config (latest_moment start (e ∷ h))) (kind.content old.folder) (kind.content now.folder) = rw (← it, ← same) (sees.content tells) in
-          rw (sees.opened, sees.file)
-          (a_failure config start grounds.parts grounds.maps grounds.laws grounds.others starts e h (kind.content first) (kind.noted first) old.opened (kind.body old.file) is.0 is.1 (kind.content old.folder) (kind.content now.folder) (kind.noted old.folder) (kind.noted now.folder) refl little so)
+      looked : (e : Event) (h : List Event) (old now : Rolling S F) → AtStep e h old now → IsTrue kind.tells → old.config ≡ config → Comes config start grounds.laws e h old → Holds h h old → (switch : Switch) → e.switch ≡ switch → LooksBy kind e.read e.offered switch old now → Holds (e ∷ h) h now
+      looked e h old now at_step tells same come so switch is looks = by e.read refl switch is come looks
+        where
+          by : (read : Option ℤ) → e.read ≡ read → (switch : Switch) → e.switch ≡ switch → Comes config start grounds.laws e h old → LooksBy kind read e.offered switch old now → Holds (e ∷ h) h now
+          by None read switch is (Stays none agrees stays) looks =
+              rw looks.1 (no_attempt config start seen e h (kind.content first) (kind.content old.folder) begin (kind.noted old.folder) old.opened (kind.body old.file) none (same_key e h none stays) so)
+          by None read switch is (Goes s some agrees is_stamp period later) looks = absurd (let none : ◌≡◌ {A = Option Stamp} None (Some s) = rw read at agrees in cc)
+          by (Some m) read Stayed is (Stays none agrees stays) looks =
+              rw looks.1 (no_attempt config start seen e h (kind.content first) (kind.content old.folder) begin (kind.noted old.folder) old.opened (kind.body old.file) none (same_key e h none stays) so)
+          by (Some m) read Stayed is (Goes s some agrees is_stamp period later) looks = absurd (let both : ◌≡◌ {A = Option Stamp} None (Some s) = sym looks.0 ∙ (rw read at agrees) in cc)
+          by (Some m) read Switched is (Stays none agrees stays) looks = absurd (let both : ◌≡◌ {A = Option Stamp} None (Some looks.at_stamp) = sym (rw read at agrees) ∙ looks.cause in cc)
+          by (Some m) read Switched is (Goes s some agrees is_stamp period later) looks =
+              let it : looks.at_stamp ≡ s = same_stamp looks.at_stamp s (sym looks.cause ∙ (rw read at agrees)) in
+              let opens : OpensFile kind config (file_name_of config s) old.folder now.file looks.ready = rw (← same, ← it) looks.opens in
+              let did = succeeds (suc (length h)) s old.folder looks.ready now.folder now.file tells opens looks.content looks.quiet in
+              subst (λ (x : Stamp). FilesSoFar config start seen (e ∷ h) h (kind.content first) (kind.content now.folder) begin (kind.noted now.folder) x (kind.body now.file)) (sym (looks.opened ∙ it))
+              (a_success config start seen grounds.parts grounds.maps grounds.laws grounds.others starts e h (kind.content first) begin old.opened (kind.body old.file) s some is_stamp (key s e h some period) (later_key s e h some later)
+              (attempted (suc (length h)) s old.folder now.folder now.file) (kind.body now.file) is refl refl refl did (record { before = at_step.before; noted_before = at_step.noted_before; after = at_step.after; noted_after = at_step.noted_after }) so)
+          by (Some m) read SwitchFailed is (Stays none agrees stays) looks = absurd (let both : ◌≡◌ {A = Option Stamp} None (Some looks.at_stamp) = sym (rw read at agrees) ∙ looks.cause in cc)
+          by (Some m) read SwitchFailed is (Goes s some agrees is_stamp period later) looks =
+              let it : looks.at_stamp ≡ s = same_stamp looks.at_stamp s (sym looks.cause ∙ (rw read at agrees)) in
+              let little : LeavesLittle config (file_name_of config s) (kind.content old.folder) (kind.content now.folder) = rw (← it, ← same) (looks.content tells) in
+              rw (looks.opened, looks.file)
+              (a_failure config start seen grounds.parts grounds.maps grounds.laws grounds.others starts e h (kind.content first) begin old.opened (kind.body old.file) s some is_stamp (key s e h some period) (later_key s e h some later)
+              (kind.content old.folder) (kind.content now.folder) (kind.noted old.folder) (kind.noted now.folder) is little (record { before = at_step.before; noted_before = at_step.noted_before; after = at_step.after; noted_after = at_step.noted_after }) so)
 
       -- after its piece
-      turned : (e : Event) (h : List Event) (old new : Rolling S F) → IsTrue kind.tells → Comes config.rotation start e h → old.config ≡ config → Holds h h old → Turns kind e old new → Holds (e ∷ h) (e ∷ h) new
-      turned e h old new tells come same so t =
-          let between = looked e.read e.switch e.piece h old t.between tells come same so t.looks in
+      turned : (e : Event) (h : List Event) (old new : Rolling S F) → IsTrue kind.tells → Comes config start grounds.laws e h old → old.config ≡ config → Holds h h old → (t : Turns kind e old new) → AtStep e h old t.between → Holds (e ∷ h) (e ∷ h) new
+      turned e h old new tells come same so t at_step =
+          let between = looked e h old t.between at_step tells same come so e.switch refl t.looks in
           rw (t.content tells, t.stays.opened, t.stays.file, t.stays.noted)
-          (a_piece config start e h (kind.content first) (kind.content t.between.folder) (kind.noted first) (kind.noted t.between.folder) t.between.opened (kind.body t.between.file) between)
+          (a_piece config start seen e h (kind.content first) (kind.content t.between.folder) begin (kind.noted t.between.folder) t.between.opened (kind.body t.between.file) between)
 
-      opened_by : (read : Option ℤ) (switch : Switch) (piece : List ℕ) (h : List Event) (old now : Rolling S F) → Comes config.rotation start (record { read = read; switch = switch; piece = piece }) h → Looks kind read switch old now → old.opened ≡ last_opened start (times config.rotation start h) → now.opened ≡ last_opened start (times config.rotation start (record { read = read; switch = switch; piece = piece } ∷ h))
-      opened_by None switch piece h old now come (stayed, is) so = rw is so
-      opened_by (Some m) Stayed piece h old now come sees so = rw ((come.stays refl).0, sees.1) so
-      opened_by (Some m) Switched piece h old now come sees so =
-          let e : Event = record { read = Some m; switch = Switched; piece = piece } in
-          let is = come.goes refl in
-          rw is.0 (sees.opened ∙ same_moment m (latest_moment start (e ∷ h)) is.2)
-      opened_by (Some m) SwitchFailed piece h old now come sees so = rw (come.goes refl).0 (sees.opened ∙ so)
+      opened_by : (e : Event) (h : List Event) (old now : Rolling S F) (read : Option ℤ) → e.read ≡ read → (switch : Switch) → e.switch ≡ switch → Comes config start grounds.laws e h old → LooksBy kind read e.offered switch old now
+          → old.opened ≡ last_opened start (times config start h) → now.opened ≡ last_opened start (times config start (e ∷ h))
+      opened_by e h old now None read switch is (Stays none agrees stays) looks so = rw (looks.1, none) so
+      opened_by e h old now None read switch is (Goes s some agrees is_stamp period later) looks so = absurd (let none : ◌≡◌ {A = Option Stamp} None (Some s) = rw read at agrees in cc)
+      opened_by e h old now (Some m) read Stayed is (Stays none agrees stays) looks so = rw (looks.1, none) so
+      opened_by e h old now (Some m) read Stayed is (Goes s some agrees is_stamp period later) looks so = absurd (let both : ◌≡◌ {A = Option Stamp} None (Some s) = sym looks.0 ∙ (rw read at agrees) in cc)
+      opened_by e h old now (Some m) read Switched is (Stays none agrees stays) looks so = absurd (let both : ◌≡◌ {A = Option Stamp} None (Some looks.at_stamp) = sym (rw read at agrees) ∙ looks.cause in cc)
+      opened_by e h old now (Some m) read Switched is (Goes s some agrees is_stamp period later) looks so = rw (some, is) (looks.opened ∙ same_stamp looks.at_stamp s (sym looks.cause ∙ (rw read at agrees)))
+      opened_by e h old now (Some m) read SwitchFailed is (Stays none agrees stays) looks so = absurd (let both : ◌≡◌ {A = Option Stamp} None (Some looks.at_stamp) = sym (rw read at agrees) ∙ looks.cause in cc)
+      opened_by e h old now (Some m) read SwitchFailed is (Goes s some agrees is_stamp period later) looks so = rw (some, is) (looks.opened ∙ so)
 
-      noted_more : (m : ℤ) (switch : Switch) (piece : List ℕ) (h : List Event) (old now : Rolling S F) → arrives config.rotation start (record { read = Some m; switch = switch; piece = piece }) h ≡ true
-          → NotedAtAttempts config.rotation start h (kind.noted first) (kind.noted old.folder) → NotedAtAttempts config.rotation start (record { read = Some m; switch = switch; piece = piece } ∷ h) (kind.noted first) (kind.noted now.folder)
-      noted_more m switch piece h old now came so = record {
-        counts = (kind.noted old.folder, kind.noted now.folder) ∷ so.counts;
-        one_each = rw came (ap suc so.one_each);
-        chain = (so.chain, refl);
-      }
+      -- the folder notes nothing where a step makes no attempt
+      noted_same : (e : Event) (h : List Event) (old now : Rolling S F) (read : Option ℤ) → e.read ≡ read → (switch : Switch) → stamp_by old e.read e.offered ≡ None → LooksBy kind read e.offered switch old now → kind.noted now.folder ≡ kind.noted old.folder
+      noted_same e h old now None read switch agrees looks = ap (λ (r : Rolling S F). kind.noted r.folder) looks.1
+      noted_same e h old now (Some m) read Stayed agrees looks = ap (λ (r : Rolling S F). kind.noted r.folder) looks.1
+      noted_same e h old now (Some m) read Switched agrees looks = absurd (let both : ◌≡◌ {A = Option Stamp} None (Some looks.at_stamp) = sym (rw read at agrees) ∙ looks.cause in cc)
+      noted_same e h old now (Some m) read SwitchFailed agrees looks = absurd (let both : ◌≡◌ {A = Option Stamp} None (Some looks.at_stamp) = sym (rw read at agrees) ∙ looks.cause in cc)
 
-      noted_by : (read : Option ℤ) (switch : Switch) (piece : List ℕ) (h : List Event) (old now : Rolling S F) → Comes config.rotation start (record { read = read; switch = switch; piece = piece }) h → Looks kind read switch old now
-          → NotedAtAttempts config.rotation start h (kind.noted first) (kind.noted old.folder) → NotedAtAttempts config.rotation start (record { read = read; switch = switch; piece = piece } ∷ h) (kind.noted first) (kind.noted now.folder)
-      noted_by None switch piece h old now come (stayed, is) so = rw is (record { counts = so.counts; one_each = so.one_each; chain = so.chain })
-      noted_by (Some m) Stayed piece h old now come sees so = rw sees.1 (record { counts = so.counts; one_each = rw (come.stays refl).0 so.one_each; chain = so.chain })
-      noted_by (Some m) Switched piece h old now come sees so = noted_more m Switched piece h old now (come.goes refl).0 so
-      noted_by (Some m) SwitchFailed piece h old now come sees so = noted_more m SwitchFailed piece h old now (come.goes refl).0 so
+      noted_by : (e : Event) (h : List Event) (old now : Rolling S F) → Comes config start grounds.laws e h old → LooksBy kind e.read e.offered e.switch old now
+          → stamp_at config start (times config start h) e h ≡ None → kind.noted now.folder ≡ kind.noted old.folder
+      noted_by e h old now (Stays none agrees stays) looks never = noted_same e h old now e.read refl e.switch agrees looks
+      noted_by e h old now (Goes s some agrees is_stamp period later) looks never = absurd (let both : ◌≡◌ {A = Option Stamp} None (Some s) = sym never ∙ some in cc)
 
-      turn_goes_on : (e : Event) (h : List Event) (old new : Rolling S F) → RunSoFar h old → Turns kind e old new → RunSoFar (e ∷ h) new
-      turn_goes_on e h old new so turns =
-          let decides = subst (λ (c : Config). Decides c.rotation e old.boundary new.boundary) so.config_is (turn_decides kind e old new turns) in
-          let come = comes config.rotation start e h old.boundary new.boundary grounds.laws so.clock decides in
+      turn_goes_on : (e : Event) (h : List Event) (old new : Rolling S F) → RunSoFar h old → Turns kind e old new → seen (suc (length h)) ≡ seen_of kind e.piece new → RunSoFar (e ∷ h) new
+      turn_goes_on e h old new so turns is_seen_now =
+          let come = comes config start grounds.laws e h old so.config_is so.clock in
           record {
             config_is = turn_keeps kind e old new turns ∙ so.config_is;
-            clock = clock_goes_on config.rotation start h e old.boundary new.boundary grounds.laws so.clock decides;
-            files = λ tells. turned e h old new tells come so.config_is (so.files tells) turns;
-            noted = subst (λ (n : Counts). NotedAtAttempts config.rotation start (e ∷ h) (kind.noted first) n) (sym turns.stays.noted) (noted_by e.read e.switch e.piece h old turns.between come turns.looks so.noted);
-            opened_is = turns.stays.opened ∙ opened_by e.read e.switch e.piece h old turns.between come turns.looks so.opened_is;
+            is_stamp = so.is_stamp;
+            clock = clock_goes_on config start grounds.laws e h old new so.config_is so.clock come (turn_decides kind e old new turns);
+            files = λ tells. turned e h old new tells come so.config_is (so.files tells) turns (record {
+              before = sym so.seen_content;
+              noted_before = sym so.seen_noted;
+              after = rw (is_seen_now, turns.stays.file) (turns.content tells);
+              noted_after = sym (ap (λ (s : Seen). s.noted) is_seen_now ∙ turns.stays.noted);
+            });
+            seen_content = ap (λ (s : Seen). s.content) is_seen_now;
+            seen_noted = ap (λ (s : Seen). s.noted) is_seen_now;
+            noted = (
+              λ none. ap (λ (s : Seen). s.noted) is_seen_now ∙ turns.stays.noted ∙ noted_by e h old turns.between come turns.looks none ∙ sym so.seen_noted,
+              so.noted,
+            );
+            fit = (turns.fits, so.fit);
+            opened_is = turns.stays.opened ∙ opened_by e h old turns.between e.read refl e.switch refl come turns.looks so.opened_is;
           }
 
     -- any run keeps to the laws
-    pub turns_law : (h : List Event) (opened now : Rolling S F) → OpensRoller kind config start first opened → TurnsFrom kind h opened now → RunSoFar h now
-    turns_law [] opened now o runs = rw runs (run_begins opened o)
-    turns_law (e ∷ h) opened now o (between, earlier, turns) = turn_goes_on o.in_range e h between now (turns_law h opened between o earlier) turns
+    pub turns_law : (h : List Event) (opened now : Rolling S F) → (o : OpensRoller kind config start.moment first opened) → o.number ≡ start.number → kind.noted o.listed ≡ begin → (runs : TurnsFrom kind h opened now) → IsSeen kind seen h opened now runs → RunSoFar h now
+    turns_law [] opened now o number counts runs is = rw runs (run_begins opened o number counts is)
+    turns_law (e ∷ h) opened now o number counts (between, earlier, turns) is = turn_goes_on o.in_range e h between now (turns_law h opened between o number counts earlier is.1) turns is.0
 
 -- any run whose steps are turns of a roller does
-pub run_law : {S F T : Type 0} (kind : Ghosts S F) (does : List T → T → Rolling S F → Rolling S F → Type 0) (event : List T → T → Event) (config : Config) (start : ℤ) (folder : S) (told : List T) (last : Rolling S F) → ((earlier : List T) (t : T) (old new : Rolling S F) → does earlier t old new → Turns kind (event earlier t) old new) → Grounds kind config → RunsFrom kind does config start folder told last → RunSoFar kind config start folder (events_by event told) last
-run_law kind does event config start folder told last turn grounds run =
-    turns_law kind config start folder grounds (events_by event told) run.first last run.opens (turns_from kind does event turn told run.first last run.runs)
+pub run_law : {S F T : Type 0} (kind : Ghosts S F) (does : List T → T → Rolling S F → Rolling S F → Type 0) (event : List T → T → Event) (config : Config) (start : ℤ) (number : ℕ) (folder : S) (told : List T) (last : Rolling S F) → ((earlier : List T) (t : T) (old new : Rolling S F) → does earlier t old new → Turns kind (event earlier t) old new) → Grounds kind config → (run : RunsFrom kind does config start number folder told last) → RunSoFar kind config (stamp start number) folder (kind.noted run.opens.listed) (seen_in event run) (events_by event told) last
+run_law kind does event config start number folder told last turn grounds run =
+    turns_law kind config (stamp start number) folder (kind.noted run.opens.listed) (seen_in event run) grounds (events_by event told) run.first last run.opens run.number_is refl (turns_from kind does event turn told run.first last run.runs)
+    (is_seen kind does event turn (seen_in event run) told run.first last run.runs (λ n le. refl))
 
 -- and so does a run of a roller's own steps
-pub roll_law : {S F : Type 0} (kind : Ghosts S F) (config : Config) (start : ℤ) (folder : S) (told : List Told) (last : Rolling S F) → Grounds kind config → RunsFrom kind (RollDoes kind) config start folder told last → RunSoFar kind config start folder (events_by (λ earlier. event_of) told) last
-roll_law kind config start folder told last = run_law kind (RollDoes kind) (λ earlier. event_of) config start folder told last (λ earlier. step_turns kind)
+pub roll_law : {S F : Type 0} (kind : Ghosts S F) (config : Config) (start : ℤ) (number : ℕ) (folder : S) (told : List Told) (last : Rolling S F) → Grounds kind config → (run : RunsFrom kind (RollDoes kind) config start number folder told last) → RunSoFar kind config (stamp start number) folder (kind.noted run.opens.listed) (seen_in roll_event run) (events_by roll_event told) last
+roll_law kind config start number folder told last = run_law kind (RollDoes kind) roll_event config start number folder told last (λ earlier. step_turns kind)
 
 -- one more step
 pub told_more : {S R : Type 0} (told : List (S × R)) (steps : List S) (replies : List R) (s : S) (r : R) → length steps ≡ length replies → told_onto told (steps ++ s ∷ []) (replies ++ r ∷ []) ≡ (s, r) ∷ told_onto told steps replies
@@ -211,11 +270,30 @@ told_more told [] (q ∷ replies) s r e = absurd (omega arith)
 told_more told (p ∷ steps) [] s r e = absurd (omega arith)
 told_more told (p ∷ steps) (q ∷ replies) s r e = told_more ((p, q) ∷ told) steps replies s r (omega arith)
 
--- names of later periods are others, by the law on names
-pub other_names : (config : Config) → NamesArePeriods (naming_of config) → OtherNames config.rotation (file_name_of config)
-other_names config law m n g h later = by (period_of config.rotation m) (period_of config.rotation n) refl refl later
+-- names of later periods are others, and in one period those of greater numbers, by the law on names
+never_is : (k : RotationKind) (m : ℤ) → period_of_kind k m ≡ None → k ≡ Never
+never_is Minutely m e = absurd (let both : ◌≡◌ {A = Option ℤ} (Some _) None = e in cc)
+never_is Hourly m e = absurd (let both : ◌≡◌ {A = Option ℤ} (Some _) None = e in cc)
+never_is Daily m e = absurd (let both : ◌≡◌ {A = Option ℤ} (Some _) None = e in cc)
+never_is Weekly m e = absurd (let both : ◌≡◌ {A = Option ℤ} (Some _) None = e in cc)
+never_is Never m e = refl
+
+-- where periods have no start there is no limit, and so no number but 0
+no_greater : (config : Config) (s t : Stamp) → MayLimit config → t.number ≤ last_of config → s.number < t.number → period_of config.rotation s.moment ≡ None → ⊥
+no_greater config s t may le lt none = by (is_limited config) refl le
   where
-    by : (p q : Option ℤ) → period_of config.rotation m ≡ p → period_of config.rotation n ≡ q → IsLater p q → file_name_of config n ≢ file_name_of config m
-    by None q e f k same = absurd k
-    by (Some p) None e f k same = absurd k
-    by (Some p) (Some q) e f k same = let one : q ≡ p = (law n m q p h g f e).0 same in absurd (omega (arith, ints))
+    by : (b : Bool) → is_limited config ≡ b → t.number ≤ last_by b → ⊥
+    by false is low = absurd (omega (arith, low, lt))
+    by true is low = may is (never_is config.rotation.kind s.moment none)
+
+pub other_names : (config : Config) → MayLimit config → NamesArePeriods (naming_of config) → OtherNames config
+other_names config may law s t g h later = by (period_of config.rotation s.moment) (period_of config.rotation t.moment) refl refl later
+  where
+    by : (p q : Option ℤ) → period_of config.rotation s.moment ≡ p → period_of config.rotation t.moment ≡ q → IsLaterKey (p, s.number) (q, t.number) → file_name_of config t ≢ file_name_of config s
+    by None q e f (inl k) same = absurd k
+    by (Some p) None e f (inl k) same = absurd k
+    by (Some p) (Some q) e f (inl k) same = let one : q ≡ p = ((law t.moment s.moment q p t.number s.number h.in_range g.in_range f e h.number_is g.number_is).0 same).0 in absurd (omega (arith, ints))
+    by (Some p) None e f (inr (is, lt)) same = absurd (let both : ◌≡◌ {A = Option ℤ} (Some p) None = is in cc)
+    by None (Some q) e f (inr (is, lt)) same = absurd (let both : ◌≡◌ {A = Option ℤ} None (Some q) = is in cc)
+    by None None e f (inr (is, lt)) same = no_greater config s t may h.number_is lt e
+    by (Some p) (Some q) e f (inr (is, lt)) same = let one : t.number ≡ s.number = ((law t.moment s.moment q p t.number s.number h.in_range g.in_range f e h.number_is g.number_is).0 same).1 in absurd (omega (arith, one))

@@ -1,11 +1,12 @@
 -- Each step of a replay as a look at the clock, or none, and a piece.
-use Rattle.std.proofs.Common.{◌≡◌, ℕ, ℤ, List, take, Option, None, Some, Result, Ok, Err, IsTrue, refl, ap, sym, ◌∙◌}
+use Rattle.std.proofs.Common.{◌≡◌, ℕ, ◌-◌, ◌≤◌, ℤ, List, length, arith, take, Option, None, Some, Result, Ok, Err, IsTrue, refl, ap, sym, ◌∙◌}
+use Rattle.std.proofs.Math.Seq.{length-take-le}
 use Rattle.std.specs.declared.io.Error.{Error}
 use Rattle.std.specs.declared.io.ErrorKind.{ErrorKind}
 use Rattle.appender_store.specs.Content.{after_append}
 use Rattle.appender_store.specs.declared.store.Folder.{Ghosts}
 use Rattle.appender_store.proofs.Appends.{after_append_nothing}
-use Rattle.appender_rolling.specs.Roller.{Rolling, Sees, Writes, StaysOpen, count_of}
+use Rattle.appender_rolling.specs.Roller.{Rolling, Looks, Writes, StaysOpen, count_of}
 use Rattle.appender_replay.specs.Run.{Event}
 use Rattle.appender_replay.specs.Replay.{Told, StepDoes, kind_told, event_of}
 use Rattle.appender_rolling.specs.declared.rolling.Switch.{Switch}
@@ -14,19 +15,21 @@ use Rattle.appender_replay.specs.declared.replay.RollStep.TheVariants.{See, Put,
 use Rattle.appender_replay.specs.declared.replay.RollReply.TheVariants.{Saw, Put as DidPut, Wrote, Flushed}
 
 -- the look at the clock, if the step makes one
-abbrev pub Looks : {S F : Type 0} → Ghosts S F → Option ℤ → Switch → Rolling S F → Rolling S F → Type 0
-Looks kind None switch old new = (switch ≡ Stayed) × (new ≡ old)
-Looks kind (Some m) switch old new = Sees kind m switch old new
+abbrev pub LooksBy : {S F : Type 0} → Ghosts S F → Option ℤ → ℕ → Switch → Rolling S F → Rolling S F → Type 0
+LooksBy kind None len switch old new = (switch ≡ Stayed) × (new ≡ old)
+LooksBy kind (Some m) len switch old new = Looks kind m len switch old new
 
 -- and what it adds to the open file
 pub record Turns {S F : Type 0} (kind : Ghosts S F) (e : Event) (old new : Rolling S F) : Type 0 where
   pub between : Rolling S F
-  pub looks : Looks kind e.read e.switch old between
+  pub looks : LooksBy kind e.read e.offered e.switch old between
   pub content : IsTrue kind.tells → kind.content new.folder ≡ after_append (kind.content between.folder) (kind.body between.file) e.piece
   pub stays : StaysOpen kind between new
+  pub room : new.room ≡ between.room - length e.piece
+  pub fits : length e.piece ≤ e.offered
 
 pub stays_same : {S F : Type 0} (kind : Ghosts S F) (r : Rolling S F) → StaysOpen kind r r
-stays_same kind r = record { config_is = refl; opened = refl; boundary = refl; file = refl; noted = refl }
+stays_same kind r = record { config_is = refl; opened = refl; last = refl; boundary = refl; file = refl; noted = refl }
 
 pub count_told : (answer : Result ℕ Error) (told : Result ℕ ErrorKind) → told ≡ kind_told answer → count_of told ≡ count_of answer
 count_told (Ok n) told e = ap count_of e
@@ -37,30 +40,50 @@ pub written_piece : {S F : Type 0} (kind : Ghosts S F) (bytes : List ℕ) (answe
 written_piece kind bytes answer told old new e w tells =
     w.content tells ∙ ap (λ (n : ℕ). after_append (kind.content old.folder) (kind.body old.file) (take n bytes)) (sym (count_told answer told e))
 
+pub written_room : (bytes : List ℕ) (answer : Result ℕ Error) (told : Result ℕ ErrorKind) (old new : ℕ) → told ≡ kind_told answer → count_of answer ≤ length bytes → new ≡ old - count_of answer → new ≡ old - length (take (count_of told) bytes)
+written_room bytes answer told old new e bound is =
+    let count = count_told answer told e in
+    let taken : length (take (count_of told) bytes) ≡ count_of told = length-take-le (count_of told) bytes (rw count bound) in
+    rw (taken, count) is
+
+pub written_fits : (bytes : List ℕ) (answer : Result ℕ Error) (told : Result ℕ ErrorKind) → told ≡ kind_told answer → count_of answer ≤ length bytes → length (take (count_of told) bytes) ≤ length bytes
+written_fits bytes answer told e bound =
+    let count = count_told answer told e in
+    let taken : length (take (count_of told) bytes) ≡ count_of told = length-take-le (count_of told) bytes (rw count bound) in
+    omega (arith, taken, count, bound)
+
 pub step_turns : {S F : Type 0} (kind : Ghosts S F) (t : Told) (old new : Rolling S F) → StepDoes kind t old new → Turns kind (event_of t) old new
 step_turns kind (See m, Saw switch) old new does = record {
   between = new;
   looks = does;
   content = λ tells. sym (after_append_nothing (kind.content new.folder) (kind.body new.file));
   stays = stays_same kind new;
+  room = omega arith;
+  fits = omega arith;
 }
 step_turns kind (Put m bytes, DidPut switch told) old new does = record {
   between = does.2.between;
-  looks = does.2.sees;
+  looks = does.2.looks;
   content = written_piece kind bytes.items does.0 told does.2.between new does.1 does.2.writes;
   stays = does.2.writes.stays;
+  room = written_room bytes.items does.0 told does.2.between.room new.room does.1 does.2.writes.bound does.2.writes.room;
+  fits = written_fits bytes.items does.0 told does.1 does.2.writes.bound;
 }
 step_turns kind (Write bytes, Wrote told) old new does = record {
   between = old;
   looks = (refl, refl);
   content = written_piece kind bytes.items does.0 told old new does.1 does.2;
   stays = does.2.stays;
+  room = written_room bytes.items does.0 told old.room new.room does.1 does.2.bound does.2.room;
+  fits = written_fits bytes.items does.0 told does.1 does.2.bound;
 }
 step_turns kind (Flush, Flushed told) old new does = record {
   between = old;
   looks = (refl, refl);
   content = λ tells. does.2.content ∙ sym (after_append_nothing (kind.content old.folder) (kind.body old.file));
   stays = does.2.stays;
+  room = omega (arith, does.2.room);
+  fits = omega arith;
 }
 step_turns kind (See m, _) old new does = absurd does
 step_turns kind (Put m bytes, _) old new does = absurd does

@@ -1,5 +1,5 @@
 -- A run of queue, worker and roller keeps to its laws.
-use Rattle.std.proofs.Common.{◌≡◌, ℕ, ℤ, ◌+◌, ◌≤◌, Bool, true, false, if◌then◌else◌, List, [], ◌∷◌, length, None, inl, inr, refl, ap, sym, ◌∙◌, subst}
+use Rattle.std.proofs.Common.{◌≡◌, ℕ, ℤ, ◌+◌, ◌≤◌, Bool, true, false, if◌then◌else◌, List, [], ◌∷◌, length, Option, None, Some, inl, inr, refl, ap, sym, ◌∙◌, subst, arith}
 use Rattle.std.specs.Prelude.{◌==◌}
 use Rattle.appender_worker.specs.Core.{Core, Taking, Writing, Flushing, Ending, Over}
 use Rattle.appender_queue.specs.Queue.{Queue, has_line, is_sent, fresh}
@@ -8,30 +8,32 @@ use Rattle.appender_store.proofs.Appends.{after_append_nothing}
 use Rattle.appender_rolling.specs.Config.{Config}
 use Rattle.appender_rolling.specs.Roller.{Rolling, OpensRoller, StaysOpen}
 use Rattle.appender_rolling.specs.declared.rolling.Switch.TheVariants.{None as Stayed}
-use Rattle.appender_replay.specs.Run.{Event}
-use Rattle.appender_replay.specs.Replay.{RunsFrom}
+use Rattle.appender_replay.specs.Run.{Event, EachWriteReadsClock}
+use Rattle.appender_replay.specs.Replay.{RunsFrom, seen_in}
 use Rattle.appender_replay.specs.Record.{Answered, worker_after, queue_after}
-use Rattle.appender_replay.specs.Answers.{StepAnswers, WorkAnswers, Answers, RollerDoes, WorkerDoes, rest_of, file_event, events}
+use Rattle.appender_replay.specs.Answers.{StepAnswers, WorkAnswers, Answers, RollerDoes, WorkerDoes, rest_of, file_event, worker_event, events}
 use Rattle.appender_replay.specs.Inside.Steps.{Parts, StepDoes, WorkDoes}
 use Rattle.appender_replay.specs.declared.replay.whole.Step.TheVariants.{Offer, Shut, AddSender, DropSender, Work}
 use Rattle.appender_replay.specs.declared.replay.whole.Reply.{Reply}
 use Rattle.appender_replay.specs.declared.replay.whole.Reply.TheVariants.{Took, TookShutdown, TookGone, TookEmpty, Wrote, Flushed}
-use Rattle.appender_replay.proofs.Turns.{Turns, stays_same, count_told, written_piece}
+use Rattle.appender_replay.proofs.Turns.{Turns, stays_same, count_told, written_piece, written_room, written_fits}
 use Rattle.appender_replay.proofs.Runs.{Grounds, RunSoFar, run_law}
+use Rattle.appender_rolling.specs.Config.{stamp}
+use Rattle.appender_rolling.specs.declared.rolling.setup.Stamp.{Stamp}
 use Rattle.appender_replay.proofs.Records.{Stands, stands_on}
 use Rattle.appender_replay.proofs.Orders.{in_order}
 
 -- What is known after these steps.
-pub record GoesFrom {S F : Type 0} (kind : Ghosts S F) (config : Config) (limit : ℕ) (lossy : Bool) (start : ℤ) (folder : S) (told : List Answered) (q : Queue) (core : Core) (roller : Rolling S F) : Type 0 where
+pub record GoesFrom {S F : Type 0} (kind : Ghosts S F) (config : Config) (limit : ℕ) (lossy : Bool) (start : ℤ) (number : ℕ) (folder : S) (told : List Answered) (q : Queue) (core : Core) (roller : Rolling S F) : Type 0 where
   pub stands : Stands limit lossy told q core
   pub answers : Answers limit lossy told
-  pub runs : RunsFrom kind (WorkerDoes kind) config start folder told roller
+  pub runs : RunsFrom kind (WorkerDoes kind) config start number folder told roller
 
 -- ---- as a run of files
 
 -- a step that neither looks at the clock nor writes
 quiet : Event
-quiet = record { read = None; switch = Stayed; piece = [] }
+quiet = record { read = None; offered = 0; switch = Stayed; piece = [] }
 
 quiet_turn : {S F : Type 0} (kind : Ghosts S F) (old new : Rolling S F) → new ≡ old → Turns kind quiet old new
 unfolding quiet
@@ -40,6 +42,8 @@ quiet_turn kind old new same = record {
   looks = (refl, refl);
   content = λ tells. ap (λ (r : Rolling _ _). kind.content r.folder) same ∙ sym (after_append_nothing (kind.content old.folder) (kind.body old.file));
   stays = subst (λ (r : Rolling _ _). StaysOpen kind old r) (sym same) (stays_same kind old);
+  room = omega (arith, ap (λ (r : Rolling _ _). r.room) same);
+  fits = omega arith;
 }
 
 -- each step is a look at the clock, or none, and a piece
@@ -47,22 +51,35 @@ roller_turns : {S F : Type 0} (kind : Ghosts S F) (core : Core) (t : Answered) (
 unfolding quiet
 roller_turns kind core (Work m, Wrote switch told) old new does = record {
   between = does.2.between;
-  looks = does.2.sees;
+  looks = does.2.looks;
   content = written_piece kind (rest_of core) does.0 told does.2.between new does.1 does.2.writes;
   stays = does.2.writes.stays;
+  room = written_room (rest_of core) does.0 told does.2.between.room new.room does.1 does.2.writes.bound does.2.writes.room;
+  fits = written_fits (rest_of core) does.0 told does.1 does.2.writes.bound;
 }
 roller_turns kind core (Work m, Flushed told) old new does = record {
   between = old;
   looks = (refl, refl);
   content = λ tells. does.2.content ∙ sym (after_append_nothing (kind.content old.folder) (kind.body old.file));
   stays = does.2.stays;
+  room = omega (arith, does.2.room);
+  fits = omega arith;
 }
 roller_turns kind core (s, r) old new does = quiet_turn kind old new does
 
+-- a step that writes reads the clock
+event_reads : (core : Core) (t : Answered) → (file_event core t).read ≡ None → (file_event core t).piece ≡ []
+event_reads core (Work m, Wrote switch told) none = absurd (let both : ◌≡◌ {A = Option ℤ} (Some m) None = none in cc)
+event_reads core (s, r) none = refl
+
+pub each_write_reads : (told : List Answered) → EachWriteReadsClock (events told)
+each_write_reads [] = tt
+each_write_reads (t ∷ told) = (event_reads (worker_after told) t, each_write_reads told)
+
 -- a run keeps to the laws of the clock and of the files
-pub whole_law : {S F : Type 0} (kind : Ghosts S F) (config : Config) (start : ℤ) (folder : S) (told : List Answered) (last : Rolling S F) → Grounds kind config → RunsFrom kind (WorkerDoes kind) config start folder told last → RunSoFar kind config start folder (events told) last
-whole_law kind config start folder told last =
-    run_law kind (WorkerDoes kind) (λ earlier. file_event (worker_after earlier)) config start folder told last (λ earlier. roller_turns kind (worker_after earlier))
+pub whole_law : {S F : Type 0} (kind : Ghosts S F) (config : Config) (start : ℤ) (number : ℕ) (folder : S) (told : List Answered) (last : Rolling S F) → Grounds kind config → (run : RunsFrom kind (WorkerDoes kind) config start number folder told last) → RunSoFar kind config (stamp start number) folder (kind.noted run.opens.listed) (seen_in worker_event run) (events told) last
+whole_law kind config start number folder told last =
+    run_law kind (WorkerDoes kind) worker_event config start number folder told last (λ earlier. roller_turns kind (worker_after earlier))
 
 -- ---- what a step does to the roller
 
@@ -117,22 +134,22 @@ step_answers kind (Work m, reply) old new does = work_answers kind old.worker m 
 
 -- ---- one step after another
 
-pub goes_begins : {S F : Type 0} (kind : Ghosts S F) (config : Config) (limit : ℕ) (lossy : Bool) (start : ℤ) (folder : S) (q : Queue) (core : Core) (roller : Rolling S F)
-    → q ≡ fresh limit lossy → core ≡ Taking true → OpensRoller kind config start folder roller → GoesFrom kind config limit lossy start folder [] q core roller
-goes_begins kind config limit lossy start folder q core roller empty begins opens = record {
+pub goes_begins : {S F : Type 0} (kind : Ghosts S F) (config : Config) (limit : ℕ) (lossy : Bool) (start : ℤ) (number : ℕ) (folder : S) (q : Queue) (core : Core) (roller : Rolling S F)
+    → q ≡ fresh limit lossy → core ≡ Taking true → OpensRoller kind config start folder roller → number ≡ roller.opened.number → GoesFrom kind config limit lossy start number folder [] q core roller
+goes_begins kind config limit lossy start number folder q core roller empty begins opens is = record {
   stands = record { queue = empty ∙ fresh_is lossy; worker = begins };
   answers = tt;
-  runs = record { first = roller; opens = opens; runs = refl };
+  runs = record { first = roller; opens = opens; number_is = sym (is ∙ ap (λ (s : Stamp). s.number) opens.opened); runs = refl };
 }
   where
     fresh_is : (b : Bool) → fresh limit b ≡ queue_after limit b []
     fresh_is true = refl
     fresh_is false = refl
 
-pub goes_on : {S F : Type 0} (kind : Ghosts S F) (config : Config) (limit : ℕ) (lossy : Bool) (start : ℤ) (folder : S) (told : List Answered) (t : Answered) (old new : Parts S F)
-    → GoesFrom kind config limit lossy start folder told old.queue old.worker old.roller → StepDoes kind t old new
-    → GoesFrom kind config limit lossy start folder (t ∷ told) new.queue new.worker new.roller
-goes_on kind config limit lossy start folder told t old new so does =
+pub goes_on : {S F : Type 0} (kind : Ghosts S F) (config : Config) (limit : ℕ) (lossy : Bool) (start : ℤ) (number : ℕ) (folder : S) (told : List Answered) (t : Answered) (old new : Parts S F)
+    → GoesFrom kind config limit lossy start number folder told old.queue old.worker old.roller → StepDoes kind t old new
+    → GoesFrom kind config limit lossy start number folder (t ∷ told) new.queue new.worker new.roller
+goes_on kind config limit lossy start number folder told t old new so does =
     let order = in_order limit lossy told so.answers in
     let does_roll : RollerDoes kind (worker_after told) t old.roller new.roller =
     subst (λ (c : Core). RollerDoes kind c t old.roller new.roller) so.stands.worker (step_rolls kind t old new does) in
@@ -141,5 +158,5 @@ goes_on kind config limit lossy start folder told t old new so does =
     record {
       stands = stands_on limit lossy told kind t old new order.most so.stands does;
       answers = (so.answers, subst (λ (c : Core). StepAnswers (queue_after limit lossy told) c t) so.stands.worker by_queue);
-      runs = record { first = so.runs.first; opens = so.runs.opens; runs = (old.roller, so.runs.runs, does_roll) };
+      runs = record { first = so.runs.first; opens = so.runs.opens; number_is = so.runs.number_is; runs = (old.roller, so.runs.runs, does_roll) };
     }

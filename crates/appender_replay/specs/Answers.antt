@@ -89,12 +89,15 @@ WorkerDoes kind earlier = RollerDoes kind (worker_after earlier)
 -- A step of the worker that wrote reads the clock, and its piece is what was taken of the rest. No other step reads the
 -- clock, switches or writes.
 abbrev pub file_event : Core → Answered → Event
-file_event core (Work m, Wrote switch answer) = record { read = Some m; switch = switch; piece = take (count_of answer) (rest_of core) }
-file_event core told = record { read = None; switch = Stayed; piece = [] }
+file_event core (Work m, Wrote switch answer) = record { read = Some m; offered = length (rest_of core); switch = switch; piece = take (count_of answer) (rest_of core) }
+file_event core told = record { read = None; offered = 0; switch = Stayed; piece = [] }
+
+abbrev pub worker_event : List Answered → Answered → Event
+worker_event earlier = file_event (worker_after earlier)
 
 -- the run's history, the newest step first
 abbrev pub events : List Answered → List Event
-events = events_by (λ earlier. file_event (worker_after earlier))
+events = events_by worker_event
 
 -- all pieces of a history strung together, the oldest first
 abbrev pub text_of_events : List Event → List ℕ

@@ -1,24 +1,27 @@
 -- A run of an appender, read after the fact: when it switched files, and what the files hold. Steps are numbered from 1,
 -- the opening is step 0, and a history has the newest step first.
-use Rattle.std.specs.Prelude.{◌≡◌, ◌≢◌, ◌⊎◌, ℕ, suc, ◌<◌, ◌≤◌, ◌==◌, nat_le, ℤ, int_lt, Bool, true, false, not, ◌&&◌, if◌then◌else◌, List, [], ◌∷◌, ◌++◌, length, filter, map, Option, None, Some, is_some, MatchOption}
+use Rattle.std.specs.Prelude.{◌≡◌, ◌≢◌, ◌⊎◌, ℕ, zero, suc, ◌+◌, nat_lt, ◌<◌, ◌≤◌, ◌==◌, nat_le, ℤ, Bool, true, false, not, ◌&&◌, if◌then◌else◌, List, [], ◌∷◌, ◌++◌, length, filter, map, Option, None, Some, is_some, MatchOption}
 use Rattle.std.specs.List.{filter_map}
 use Rattle.std.specs.Int.{int_max}
 use Rattle.appender_names.specs.declared.rotation.Rotation.{Rotation}
-use Rattle.appender_names.specs.Rotation.{is_moment, period_of}
+use Rattle.appender_names.specs.Rotation.{is_moment, period_of, is_same_start}
 use Rattle.std.specs.FinMap as fin
 use Rattle.appender_store.specs.Content.{Content, NameMap, File, Link, Opens, after_append, after_make_folder, body_at}
 use Rattle.appender_store.specs.Folder.{Counts}
 use Rattle.appender_retain.specs.Survival.{TakesOnlyOld, LeavesSurvivors, name_survives, candidates_in}
 use Rattle.appender_retain.specs.Pruning.{IsQuiet}
-use Rattle.appender_rolling.specs.Config.{Config, naming_of}
+use Rattle.appender_rolling.specs.Config.{Config, naming_of, is_limited, IsStamp, stamp}
+use Rattle.appender_rolling.specs.Roller.{wanted}
+use Rattle.appender_rolling.specs.declared.rolling.setup.Stamp.{Stamp}
 use Rattle.appender_rolling.specs.Opening.{file_name_of, Linked, LeavesLittle}
 use Rattle.appender_rolling.specs.declared.rolling.Switch.{Switch}
 use Rattle.appender_rolling.specs.declared.rolling.Switch.TheVariants.{None as Stayed, Opened as Switched, Failed as SwitchFailed}
 
--- One step as the files see it: the moment that it read, if it read the clock, the switch that it told, and its piece, the
--- bytes that it offered and that were taken.
+-- One step as the files see it: the moment that it read, if it read the clock, how many bytes it offered, the switch that it told,
+-- and its piece, the bytes that it offered and that were taken.
 pub record Event : Type 0 where
   pub read : Option ℤ
+  pub offered : ℕ
   pub switch : Switch
   pub piece : List ℕ
 
@@ -33,19 +36,13 @@ greatest start (m ∷ ms) = int_max m (greatest start ms)
 abbrev pub latest_moment : ℤ → List Event → ℤ
 latest_moment start h = greatest start (filter is_moment (filter_map (λ e. e.read) h))
 
-abbrev pub is_same : Option ℤ → Option ℤ → Bool
-is_same None None = true
-is_same None (Some b) = false
-is_same (Some a) None = false
-is_same (Some a) (Some b) = not (int_lt a b) && not (int_lt b a)
-
 -- the period of the latest moment; under NEVER there is one period, which has no start
 abbrev pub period_at : Rotation → ℤ → List Event → Option ℤ
 period_at r start h = period_of r (latest_moment start h)
 
 -- a step arrives where it reads the clock and the latest moment comes into another period by it
 abbrev pub arrives : Rotation → ℤ → Event → List Event → Bool
-arrives r start e earlier = is_some e.read && not (is_same (period_at r start (e ∷ earlier)) (period_at r start earlier))
+arrives r start e earlier = is_some e.read && not (is_same_start (period_at r start (e ∷ earlier)) (period_at r start earlier))
 
 abbrev pub is_switch : Switch → Bool
 is_switch Stayed = false
@@ -57,55 +54,142 @@ is_opened Stayed = false
 is_opened Switched = true
 is_opened SwitchFailed = false
 
--- a switch is told exactly where a step arrives
-abbrev pub SwitchesAtArrivals : Rotation → ℤ → List Event → Type 0
-SwitchesAtArrivals r start [] = Unit {0}
-SwitchesAtArrivals r start (e ∷ earlier) =
-    (is_switch e.switch ≡ arrives r start e earlier) × SwitchesAtArrivals r start earlier
+-- the pieces of the steps from number n on
+abbrev pub since : ℕ → List Event → List ℕ
+since n [] = []
+since n (e ∷ earlier) = since n earlier ++ (if nat_le n (suc (length earlier)) then e.piece else [])
 
 -- ---- attempts
 
--- One attempt to open a file: at which step, for which moment, the number of the body that it opened if it succeeded, the
+-- One attempt to open a file: at which step, for which stamp, the number of the body that it opened if it succeeded, the
 -- folder's content before and after it, and the counts of notices before and after.
 pub record Attempt : Type 0 where
   pub step : ℕ
-  pub moment : ℤ
+  pub stamp : Stamp
   pub body : Option ℕ
   pub before : Content
   pub after : Content
   pub noted_before : Counts
   pub noted_after : Counts
 
--- an attempt's step, moment and success
+-- What is seen of a run after one of its steps, or after the opening: the folder's content, the counts of notices, the number of
+-- the open body, and the step's piece.
+pub record Seen : Type 0 where
+  pub content : Content
+  pub noted : Counts
+  pub body : ℕ
+  pub piece : List ℕ
+
+-- the content and the counts before a step, by what is seen after each: those after the step before it, and before the opening these
+abbrev pub content_before : Content → (ℕ → Seen) → ℕ → Content
+content_before first seen zero = first
+content_before first seen (suc n) = (seen n).content
+
+abbrev pub counts_before : Counts → (ℕ → Seen) → ℕ → Counts
+counts_before first seen zero = first
+counts_before first seen (suc n) = (seen n).noted
+
+-- The attempt is what was seen of the run at its step: the content and the counts before it are those that the step before left, the
+-- counts after it those that its own step left, and so is the content after it, with the step's piece behind what the open body
+-- held.
+pub record IsSeenAtItsStep (first : Content) (noted_first : Counts) (seen : ℕ → Seen) (a : Attempt) : Type 0 where
+  pub before : a.before ≡ content_before first seen a.step
+  pub noted_before : a.noted_before ≡ counts_before noted_first seen a.step
+  pub after : (seen a.step).content ≡ after_append a.after (seen a.step).body (seen a.step).piece
+  pub noted_after : a.noted_after ≡ (seen a.step).noted
+
+-- an attempt's step, stamp and success
 abbrev pub Time : Type 0
-Time = ℕ × ℤ × Bool
+Time = ℕ × Stamp × Bool
 
 abbrev pub time_of : Attempt → Time
-time_of a = (a.step, a.moment, is_some a.body)
+time_of a = (a.step, a.stamp, is_some a.body)
 
--- When attempts are made, and which succeed, the newest first: the opening, and one at each arrival for the latest moment.
-abbrev pub times : Rotation → ℤ → List Event → List Time
-times r start [] = (0, start, true) ∷ []
-times r start (e ∷ earlier) =
-    if arrives r start e earlier
-    then (suc (length earlier), latest_moment start (e ∷ earlier), is_opened e.switch) ∷ times r start earlier
-    else times r start earlier
+-- the step and the stamp of the last of these attempts; the opening is one
+abbrev pub last_step : List Time → ℕ
+last_step [] = 0
+last_step ((step, s, succeeded) ∷ before) = step
 
--- the moment of the last attempt that succeeded
-abbrev pub last_opened : ℤ → List Time → ℤ
-last_opened start [] = start
-last_opened start ((step, m, succeeded) ∷ earlier) = if succeeded then m else last_opened start earlier
+abbrev pub last_stamp : Stamp → List Time → Stamp
+last_stamp first [] = first
+last_stamp first ((step, s, succeeded) ∷ before) = s
+
+-- how many bytes were written since the last attempt, whether it succeeded or not, with those of its own step
+abbrev pub count_since : List Time → List Event → ℕ
+count_since before h = length (since (last_step before) h)
+
+-- A step is full, under a limit of bytes, where it reads the clock, something was written since the last attempt, what it offers, or
+-- one byte, would be more than the limit with that, and the last attempt's number isn't the greatest.
+abbrev pub is_full : Config → Stamp → List Time → Event → List Event → Bool
+is_full c first before e earlier =
+    is_some e.read && is_limited c && nat_lt (last_stamp first before).number 999999
+    && nat_lt 0 (count_since before earlier)
+    && nat_lt c.max_bytes (count_since before earlier + wanted e.offered)
+
+-- The stamp for which a step makes an attempt, if it makes one: an arrival for the latest moment with the number 0; else a full step
+-- for the last attempt's moment, in whose period the latest moment lies, with the number behind its own.
+abbrev pub stamp_at : Config → Stamp → List Time → Event → List Event → Option Stamp
+stamp_at c first before e earlier =
+    if arrives c.rotation first.moment e earlier then Some (stamp (latest_moment first.moment (e ∷ earlier)) 0)
+    else if is_full c first before e earlier then Some (stamp (last_stamp first before).moment ((last_stamp first before).number + 1))
+    else None
+
+abbrev pub with_time : Option Stamp → ℕ → Bool → List Time → List Time
+with_time None step succeeded before = before
+with_time (Some s) step succeeded before = (step, s, succeeded) ∷ before
+
+-- When attempts are made, and which succeed, the newest first: the opening, whose stamp is the first, one at each arrival and one at
+-- each full step.
+abbrev pub times : Config → Stamp → List Event → List Time
+times c first [] = (0, first, true) ∷ []
+times c first (e ∷ earlier) =
+    with_time (stamp_at c first (times c first earlier) e earlier) (suc (length earlier)) (is_opened e.switch) (times c first earlier)
+
+-- a switch is told exactly where a step makes an attempt
+abbrev pub SwitchesAtAttempts : Config → Stamp → List Event → Type 0
+SwitchesAtAttempts c first [] = Unit {0}
+SwitchesAtAttempts c first (e ∷ earlier) =
+    (is_switch e.switch ≡ is_some (stamp_at c first (times c first earlier) e earlier)) × SwitchesAtAttempts c first earlier
+
+-- Without a limit of bytes it is told exactly at the arrivals.
+abbrev pub SwitchesAtArrivals : Rotation → ℤ → List Event → Type 0
+SwitchesAtArrivals r start [] = Unit {0}
+SwitchesAtArrivals r start (e ∷ earlier) = (is_switch e.switch ≡ arrives r start e earlier) × SwitchesAtArrivals r start earlier
+
+-- the stamp of the last attempt that succeeded
+abbrev pub last_opened : Stamp → List Time → Stamp
+last_opened first [] = first
+last_opened first ((step, s, succeeded) ∷ earlier) = if succeeded then s else last_opened first earlier
+
+-- what tells the files of a run apart: a period, and a number in it
+abbrev pub Key : Type 0
+Key = Option ℤ × ℕ
+
+abbrev pub key_of : Config → Stamp → Key
+key_of c s = (period_of c.rotation s.moment, s.number)
+
+abbrev pub is_same_key : Key → Key → Bool
+is_same_key a b = is_same_start a.0 b.0 && (a.1 == b.1)
+
+-- the period of the latest moment, and the number that was the last begun there
+abbrev pub key_at : Config → Stamp → List Event → Key
+key_at c first h = (period_at c.rotation first.moment h, (last_stamp first (times c first h)).number)
+
+-- neither the name of the attempt for this stamp nor that of the link, where one is set
+pub record IsOther (c : Config) (s : Stamp) (name : List ℕ) : Type 0 where
+  pub not_own : name ≢ file_name_of c s
+  pub not_link : name ≡ c.link → c.link ≡ []
 
 -- The names after an attempt that opened a body: its own, and the link, where one is set. Every other name is as it was, or is
 -- gone and doesn't survive. Where neither List nor Remove was noted, or there was no folder, exactly the survivors are left.
 pub record NamesAfter (c : Config) (a : Attempt) (b : ℕ) : Type 0 where
-  pub own : (t : Option ℤ) × (fin.get a.after.names (file_name_of c a.moment) ≡ Some (File b t))
-  pub link : c.link ≢ [] → fin.get a.after.names c.link ≡ Some (Link (file_name_of c a.moment))
-  pub others : (name : List ℕ) → name ≢ file_name_of c a.moment → (name ≡ c.link → c.link ≡ [])
+  pub own : (t : Option ℤ) × (fin.get a.after.names (file_name_of c a.stamp) ≡ Some (File b t))
+  pub link : c.link ≢ [] → fin.get a.after.names c.link ≡ Some (Link (file_name_of c a.stamp))
+  pub others : (name : List ℕ) → IsOther c a.stamp name
       → (fin.get a.after.names name ≡ fin.get a.before.names name)
       ⊎ ((fin.get a.after.names name ≡ None) × (name_survives (naming_of c) c.max_files a.before.names name ≡ false))
   pub survivors : (IsQuiet a.noted_before a.noted_after ⊎ (a.before.there ≡ false))
-      → (name : List ℕ) → name ≢ file_name_of c a.moment → (name ≡ c.link → c.link ≡ [])
+      → (name : List ℕ) → IsOther c a.stamp name
       → fin.get a.after.names name ≡ (if name_survives (naming_of c) c.max_files a.before.names name then fin.get a.before.names name else None)
 
 -- What an attempt that opened a body did. It removed only log files that don't survive, and, where it noted neither List nor
@@ -115,14 +199,14 @@ pub record Succeeded (c : Config) (a : Attempt) (b : ℕ) : Type 0 where
   pub unlinked : Content
   pub only_old : TakesOnlyOld (naming_of c) c.max_files a.before pruned
   pub survivors : IsQuiet a.noted_before a.noted_after → LeavesSurvivors (naming_of c) c.max_files a.before pruned
-  pub opens : Opens (file_name_of c a.moment) (after_make_folder pruned) unlinked b
-  pub links : Linked c.link (file_name_of c a.moment) unlinked a.after
+  pub opens : Opens (file_name_of c a.stamp) (after_make_folder pruned) unlinked b
+  pub links : Linked c.link (file_name_of c a.stamp) unlinked a.after
   pub names : NamesAfter c a b
   pub at_most : IsQuiet a.noted_before a.noted_after → 0 < c.max_files → candidates_in (naming_of c) a.after ≤ c.max_files
 
 -- what an attempt did
 abbrev pub Tried : Config → Attempt → Type 0
-Tried c a = MatchOption a.body (LeavesLittle c (file_name_of c a.moment) a.before a.after) (Succeeded c a)
+Tried c a = MatchOption a.body (LeavesLittle c (file_name_of c a.stamp) a.before a.after) (Succeeded c a)
 
 -- the carrier of a step: the last attempt up to it that succeeded
 abbrev pub carrier : List Attempt → ℕ → Option Attempt
@@ -157,12 +241,13 @@ bytes_to_body b = bytes_where (λ a. is_number b a.body)
 abbrev pub bytes_in_period : Rotation → ℤ → Option ℤ → List Event → List ℕ
 bytes_in_period r start period [] = []
 bytes_in_period r start period (e ∷ earlier) =
-    bytes_in_period r start period earlier ++ (if is_same (period_at r start (e ∷ earlier)) period then e.piece else [])
+    bytes_in_period r start period earlier ++ (if is_same_start (period_at r start (e ∷ earlier)) period then e.piece else [])
 
--- the pieces of the steps from number n on
-abbrev pub since : ℕ → List Event → List ℕ
-since n [] = []
-since n (e ∷ earlier) = since n earlier ++ (if nat_le n (suc (length earlier)) then e.piece else [])
+-- those at which it also was the last number that was begun there
+abbrev pub bytes_under : Config → Stamp → Key → List Event → List ℕ
+bytes_under c first key [] = []
+bytes_under c first key (e ∷ earlier) =
+    bytes_under c first key earlier ++ (if is_same_key (key_at c first (e ∷ earlier)) key then e.piece else [])
 
 -- the steps before number n
 abbrev pub up_to : ℕ → List Event → List Event
@@ -202,12 +287,12 @@ NamesLead = Chain (λ a. a.before.names) (λ a. a.after.names)
 abbrev pub NotesLead : List Attempt → Counts → Counts → Type 0
 NotesLead = Chain (λ a. a.noted_before) (λ a. a.noted_after)
 
--- Notices are noted at attempts alone, for any kind of folder: the counts before and after each attempt are such a chain, one
--- pair for each attempt, the newest first.
-pub record NotedAtAttempts (r : Rotation) (start : ℤ) (h : List Event) (first last : Counts) : Type 0 where
-  pub counts : List (Counts × Counts)
-  pub one_each : length counts ≡ length (times r start h)
-  pub chain : Chain (λ (pair : Counts × Counts). pair.0) (λ (pair : Counts × Counts). pair.1) counts first last
+-- Notices are noted at attempts alone, for any kind of folder: a step that makes none leaves the counts as the step before it did.
+abbrev pub NotedAtAttempts : Config → Stamp → (ℕ → Seen) → List Event → Type 0
+NotedAtAttempts c start seen [] = Unit {0}
+NotedAtAttempts c start seen (e ∷ earlier) =
+    (stamp_at c start (times c start earlier) e earlier ≡ None → (seen (suc (length earlier))).noted ≡ (seen (length earlier)).noted)
+    × NotedAtAttempts c start seen earlier
 
 -- no switch failed
 abbrev pub NoneFailed : List Event → Type 0
@@ -216,18 +301,39 @@ NoneFailed (e ∷ earlier) = (e.switch ≢ SwitchFailed) × NoneFailed earlier
 
 -- The law of the file that is open at the end: it holds what it held at its opening, followed by exactly the pieces that it
 -- carries.
-pub record OpenFileLaw (r : Rotation) (start : ℤ) (h : List Event) (attempts : List Attempt) (last : Content) (opened : ℤ) (b : ℕ) : Type 0 where
+pub record OpenFileLaw (c : Config) (first : Stamp) (h : List Event) (attempts : List Attempt) (last : Content) (opened : Stamp) (b : ℕ) : Type 0 where
   pub file : Attempt
   pub is_carrier : carrier attempts (length h) ≡ Some file
-  pub moment : file.moment ≡ opened
+  pub stamp_is : file.stamp ≡ opened
   pub body : file.body ≡ Some b
   pub holds : body_at last b ≡ body_at file.before b ++ bytes_of_attempt file.step attempts h
-  pub in_its_period : NoneFailed h → period_of r file.moment ≡ period_at r start h
+  pub in_its_period : NoneFailed h → period_of c.rotation file.stamp.moment ≡ period_at c.rotation first.moment h
+  pub in_its_number : NoneFailed h → file.stamp.number ≡ (last_stamp first (times c first h)).number
 
 -- no attempt of these opened the body that this one opened
 abbrev pub OpensNoneOf : Attempt → List Attempt → Type 0
 OpensNoneOf a [] = Unit {0}
 OpensNoneOf a (e ∷ rest) = ((b : ℕ) → a.body ≡ Some b → e.body ≡ Some b → ⊥) × OpensNoneOf a rest
+
+-- The new names are the survivors of the old ones, the name of this stamp, which leads to a file, and the link, where one is set.
+pub record LeavesJustSurvivors (c : Config) (s : Stamp) (old new : NameMap) : Type 0 where
+  pub own : (b : ℕ) × (t : Option ℤ) × (fin.get new (file_name_of c s) ≡ Some (File b t))
+  pub link : c.link ≢ [] → fin.get new c.link ≡ Some (Link (file_name_of c s))
+  pub others : (name : List ℕ) → IsOther c s name
+      → fin.get new name ≡ (if name_survives (naming_of c) c.max_files old name then fin.get old name else None)
+
+-- one of these
+abbrev pub IsAmong : Time → List Time → Type 0
+IsAmong t [] = ⊥
+IsAmong t (u ∷ us) = (t ≡ u) ⊎ IsAmong t us
+
+-- Each step at which an attempt succeeded left exactly the survivors of the names that the step before left, its own name and the
+-- link, if neither List nor Remove was noted in it, or there was no folder.
+abbrev pub LeaveJustSurvivors : Config → Content → Counts → (ℕ → Seen) → List Time → Type 0
+LeaveJustSurvivors c first noted_first seen ts =
+    (n : ℕ) (s : Stamp) → IsAmong (n, s, true) ts
+    → (IsQuiet (counts_before noted_first seen n) (seen n).noted ⊎ ((content_before first seen n).there ≡ false))
+    → LeavesJustSurvivors c s (content_before first seen n).names (seen n).content.names
 
 -- no two attempts opened one body
 abbrev pub AreApart : List Attempt → Type 0
@@ -242,17 +348,22 @@ HoldsItsOwn attempts h last a =
 -- what the attempt carries are the pieces of the steps at which the latest moment lay in its period
 abbrev pub CarriesItsPeriod : Rotation → ℤ → List Attempt → List Event → Attempt → Type 0
 CarriesItsPeriod r start attempts h a =
-    (b : ℕ) → a.body ≡ Some b → bytes_of_attempt a.step attempts h ≡ bytes_in_period r start (period_of r a.moment) h
+    (b : ℕ) → a.body ≡ Some b → bytes_of_attempt a.step attempts h ≡ bytes_in_period r start (period_of r a.stamp.moment) h
+
+-- they are those at which its number also was the last begun there
+abbrev pub CarriesItsNumber : Config → Stamp → List Attempt → List Event → Attempt → Type 0
+CarriesItsNumber c first attempts h a =
+    (b : ℕ) → a.body ≡ Some b → bytes_of_attempt a.step attempts h ≡ bytes_under c first (key_of c a.stamp) h
 
 -- no name but the attempt's leads to what it opened
 abbrev pub HasItsName : Config → Content → Attempt → Type 0
 HasItsName c last a =
-    (b : ℕ) → a.body ≡ Some b → (m : List ℕ) (t : Option ℤ) → fin.get last.names m ≡ Some (File b t) → m ≡ file_name_of c a.moment
+    (b : ℕ) → a.body ≡ Some b → (m : List ℕ) (t : Option ℤ) → fin.get last.names m ≡ Some (File b t) → m ≡ file_name_of c a.stamp
 
 -- where the attempt's name leads to a file at all, it leads to what the attempt opened
 abbrev pub NamesItsBody : Config → Content → Attempt → Type 0
 NamesItsBody c last a =
-    (b : ℕ) → a.body ≡ Some b → (y : ℕ) (t : Option ℤ) → fin.get last.names (file_name_of c a.moment) ≡ Some (File y t) → y ≡ b
+    (b : ℕ) → a.body ≡ Some b → (y : ℕ) (t : Option ℤ) → fin.get last.names (file_name_of c a.stamp) ≡ Some (File y t) → y ≡ b
 
 -- each of these attempts
 abbrev pub EachOf : (Attempt → Type 0) → List Attempt → Type 0
@@ -263,32 +374,69 @@ EachOf P (a ∷ rest) = P a × EachOf P rest
 -- followed by exactly the pieces of the steps at which the latest moment lay in the attempt's period
 abbrev pub HoldsItsPeriod : Config → ℤ → List Event → Content → Attempt → Type 0
 HoldsItsPeriod c start h last a =
-    (b : ℕ) → a.body ≡ Some b → (x : ℕ) (t : Option ℤ) → fin.get last.names (file_name_of c a.moment) ≡ Some (File x t)
-    → body_at last x ≡ body_at a.before x ++ bytes_in_period c.rotation start (period_of c.rotation a.moment) h
+    (b : ℕ) → a.body ≡ Some b → (x : ℕ) (t : Option ℤ) → fin.get last.names (file_name_of c a.stamp) ≡ Some (File x t)
+    → body_at last x ≡ body_at a.before x ++ bytes_in_period c.rotation start (period_of c.rotation a.stamp.moment) h
+
+-- followed by exactly those at which the attempt's number also was the last begun there
+abbrev pub HoldsItsNumber : Config → Stamp → List Event → Content → Attempt → Type 0
+HoldsItsNumber c first h last a =
+    (b : ℕ) → a.body ≡ Some b → (x : ℕ) (t : Option ℤ) → fin.get last.names (file_name_of c a.stamp) ≡ Some (File x t)
+    → body_at last x ≡ body_at a.before x ++ bytes_under c first (key_of c a.stamp) h
 
 -- While no switch fails, every file that the run opened and that still stands under its name holds what it held at that opening,
--- and then exactly what was written while the latest moment was one of its period. The attempts are those of the run, and no
--- name but an attempt's own leads to what it opened.
-pub record FilesHoldTheirPeriods (c : Config) (start : ℤ) (h : List Event) (first last : Content) : Type 0 where
+-- and then exactly what was written while the latest moment was one of its period; with a limit of bytes, while its number also was
+-- the last begun there. The attempts are those of the run, and no name but an attempt's own leads to what it opened.
+pub record FilesHoldTheirPeriods (c : Config) (start : Stamp) (h : List Event) (first last : Content) (noted_first : Counts) (seen : ℕ → Seen) : Type 0 where
   pub attempts : List Attempt
-  pub are_times : map time_of attempts ≡ times c.rotation start h
+  pub are_times : map time_of attempts ≡ times c start h
+  pub are_seen : EachOf (IsSeenAtItsStep first noted_first seen) attempts
   pub leads : Leads c attempts h first last
   pub named : EachOf (HasItsName c last) attempts
-  pub holds : NoneFailed h → EachOf (HoldsItsPeriod c start h last) attempts
+  pub holds : is_limited c ≡ false → NoneFailed h → EachOf (HoldsItsPeriod c start.moment h last) attempts
+  pub holds_number : NoneFailed h → EachOf (HoldsItsNumber c start h last) attempts
+
+-- ---- the limit of bytes
+
+-- every step that wrote had read the clock
+abbrev pub EachWriteReadsClock : List Event → Type 0
+EachWriteReadsClock [] = Unit {0}
+EachWriteReadsClock (e ∷ earlier) = (e.read ≡ None → e.piece ≡ []) × EachWriteReadsClock earlier
+
+-- this is the piece of one step
+abbrev pub IsOnePiece : List ℕ → List Event → Type 0
+IsOnePiece bytes [] = ⊥
+IsOnePiece bytes (e ∷ earlier) = (bytes ≡ e.piece) ⊎ IsOnePiece bytes earlier
+
+-- what the attempt carries is no more than the limit, or it is one piece, which isn't empty
+abbrev pub KeepsToLimit : Config → List Attempt → List Event → Attempt → Type 0
+KeepsToLimit c attempts h a =
+    a.stamp.number < 999999 → (length (bytes_of_attempt a.step attempts h) ≤ c.max_bytes)
+    ⊎ (IsOnePiece (bytes_of_attempt a.step attempts h) h × (bytes_of_attempt a.step attempts h ≢ []))
+
+-- no step took more bytes than it offered
+abbrev pub PiecesFit : List Event → Type 0
+PiecesFit [] = Unit {0}
+PiecesFit (e ∷ earlier) = (length e.piece ≤ e.offered) × PiecesFit earlier
 
 -- The law of the files of a run: every body, whether or not a name leads to it, holds what it held at first, followed by
 -- exactly what was written to it. What each attempt opened holds what it held then, followed by what the attempt carries,
--- which is, unless a switch failed, exactly what was written while the latest moment lay in its period.
-pub record FileLaw (c : Config) (start : ℤ) (h : List Event) (first last : Content) (noted_first noted_last : Counts) (opened : ℤ) (b : ℕ) : Type 0 where
+-- which is, unless a switch failed, exactly what was written while the latest moment lay in its period; with a limit of bytes, while
+-- its number also was the last begun there. Contents and counts of the attempts are those that were seen at their steps.
+pub record FileLaw (c : Config) (start : Stamp) (h : List Event) (first last : Content) (noted_first noted_last : Counts) (seen : ℕ → Seen) (opened : Stamp) (b : ℕ) : Type 0 where
   pub attempts : List Attempt
-  pub are_times : map time_of attempts ≡ times c.rotation start h
+  pub are_times : map time_of attempts ≡ times c start h
+  pub are_seen : EachOf (IsSeenAtItsStep first noted_first seen) attempts
   pub leads : Leads c attempts h first last
   pub names : NamesLead attempts first.names last.names
   pub notes : NotesLead attempts noted_first noted_last
+  pub left : LeaveJustSurvivors c first noted_first seen (times c start h)
   pub bodies : (x : ℕ) → body_at last x ≡ body_at first x ++ bytes_to_body x attempts h
-  pub open_file : OpenFileLaw c.rotation start h attempts last opened b
+  pub open_file : OpenFileLaw c start h attempts last opened b
   pub apart : AreApart attempts
   pub each : EachOf (HoldsItsOwn attempts h last) attempts
   pub under_its_name : EachOf (HasItsName c last) attempts
   pub names_its_body : EachOf (NamesItsBody c last) attempts
-  pub in_its_period : NoneFailed h → EachOf (CarriesItsPeriod c.rotation start attempts h) attempts
+  pub in_its_period : is_limited c ≡ false → NoneFailed h → EachOf (CarriesItsPeriod c.rotation start.moment attempts h) attempts
+  pub in_its_number : NoneFailed h → EachOf (CarriesItsNumber c start attempts h) attempts
+  pub stamps : EachOf (λ a. IsStamp c a.stamp) attempts
+  pub keeps_to_limit : is_limited c ≡ true → NoneFailed h → EachWriteReadsClock h → EachOf (KeepsToLimit c attempts h) attempts

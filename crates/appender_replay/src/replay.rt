@@ -1,8 +1,10 @@
 //! Runs of an appender that are given as lists of steps, for tests and scripts.
-ghost use Rattle.std.specs.Prelude.{◌≡◌, ◌<◌, ◌≤◌, [], ◌∷◌, ◌++◌, length, IsTrue, IfOk, IfErr, vec_len, vec_capacity};
+ghost use Rattle.std.specs.Prelude.{◌≡◌, ◌<◌, ◌≤◌, false, [], ◌∷◌, ◌++◌, length, IsTrue, IfOk, IfErr, vec_len, vec_capacity};
 ghost use Rattle.appender_names.specs.Rotation.{next_of};
-ghost use Rattle.appender_replay.specs.Run.{SwitchesAtArrivals, FileLaw, FilesHoldTheirPeriods, NotedAtAttempts, latest_moment, last_opened, times};
-ghost use Rattle.appender_replay.specs.Replay.{kind_told, told_of, history, StepDoes, RollDoes, RunsFrom, IsNotRun, HasSteps};
+ghost use Rattle.appender_replay.specs.Run.{SwitchesAtAttempts, SwitchesAtArrivals, latest_moment, last_opened, times};
+ghost use Rattle.appender_rolling.specs.Config.{stamp, is_limited};
+ghost use Rattle.appender_replay.specs.Retention.{QuietAttemptsPrune, QuietRunsHaveQuietAttempts};
+ghost use Rattle.appender_replay.specs.Replay.{kind_told, told_of, history, roll_event, FilesFollow, StandingFilesFollow, NoticesFollow, StepDoes, RollDoes, RunsFrom, IsNotRun, HasSteps};
 
 mod whole;
 
@@ -41,11 +43,13 @@ pub enum RollReply {
     Flushed(Result<(), io::ErrorKind>),
 }
 
-/// A roller's run that was opened: one reply a step, and the roller as the last step left it.
+/// A roller's run that was opened: one reply a step, the roller as the last step left it, and the number of
+/// the first file, which is 0 without a limit of bytes.
 #[derive(Drop)]
 pub struct RollRun<S: Folder> {
     pub replies: Vec<RollReply>,
     pub roller: Roller<S>,
+    pub number: u32,
 }
 
 /// Why no step was run; the folder is handed back.
@@ -91,6 +95,13 @@ fn push_reply<R: Drop>(replies: &mut Vec<R>, reply: R)
     let _ = replies.push(reply);
 }
 
+// What the law of the files refuses: an attempt that noted nothing and left a log file that doesn't survive, and, in a run that noted
+// nothing, an attempt with other counts of notices.
+fn quiet_attempts_prune()
+    ensures prune { QuietAttemptsPrune }
+    ensures counts { QuietRunsHaveQuietAttempts }
+{}
+
 /// Opens a roller over the folder at `start`, in seconds of UTC since the epoch, and runs the steps
 /// in order. Room for all replies is taken before the opening.
 pub fn replay_rolling<S: Folder>(
@@ -101,23 +112,23 @@ pub fn replay_rolling<S: Folder>(
     steps: &[RollStep],
 ) -> Result<RollRun<S>, ReplayError<S>>
     ensures one_each { IfOk result (λ run. length run.replies.items ≡ length steps.now) }
-    ensures runs { IfOk result (λ run. RunsFrom S.Folder (RollDoes S.Folder) builder.now start folder
+    ensures runs { IfOk result (λ run. RunsFrom S.Folder (RollDoes S.Folder) builder.now start run.number folder
         (told_of steps.now run.replies.items) run.roller) }
     ensures config { IfOk result (λ run. run.roller.config ≡ builder.now) }
-    ensures switches { IfOk result (λ run. SwitchesAtArrivals builder.now.rotation start
+    ensures switches { IfOk result (λ run. SwitchesAtAttempts builder.now (stamp start run.number)
         (history steps.now run.replies.items)) }
+    ensures arrivals { IfOk result (λ run. is_limited builder.now ≡ false →
+        SwitchesAtArrivals builder.now.rotation start (history steps.now run.replies.items)) }
     ensures boundary { IfOk result (λ run. run.roller.boundary ≡ next_of builder.now.rotation
         (latest_moment start (history steps.now run.replies.items))) }
-    ensures files { IfOk result (λ run. IsTrue S.tells → FileLaw builder.now
-        start (history steps.now run.replies.items) (S.content folder) (S.content run.roller.folder)
-        (S.noted folder) (S.noted run.roller.folder) run.roller.opened (S.body run.roller.file)) }
-    ensures opened { IfOk result (λ run. run.roller.opened ≡ last_opened start
-        (times builder.now.rotation start (history steps.now run.replies.items))) }
-    ensures standing_files { IfOk result (λ run. IsTrue S.tells → FilesHoldTheirPeriods builder.now
-        start (history steps.now run.replies.items)
-        (S.content folder) (S.content run.roller.folder)) }
-    ensures notices { IfOk result (λ run. NotedAtAttempts builder.now.rotation start
-        (history steps.now run.replies.items) (S.noted folder) (S.noted run.roller.folder)) }
+    ensures files { IfOk result (λ run. IsTrue S.tells → FilesFollow S.Folder (RollDoes S.Folder) roll_event
+        builder.now start run.number folder (told_of steps.now run.replies.items) run.roller) }
+    ensures opened { IfOk result (λ run. run.roller.opened ≡ last_opened (stamp start run.number)
+        (times builder.now (stamp start run.number) (history steps.now run.replies.items))) }
+    ensures standing_files { IfOk result (λ run. IsTrue S.tells → StandingFilesFollow S.Folder (RollDoes S.Folder)
+        roll_event builder.now start run.number folder (told_of steps.now run.replies.items) run.roller) }
+    ensures notices { IfOk result (λ run. NoticesFollow S.Folder (RollDoes S.Folder) roll_event
+        builder.now start run.number folder (told_of steps.now run.replies.items) run.roller) }
     ensures err { IfErr result (λ error. IsNotRun S.Folder builder.now start folder error) }
     ensures memory { IfErr result (HasSteps (length steps.now)) }
 {
@@ -133,9 +144,14 @@ pub fn replay_rolling<S: Folder>(
         Ok(roller) => roller,
         Err((error, folder)) => return Err(ReplayError::Init(error, folder)),
     };
+    let number = roller.number();
     for step in steps {
         let reply = run_step(&mut roller, step);
         push_reply(&mut replies, reply);
     }
-    Ok(RollRun { replies, roller })
+    Ok(RollRun {
+        replies,
+        roller,
+        number,
+    })
 }

@@ -6,3 +6,6 @@ pub mod Clashes
 pub mod Closings
 pub mod Limits
 pub mod Pieces
+pub mod Numbered
+pub mod Fullness
+pub mod Numbers

@@ -3,7 +3,7 @@ use Rattle.std.proofs.Common.{◌≡◌, ◌∙◌, ◌⊎◌, ℕ, Bool, List, 
 use Rattle.std.specs.FinMap as fin
 use Rattle.std.specs.declared.io.Error.{Error}
 use Rattle.appender_names.specs.declared.error.InitError.{InitError}
-use Rattle.appender_names.specs.declared.error.InitError.TheVariants.{Directory, File as NoFile, Symlink, Memory, Moment, Name}
+use Rattle.appender_names.specs.declared.error.InitError.TheVariants.{Directory, File as NoFile, Symlink, Memory, Moment, Name, Limit}
 use Rattle.appender_store.specs.Content.{Content, Entry, File, IsLinkOrFolder, Opens, after_make_folder}
 use Rattle.appender_store.specs.NameLaws.{NameLaws}
 use Rattle.appender_store.specs.Folder.{HasCause}
@@ -66,3 +66,4 @@ module _ (maps : NameLaws) where
     refusal_has_reason name old Memory new same = tt
     refusal_has_reason name old Moment new (pruned, prunes, never) = never
     refusal_has_reason name old Name new (pruned, prunes, never) = never
+    refusal_has_reason name old Limit new (pruned, prunes, never) = never

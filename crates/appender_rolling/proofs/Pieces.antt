@@ -1,6 +1,7 @@
 -- A line that is written in pieces.
-use Rattle.std.proofs.Common.{◌≢◌, ◌∙◌, refl, sym, ap, ℕ, List, [], ◌∷◌, ◌++◌, take, drop, append_assoc}
+use Rattle.std.proofs.Common.{◌≢◌, ◌∙◌, refl, sym, ap, ℕ, List, [], ◌∷◌, ◌++◌, take, drop, append_assoc, arith, length, length-append, ◌-◌, ◌≤◌}
 use Rattle.std.proofs.lemmas.List.{take-append-drop}
+use Rattle.std.proofs.Math.Seq.{length-take-le}
 use Rattle.std.specs.Prelude.{Result}
 use Rattle.std.specs.declared.io.Error.{Error}
 use Rattle.appender_store.specs.Content.{after_append}
@@ -12,6 +13,7 @@ stays_twice : {S F : Type 0} (kind : Ghosts S F) (start last now : Rolling S F) 
 stays_twice kind start last now first second = record {
   config_is = second.config_is ∙ first.config_is;
   opened = second.opened ∙ first.opened;
+  last = second.last ∙ first.last;
   boundary = second.boundary ∙ first.boundary;
   file = second.file ∙ first.file;
   noted = second.noted ∙ first.noted;
@@ -31,4 +33,5 @@ one_more_piece kind answers bytes left start last now answer so goes some w = re
       ∙ ap (λ b. after_append (after_append (kind.content start.folder) (kind.body start.file) so.taken) b (take (count_of answer) left)) so.stays.file
       ∙ after_append_twice (kind.content start.folder) (kind.body start.file) so.taken (take (count_of answer) left);
   stays = stays_twice kind start last now so.stays w.stays;
+  room = (let taken = length-take-le (count_of answer) left w.bound in omega (arith, length-append so.taken (take (count_of answer) left), so.room, w.room, w.bound));
 }

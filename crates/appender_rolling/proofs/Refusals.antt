@@ -1,15 +1,15 @@
 -- What a refused opening leaves.
-use Rattle.std.proofs.Common.{ℕ, ℤ, List, [], ◌∷◌, ap, inl, inr, refl, IsTrue}
+use Rattle.std.proofs.Common.{◌≢◌, ℕ, ℤ, List, [], ◌∷◌, ap, inl, inr, refl, IsTrue}
 use Rattle.std.specs.declared.io.Error.{Error}
 use Rattle.appender_names.specs.declared.error.InitError.{InitError}
-use Rattle.appender_names.specs.declared.error.InitError.TheVariants.{Directory, File, Symlink, Moment, Name, Memory}
+use Rattle.appender_names.specs.declared.error.InitError.TheVariants.{Directory, File, Symlink, Moment, Name, Memory, Limit}
 use Rattle.appender_names.specs.Name.{Naming}
 use Rattle.appender_names.specs.Rotation.{IsMoment}
 use Rattle.appender_store.specs.Content.{Content}
 use Rattle.appender_store.specs.declared.store.Folder.{Ghosts}
 use Rattle.appender_retain.specs.Survival.{TakesOnlyOld}
-use Rattle.appender_rolling.specs.Config.{Config, naming_of}
-use Rattle.appender_rolling.specs.Opening.{file_name_of, NamesEntries, LinkClashes, MayRemoveLink, LinksNot, RefusesFile, LeavesLittle}
+use Rattle.appender_rolling.specs.Config.{Config, naming_of, MayLimit, stamp}
+use Rattle.appender_rolling.specs.Opening.{file_name_of, NamesEntries, LinkClashes, FindsNumber, MayRemoveLink, LinksNot, RefusesFile, LeavesLittle}
 use Rattle.appender_rolling.specs.Roller.{OpensNoRoller}
 
 takes_nothing : (n : Naming) (max : ℕ) (c : Content) → TakesOnlyOld n max c c
@@ -32,12 +32,15 @@ module _ {S F : Type 0} (kind : Ghosts S F) (config : Config) where
   refuses_little name old Memory new tells same = record { pruned = kind.content old; only_old = takes_nothing (naming_of config) config.max_files (kind.content old); rest = inl (ap kind.content same) }
   refuses_little name old Moment new tells (pruned, prunes, never) = absurd never
   refuses_little name old Name new tells (pruned, prunes, never) = absurd never
+  refuses_little name old Limit new tells (pruned, prunes, never) = absurd never
 
   -- and is that of a roller, whose checks were passed
-  pub refuses_roller : (m : ℤ) (old : S) (e : InitError) (new : S) → NamesEntries config → IsMoment m → ¬ LinkClashes config m → RefusesFile kind config (file_name_of config m) old e new → OpensNoRoller kind config m old e new
-  refuses_roller m old (Directory fault) new allowed range apart refuses = (allowed, range, apart, refuses)
-  refuses_roller m old (File fault) new allowed range apart refuses = (allowed, range, apart, refuses)
-  refuses_roller m old (Symlink fault) new allowed range apart refuses = (allowed, range, apart, refuses)
-  refuses_roller m old Memory new allowed range apart refuses = (allowed, range, refuses)
-  refuses_roller m old Moment new allowed range apart (pruned, prunes, never) = absurd never
-  refuses_roller m old Name new allowed range apart (pruned, prunes, never) = absurd never
+  pub refuses_roller : (m : ℤ) (old listed : S) (number : ℕ) (e : InitError) (new : S) → NamesEntries config → MayLimit config → IsMoment m → ¬ LinkClashes config m → FindsNumber kind config m old number listed
+      → e ≢ Memory → RefusesFile kind config (file_name_of config (stamp m number)) listed e new → OpensNoRoller kind config m old e new
+  refuses_roller m old listed number (Directory fault) new allowed may range apart finds some refuses = (allowed, may, range, apart, (number, listed, finds, refuses))
+  refuses_roller m old listed number (File fault) new allowed may range apart finds some refuses = (allowed, may, range, apart, (number, listed, finds, refuses))
+  refuses_roller m old listed number (Symlink fault) new allowed may range apart finds some refuses = (allowed, may, range, apart, (number, listed, finds, refuses))
+  refuses_roller m old listed number Memory new allowed may range apart finds some refuses = absurd (some refl)
+  refuses_roller m old listed number Moment new allowed may range apart finds some (pruned, prunes, never) = absurd never
+  refuses_roller m old listed number Name new allowed may range apart finds some (pruned, prunes, never) = absurd never
+  refuses_roller m old listed number Limit new allowed may range apart finds some (pruned, prunes, never) = absurd never

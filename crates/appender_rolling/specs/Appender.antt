@@ -1,13 +1,13 @@
 -- An appender: a roller that a clock is read for. `kind` has what folders of one kind tell, and `time` what clocks do.
-use Rattle.std.specs.Prelude.{◌≡◌, ℕ, ℤ, false, List, Option, Result}
+use Rattle.std.specs.Prelude.{◌≡◌, ℕ, ℤ, Bool, true, false, List, Result, is_some}
 use Rattle.std.specs.declared.io.Error.{Error}
 use Rattle.appender_names.specs.declared.error.InitError.{InitError}
 use Rattle.appender_names.specs.declared.rotation.Rotation.{Rotation}
 use Rattle.appender_store.specs.declared.store.Folder.{Ghosts}
 use Rattle.appender_rolling.specs.declared.rolling.clock.Clock.{Ghosts as Readings}
 use Rattle.appender_rolling.specs.declared.rolling.Switch.{Switch}
-use Rattle.appender_rolling.specs.Config.{Config, defaults}
-use Rattle.appender_rolling.specs.Roller.{Rolling, OpensRoller, OpensNoRoller, Sees, Writes, WritesAll, Puts, Flushes, is_due}
+use Rattle.appender_rolling.specs.Config.{Config, defaults, is_limited}
+use Rattle.appender_rolling.specs.Roller.{Rolling, Scheduled, Held, rolling_of, OpensRoller, OpensNoRoller, Sees, Writes, WritesAll, Puts, Flushes, is_due, is_full, next_stamp}
 
 -- only these are set
 abbrev pub plain_config : Rotation → List ℕ → Config
@@ -70,53 +70,60 @@ pub record SharesNow {S F C : Type 0} (kind : Ghosts S F) (time : Readings C) (c
 abbrev pub SharesSome : {S F C : Type 0} → Ghosts S F → Readings C → Config → Sharing C → Type 0
 SharesSome {S} {F} {C} kind time config new = (folder : S) × (clock : C) × SharesNow kind time config folder clock new
 
--- a roller looked at the clock, and its next boundary is this one then
-pub record SeesSome {S F : Type 0} (kind : Ghosts S F) (m : ℤ) (boundary : Option ℤ) : Type 0 where
+-- What is seen of a writer: when the next file begins. None does before the writer is dropped.
+abbrev pub Holding : Type 0
+Holding = Scheduled
+
+-- Whether a look at the clock would begin the next file was asked. With a limit of bytes, the answer is for the room that the open
+-- file was found with.
+pub record AsksSome {S F : Type 0} (kind : Ghosts S F) (s : Scheduled) (m : ℤ) (answer : Bool) : Type 0 where
+  pub plain : is_limited s.config ≡ false → answer ≡ is_due s.boundary m
+  pub limited : is_limited s.config ≡ true → (found : Held S F) × (answer ≡ is_some (next_stamp (rolling_of s found) m 0))
+
+-- a roller with this schedule looked at the clock, which left that one
+pub record SeesSome {S F : Type 0} (kind : Ghosts S F) (m : ℤ) (old new : Scheduled) : Type 0 where
   pub switch : Switch
-  pub found : Rolling S F
-  pub left : Rolling S F
-  pub sees : Sees kind m switch found left
-  pub boundary_is : boundary ≡ left.boundary
+  pub found : Held S F
+  pub left : Held S F
+  pub sees : Sees kind m switch (rolling_of old found) (rolling_of new left)
 
--- bytes were put into a roller at this moment, and its next boundary is this one then
-pub record PutsSome {S F : Type 0} (kind : Ghosts S F) (m : ℤ) (bytes : List ℕ) (answer : Result ℕ Error) (boundary : Option ℤ) : Type 0 where
+-- bytes were put at this moment into a roller with this schedule, which left that one
+pub record PutsSome {S F : Type 0} (kind : Ghosts S F) (m : ℤ) (bytes : List ℕ) (answer : Result ℕ Error) (old new : Scheduled) : Type 0 where
   pub switch : Switch
-  pub found : Rolling S F
-  pub left : Rolling S F
-  pub puts : Puts kind m bytes switch answer found left
-  pub boundary_is : boundary ≡ left.boundary
+  pub found : Held S F
+  pub left : Held S F
+  pub puts : Puts kind m bytes switch answer (rolling_of old found) (rolling_of new left)
 
--- What is seen of a writer: the second at which the next file begins. None does before the writer is dropped.
-pub record Holding : Type 0 where
-  pub boundary : Option ℤ
-
--- the clock was read, and at the moment that it told no boundary has come
-pub record LooksNow {C : Type 0} (time : Readings C) (clock : C) (boundary : Option ℤ) : Type 0 where
+-- The clock was read, and at the moment that it told no file was to begin: no boundary had come and, with a limit of bytes, the open
+-- file was found to have room.
+pub record LooksNow {S F C : Type 0} (kind : Ghosts S F) (time : Readings C) (clock : C) (s : Holding) : Type 0 where
   pub moment : ℤ
   pub told : time.now_gives clock moment
-  pub in_its_period : is_due boundary moment ≡ false
+  pub in_its_period : is_due s.boundary moment ≡ false
+  pub has_room : is_limited s.config ≡ true → (found : Held S F) × (is_full (rolling_of s found) 0 ≡ false)
 
--- the bytes were written to the open file of a roller
-pub record WritesSome {S F : Type 0} (kind : Ghosts S F) (bytes : List ℕ) (answer : Result ℕ Error) : Type 0 where
-  pub found : Rolling S F
-  pub left : Rolling S F
-  pub writes : Writes kind bytes answer found left
+-- the bytes were written to the open file of a roller with this schedule
+pub record WritesSome {S F : Type 0} (kind : Ghosts S F) (s : Scheduled) (bytes : List ℕ) (answer : Result ℕ Error) : Type 0 where
+  pub found : Held S F
+  pub left : Held S F
+  pub writes : Writes kind bytes answer (rolling_of s found) (rolling_of s left)
 
--- they were written to it in pieces, all of them where that is told
-pub record WritesAllSome {S F : Type 0} (kind : Ghosts S F) (bytes : List ℕ) (answer : Result (Unit {0}) Error) : Type 0 where
-  pub found : Rolling S F
-  pub left : Rolling S F
-  pub writes : WritesAll kind bytes answer found left
+-- they were written to it in pieces, all of them if the answer is `Ok`
+pub record WritesAllSome {S F : Type 0} (kind : Ghosts S F) (s : Scheduled) (bytes : List ℕ) (answer : Result (Unit {0}) Error) : Type 0 where
+  pub found : Held S F
+  pub left : Held S F
+  pub writes : WritesAll kind bytes answer (rolling_of s found) (rolling_of s left)
 
 -- the clock was read, and the bytes were put into a roller at the moment that it told
 pub record PutsAtClock {S F C : Type 0} (kind : Ghosts S F) (time : Readings C) (clock : C) (bytes : List ℕ) (answer : Result ℕ Error) : Type 0 where
   pub moment : ℤ
   pub told : time.now_gives clock moment
-  pub boundary : Option ℤ
-  pub puts : PutsSome kind moment bytes answer boundary
+  pub old : Scheduled
+  pub new : Scheduled
+  pub puts : PutsSome kind moment bytes answer old new
 
--- the open file of a roller was flushed
-pub record FlushesSome {S F : Type 0} (kind : Ghosts S F) (answer : Result (Unit {0}) Error) : Type 0 where
-  pub found : Rolling S F
-  pub left : Rolling S F
-  pub flushes : Flushes kind answer found left
+-- the open file of a roller with this schedule was flushed
+pub record FlushesSome {S F : Type 0} (kind : Ghosts S F) (s : Scheduled) (answer : Result (Unit {0}) Error) : Type 0 where
+  pub found : Held S F
+  pub left : Held S F
+  pub flushes : Flushes kind answer (rolling_of s found) (rolling_of s left)

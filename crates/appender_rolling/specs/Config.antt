@@ -1,25 +1,51 @@
 -- What an appender is set up with.
-use Rattle.std.specs.Prelude.{ℕ, List, [], Option, None, Some, String, string_bytes}
+use Rattle.std.specs.Prelude.{◌≡◌, ℕ, ◌≤◌, ℤ, ◌==◌, Bool, true, not, List, [], Option, None, Some, String, string_bytes}
 use Rattle.std.specs.declared.alloc.Global.{Global}
 use Rattle.appender_names.specs.declared.rotation.Rotation.{Rotation}
 use Rattle.appender_names.specs.declared.rotation.RotationKind.TheVariants.{Never}
-use Rattle.appender_names.specs.Rotation.{rotation_of}
-use Rattle.appender_names.specs.Name.{Naming, naming}
+use Rattle.appender_names.specs.Rotation.{IsMoment, IsNever, rotation_of}
+use Rattle.appender_names.specs.Name.{Naming, last_number, IsLaterName}
+use Rattle.appender_rolling.specs.declared.rolling.setup.Stamp.{Stamp}
 
--- what a builder has set; an empty text is none, and so is a maximum of 0
+-- what a builder has set; an empty text is none, and so is a maximum of 0 files or 0 bytes
 pub record Config : Type 0 where
   pub rotation : Rotation
   pub prefix : List ℕ
   pub suffix : List ℕ
   pub link : List ℕ
   pub max_files : ℕ
+  pub max_bytes : ℕ
 
--- what is set before anything is: one file for all time, with neither prefix nor suffix, no link and no maximum of files
+-- what is set before anything is: one file for all time, with neither prefix nor suffix, no link and no maximum of files or bytes
 abbrev pub defaults : Config
-defaults = record { rotation = rotation_of Never; prefix = []; suffix = []; link = []; max_files = 0 }
+defaults = record { rotation = rotation_of Never; prefix = []; suffix = []; link = []; max_files = 0; max_bytes = 0 }
+
+-- a file may have so many bytes at most; its name then has a number
+abbrev pub is_limited : Config → Bool
+is_limited c = not (c.max_bytes == 0)
 
 abbrev pub naming_of : Config → Naming
-naming_of c = naming c.rotation c.prefix c.suffix
+naming_of c = record { rotation = c.rotation; prefix = c.prefix; suffix = c.suffix; numbered = is_limited c }
+
+-- with a limit there have to be periods
+abbrev pub MayLimit : Config → Type 0
+MayLimit c = is_limited c ≡ true → ¬ (IsNever c.rotation)
+
+abbrev pub stamp : ℤ → ℕ → Stamp
+stamp m k = record { moment = m; number = k }
+
+-- the greatest number that a file can have
+abbrev pub last_of : Config → ℕ
+last_of c = last_number (naming_of c)
+
+-- a stamp that names can have
+pub record IsStamp (c : Config) (s : Stamp) : Type 0 where
+  pub in_range : IsMoment s.moment
+  pub number_is : s.number ≤ last_of c
+
+-- a later moment, or in one moment a greater number
+abbrev pub IsLaterStamp : Stamp → Stamp → Type 0
+IsLaterStamp a b = IsLaterName a.moment a.number b.moment b.number
 
 -- the bytes of a text, if one is set
 abbrev pub text_of : Option (String Global) → List ℕ

@@ -4,3 +4,4 @@ pub mod Roller
 pub mod Kept
 pub mod Appender
 pub mod Limits
+pub mod Inside

@@ -1,22 +1,27 @@
 -- The opening of a log file: old ones go, the file is opened in a folder that is made where it isn't there, and the link
 -- follows it. `kind` has what folders of one kind tell.
-use Rattle.std.specs.Prelude.{◌≡◌, ◌≢◌, ◌⊎◌, ℕ, ◌<◌, ◌≤◌, ℤ, List, [], ◌∷◌, length, Option, None, Some, Result, Ok, Err, OnOk, OnErr, IsTrue}
+use Rattle.std.specs.Prelude.{◌≡◌, ◌≢◌, ◌⊎◌, ℕ, ◌+◌, ◌<◌, ◌≤◌, ℤ, true, false, map, Vec, MatchResult, IsOk, List, [], ◌∷◌, length, Option, None, Some, Result, Ok, Err, OnOk, OnErr, IsTrue}
 use Rattle.std.specs.declared.io.Error.{Error}
 use Rattle.std.specs.FinMap as fin
 use Rattle.appender_names.specs.declared.error.InitError.{InitError}
-use Rattle.appender_names.specs.declared.error.InitError.TheVariants.{Directory, File, Symlink, Moment, Name, Memory}
+use Rattle.appender_names.specs.declared.error.InitError.TheVariants.{Directory, File, Symlink, Moment, Name, Memory, Limit}
 use Rattle.appender_names.specs.Rotation.{IsMoment, IsNever}
-use Rattle.appender_names.specs.Name.{IsAllowed, IsEntry, Reads, name_of}
+use Rattle.appender_names.specs.Name.{Naming, IsAllowed, IsEntry, IsNumberIn, Reads, name_at}
 use Rattle.appender_store.specs.declared.store.Folder.{Ghosts}
-use Rattle.appender_store.specs.Content.{Content, Entry, File as PlainFile, Link, Folder, Opens, RemovesLink, MakesLink, after_make_folder, IsLinkOrFolder, ForbidsOpen, ForbidsRemoveLink}
-use Rattle.appender_store.specs.Folder.{HasCause, HasRisen}
+use Rattle.appender_store.specs.Content.{Content, Entry, File as PlainFile, Link, Folder, Opens, RemovesLink, MakesLink, after_make_folder, IsLinkOrFolder, ForbidsOpen, ForbidsRemoveLink, ForbidsList}
+use Rattle.appender_store.specs.Folder.{HasCause, HasRisen, Row, NotedList, listed_row}
+use Rattle.appender_store.specs.Notes.{Notes}
+use Rattle.appender_store.specs.declared.store.Listed.{Listed}
+use Rattle.std.specs.declared.alloc.Global.{Global}
+use Rattle.std.specs.List.{Contains}
+use Rattle.appender_rolling.specs.declared.rolling.setup.Stamp.{Stamp}
 use Rattle.appender_retain.specs.Survival.{TakesOnlyOld, candidates_in}
 use Rattle.appender_retain.specs.Pruning.{Prunes, IsQuiet}
-use Rattle.appender_rolling.specs.Config.{Config, naming_of}
+use Rattle.appender_rolling.specs.Config.{Config, naming_of, is_limited, MayLimit, stamp, last_of}
 
--- the name of the file of a moment
-abbrev pub file_name_of : Config → ℤ → List ℕ
-file_name_of c m = name_of (naming_of c) m
+-- the name of the file with this stamp; without a limit of bytes the number of a stamp is 0
+abbrev pub file_name_of : Config → Stamp → List ℕ
+file_name_of c s = name_at (naming_of c) s.moment s.number
 
 -- a link that is set has the name of an entry of a folder
 abbrev pub LinksEntry : Config → Type 0
@@ -33,22 +38,60 @@ ReadsAsDate c name = (s : ℤ) × Reads (naming_of c) name s
 -- a link is set whose name is that of the first file, or, unless the rotation is NEVER, one that reads as a date
 pub record LinkClashes (c : Config) (m : ℤ) : Type 0 where
   pub is_set : c.link ≢ []
-  pub clashes : (c.link ≡ file_name_of c m) ⊎ ((¬ IsNever c.rotation) × ReadsAsDate c c.link)
+  pub clashes : (c.link ≡ file_name_of c (stamp m 0)) ⊎ ((¬ IsNever c.rotation) × ReadsAsDate c c.link)
 
 -- Before any call: what every opening needs was made of the configuration, and the first file's name.
 pub record IsReady (config : Config) (m : ℤ) (setup : Config) (name : List ℕ) : Type 0 where
   pub allowed : NamesEntries config
+  pub may_limit : MayLimit config
   pub in_range : IsMoment m
   pub apart : ¬ LinkClashes config m
   pub setup_is : setup ≡ config
-  pub name_is : name ≡ file_name_of config m
+  pub name_is : name ≡ file_name_of config (stamp m 0)
 
--- It was not, for this reason. The checks come in this order: names, moment, memory, the name of the link.
+-- It was not, for this reason. The checks come in this order: names, limit, moment, memory, the name of the link.
 abbrev pub IsNotReady : Config → ℤ → InitError → Type 0
-IsNotReady config m Name = (¬ NamesEntries config) ⊎ (NamesEntries config × IsMoment m × LinkClashes config m)
-IsNotReady config m Moment = NamesEntries config × (¬ IsMoment m)
-IsNotReady config m Memory = NamesEntries config × IsMoment m
+IsNotReady config m Name = (¬ NamesEntries config) ⊎ (NamesEntries config × MayLimit config × IsMoment m × LinkClashes config m)
+IsNotReady config m Limit = NamesEntries config × (is_limited config ≡ true) × IsNever config.rotation
+IsNotReady config m Moment = NamesEntries config × MayLimit config × (¬ IsMoment m)
+IsNotReady config m Memory = NamesEntries config × MayLimit config × IsMoment m
 IsNotReady config m error = ⊥
+
+-- ---- the number of the first file
+
+-- one above the greatest number that the names have in the period of m, 0 if none has one there, and at most 999999
+pub record IsFirstNumber (n : Naming) (m : ℤ) (IsThere : List ℕ → Type 0) (number : ℕ) : Type 0 where
+  pub at_most : number ≤ 999999
+  pub above : (name : List ℕ) (k : ℕ) → IsThere name → IsNumberIn n m name k → (k < number) ⊎ (number ≡ 999999)
+  pub least : (number ≡ 0) ⊎ ((name : List ℕ) × (k : ℕ) × IsThere name × IsNumberIn n m name k × ((number ≡ k + 1) ⊎ ((k ≡ 999999) × (number ≡ 999999))))
+
+-- a listed entry has this name
+abbrev pub IsListed : List Row → List ℕ → Type 0
+IsListed rows name = (row : Row) × Contains rows row × (row.0 ≡ Some name)
+
+-- an entry of the folder has it
+abbrev pub HasEntry : Content → List ℕ → Type 0
+HasEntry c name = (e : Entry) × (fin.get c.names name ≡ Some e)
+
+-- The folder was listed, and this is the first number by what was listed, and so by what the folder holds. If the listing was
+-- refused, the folder took a note, and the number is 0.
+pub record ListsNumbers {S F : Type 0} (kind : Ghosts S F) (n : Naming) (m : ℤ) (old : S) (number : ℕ) (new : S) : Type 0 where
+  pub answer : Result (Vec Listed Global) Error
+  pub listed : S
+  pub call : kind.list_gives old answer listed
+  pub cause : HasCause kind.tells (ForbidsList (kind.content old)) (kind.failures old) (kind.failures listed) answer
+  pub content : kind.content listed ≡ kind.content old
+  pub noted : kind.noted listed ≡ kind.noted old
+  pub number_is : MatchResult answer (λ all. IsFirstNumber n m (IsListed (map listed_row all.items)) number × (new ≡ listed))
+      (λ fault. (number ≡ 0) × Notes kind listed (NotedList fault) new)
+  pub number_in : IsOk answer → IsTrue kind.tells → IsFirstNumber n m (HasEntry (kind.content old)) number
+
+-- The number of the first file that is opened. Without a limit of bytes it is 0, and no call is made.
+pub record FindsNumber {S F : Type 0} (kind : Ghosts S F) (config : Config) (m : ℤ) (old : S) (number : ℕ) (new : S) : Type 0 where
+  pub none : is_limited config ≡ false → (number ≡ 0) × (new ≡ old)
+  pub calls : is_limited config ≡ true → ListsNumbers kind (naming_of config) m old number new
+  pub number_is : number ≤ last_of config
+  pub content : kind.content new ≡ kind.content old
 
 -- ---- the file
 

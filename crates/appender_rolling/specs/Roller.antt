@@ -1,10 +1,10 @@
 -- An open log file, and what each call of a roller does to it and to the folder. `kind` has what folders of one kind tell.
-use Rattle.std.specs.Prelude.{◌≡◌, ◌⊎◌, ℕ, ◌<◌, ◌≤◌, ℤ, ◌<ℤ◌, int_lt, Bool, true, false, not, ◌&&◌, List, [], length, take, drop, Option, None, Some, Result, Ok, Err, MatchResult, OnOk, IfErr, IsTrue, ◌++◌, ◌∷◌, ◌≢◌}
+use Rattle.std.specs.Prelude.{◌≡◌, ◌⊎◌, ℕ, ◌+◌, ◌-◌, ◌<◌, ◌≤◌, nat_lt, ◌==◌, if◌then◌else◌, ℤ, ◌<ℤ◌, int_lt, Bool, true, false, not, ◌&&◌, List, [], length, take, drop, Option, None, Some, Result, Ok, Err, MatchResult, OnOk, IfErr, IsTrue, ◌++◌, ◌∷◌, ◌≢◌}
 use Rattle.std.specs.IoError.{error_kind}
 use Rattle.std.specs.declared.io.Error.{Error}
 use Rattle.std.specs.declared.io.ErrorKind.TheVariants.{Interrupted, WriteZero}
 use Rattle.appender_names.specs.declared.error.InitError.{InitError}
-use Rattle.appender_names.specs.declared.error.InitError.TheVariants.{Moment, Name, Memory}
+use Rattle.appender_names.specs.declared.error.InitError.TheVariants.{Moment, Name, Memory, Limit}
 use Rattle.appender_store.specs.declared.store.Folder.{Ghosts}
 use Rattle.appender_names.specs.declared.rotation.Rotation.{Rotation}
 use Rattle.appender_names.specs.Rotation.{IsMoment, is_moment, IsNever, IsBoundary, next_of}
@@ -12,21 +12,43 @@ use Rattle.appender_store.specs.Content.{after_append}
 use Rattle.appender_store.specs.Folder.{HasCause, NotedFlush, NotedOpen}
 use Rattle.appender_store.specs.Notes.{Notes}
 use Rattle.appender_retain.specs.Pruning.{IsQuiet}
-use Rattle.appender_rolling.specs.Config.{Config}
-use Rattle.appender_rolling.specs.Opening.{file_name_of, NamesEntries, LinkClashes, AtMost, OpensFile, RefusesFile, LeavesLittle}
+use Rattle.appender_rolling.specs.Config.{Config, is_limited, MayLimit, IsStamp, IsLaterStamp, stamp}
+use Rattle.appender_rolling.specs.declared.rolling.setup.Stamp.{Stamp}
+use Rattle.appender_rolling.specs.Opening.{file_name_of, NamesEntries, LinkClashes, FindsNumber, AtMost, OpensFile, RefusesFile, LeavesLittle}
 use Rattle.appender_rolling.specs.declared.rolling.Switch.{Switch}
 use Rattle.appender_rolling.specs.declared.rolling.Switch.TheVariants.{None as Stayed, Opened as Switched, Failed as SwitchFailed}
 
--- What is seen of a roller over a folder: what it was opened with, the folder, the open file, the moment for which that
--- file was opened, and the second at which the next file begins.
+-- When the next file begins, which changes only when one does: what the roller was opened with, the stamp of the open file, that of
+-- the last attempt, which may have failed, and the second at which the next period begins.
+pub record Scheduled : Type 0 where
+  pub config : Config
+  pub opened : Stamp
+  pub last : Stamp
+  pub boundary : Option ℤ
+
+-- The open file in its folder, which every write changes, and how many bytes of the limit are left since the last attempt.
+pub record Held (S F : Type 0) : Type 0 where
+  pub folder : S
+  pub file : F
+  pub room : ℕ
+
+-- a roller over a folder: both of them
 pub record Rolling (S F : Type 0) : Type 0 where
   pub config : Config
   pub folder : S
   pub file : F
-  pub opened : ℤ
+  pub opened : Stamp
+  pub last : Stamp
   pub boundary : Option ℤ
+  pub room : ℕ
 
--- the next boundary is one of the rotation and lies behind the moment of the open file; there is none exactly under NEVER
+abbrev pub rolling_of : {S F : Type 0} → Scheduled → Held S F → Rolling S F
+rolling_of s h = record { config = s.config; folder = h.folder; file = h.file; opened = s.opened; last = s.last; boundary = s.boundary; room = h.room }
+
+abbrev pub schedule_of : {S F : Type 0} → Rolling S F → Scheduled
+schedule_of r = record { config = r.config; opened = r.opened; last = r.last; boundary = r.boundary }
+
+-- the next boundary is one of the rotation and is after the moment of the open file; there is none exactly under NEVER
 pub record LiesAhead (r : Rotation) (opened : ℤ) (boundary : Option ℤ) : Type 0 where
   pub none : boundary ≡ None → IsNever r
   pub never : IsNever r → boundary ≡ None
@@ -34,40 +56,55 @@ pub record LiesAhead (r : Rotation) (opened : ℤ) (boundary : Option ℤ) : Typ
   pub ahead : (b : ℤ) → boundary ≡ Some b → opened <ℤ b
 
 -- What is kept over all calls, of a roller under a lock too, whichever threads take it: the open file has the name of the
--- moment of the last opening that succeeded, and the next boundary lies ahead of that moment.
-pub record Stands (config : Config) (name : List ℕ) (opened : ℤ) (boundary : Option ℤ) : Type 0 where
-  pub in_range : IsMoment opened
+-- moment of the last opening that succeeded, and the next boundary is after that moment.
+pub record Stands (config : Config) (name : List ℕ) (opened : Stamp) (boundary : Option ℤ) : Type 0 where
+  pub is_stamp : IsStamp config opened
   pub name_is : name ≡ file_name_of config opened
-  pub lies_ahead : LiesAhead config.rotation opened boundary
+  pub lies_ahead : LiesAhead config.rotation opened.moment boundary
 
--- What holds of every roller: it stands so, and the open file's body is in the folder.
-pub record IsRolling {S F : Type 0} (kind : Ghosts S F) (config : Config) (folder : S) (file : F) (name : List ℕ) (opened : ℤ) (boundary : Option ℤ) : Type 0 where
-  pub body_is_there : IsTrue kind.tells → kind.body file < length (kind.content folder).bodies
+-- The last attempt was for a stamp not before that of the open file, and the next boundary is that of its period.
+pub record Tried (config : Config) (opened last : Stamp) (boundary : Option ℤ) : Type 0 where
+  pub is_stamp : IsStamp config last
+  pub not_before : (opened ≡ last) ⊎ IsLaterStamp opened last
+  pub boundary_is : boundary ≡ next_of config.rotation last.moment
+
+-- the invariant of every schedule
+pub record IsSchedule (config : Config) (name : List ℕ) (opened last : Stamp) (boundary : Option ℤ) : Type 0 where
   pub stands : Stands config name opened boundary
+  pub tried : Tried config opened last boundary
 
 -- ---- opening
 
 -- a roller was opened
 pub record OpensRoller {S F : Type 0} (kind : Ghosts S F) (config : Config) (m : ℤ) (old : S) (new : Rolling S F) : Type 0 where
   pub allowed : NamesEntries config
+  pub may_limit : MayLimit config
   pub in_range : IsMoment m
   pub apart : ¬ LinkClashes config m
   pub config_is : new.config ≡ config
-  pub opened : new.opened ≡ m
+  pub number : ℕ
+  pub listed : S
+  pub finds : FindsNumber kind config m old number listed
+  pub opened : new.opened ≡ stamp m number
+  pub last : new.last ≡ stamp m number
   pub boundary : new.boundary ≡ next_of config.rotation m
-  pub opens : OpensFile kind config (file_name_of config m) old new.file new.folder
+  pub room : new.room ≡ config.max_bytes
+  pub opens : OpensFile kind config (file_name_of config (stamp m number)) listed new.file new.folder
 
--- None was, for this reason, and the folder is handed back. The checks come in this order: names, moment, memory, the name of
--- the link, the file.
+-- None was, for this reason, and the folder is handed back. The checks come in this order: names, limit, moment, memory, the name
+-- of the link, the file.
 abbrev pub OpensNoRoller : {S F : Type 0} → Ghosts S F → Config → ℤ → S → InitError → S → Type 0
 OpensNoRoller kind config m old Name new =
-    ((¬ NamesEntries config) ⊎ (NamesEntries config × IsMoment m × LinkClashes config m)) × (new ≡ old)
+    ((¬ NamesEntries config) ⊎ (NamesEntries config × MayLimit config × IsMoment m × LinkClashes config m)) × (new ≡ old)
+OpensNoRoller kind config m old Limit new =
+    NamesEntries config × (is_limited config ≡ true) × IsNever config.rotation × (new ≡ old)
 OpensNoRoller kind config m old Moment new =
-    NamesEntries config × (¬ IsMoment m) × (new ≡ old)
+    NamesEntries config × MayLimit config × (¬ IsMoment m) × (new ≡ old)
 OpensNoRoller kind config m old Memory new =
-    NamesEntries config × IsMoment m × (new ≡ old)
+    NamesEntries config × MayLimit config × IsMoment m × (new ≡ old)
 OpensNoRoller kind config m old error new =
-    NamesEntries config × IsMoment m × (¬ LinkClashes config m) × RefusesFile kind config (file_name_of config m) old error new
+    NamesEntries config × MayLimit config × IsMoment m × (¬ LinkClashes config m)
+    × ((number : ℕ) × (listed : _) × FindsNumber kind config m old number listed × RefusesFile kind config (file_name_of config (stamp m number)) listed error new)
 
 -- ---- a look at the clock
 
@@ -75,6 +112,30 @@ OpensNoRoller kind config m old error new =
 abbrev pub is_due : Option ℤ → ℤ → Bool
 is_due None m = false
 is_due (Some b) m = is_moment m && not (int_lt m b)
+
+-- a write asks for one byte at least
+abbrev pub wanted : ℕ → ℕ
+wanted len = if len == 0 then 1 else len
+
+-- Something was written since the last attempt, so many bytes more, or one, are too many, and there is a number more. Without a
+-- limit no room is ever missing.
+abbrev pub is_full_with : Scheduled → ℕ → ℕ → Bool
+is_full_with s room len = nat_lt s.last.number 999999 && nat_lt room s.config.max_bytes && nat_lt room (wanted len)
+
+-- The stamp for which a look with so many bytes to write makes an attempt, if it makes one: if a boundary has come, the moment
+-- and the number 0; else, if the file is full, the last attempt's moment and the number after its own.
+abbrev pub next_with : Scheduled → ℕ → ℤ → ℕ → Option Stamp
+next_with s room m len =
+    if is_due s.boundary m then Some (stamp m 0)
+    else if is_full_with s room len then Some (stamp s.last.moment (s.last.number + 1))
+    else None
+
+-- the same of a roller
+abbrev pub is_full : {S F : Type 0} → Rolling S F → ℕ → Bool
+is_full r len = is_full_with (schedule_of r) r.room len
+
+abbrev pub next_stamp : {S F : Type 0} → Rolling S F → ℤ → ℕ → Option Stamp
+next_stamp r m len = next_with (schedule_of r) r.room m len
 
 -- the folder flushed a file that gives way to the next, and took a note of a fault
 pub record ClosesLast {S F : Type 0} (kind : Ghosts S F) (old : S) (file : F) (new : S) : Type 0 where
@@ -87,15 +148,18 @@ pub record ClosesLast {S F : Type 0} (kind : Ghosts S F) (old : S) (file : F) (n
   pub noted : kind.noted flushed ≡ kind.noted old
   pub notes : MatchResult answer (λ _. new ≡ flushed) (λ fault. Notes kind flushed (NotedFlush fault) new)
 
--- A new file was opened at m, which is later than the last opening, and stands in place of the last one.
-pub record SwitchesFile {S F : Type 0} (kind : Ghosts S F) (m : ℤ) (old new : Rolling S F) : Type 0 where
-  pub due : is_due old.boundary m ≡ true
-  pub later : old.opened <ℤ m
+-- A new file was opened for a stamp that is later than that of the last opening, and stands in place of the last one.
+pub record SwitchesFile {S F : Type 0} (kind : Ghosts S F) (m : ℤ) (len : ℕ) (old new : Rolling S F) : Type 0 where
+  pub at_stamp : Stamp
+  pub cause : next_stamp old m len ≡ Some at_stamp
+  pub later : IsLaterStamp old.opened at_stamp
   pub config_is : new.config ≡ old.config
-  pub opened : new.opened ≡ m
-  pub boundary : new.boundary ≡ next_of old.config.rotation m
+  pub opened : new.opened ≡ at_stamp
+  pub last : new.last ≡ at_stamp
+  pub boundary : new.boundary ≡ next_of old.config.rotation at_stamp.moment
+  pub room : new.room ≡ old.config.max_bytes
   pub ready : S
-  pub opens : OpensFile kind old.config (file_name_of old.config m) old.folder new.file ready
+  pub opens : OpensFile kind old.config (file_name_of old.config at_stamp) old.folder new.file ready
   pub closes : ClosesLast kind ready old.file new.folder
   pub content : kind.content new.folder ≡ kind.content ready
   -- where the switch noted neither List nor Remove, its opening noted neither
@@ -104,25 +168,32 @@ pub record SwitchesFile {S F : Type 0} (kind : Ghosts S F) (m : ℤ) (old new : 
 
 -- None was, for a reason of which the folder took a note: the last file stays open, the next boundary is set, and the folder
 -- is left as little changed as the refused opening left it.
-pub record KeepsFile {S F : Type 0} (kind : Ghosts S F) (m : ℤ) (old new : Rolling S F) : Type 0 where
-  pub due : is_due old.boundary m ≡ true
-  pub later : old.opened <ℤ m
+pub record KeepsFile {S F : Type 0} (kind : Ghosts S F) (m : ℤ) (len : ℕ) (old new : Rolling S F) : Type 0 where
+  pub at_stamp : Stamp
+  pub cause : next_stamp old m len ≡ Some at_stamp
+  pub later : IsLaterStamp old.opened at_stamp
   pub config_is : new.config ≡ old.config
   pub opened : new.opened ≡ old.opened
-  pub boundary : new.boundary ≡ next_of old.config.rotation m
+  pub last : new.last ≡ at_stamp
+  pub boundary : new.boundary ≡ next_of old.config.rotation at_stamp.moment
+  pub room : new.room ≡ old.config.max_bytes
   pub file : new.file ≡ old.file
   pub reason : InitError
   pub refused : S
-  pub refuses : RefusesFile kind old.config (file_name_of old.config m) old.folder reason refused
+  pub refuses : RefusesFile kind old.config (file_name_of old.config at_stamp) old.folder reason refused
   pub notes : Notes kind refused (NotedOpen reason) new.folder
-  pub content : IsTrue kind.tells → LeavesLittle old.config (file_name_of old.config m) (kind.content old.folder) (kind.content new.folder)
+  pub content : IsTrue kind.tells → LeavesLittle old.config (file_name_of old.config at_stamp) (kind.content old.folder) (kind.content new.folder)
 
--- What a look at the clock at m does: nothing at all unless a boundary has come. So a moment that isn't later than the last
--- opening switches nothing.
+-- What a look at the clock at m does, with so many bytes to write: nothing at all unless a boundary has come or the file is full. So
+-- without a limit of bytes a moment that isn't later than the last opening switches nothing.
+abbrev pub Looks : {S F : Type 0} → Ghosts S F → ℤ → ℕ → Switch → Rolling S F → Rolling S F → Type 0
+Looks kind m len Stayed old new = (next_stamp old m len ≡ None) × (new ≡ old)
+Looks kind m len Switched old new = SwitchesFile kind m len old new
+Looks kind m len SwitchFailed old new = KeepsFile kind m len old new
+
+-- with none to write
 abbrev pub Sees : {S F : Type 0} → Ghosts S F → ℤ → Switch → Rolling S F → Rolling S F → Type 0
-Sees kind m Stayed old new = (is_due old.boundary m ≡ false) × (new ≡ old)
-Sees kind m Switched old new = SwitchesFile kind m old new
-Sees kind m SwitchFailed old new = KeepsFile kind m old new
+Sees kind m switch old new = Looks kind m 0 switch old new
 
 -- ---- writing
 
@@ -135,6 +206,7 @@ count_of (Err e) = 0
 pub record StaysOpen {S F : Type 0} (kind : Ghosts S F) (old new : Rolling S F) : Type 0 where
   pub config_is : new.config ≡ old.config
   pub opened : new.opened ≡ old.opened
+  pub last : new.last ≡ old.last
   pub boundary : new.boundary ≡ old.boundary
   pub file : kind.body new.file ≡ kind.body old.file
   pub noted : kind.noted new.folder ≡ kind.noted old.folder
@@ -146,6 +218,7 @@ pub record Writes {S F : Type 0} (kind : Ghosts S F) (bytes : List ℕ) (answer 
   pub content : IsTrue kind.tells → kind.content new.folder ≡ after_append (kind.content old.folder) (kind.body old.file) (take (count_of answer) bytes)
   pub cause : HasCause kind.tells ⊥ (kind.failures old.folder) (kind.failures new.folder) answer
   pub stays : StaysOpen kind old new
+  pub room : new.room ≡ old.room - count_of answer
 
 -- more is written behind a write that took some of its bytes, and behind one that was interrupted
 abbrev pub GoesOn : Result ℕ Error → Type 0
@@ -179,6 +252,7 @@ pub record WritesSoFar {S F : Type 0} (kind : Ghosts S F) (answers : List (Resul
   pub split : bytes ≡ taken ++ rest
   pub content : IsTrue kind.tells → kind.content new.folder ≡ after_append (kind.content old.folder) (kind.body old.file) taken
   pub stays : StaysOpen kind old new
+  pub room : new.room ≡ old.room - length taken
 
 -- Bytes were written so. Where that is told nothing of them is left, and a fault has its reason.
 pub record WritesAll {S F : Type 0} (kind : Ghosts S F) (bytes : List ℕ) (answer : Result (Unit {0}) Error) (old new : Rolling S F) : Type 0 where
@@ -188,10 +262,10 @@ pub record WritesAll {S F : Type 0} (kind : Ghosts S F) (bytes : List ℕ) (answ
   pub whole : OnOk answer (rest ≡ [])
   pub stops : IfErr answer (λ fault. Stops answers fault)
 
--- A look at the clock, and then a write.
+-- A look at the clock with these bytes to write, and then the write.
 pub record Puts {S F : Type 0} (kind : Ghosts S F) (m : ℤ) (bytes : List ℕ) (switch : Switch) (answer : Result ℕ Error) (old new : Rolling S F) : Type 0 where
   pub between : Rolling S F
-  pub sees : Sees kind m switch old between
+  pub looks : Looks kind m (length bytes) switch old between
   pub writes : Writes kind bytes answer between new
 
 -- A flush of the open file changes no content.
@@ -200,3 +274,16 @@ pub record Flushes {S F : Type 0} (kind : Ghosts S F) (answer : Result (Unit {0}
   pub content : kind.content new.folder ≡ kind.content old.folder
   pub cause : HasCause kind.tells ⊥ (kind.failures old.folder) (kind.failures new.folder) answer
   pub stays : StaysOpen kind old new
+  pub room : new.room ≡ old.room
+
+-- ---- the open file alone
+
+-- whenever the next file begins, the open file was written to, or flushed, so
+abbrev pub FileWrites : {S F : Type 0} → Ghosts S F → List ℕ → Result ℕ Error → Held S F → Held S F → Type 0
+FileWrites kind bytes answer old new = (s : Scheduled) → Writes kind bytes answer (rolling_of s old) (rolling_of s new)
+
+abbrev pub FileWritesAll : {S F : Type 0} → Ghosts S F → List ℕ → Result (Unit {0}) Error → Held S F → Held S F → Type 0
+FileWritesAll kind bytes answer old new = (s : Scheduled) → WritesAll kind bytes answer (rolling_of s old) (rolling_of s new)
+
+abbrev pub FileFlushes : {S F : Type 0} → Ghosts S F → Result (Unit {0}) Error → Held S F → Held S F → Type 0
+FileFlushes kind answer old new = (s : Scheduled) → Flushes kind answer (rolling_of s old) (rolling_of s new)

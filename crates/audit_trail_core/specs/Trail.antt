@@ -25,7 +25,7 @@ PutsLines {S} {F} {C} kind time (suc count) text start rest now =
 
 -- the trail's log: a file a day, `audit.yyyy-MM-dd.log`, of which 366 are kept, and a link to the newest
 abbrev pub trail_config : Config
-trail_config = record { rotation = rotation_of Daily; prefix = codes "audit"; suffix = codes "log"; link = codes "latest.log"; max_files = 366 }
+trail_config = record { rotation = rotation_of Daily; prefix = codes "audit"; suffix = codes "log"; link = codes "latest.log"; max_files = 366; max_bytes = 0 }
 
 -- the log was opened, and then all lines of the text were put into it
 pub record KeepsLines {S F C : Type 0} (kind : Ghosts S F) (time : Readings C) (text : List ℕ) : Type 0 where

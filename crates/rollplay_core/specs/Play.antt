@@ -7,6 +7,7 @@ use Rattle.appender_store.specs.declared.store.Folder.{Ghosts}
 use Rattle.appender_store.specs.declared.store.memory.MemoryFolder.{MemoryFolder}
 use Rattle.appender_store.specs.MemoryView.{state_of}
 use Rattle.appender_rolling.specs.Config.{Config}
+use Rattle.appender_rolling.specs.Config.{stamp}
 use Rattle.appender_rolling.specs.Opening.{file_name_of}
 use Rattle.appender_rolling.specs.Roller.{Rolling, OpensNoRoller}
 use Rattle.appender_queue.specs.Queue.{Queue}
@@ -35,8 +36,9 @@ pub record TellsRun {F : Type 0} (kind : Ghosts MemoryFolder F) (config : Config
   pub replies : List RollReply
   pub one_each : length replies ≡ length steps
   pub last : Rolling MemoryFolder F
-  pub runs : RunsFrom kind (RollDoes kind) config start folder (told_of steps replies) last
-  pub page_is : page ≡ run_page (file_name_of config start) replies (state_of last.folder).content
+  pub number : ℕ
+  pub runs : RunsFrom kind (RollDoes kind) config start number folder (told_of steps replies) last
+  pub page_is : page ≡ run_page (file_name_of config (stamp start number)) replies (state_of last.folder).content
 
 -- The log was opened behind a queue of so many lines, and all steps were run: each answered as those before it demand, which
 -- lead to this queue, and the worker did what it wanted. Its lines were handed over in order, those of each sender too, and
@@ -51,8 +53,9 @@ pub record TellsQueuedRun {F : Type 0} (kind : Ghosts MemoryFolder F) (config : 
   pub labels : (label : ℕ) → HandsLabelInOrder (told_of steps replies) label
   pub text : TextLaw (told_of steps replies)
   pub last : Rolling MemoryFolder F
-  pub runs : RunsFrom kind (WorkerDoes kind) config start folder (told_of steps replies) last
-  pub page_is : page ≡ queued_page (file_name_of config start) replies (state_of last.folder).content (counts_of queue)
+  pub number : ℕ
+  pub runs : RunsFrom kind (WorkerDoes kind) config start number folder (told_of steps replies) last
+  pub page_is : page ≡ queued_page (file_name_of config (stamp start number)) replies (state_of last.folder).content (counts_of queue)
 
 -- the log was not opened, and the page tells why
 pub record TellsRefusal {F : Type 0} (kind : Ghosts MemoryFolder F) (config : Config) (folder : MemoryFolder) (start : ℤ) (page : List ℕ) : Type 0 where

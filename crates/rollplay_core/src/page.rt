@@ -1,7 +1,8 @@
 //! What is printed of a run. Each line ends with a newline, and the only fault is that memory was refused.
-ghost use Rattle.std.specs.Prelude.{◌≡◌, ◌++◌, OnOk, None, Some};
+ghost use Rattle.std.specs.Prelude.{◌≡◌, ◌≤◌, ◌++◌, OnOk, None, Some};
 ghost use Rattle.appender_names.specs.Rotation.{IsMoment};
 ghost use Rattle.appender_store.specs.MemoryView.{state_of};
+ghost use Rattle.appender_rolling.specs.Config.{stamp, last_of};
 ghost use Rattle.appender_rolling.specs.Opening.{file_name_of};
 ghost use Rattle.rollplay_core.specs.Page.{reply_words, line_of, entry_words, entry_line, folder_lines, run_page};
 ghost use Rattle.rollplay_core.specs.Page.{refusal_page, open_line, reply_lines, queue_reply_words, queue_reply_lines};
@@ -57,12 +58,13 @@ impl fmt::Display for Taken<'_> {
 /// Prints a run that was opened at `start`, in seconds of UTC since the epoch: the name of the first file, what each
 /// step answered, and the folder at the end.
 pub fn print_run(page: &mut Vec<u8>, start: i64, run: &RollRun<MemoryFolder>) -> io::Result<()>
-    requires { IsMoment start }
+    requires start { IsMoment start }
+    requires number { run.now.number ≤ last_of run.now.roller.config }
     ensures { OnOk result (page.new.items ≡ page.old.items ++ run_page
-        (file_name_of run.now.roller.config start) run.now.replies.items
+        (file_name_of run.now.roller.config (stamp start run.now.number)) run.now.replies.items
         (state_of run.now.roller.folder).content) }
 {
-    print_opening(page, start, &run.roller)?;
+    print_opening(page, start, run.number, &run.roller)?;
     print_replies(page, &run.replies)?;
     print_folder(page, run.roller.folder())
 }
@@ -70,12 +72,13 @@ pub fn print_run(page: &mut Vec<u8>, start: i64, run: &RollRun<MemoryFolder>) ->
 /// Prints a run behind a queue that was opened at `start`, in seconds of UTC since the epoch: the name of the first
 /// file, what each step answered, the folder at the end, and the counts of the queue.
 pub fn print_queued_run(page: &mut Vec<u8>, start: i64, run: &Run<MemoryFolder>) -> io::Result<()>
-    requires { IsMoment start }
+    requires start { IsMoment start }
+    requires number { run.now.number ≤ last_of run.now.roller.config }
     ensures { OnOk result (page.new.items ≡ page.old.items ++ queued_page
-        (file_name_of run.now.roller.config start) run.now.replies.items
+        (file_name_of run.now.roller.config (stamp start run.now.number)) run.now.replies.items
         (state_of run.now.roller.folder).content (counts_of run.now.queue)) }
 {
-    print_opening(page, start, &run.roller)?;
+    print_opening(page, start, run.number, &run.roller)?;
     print_queue_replies(page, &run.replies)?;
     print_folder(page, run.roller.folder())?;
     print_counts(page, run.queue.counts())
@@ -92,12 +95,18 @@ pub fn print_refusal(page: &mut Vec<u8>, error: &InitError, folder: &MemoryFolde
 }
 
 // Prints the name of the first file.
-fn print_opening(page: &mut Vec<u8>, start: i64, roller: &Roller<MemoryFolder>) -> io::Result<()>
-    requires { IsMoment start }
+fn print_opening(
+    page: &mut Vec<u8>,
+    start: i64,
+    number: u32,
+    roller: &Roller<MemoryFolder>,
+) -> io::Result<()>
+    requires start { IsMoment start }
+    requires number { number ≤ last_of roller.now.config }
     ensures { OnOk result (page.new.items ≡
-        page.old.items ++ open_line (file_name_of roller.now.config start)) }
+        page.old.items ++ open_line (file_name_of roller.now.config (stamp start number))) }
 {
-    let name = roller.names().file_name(start)?;
+    let name = roller.names().file_name_at(start, number)?;
     writeln!(page, "open {name}")
 }
 

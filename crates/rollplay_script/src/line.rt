@@ -34,6 +34,8 @@ pub enum Setting<'a> {
     Link(String),
     /// How many files are kept.
     Max(usize),
+    /// How many bytes a file takes before the next of its period begins.
+    Bytes(u64),
     /// The creation moment of files from here on, in nanoseconds since the epoch.
     Created(Option<i128>),
     /// A file that is there, with its contents.
@@ -103,6 +105,7 @@ impl<'a> ScriptLine<'a> {
             "suffix" => Setting::Suffix(words.text(alloc)?),
             "link" => Setting::Link(words.text(alloc)?),
             "max" => Setting::Max(words.count()?),
+            "bytes" => Setting::Bytes(words.label()?),
             _ => return ScriptLine::read_folder_words(alloc, word, words),
         }))
     }

@@ -1,10 +1,11 @@
 // Runs of a queue, a worker and a roller together, as senders and a worker drive them.
-ghost use Rattle.std.specs.Prelude.{◌≡◌, ℕ, [], length, IfOk, IfErr, IsOk, IsTrue};
+ghost use Rattle.std.specs.Prelude.{◌≡◌, ℕ, false, [], length, IfOk, IfErr, IsOk, IsTrue};
 ghost use Rattle.appender_names.specs.Rotation.{next_of};
-ghost use Rattle.appender_replay.specs.Run.{SwitchesAtArrivals, FileLaw, FilesHoldTheirPeriods, NotedAtAttempts, latest_moment, last_opened, times};
-ghost use Rattle.appender_replay.specs.Replay.{told_of, RunsFrom, IsNotRun};
+ghost use Rattle.appender_replay.specs.Run.{SwitchesAtAttempts, SwitchesAtArrivals, EachWriteReadsClock, latest_moment, last_opened, times};
+ghost use Rattle.appender_rolling.specs.Config.{stamp, is_limited};
+ghost use Rattle.appender_replay.specs.Replay.{told_of, FilesFollow, StandingFilesFollow, NoticesFollow, RunsFrom, IsNotRun};
 ghost use Rattle.appender_replay.specs.Record.{queue_after, worker_after};
-ghost use Rattle.appender_replay.specs.Answers.{Answers, WorkerDoes, events};
+ghost use Rattle.appender_replay.specs.Answers.{Answers, WorkerDoes, worker_event, events};
 ghost use Rattle.appender_replay.specs.Inside.Steps.{told_offer, told_take, OffersCopy, WorkDoes, StepDoes, parts};
 ghost use Rattle.appender_replay.specs.Whole.{HandsInOrder, HandsLabelInOrder, TextLaw};
 
@@ -66,13 +67,15 @@ pub enum Reply {
     Ended,
 }
 
-/// A run that was opened: one reply a step, and what the last step left.
+/// A run that was opened: one reply a step, what the last step left, and the number of the first file, which
+/// is 0 without a limit of bytes.
 #[derive(Drop)]
 pub struct Run<S: Folder> {
     pub replies: Vec<Reply>,
     pub queue: LineQueue,
     pub worker: WorkerCore,
     pub roller: Roller<S>,
+    pub number: u32,
 }
 
 // What an offer was answered, without the line.
@@ -192,23 +195,24 @@ pub fn replay<S: Folder>(
     ensures handed { IfOk result (λ run. HandsInOrder (told_of steps.now run.replies.items) run.queue) }
     ensures labels { IfOk result (λ run. (label : ℕ) → HandsLabelInOrder (told_of steps.now run.replies.items) label) }
     ensures text { IfOk result (λ run. TextLaw (told_of steps.now run.replies.items)) }
-    ensures runs { IfOk result (λ run. RunsFrom S.Folder (WorkerDoes S.Folder) builder.now start folder
+    ensures runs { IfOk result (λ run. RunsFrom S.Folder (WorkerDoes S.Folder) builder.now start run.number folder
         (told_of steps.now run.replies.items) run.roller) }
     ensures config { IfOk result (λ run. run.roller.config ≡ builder.now) }
-    ensures switches { IfOk result (λ run. SwitchesAtArrivals builder.now.rotation start
+    ensures switches { IfOk result (λ run. SwitchesAtAttempts builder.now (stamp start run.number)
         (events (told_of steps.now run.replies.items))) }
+    ensures arrivals { IfOk result (λ run. is_limited builder.now ≡ false →
+        SwitchesAtArrivals builder.now.rotation start (events (told_of steps.now run.replies.items))) }
+    ensures clock_read { IfOk result (λ run. EachWriteReadsClock (events (told_of steps.now run.replies.items))) }
     ensures boundary { IfOk result (λ run. run.roller.boundary ≡ next_of builder.now.rotation
         (latest_moment start (events (told_of steps.now run.replies.items)))) }
-    ensures opened { IfOk result (λ run. run.roller.opened ≡ last_opened start
-        (times builder.now.rotation start (events (told_of steps.now run.replies.items)))) }
-    ensures files { IfOk result (λ run. IsTrue S.tells → FileLaw builder.now
-        start (events (told_of steps.now run.replies.items)) (S.content folder) (S.content run.roller.folder)
-        (S.noted folder) (S.noted run.roller.folder) run.roller.opened (S.body run.roller.file)) }
-    ensures notices { IfOk result (λ run. NotedAtAttempts builder.now.rotation start
-        (events (told_of steps.now run.replies.items)) (S.noted folder) (S.noted run.roller.folder)) }
-    ensures standing_files { IfOk result (λ run. IsTrue S.tells → FilesHoldTheirPeriods builder.now
-        start (events (told_of steps.now run.replies.items))
-        (S.content folder) (S.content run.roller.folder)) }
+    ensures opened { IfOk result (λ run. run.roller.opened ≡ last_opened (stamp start run.number)
+        (times builder.now (stamp start run.number) (events (told_of steps.now run.replies.items)))) }
+    ensures files { IfOk result (λ run. IsTrue S.tells → FilesFollow S.Folder (WorkerDoes S.Folder) worker_event
+        builder.now start run.number folder (told_of steps.now run.replies.items) run.roller) }
+    ensures notices { IfOk result (λ run. NoticesFollow S.Folder (WorkerDoes S.Folder) worker_event
+        builder.now start run.number folder (told_of steps.now run.replies.items) run.roller) }
+    ensures standing_files { IfOk result (λ run. IsTrue S.tells → StandingFilesFollow S.Folder (WorkerDoes S.Folder)
+        worker_event builder.now start run.number folder (told_of steps.now run.replies.items) run.roller) }
     ensures err { IfErr result (λ error. IsNotRun S.Folder builder.now start folder error) }
 {
     names_change_one_at_a_time();
@@ -230,6 +234,7 @@ pub fn replay<S: Folder>(
         Ok(roller) => roller,
         Err((error, folder)) => return Err(ReplayError::Init(error, folder)),
     };
+    let number = roller.number();
     let mut worker = WorkerCore::new();
     for step in steps {
         let reply = run_step(alloc, &mut queue, &mut worker, &mut roller, step);
@@ -240,5 +245,6 @@ pub fn replay<S: Folder>(
         queue,
         worker,
         roller,
+        number,
     })
 }

@@ -58,19 +58,20 @@ impl<S: Folder, C: Clock> RollingFile<S, C> {
 }
 
 impl<S: Folder, C: Clock, R: Wait + Drop> RollingFileAppender<S, C, R> {
-    ghost use Rattle.std.specs.Prelude.{◌≡◌, ℤ, Option, false, MatchOption};
+    ghost use Rattle.std.specs.Prelude.{◌≡◌, false, MatchOption};
     ghost use Rattle.std.specs.Sync.RwLock.{read_guard_value};
-    ghost use Rattle.appender_rolling.specs.Roller.{is_due};
-    ghost use Rattle.appender_rolling.specs.Appender.{SeesSome};
+    ghost use Rattle.appender_rolling.specs.Roller.{Scheduled};
+    ghost use Rattle.appender_rolling.specs.Appender.{AsksSome, SeesSome};
 
-    // Goes through the gate, unless a boundary has come at this moment: then the roller looks at the
-    // clock while nobody else is inside, and the way is to be tried again.
+    // Goes through the gate, unless a file is to begin: then the roller looks at the clock while no other
+    // thread is inside, and the caller tries again.
     fn pass(&self, moment: i64) -> Option<RwLockReadGuard<'_, Gated<S>>>
-        ensures { MatchOption result ((boundary : Option ℤ) × SeesSome S.Folder moment boundary)
-            (λ gate. is_due (read_guard_value gate).boundary moment ≡ false) }
+        ensures { MatchOption result
+            ((old : Scheduled) × (new : Scheduled) × SeesSome S.Folder moment old new)
+            (λ gate. AsksSome S.Folder (read_guard_value gate).schedule moment false) }
     {
         let gate = self.gate.read(&self.rt);
-        if !gate.due(moment) {
+        if !gate.due(&self.rt, moment) {
             return Some(gate);
         }
         drop(gate);
@@ -87,7 +88,7 @@ impl<S: Folder, C: Clock, R: Drop> RollingFileAppender<S, C, R> {
         ensures clock { result.1 ≡ self.clock }
     {
         (
-            self.gate.into_inner().into_inner().into_folder(),
+            self.gate.into_inner().into_folder(),
             self.clock,
         )
     }
@@ -100,11 +101,13 @@ impl<'a, S: Folder + 'a, C: Clock, R: Wait + Drop + 'a> MakeWriter<'a>
 
     type Writer = RollingWriter<'a, S, R>;
 
-    /// Looks at the clock, and answers a writer to the file that is open then; no other file begins
-    /// until it is dropped. A thread that holds one must not make another: it may wait for itself.
+    /// Looks at the clock, and returns a writer to the file that is open then; no other file begins
+    /// until it is dropped. A thread that holds one must not make another: it may wait for itself. With a
+    /// limit of bytes the next file begins when the open one is full; a writer that was made before may
+    /// write past the limit.
     fn make_writer(&'a self) -> Result<RollingWriter<'a, S, R>, AllocError>
         ensures ok { IsOk result }
-        ensures looks { IfOk result (λ writer. LooksNow C.Clock self.now.clock writer.boundary) }
+        ensures looks { IfOk result (LooksNow S.Folder C.Clock self.now.clock) }
     {
         let moment = self.clock.now();
         for _ in self.rt.forever() {
@@ -120,6 +123,7 @@ impl<S: Folder, C: Clock, R: Drop> Write for RollingFileAppender<S, C, R> {
     ghost use Rattle.std.specs.Prelude.{None};
     ghost use Rattle.std.specs.Io.{WritesAtMost};
     ghost use Rattle.std.specs.Io.KnownBytes.{WriteAppends};
+    ghost use Rattle.appender_rolling.specs.Roller.{Scheduled};
     ghost use Rattle.appender_rolling.specs.Appender.{PutsAtClock, FlushesSome};
 
     /// Reads the clock once, and puts the bytes at that moment. `write_all` repeats it for what was
@@ -135,17 +139,17 @@ impl<S: Folder, C: Clock, R: Drop> Write for RollingFileAppender<S, C, R> {
 
     /// Flushes the open file, and reads no clock.
     fn flush(&mut self) -> io::Result<()>
-        ensures { FlushesSome S.Folder result }
+        ensures { (s : Scheduled) × FlushesSome S.Folder s result }
     {
-        self.gate.get_mut().get_mut().flush()
+        self.gate.get_mut().flush_alone()
     }
 }
 
-impl<S: Folder, C: Clock, R: Wait + Drop> Debug for RollingFileAppender<S, C, R> {
+impl<S: Folder, C: Clock, R: Drop> Debug for RollingFileAppender<S, C, R> {
     fn fmt<W: fmt::Write>(&self, f: &mut Formatter<W>) -> fmt::Result {
         // Waiting here could be for a writer of the same thread.
         match self.gate.try_read() {
-            Some(gate) => gate.fmt(&self.rt, f),
+            Some(gate) => gate.fmt(f),
             None => f.pad("RollingFileAppender { .. }"),
         }
     }

@@ -1,7 +1,8 @@
 //! What an appender is set up with.
-ghost use Rattle.std.specs.Prelude.{◌≡◌, ◌≢◌, ◌↔◌, ◌⊎◌, IfOk, IfErr, Err, IsTrue};
+ghost use Rattle.std.specs.Prelude.{◌≡◌, ◌≢◌, ◌↔◌, ◌⊎◌, true, IfOk, IfErr, Err, IsTrue};
+ghost use Rattle.appender_names.specs.Rotation.{IsNever};
 ghost use Rattle.appender_names.specs.Name.{IsAllowed};
-ghost use Rattle.appender_rolling.specs.Config.{defaults, text_of, naming_of};
+ghost use Rattle.appender_rolling.specs.Config.{defaults, text_of, naming_of, is_limited, MayLimit};
 ghost use Rattle.appender_rolling.specs.Opening.{LinksEntry};
 
 use appender_names::error::InitError;
@@ -11,7 +12,7 @@ use std::alloc::{AllocError, Global};
 use std::marker::Model;
 
 /// What an appender is set up with: how often a new file begins, what the files are called, how many
-/// are kept, and which link follows the newest.
+/// files are kept, how many bytes each takes, and which link follows the newest.
 #[derive(Debug, Drop)]
 pub struct Builder {
     rotation: Rotation,
@@ -19,6 +20,7 @@ pub struct Builder {
     suffix: Option<String>,
     link: Option<String>,
     max_files: usize,
+    max_bytes: u64,
 }
 
 impl Model for Builder {
@@ -32,11 +34,12 @@ impl Model for Builder {
       suffix = text_of b.suffix;
       link = text_of b.link;
       max_files = b.max_files;
+      max_bytes = b.max_bytes;
     } };
 }
 
 impl Builder {
-    /// One file for all time, with neither prefix nor suffix, no link and no maximum of files.
+    /// One file for all time, with neither prefix nor suffix, no link and no maximum of files or bytes.
     #[must_use]
     pub fn new() -> Builder
         ensures { result ≡ defaults }
@@ -47,6 +50,7 @@ impl Builder {
             suffix: None,
             link: None,
             max_files: 0,
+            max_bytes: 0,
         }
     }
 
@@ -98,17 +102,39 @@ impl Builder {
         self
     }
 
-    /// What the log files are called. `Name` says that prefix and suffix make no names of entries of a
-    /// folder, and `Memory` that there is no room for a copy of both.
+    /// The most bytes that are written to a log file before the next one of its period begins; 0 is no
+    /// limit. Bytes that the file held when it was opened don't count, and a longer piece has a file of
+    /// its own. With a limit a dot and a number of six digits follow the date in each name, and the
+    /// rotation must not be `NEVER`.
+    #[must_use]
+    pub fn max_file_bytes(mut self, max: u64) -> Builder
+        ensures { result ≡ record self { max_bytes = max } }
+    {
+        self.max_bytes = max;
+        self
+    }
+
+    /// Returns what the log files are called. `Name` if prefix and suffix make no names of entries of a
+    /// folder; else `Limit` if a limit of bytes is set under `NEVER`; else `Memory` if there is no room
+    /// for a copy of both.
     pub fn names(&self, alloc: Global) -> Result<Names, InitError>
         ensures ok { IfOk result (λ names. names ≡ naming_of self.now) }
         ensures allowed { result ≢ Err InitError.Name →
             IsAllowed self.now.rotation self.now.prefix self.now.suffix }
         ensures name { result ≡ Err InitError.Name →
             ¬ (IsAllowed self.now.rotation self.now.prefix self.now.suffix) }
-        ensures err { IfErr result (λ e. (e ≡ InitError.Name) ⊎ (e ≡ InitError.Memory)) }
+        ensures limit { result ≡ Err InitError.Limit →
+            (is_limited self.now ≡ true) × IsNever self.now.rotation }
+        ensures may_limit { result ≢ Err InitError.Name → result ≢ Err InitError.Limit →
+            MayLimit self.now }
+        ensures err { IfErr result (λ e.
+            (e ≡ InitError.Name) ⊎ (e ≡ InitError.Limit) ⊎ (e ≡ InitError.Memory)) }
     {
-        Names::new(alloc, self.rotation, text(&self.prefix), text(&self.suffix))
+        if self.max_bytes == 0 {
+            Names::new(alloc, self.rotation, text(&self.prefix), text(&self.suffix))
+        } else {
+            Names::numbered(alloc, self.rotation, text(&self.prefix), text(&self.suffix))
+        }
     }
 
     // Whether the link that is set, if one is, has the name of an entry of a folder.
@@ -128,6 +154,12 @@ impl Builder {
         ensures { result ≡ self.now.max_files }
     {
         self.max_files
+    }
+
+    pub(crate) fn max_bytes(&self) -> u64
+        ensures { result ≡ self.now.max_bytes }
+    {
+        self.max_bytes
     }
 }
 

@@ -21,7 +21,6 @@ pub struct RollingFile<S: Folder, C: Clock> {
 
 impl<S: Folder, C: Clock> Model for RollingFile<S, C> {
     ghost use Rattle.appender_rolling.specs.Appender.{Appending};
-    ghost use Rattle.appender_rolling.specs.Roller.{IsRolling};
 
     ghost Value = { Appending S S.File C };
 

@@ -1,100 +1,107 @@
 // A roller that threads share.
 ghost use Rattle.std.specs.Prelude.{◌≡◌};
 
-use super::{Roller, has_come};
+use super::Roller;
+use super::log_file::LogFile;
+use super::schedule::Schedule;
 use appender_store::store::Folder;
 use appender_sync::sync::{Patience, lock};
 use std::fmt::Formatter;
-use std::io::Write;
 use std::sync::{Mutex, Wait};
 use std::{fmt, io};
 
-/// A roller under a lock, and the second at which its next file begins, which is told without that
-/// lock. It stands behind a gate: many at once may write to the open file, and who begins the next one
-/// has it alone.
+/// A roller inside a gate. Many threads at once may hold the gate and write to the open file, which has a
+/// lock of its own; a thread that begins the next file holds the gate alone. So the schedule needs no
+/// lock but the gate.
 #[derive(Drop)]
 pub struct Gated<S: Folder> {
-    boundary: Option<i64>,
-    roller: Mutex<Roller<S>>,
+    pub(super) schedule: Schedule,
+    log: Mutex<LogFile<S>>,
 }
 
 impl<S: Folder> Gated<S> {
     ghost use Rattle.std.specs.Prelude.{◌≡◌, None, OnOk};
     ghost use Rattle.std.specs.Io.KnownBytes.{Appends};
-    ghost use Rattle.appender_rolling.specs.Roller.{is_due};
-    ghost use Rattle.appender_rolling.specs.Appender.{SeesSome, PutsSome, WritesSome, WritesAllSome, FlushesSome};
+    ghost use Rattle.appender_rolling.specs.Roller.{schedule_of};
+    ghost use Rattle.appender_rolling.specs.Appender.{AsksSome, SeesSome, PutsSome, WritesSome, WritesAllSome, FlushesSome};
 
     pub(super) fn new(roller: Roller<S>) -> Gated<S>
-        ensures { result.boundary ≡ roller.boundary }
+        ensures { result.schedule ≡ schedule_of roller }
     {
         Gated {
-            boundary: roller.boundary(),
-            roller: Mutex::new(roller),
+            schedule: roller.schedule,
+            log: Mutex::new(roller.log),
         }
     }
 
-    // Whether a look at the clock at this moment would switch.
-    pub(super) fn due(&self, moment: i64) -> bool
-        ensures { result ≡ is_due self.now.boundary moment }
+    // Returns whether a look at this moment would begin the next file. The file's lock is taken only if a
+    // limit of bytes is set.
+    pub(super) fn due<R: Wait>(&self, rt: &R, moment: i64) -> bool
+        ensures { AsksSome S.Folder self.now.schedule moment result }
     {
-        has_come(self.boundary, moment)
+        let room = if self.schedule.is_limited() {
+            lock(rt, &self.log, &mut Patience::NEW).room
+        } else {
+            0
+        };
+        self.schedule.next_stamp(room, moment, 0).is_some()
     }
 
     // Looks at the clock.
     pub(super) fn see(&mut self, moment: i64)
-        ensures { SeesSome S.Folder moment self.new.boundary }
+        ensures { SeesSome S.Folder moment self.old.schedule self.new.schedule }
     {
-        let roller = self.roller.get_mut();
-        roller.see(moment);
-        self.boundary = roller.boundary();
+        self.schedule.look(self.log.get_mut(), moment, 0);
     }
 
-    // Looks at the clock, and then writes.
+    // Looks at the clock with these bytes to write, and then writes them.
     pub(super) fn put(&mut self, moment: i64, bytes: &[u8]) -> io::Result<usize>
-        ensures { PutsSome S.Folder moment bytes.now result self.new.boundary }
+        ensures { PutsSome S.Folder moment bytes.now result self.old.schedule self.new.schedule }
     {
-        let roller = self.roller.get_mut();
-        let (_, written) = roller.put(moment, bytes);
-        self.boundary = roller.boundary();
-        written
+        let log = self.log.get_mut();
+        self.schedule.look(log, moment, bytes.len());
+        log.write(bytes)
     }
 
     // One append to the open file.
     pub(super) fn write<R: Wait>(&self, rt: &R, bytes: &[u8]) -> io::Result<usize>
-        ensures { WritesSome S.Folder bytes.now result }
+        ensures { WritesSome S.Folder self.now.schedule bytes.now result }
     {
-        lock(rt, &self.roller, &mut Patience::NEW).write(bytes)
+        lock(rt, &self.log, &mut Patience::NEW).write(bytes)
     }
 
     // Repeats it under one lock for what was not taken.
     pub(super) fn write_all<R: Wait>(&self, rt: &R, bytes: &[u8]) -> io::Result<()>
         ensures bytes { OnOk result (Appends None None bytes.now) }
-        ensures appends { WritesAllSome S.Folder bytes.now result }
+        ensures appends { WritesAllSome S.Folder self.now.schedule bytes.now result }
     {
-        lock(rt, &self.roller, &mut Patience::NEW).write_all(bytes)
+        lock(rt, &self.log, &mut Patience::NEW).write_all(bytes)
     }
 
     // Flushes the open file.
     pub(super) fn flush<R: Wait>(&self, rt: &R) -> io::Result<()>
-        ensures { FlushesSome S.Folder result }
+        ensures { FlushesSome S.Folder self.now.schedule result }
     {
-        lock(rt, &self.roller, &mut Patience::NEW).flush()
+        lock(rt, &self.log, &mut Patience::NEW).flush()
     }
 
-    pub(super) fn fmt<R: Wait, W: fmt::Write>(&self, rt: &R, f: &mut Formatter<W>) -> fmt::Result {
-        let roller = lock(rt, &self.roller, &mut Patience::NEW);
-        let (open_name, boundary) = roller.name_and_boundary();
+    // Flushes the open file, for which a thread that holds the gate alone takes no lock.
+    pub(super) fn flush_alone(&mut self) -> io::Result<()>
+        ensures flush { FlushesSome S.Folder self.old.schedule result }
+        ensures same { self.new.schedule ≡ self.old.schedule }
+    {
+        self.log.get_mut().flush()
+    }
+
+    pub(super) fn fmt<W: fmt::Write>(&self, f: &mut Formatter<W>) -> fmt::Result {
+        let (open_name, boundary) = self.schedule.name_and_boundary();
         f.debug_struct("RollingFileAppender")
             .field("open_name", &open_name)
             .field("boundary", &boundary)
             .finish()
     }
 
-    pub(super) fn get_mut(&mut self) -> &mut Roller<S> {
-        self.roller.get_mut()
-    }
-
-    pub(super) fn into_inner(self) -> Roller<S> {
-        self.roller.into_inner()
+    pub(super) fn into_folder(self) -> S {
+        self.log.into_inner().folder
     }
 }

@@ -1,6 +1,10 @@
 // The opening of a log file: old ones go, the file is opened, and a link follows it.
-ghost use Rattle.std.specs.Prelude.{◌≡◌, ◌↔◌, true, IfOk, IfErr, OnOk, IsTrue, Err};
-ghost use Rattle.appender_names.specs.declared.error.InitError.TheVariants.{Name};
+ghost use Rattle.std.specs.Prelude.{◌≡◌, ◌↔◌, ◌≤◌, true, IfOk, IfErr, OnOk, IsTrue, Err, map, option_and_then};
+ghost use Rattle.appender_names.specs.declared.error.InitError.TheVariants.{Name, Limit};
+ghost use Rattle.appender_names.specs.Rotation.{IsMoment};
+ghost use Rattle.appender_names.specs.Name.{reading_at};
+ghost use Rattle.appender_store.specs.Folder.{listed_row};
+ghost use Rattle.appender_rolling.specs.Inside.Numbers.{greater_of, number_after as after_of, number_behind as behind_of, first_number as first_of};
 ghost use Rattle.appender_rolling.specs.Opening.{GetsFile, GetsNo, Relinks, RelinksNot};
 
 use super::{Builder, InitError};
@@ -9,7 +13,7 @@ use appender_names::rotation::{Rotation, in_range};
 use appender_retain::laws::{links_add_none, openings_add_one};
 use appender_retain::retain::prune_old_logs;
 use appender_store::laws::names_change_one_at_a_time;
-use appender_store::store::Folder;
+use appender_store::store::{Folder, Listed, Notice};
 use std::alloc::Global;
 use std::io;
 use std::marker::Model;
@@ -21,10 +25,11 @@ pub(super) struct Setup {
     names: Names,
     link: String,
     max_files: usize,
+    max_bytes: u64,
 }
 
 impl Model for Setup {
-    ghost use Rattle.std.specs.Prelude.{string_bytes};
+    ghost use Rattle.std.specs.Prelude.{◌≡◌, ◌==◌, not, string_bytes};
     ghost use Rattle.appender_rolling.specs.Config.{Config};
 
     ghost Value = { Config };
@@ -35,8 +40,21 @@ impl Model for Setup {
       suffix = s.names.suffix;
       link = string_bytes s.link;
       max_files = s.max_files;
+      max_bytes = s.max_bytes;
     } };
+
+    ghost invariant = { λ s. s.names.numbered ≡ not (s.max_bytes == 0) };
 }
+
+/// What a file is named for: a moment of its period, and its number there.
+#[derive(Clone, Copy, Debug, PartialEq, Eq)]
+pub struct Stamp {
+    pub(super) moment: i64,
+    pub(super) number: u32,
+}
+
+// The greatest number that a name can have.
+pub(super) const LAST_NUMBER: u32 = 999_999;
 
 /// A file that was opened, and its name.
 #[derive(Drop)]
@@ -46,20 +64,24 @@ pub(super) struct Opened<F: Drop> {
 }
 
 impl Setup {
-    ghost use Rattle.std.specs.Prelude.{◌≢◌, ◌⊎◌, string_bytes};
+    ghost use Rattle.std.specs.Prelude.{◌≢◌, ◌⊎◌, string_bytes, string_len, string_capacity};
     ghost use Rattle.appender_names.specs.declared.error.InitError.TheVariants.{Memory};
-    ghost use Rattle.appender_names.specs.Rotation.{IsMoment};
-    ghost use Rattle.appender_rolling.specs.Config.{naming_of};
-    ghost use Rattle.appender_rolling.specs.Opening.{NamesEntries, ReadsAsDate, LinkClashes, IsReady, IsNotReady};
+    ghost use Rattle.appender_names.specs.Rotation.{IsNever};
+    ghost use Rattle.appender_rolling.specs.Config.{naming_of, is_limited, MayLimit, IsStamp, stamp, last_of};
+    ghost use Rattle.appender_rolling.specs.Opening.{NamesEntries, ReadsAsDate, LinkClashes, IsReady, IsNotReady, FindsNumber};
     ghost use Rattle.appender_rolling.specs.Opening.{OpensFile, RefusesFile, file_name_of};
 
-    /// Copies what a builder has set. `Name` says that prefix, suffix or link make no names of entries
-    /// of a folder, and `Memory` that there is no room for the copies.
+    /// Copies what a builder has set. `Name` if prefix, suffix or link make no names of entries of a
+    /// folder; else `Limit` if a limit of bytes is set under `NEVER`; else `Memory` if there is no room
+    /// for the copies.
     fn new(alloc: Global, builder: &Builder) -> Result<Setup, InitError>
         ensures ok { IfOk result (λ setup. setup ≡ builder.now) }
         ensures allowed { result ≢ Err Name → NamesEntries builder.now }
         ensures name { result ≡ Err Name → ¬ (NamesEntries builder.now) }
-        ensures err { IfErr result (λ error. (error ≡ Name) ⊎ (error ≡ Memory)) }
+        ensures limit { result ≡ Err Limit → NamesEntries builder.now
+            × (is_limited builder.now ≡ true) × IsNever builder.now.rotation }
+        ensures may_limit { result ≢ Err Name → result ≢ Err Limit → MayLimit builder.now }
+        ensures err { IfErr result (λ error. (error ≡ Name) ⊎ (error ≡ Limit) ⊎ (error ≡ Memory)) }
     {
         if !builder.may_link() {
             return Err(InitError::Name);
@@ -69,27 +91,34 @@ impl Setup {
             names: builder.names(alloc)?,
             link: String::from_str(alloc, builder.link())?,
             max_files: builder.max_files(),
+            max_bytes: builder.max_bytes(),
         })
     }
 
-    /// What an opening at this moment needs before any call of a folder, with the name of the first file.
+    /// Returns what an opening at this moment needs before any call of a folder, and the name of file
+    /// number 0.
     pub(super) fn ready(
         alloc: Global,
         builder: &Builder,
         moment: i64,
     ) -> Result<(Setup, String), InitError>
         ensures ok { IfOk result (λ ready. IsReady builder.now moment ready.0 (string_bytes ready.1)) }
+        ensures room { IfOk result (λ ready. string_len ready.1 ≤ string_capacity ready.1) }
         ensures err { IfErr result (λ error. IsNotReady builder.now moment error) }
     {
         let setup = Setup::new(alloc, builder);
         if is_refused_name(&setup) {
             return Err(InitError::Name);
         }
+        if is_refused_limit(&setup) {
+            return Err(InitError::Limit);
+        }
         if !in_range(moment) {
             return Err(InitError::Moment);
         }
         let setup = setup?;
-        let name = setup.file_name(moment)?;
+        let mut name = setup.file_name(Stamp { moment, number: 0 })?;
+        name.reserve(0)?;
         if setup.link_clashes(name.as_str(), moment) {
             return Err(InitError::Name);
         }
@@ -108,18 +137,53 @@ impl Setup {
         self.names.rotation()
     }
 
-    /// The name of the file of a moment. The error is a refusal of memory.
-    fn file_name(&self, moment: i64) -> Result<String, InitError>
-        requires { IsMoment moment }
-        ensures ok { IfOk result (λ name. string_bytes name ≡ file_name_of self.now moment) }
+    pub(super) fn max_bytes(&self) -> u64
+        ensures { result ≡ self.now.max_bytes }
+    {
+        self.max_bytes
+    }
+
+    /// The name of the file with this stamp. The error is a refusal of memory.
+    fn file_name(&self, stamp: Stamp) -> Result<String, InitError>
+        requires { IsStamp self.now stamp }
+        ensures ok { IfOk result (λ name. string_bytes name ≡ file_name_of self.now stamp) }
         ensures err { IfErr result (λ error. error ≡ Memory) }
     {
-        Ok(self.names.file_name(moment)?)
+        Ok(self.names.file_name_at(stamp.moment, stamp.number)?)
+    }
+
+    /// Returns the number of the first file: one above the greatest that is listed for the moment's
+    /// period, 0 if there is none, and at most 999,999. If the folder can't be listed, that is noted, and
+    /// the number is 0. Without a limit of bytes it is 0, and no call is made.
+    pub(super) fn first_number<S: Folder>(&self, folder: &mut S, moment: i64) -> u32
+        requires { IsMoment moment }
+        ensures { FindsNumber S.Folder self.now moment folder.old result folder.new }
+    {
+        if !self.names.is_numbered() {
+            return 0;
+        }
+        match folder.list() {
+            Ok(listed) => first_number(&self.names, moment, &listed),
+            Err(fault) => {
+                folder.note(Notice::List(&fault));
+                0
+            }
+        }
+    }
+
+    /// Puts the number into the name of the first file. It takes no memory.
+    pub(super) fn renumber(&self, name: &mut String, moment: i64, number: u32)
+        requires number { number ≤ last_of self.now }
+        requires name { string_bytes name.old ≡ file_name_of self.now (stamp moment 0) }
+        requires room { string_len name.old ≤ string_capacity name.old }
+        ensures { string_bytes name.new ≡ file_name_of self.now (stamp moment number) }
+    {
+        self.names.renumber(moment, name, number);
     }
 
     /// Whether the link has the name of the first file, or one that other files can have.
     fn link_clashes(&self, first: &str, moment: i64) -> bool
-        requires { first.now ≡ file_name_of self.now moment }
+        requires { first.now ≡ file_name_of self.now (stamp moment 0) }
         ensures { IsTrue result ↔ LinkClashes self.now moment }
     {
         let link = self.link.as_str();
@@ -143,6 +207,7 @@ impl Setup {
             folder.old file folder.new) }
         ensures err { IfErr result (λ error. RefusesFile S.Folder self.now name.now
             folder.old error folder.new) }
+        ensures memory { result ≢ Err Memory }
     {
         names_change_one_at_a_time();
         openings_add_one();
@@ -159,21 +224,21 @@ impl Setup {
         }
     }
 
-    /// Opens the file of a moment.
+    /// Opens the file with this stamp.
     pub(super) fn open_next<S: Folder>(
         &self,
         folder: &mut S,
-        moment: i64,
+        stamp: Stamp,
     ) -> Result<Opened<S::File>, InitError>
-        requires { IsMoment moment }
+        requires { IsStamp self.now stamp }
         ensures name { IfOk result (λ opened.
-            string_bytes opened.name ≡ file_name_of self.now moment) }
+            string_bytes opened.name ≡ file_name_of self.now stamp) }
         ensures ok { IfOk result (λ opened. OpensFile S.Folder self.now
-            (file_name_of self.now moment) folder.old opened.file folder.new) }
+            (file_name_of self.now stamp) folder.old opened.file folder.new) }
         ensures err { IfErr result (λ error. RefusesFile S.Folder self.now
-            (file_name_of self.now moment) folder.old error folder.new) }
+            (file_name_of self.now stamp) folder.old error folder.new) }
     {
-        let name = self.file_name(moment)?;
+        let name = self.file_name(stamp)?;
         let file = self.open_file(folder, name.as_str())?;
         Ok(Opened { file, name })
     }
@@ -184,6 +249,66 @@ fn is_refused_name(setup: &Result<Setup, InitError>) -> bool
     ensures { IsTrue result ↔ (setup.now ≡ Err Name) }
 {
     matches!(setup, Err(InitError::Name))
+}
+
+// Whether a setup was refused for its limit of bytes.
+fn is_refused_limit(setup: &Result<Setup, InitError>) -> bool
+    ensures { IsTrue result ↔ (setup.now ≡ Err Limit) }
+{
+    matches!(setup, Err(InitError::Limit))
+}
+
+// The number after the greatest of those listed for the moment's period.
+fn first_number(names: &Names, moment: i64, listed: &[Listed]) -> u32
+    requires moment { IsMoment moment }
+    requires numbered { names.now.numbered ≡ true }
+    ensures value { result ≡ first_of names.now moment (map listed_row listed.now) }
+    ensures bound { result ≤ 999_999 }
+{
+    let mut first = 0;
+    for entry in listed {
+        first = greater(first, number_behind(names, moment, entry));
+    }
+    first
+}
+
+// The number after that of a listed name, if it is one of the moment's period; else 0.
+fn number_behind(names: &Names, moment: i64, entry: &Listed) -> u32
+    requires moment { IsMoment moment }
+    requires numbered { names.now.numbered ≡ true }
+    ensures value { result ≡ behind_of names.now moment (listed_row entry.now) }
+    ensures bound { result ≤ 999_999 }
+{
+    match read_entry(names, entry) {
+        Some((second, number)) => number_after(names.rotation(), moment, second, number),
+        None => 0,
+    }
+}
+
+// The number after this one, if its second is in the moment's period; else 0.
+fn number_after(rotation: Rotation, moment: i64, second: i64, number: u32) -> u32
+    requires { IsMoment moment }
+    ensures value { result ≡ after_of rotation moment (second, number) }
+    ensures bound { result ≤ 999_999 }
+{
+    if !rotation.is_in_period(moment, second) {
+        return 0;
+    }
+    if number < LAST_NUMBER { number + 1 } else { LAST_NUMBER }
+}
+
+// The second and the number that the name of a listed entry reads as.
+fn read_entry(names: &Names, entry: &Listed) -> Option<(i64, u32)>
+    ensures { names.now.numbered ≡ true →
+        result ≡ option_and_then (reading_at names.now) (listed_row entry.now).0 }
+{
+    names.read_numbered(entry.name.as_ref()?.as_str())
+}
+
+fn greater(a: u32, b: u32) -> u32
+    ensures { result ≡ greater_of a b }
+{
+    if a < b { b } else { a }
 }
 
 // Opens the file of this name, in a folder that is made where the first call is refused.

@@ -1,5 +1,5 @@
 // What a thread writes through.
-ghost use Rattle.std.specs.Prelude.{None, OnOk};
+ghost use Rattle.std.specs.Prelude.{◌≡◌, None, OnOk};
 ghost use Rattle.std.specs.Io.{WritesAtMost};
 ghost use Rattle.std.specs.Io.KnownBytes.{Appends, WriteAppends};
 
@@ -23,7 +23,7 @@ impl<'a, S: Folder, R> Model for RollingWriter<'a, S, R> {
 
     ghost Value = { Holding };
 
-    ghost view = { λ w. record { boundary = (read_guard_value w.gate).boundary } };
+    ghost view = { λ w. (read_guard_value w.gate).schedule };
 }
 
 impl<S: Folder, R> Drop for RollingWriter<'_, S, R> {
@@ -40,7 +40,8 @@ impl<'a, S: Folder, R: Wait> Write for RollingWriter<'a, S, R> {
     fn write(&mut self, bytes: &[u8]) -> io::Result<usize>
         ensures bound { WritesAtMost result bytes.now }
         ensures bytes { WriteAppends None None result bytes.now }
-        ensures append { WritesSome S.Folder bytes.now result }
+        ensures append { WritesSome S.Folder self.old bytes.now result }
+        ensures same { self.new ≡ self.old }
     {
         self.gate.write(self.rt, bytes)
     }
@@ -48,14 +49,16 @@ impl<'a, S: Folder, R: Wait> Write for RollingWriter<'a, S, R> {
     /// Repeats it under one lock for what was not taken, so that no other piece comes between.
     fn write_all(&mut self, bytes: &[u8]) -> io::Result<()>
         ensures bytes { OnOk result (Appends None None bytes.now) }
-        ensures appends { WritesAllSome S.Folder bytes.now result }
+        ensures appends { WritesAllSome S.Folder self.old bytes.now result }
+        ensures same { self.new ≡ self.old }
     {
         self.gate.write_all(self.rt, bytes)
     }
 
     /// Flushes the open file.
     fn flush(&mut self) -> io::Result<()>
-        ensures { FlushesSome S.Folder result }
+        ensures flush { FlushesSome S.Folder self.old result }
+        ensures same { self.new ≡ self.old }
     {
         self.gate.flush(self.rt)
     }

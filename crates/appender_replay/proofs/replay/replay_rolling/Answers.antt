@@ -1,12 +1,25 @@
-use Rattle.std.proofs.Common.{◌≡◌, ◌∙◌, ◌+◌, ◌++◌, [], ◌∷◌, length, length-append, take, rules, sym, ap, arith, w64, FitsSigned}
+use Rattle.std.proofs.Common.{◌≡◌, ◌∙◌, ◌+◌, ◌++◌, [], ◌∷◌, length, length-append, take, rules, sym, ap, refl, arith, w64, FitsSigned}
 use Rattle.std.proofs.Math.Nat.{le_trans}
 use Rattle.std.proofs.Math.Seq.{length-take-le}
 use Rattle.std.proofs.lemmas.Int.{to_z-of_z}
 use Rattle.std.proofs.lemmas.List.{take_more, take_all}
+use Rattle.appender_rolling.specs.declared.rolling.setup.Stamp.{Stamp}
 use Rattle.appender_replay.specs.Replay.{told_of}
+use Rattle.appender_replay.proofs.Bounds.{keeps_to_limit}
 use Rattle.appender_replay.proofs.Files.{law_so_far, periods_so_far}
+use Rattle.appender_replay.proofs.Unlimited.{switch_at_arrivals}
 use Rattle.appender_replay.proofs.Runs.{Grounds, roll_law, other_names, told_more}
 use Rattle.appender_replay.proofs.replay.replay_rolling.Goals as goal
+
+pub loop-step-init : goal.loop-step-init
+loop-step-init g c =
+    let fits : FitsSigned w64 c.args.start = c.ranges.start in
+    let opens = c.in-Ok-open.ensures.ok in
+    record {
+      one_each = search rules;
+      room = search rules;
+      runs = record { first = _; opens = opens; number_is = sym (c.number-number.ensures ∙ ap (λ (s : Stamp). s.number) opens.opened); runs = refl };
+    }
 
 pub loop-step-preserved : goal.loop-step-preserved
 loop-step-preserved g c =
@@ -24,7 +37,7 @@ loop-step-preserved g c =
     record {
       one_each = ap length c.push_reply.ensures.items ∙ length-append replies (reply ∷ []) ∙ ap (λ n. n + 1) inv.one_each;
       room = le_trans inv.room c.push_reply.ensures.capacity;
-      runs = rw told (record { first = inv.runs.first; opens = inv.runs.opens; runs = (c.loop-step.roller, inv.runs.runs, c.run_step-reply.ensures) });
+      runs = rw told (record { first = inv.runs.first; opens = inv.runs.opens; number_is = inv.runs.number_is; runs = (c.loop-step.roller, inv.runs.runs, c.run_step-reply.ensures) });
     }
 
 pub returns : goal.returns
@@ -36,22 +49,24 @@ returns g c =
     let periods = c.periods_lie_between_boundaries.ensures in
     let grounds : Grounds g.S.Folder c.args.builder.now = record {
       laws = record { begins = periods.begin _; ends = periods.end _ };
-      others = other_names c.args.builder.now (c.names_are_periods.ensures _);
+      others = other_names c.args.builder.now runs.opens.may_limit (c.names_are_periods.ensures _);
       maps = record { removals = c.names_change_one_at_a_time.ensures.removals; additions = c.names_change_one_at_a_time.ensures.additions };
       parts = c.openings_keep_files.ensures;
       sound = g.met.S.Folder.sound;
     } in
-    let so = roll_law g.S.Folder _ _ _ _ _ grounds runs in
+    let law = roll_law g.S.Folder c.args.builder.now c.args.start c.number-number.result c.args.folder (told_of c.args.steps.now c.loop-step.replies.items) c.loop-step.roller grounds in
+    let so = law runs in
     record {
       one_each = one_each;
       runs = runs;
       config = so.config_is;
       switches = so.clock.switches;
+      arrivals = λ unlimited. switch_at_arrivals c.args.builder.now _ unlimited _ so.clock.switches;
       boundary = so.clock.boundary_is;
-      files = λ tells. law_so_far _ _ _ _ _ _ _ _ _ (so.files tells);
-      standing_files = λ tells. periods_so_far _ _ _ _ _ _ _ _ _ (so.files tells);
+      files = λ tells run. law_so_far _ _ _ _ _ _ _ _ _ _ ((law run).files tells) (law run).is_stamp (keeps_to_limit c.args.builder.now _ _ _ ((law run).files tells).are_times (law run).clock.switches (law run).fit);
+      standing_files = λ tells run. periods_so_far _ _ _ _ _ _ _ _ _ _ ((law run).files tells) (law run).is_stamp;
       err = tt;
       memory = tt;
       opened = so.opened_is;
-      notices = so.noted;
+      notices = λ run. (law run).noted;
     }

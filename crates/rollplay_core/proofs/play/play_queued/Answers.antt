@@ -19,6 +19,7 @@ returns-in-Ok-print_queued_run-clause-ok c =
       labels = c.in-Ok.ensures.labels;
       text = c.in-Ok.ensures.text;
       last = c.in-Ok.run'.roller;
+      number = c.in-Ok.run'.number;
       runs = rw start at c.in-Ok.ensures.runs;
       page_is = rw (start, c.in-Ok.ensures.config, c.new-page.ensures.items) at c.in-Ok-print_queued_run.ensures;
     }

@@ -13,6 +13,7 @@ returns-in-Ok-print_run-clause-ok c =
       replies = c.in-Ok.run'.replies.items;
       one_each = c.in-Ok.ensures.one_each;
       last = c.in-Ok.run'.roller;
+      number = c.in-Ok.run'.number;
       runs = rw start at c.in-Ok.ensures.runs;
       page_is = rw (start, c.in-Ok.ensures.config, c.new-page.ensures.items) at c.in-Ok-print_run.ensures;
     }

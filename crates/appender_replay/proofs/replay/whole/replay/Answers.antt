@@ -5,11 +5,13 @@ use Rattle.std.proofs.lemmas.Int.{to_z-of_z}
 use Rattle.std.proofs.lemmas.List.{take_more, take_all}
 use Rattle.appender_replay.specs.Replay.{told_of}
 use Rattle.appender_replay.specs.Inside.Steps.{parts}
+use Rattle.appender_replay.proofs.Bounds.{keeps_to_limit}
 use Rattle.appender_replay.proofs.Files.{law_so_far, periods_so_far}
+use Rattle.appender_replay.proofs.Unlimited.{switch_at_arrivals}
 use Rattle.appender_replay.proofs.Orders.{in_order, hands, labels}
 use Rattle.appender_replay.proofs.Runs.{Grounds, other_names, told_more}
 use Rattle.appender_replay.proofs.Texts.{WorkerLaws, text_law}
-use Rattle.appender_replay.proofs.Wholes.{GoesFrom, goes_begins, goes_on, whole_law}
+use Rattle.appender_replay.proofs.Wholes.{GoesFrom, goes_begins, goes_on, whole_law, each_write_reads}
 use Rattle.appender_replay.proofs.replay.whole.replay.Goals as goal
 
 pub loop-step-init : goal.loop-step-init
@@ -18,7 +20,7 @@ loop-step-init g c =
     record {
       one_each = search rules;
       room = search rules;
-      goes = goes_begins g.S.Folder _ _ _ _ _ _ _ _ c.in-Ok-new.ensures.fresh c.new-worker.ensures c.in-Ok-open.ensures.ok;
+      goes = goes_begins g.S.Folder _ _ _ _ _ _ _ _ _ c.in-Ok-new.ensures.fresh c.new-worker.ensures c.in-Ok-open.ensures.ok c.number-number.ensures;
     }
 
 pub loop-step-preserved : goal.loop-step-preserved
@@ -37,7 +39,7 @@ loop-step-preserved g c =
     record {
       one_each = ap length c.push_reply.ensures.items ∙ length-append replies (reply ∷ []) ∙ ap (λ n. n + 1) inv.one_each;
       room = le_trans inv.room c.push_reply.ensures.capacity;
-      goes = rw told (goes_on g.S.Folder _ _ _ _ _ (told_of (take i steps) replies) (step, reply)
+      goes = rw told (goes_on g.S.Folder _ _ _ _ _ _ (told_of (take i steps) replies) (step, reply)
           (parts c.loop-step.queue c.loop-step.worker c.loop-step.roller)
           (parts c.run_step-reply.new.queue c.run_step-reply.new.worker c.run_step-reply.new.roller) inv.goes c.run_step-reply.ensures);
     }
@@ -47,14 +49,14 @@ returns g c =
     let fits : FitsSigned w64 c.args.start = c.ranges.start in
     let whole : take c.loop-step.step-index c.args.steps.now ≡ c.args.steps.now = take_all _ _ c.loop-step-test.false in
     let one_each : length c.loop-step.replies.items ≡ length c.args.steps.now = search rules in
-    let goes : GoesFrom g.S.Folder c.args.builder.now c.args.limit c.args.lossy c.args.start c.args.folder
+    let goes : GoesFrom g.S.Folder c.args.builder.now c.args.limit c.args.lossy c.args.start c.number-number.result c.args.folder
     (told_of c.args.steps.now c.loop-step.replies.items) c.loop-step.queue c.loop-step.worker c.loop-step.roller =
     simp (to_z-of_z, whole) at c.loop-step.invariant.goes in
     let told = told_of c.args.steps.now c.loop-step.replies.items in
     let periods = c.periods_lie_between_boundaries.ensures in
     let grounds : Grounds g.S.Folder c.args.builder.now = record {
       laws = record { begins = periods.begin _; ends = periods.end _ };
-      others = other_names c.args.builder.now (c.names_are_periods.ensures _);
+      others = other_names c.args.builder.now goes.runs.opens.may_limit (c.names_are_periods.ensures _);
       maps = record { removals = c.names_change_one_at_a_time.ensures.removals; additions = c.names_change_one_at_a_time.ensures.additions };
       parts = c.openings_keep_files.ensures;
       sound = g.met.S.Folder.sound;
@@ -64,7 +66,8 @@ returns g c =
       flushes = c.takes_are_flushed.ensures;
       ends_for_good = c.runs_end_for_good.ensures;
     } in
-    let so = whole_law g.S.Folder c.args.builder.now c.args.start c.args.folder told c.loop-step.roller grounds goes.runs in
+    let law = whole_law g.S.Folder c.args.builder.now c.args.start c.number-number.result c.args.folder told c.loop-step.roller grounds in
+    let so = law goes.runs in
     let handed = hands c.args.limit c.args.lossy told c.loop-step.queue (in_order c.args.limit c.args.lossy told goes.answers) goes.stands.queue in
     record {
       one_each = one_each;
@@ -75,12 +78,14 @@ returns g c =
       labels = λ label. labels c.args.limit c.args.lossy told c.loop-step.queue label handed;
       text = text_law c.args.limit c.args.lossy told laws goes.answers;
       runs = goes.runs;
+      clock_read = each_write_reads told;
       config = so.config_is;
       switches = so.clock.switches;
+      arrivals = λ unlimited. switch_at_arrivals c.args.builder.now _ unlimited _ so.clock.switches;
       boundary = so.clock.boundary_is;
       opened = so.opened_is;
-      files = λ tells. law_so_far _ _ _ _ _ _ _ _ _ (so.files tells);
-      notices = so.noted;
-      standing_files = λ tells. periods_so_far _ _ _ _ _ _ _ _ _ (so.files tells);
+      files = λ tells run. law_so_far _ _ _ _ _ _ _ _ _ _ ((law run).files tells) (law run).is_stamp (keeps_to_limit c.args.builder.now _ _ _ ((law run).files tells).are_times (law run).clock.switches (law run).fit);
+      notices = λ run. (law run).noted;
+      standing_files = λ tells run. periods_so_far _ _ _ _ _ _ _ _ _ _ ((law run).files tells) (law run).is_stamp;
       err = tt;
     }

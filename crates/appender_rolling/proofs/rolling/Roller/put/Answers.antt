@@ -1,12 +1,13 @@
 use Rattle.std.proofs.Common.{w64, FitsSigned}
 use Rattle.std.proofs.lemmas.Int.{to_z-of_z}
+use Rattle.appender_rolling.specs.Roller.{rolling_of}
 use Rattle.appender_rolling.proofs.rolling.Roller.put.Goals as goal
 
 pub returns : goal.returns
 returns g c =
     let fits : FitsSigned w64 c.args.moment = c.ranges.moment in
     record {
-      between = c.see-switch.new.self;
-      sees = simp to_z-of_z at c.see-switch.ensures;
-      writes = c.write-written.ensures;
+      between = rolling_of c.look-switch.new.self c.look-switch.new.log;
+      looks = rw (← c.self.view_is) (simp to_z-of_z at c.look-switch.ensures);
+      writes = c.write-written.ensures.writes c.look-switch.new.self;
     }

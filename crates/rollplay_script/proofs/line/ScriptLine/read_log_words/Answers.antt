@@ -1,13 +1,17 @@
 use Rattle.std.proofs.Common.{refl, ◌∙◌, ◌++◌, [], unwrap_or, rules}
 use Rattle.rollplay_words.specs.Text.{StandsForNone}
 use Rattle.rollplay_script.proofs.LineLemmas.{continues_with, none_behind, none_unless, no_text, takes_no, takes_none, takes_once}
-use Rattle.rollplay_script.specs.Line.{log_kinds, folder_kinds, run_kinds, queue_kinds, rotation, prefix, suffix, link, maximum}
-use Rattle.rollplay_script.proofs.line.ScriptLine.read_log_words.Goals.{in-rotation+in_ok-word-in-rotation+in_ok-read_rotation-in-rotation, in-prefix+in_ok-text-in-prefix, in-suffix+in_ok-text-in-suffix, in-link+in_ok-text-in-link, in-max+in_ok-count-in-max}
+use Rattle.rollplay_script.specs.Line.{log_kinds, folder_kinds, run_kinds, queue_kinds, rotation, prefix, suffix, link, maximum, byte_limit}
+use Rattle.rollplay_script.proofs.line.ScriptLine.read_log_words.Goals.{in-rotation+in_ok-word-in-rotation+in_ok-read_rotation-in-rotation, in-prefix+in_ok-text-in-prefix, in-suffix+in_ok-text-in-suffix, in-link+in_ok-text-in-link, in-max+in_ok-count-in-max, in-bytes+in_ok-label-in-bytes}
 use Rattle.rollplay_script.proofs.line.ScriptLine.read_log_words.Goals as goal
 
 pub returns-in_err-count-in-max-clause-fault : goal.returns-in_err-count-in-max-clause-fault
 returns-in_err-count-in-max-clause-fault c = λ e. none_behind c.args.word.now c.args.words.now (log_kinds ++ folder_kinds ++ run_kinds ++ queue_kinds) maximum c.in-max.is (λ line left h.
     takes_no _ _ _ _ _ h.2 c.in_err-count-in-max.ensures.err.1 (λ w is. (h.0, is)))
+
+pub returns-in_err-label-in-bytes-clause-fault : goal.returns-in_err-label-in-bytes-clause-fault
+returns-in_err-label-in-bytes-clause-fault c = λ e. none_behind c.args.word.now c.args.words.now (log_kinds ++ folder_kinds ++ run_kinds ++ queue_kinds) byte_limit c.in-bytes.is (λ line left h.
+    takes_no _ _ _ _ _ h.2 c.in_err-label-in-bytes.ensures.err.1 (λ w is. (h.0, is)))
 
 pub returns-in_err-word-in-rotation-clause-fault : goal.returns-in_err-word-in-rotation-clause-fault
 returns-in_err-word-in-rotation-clause-fault c = λ e. none_behind c.args.word.now c.args.words.now (log_kinds ++ folder_kinds ++ run_kinds ++ queue_kinds) rotation c.in-rotation.is (λ line left h.
@@ -36,7 +40,7 @@ returns-in_err-text-in-link-clause-fault c = λ e. none_behind c.args.word.now c
 pub returns-in_default-clause-fault : goal.returns-in_default-clause-fault
 returns-in_default-clause-fault c = λ e.
     none_unless c.args.word.now c.args.words.now log_kinds (folder_kinds ++ run_kinds ++ queue_kinds)
-    (c.in_default.not-rotation, (c.in_default.not-prefix, (c.in_default.not-suffix, (c.in_default.not-link, (c.in_default.not-max, tt)))))
+    (c.in_default.not-rotation, (c.in_default.not-prefix, (c.in_default.not-suffix, (c.in_default.not-link, (c.in_default.not-max, (c.in_default.not-bytes, tt))))))
     (c.read_folder_words.ensures.fault e)
 
 pub returns-clause-ok : goal.returns-clause-ok
@@ -51,4 +55,6 @@ returns-clause-ok c = elim c.match-word.branch [
       rw (w.words-is, w.result-is) (continues_with _ _ link w.in-link.is _ _ (_, refl, record { text = w.in_ok-text-in-link.ensures.ok; all = w.text-in-link.ensures.all }))
   | in-max+in_ok-count-in-max w ↦
       rw (w.words-is, w.result-is) (continues_with _ _ maximum w.in-max.is _ _ (_, refl, w.in_ok-count-in-max.ensures.ok))
+  | in-bytes+in_ok-label-in-bytes w ↦
+      rw (w.words-is, w.result-is) (continues_with _ _ byte_limit w.in-bytes.is _ _ (_, refl, w.in_ok-label-in-bytes.ensures.ok))
 ]

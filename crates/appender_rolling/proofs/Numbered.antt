@@ -1,0 +1,19 @@
+-- The names of a setup are those of its configuration.
+use Rattle.std.proofs.Common.{◌≡◌, ℕ, ◌≤◌, ◌==◌, ℤ, Bool, true, false, not, List, arith, refl, ap, sym, subst}
+use Rattle.appender_names.specs.Name.{Naming, name_at, last_by}
+use Rattle.appender_rolling.specs.Config.{Config, naming_of, is_limited, last_of, IsStamp}
+use Rattle.appender_rolling.specs.Opening.{file_name_of}
+use Rattle.appender_rolling.specs.declared.rolling.setup.Stamp.{Stamp}
+
+abbrev pub config_with : Naming → List ℕ → ℕ → ℕ → Config
+config_with n link max bytes = record { rotation = n.rotation; prefix = n.prefix; suffix = n.suffix; link = link; max_files = max; max_bytes = bytes }
+
+pub named : (n : Naming) (link : List ℕ) (max bytes : ℕ) → n.numbered ≡ not (bytes == 0) → n ≡ naming_of (config_with n link max bytes)
+named n link max bytes e = ap (λ b. record n { numbered = b }) e
+
+-- the number of a stamp, where names have numbers and where they don't
+pub number_below : (c : Config) (s : Stamp) → is_limited c ≡ true → IsStamp c s → s.number ≤ 999999
+number_below c s limited is = let low = is.number_is in let last : last_of c ≡ 999999 = ap last_by limited in omega (arith, low, last)
+
+pub number_none : (c : Config) (s : Stamp) → is_limited c ≡ false → IsStamp c s → s.number ≡ 0
+number_none c s unlimited is = let low = is.number_is in let last : last_of c ≡ 0 = ap last_by unlimited in omega (arith, low, last)
