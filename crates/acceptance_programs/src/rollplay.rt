@@ -76,7 +76,7 @@ fn plays_on_where_a_call_fails(rt: HostRuntime) -> Result<(), Fail> {
 
 // Scripts whose log is not opened, and what is printed.
 static REFUSED: Table = Table {
-    rows: 26,
+    rows: 30,
     text: concat!(
         "rotation hourly\nprefix a/b\nstart 1580551260\n|",
         "init error 5\n|",
@@ -139,6 +139,16 @@ static REFUSED: Table = Table {
         // What retention removed stays removed.
         "rotation hourly\nprefix app\nmax 1\nfile app.2020-02-01-09 x\nfolder app.2020-02-01-10\nstart 1580551260\n|",
         "init error 2\nfolder app.2020-02-01-10\n|",
+        // A limit of bytes under never, looked at after the names and before the moment.
+        "rotation never\nbytes 4\nstart 1580551260\n|",
+        "init error 7\n|",
+        "prefix a/b\nbytes 4\nstart 1580551260\n|",
+        "init error 5\n|",
+        "bytes 4\nfile a b\nstart 253370764800\n|",
+        "init error 7\nfile a 1 b\n|",
+        // A link may not have a name with any number.
+        "rotation hourly\nprefix app\nbytes 4\nlink app.2020-02-01-11.000002\nstart 1580551260\n|",
+        "init error 5\n|",
     ),
 };
 
@@ -149,7 +159,7 @@ fn tells_why_nothing_is_opened(rt: HostRuntime) {
 
 // Scripts and their first faulty lines.
 static FAULTY: Table = Table {
-    rows: 161,
+    rows: 166,
     text: concat!(
         // No `start`.
         "|1|",
@@ -225,6 +235,11 @@ static FAULTY: Table = Table {
         "max 2 \nstart 0\n|1|",
         "max two\nstart 0\n|1|",
         "max 18446744073709551616\nstart 0\n|1|",
+        "bytes\nstart 0\n|1|",
+        "bytes -1\nstart 0\n|1|",
+        "bytes 4 \nstart 0\n|1|",
+        "bytes 18446744073709551616\nstart 0\n|1|",
+        "start 0\nbytes 4\n|2|",
         "start 0\nmax 2\n|2|",
         "created\nstart 0\n|1|",
         "created None\nstart 0\n|1|",

@@ -19,7 +19,7 @@ pub fn first_row(text: &str) -> Option<(&str, &str, &str)> {
 
 /// Scripts without a queue whose log is opened, and what is printed.
 pub static PLAYED: Table = Table {
-    rows: 45,
+    rows: 56,
     text: concat!(
         // Arrivals an hour apart; a clock that goes back keeps the file.
         "rotation hourly\nprefix app\nstart 1580551260\nput 1580554800 a\nput 1580554799 b\n|",
@@ -142,12 +142,43 @@ pub static PLAYED: Table = Table {
         // A fault of the file that gives way is no fault of the switch.
         "rotation hourly\nprefix app\nfail 3\nstart 1580551260\nput 1580554800 a\n|",
         "open app.2020-02-01-10\nopened ok 1\nfile app.2020-02-01-10 0\nfile app.2020-02-01-11 1 a\n|",
+        // With a limit of bytes a full file is followed by the next number, and a later period begins at 0 again.
+        "rotation hourly\nprefix app\nbytes 4\nstart 1580551260\nput 1580551260 abc\nput 1580551260 d\nput 1580551260 e\nput 1580551260 longer\nput 1580551260 x\nput 1580554800 y\n|",
+        "open app.2020-02-01-10.000000\nnone ok 3\nnone ok 1\nopened ok 1\nopened ok 6\nopened ok 1\nopened ok 1\nfile app.2020-02-01-10.000000 4 abcd\nfile app.2020-02-01-10.000001 1 e\nfile app.2020-02-01-10.000002 6 longer\nfile app.2020-02-01-10.000003 1 x\nfile app.2020-02-01-11.000000 1 y\n|",
+        // A full file whose next one can't be opened takes the limit once more.
+        "rotation hourly\nprefix app\nbytes 4\nfail 4\nfail 6\nstart 1580551260\nput 1580551260 abcd\nput 1580551260 e\nput 1580551260 fgh\nput 1580551260 i\n|",
+        "open app.2020-02-01-10.000000\nnone ok 4\nfailed ok 1\nnone ok 3\nopened ok 1\nfile app.2020-02-01-10.000000 8 abcdefgh\nfile app.2020-02-01-10.000002 1 i\n|",
+        // A start goes on after the greatest number of its period, up to the last number, whose file takes all.
+        "rotation hourly\nprefix app\nbytes 4\nfile app.2020-02-01-10.000007 q\nstart 1580551260\n|",
+        "open app.2020-02-01-10.000008\nfile app.2020-02-01-10.000007 1 q\nfile app.2020-02-01-10.000008 0\n|",
+        "rotation hourly\nprefix app\nbytes 4\nfile app.2020-02-01-10.999999 k\nstart 1580551260\nput 1580551260 aaaa\nput 1580551260 b\n|",
+        "open app.2020-02-01-10.999999\nnone ok 4\nnone ok 1\nfile app.2020-02-01-10.999999 6 kaaaab\n|",
+        // Entries of every kind count for the number; names of other periods and without a number don't.
+        "rotation hourly\nprefix app\nbytes 4\nfile app.2020-02-01-09.000009 x\nfile app.2020-02-01-10 y\nfolder app.2020-02-01-10.000004\nlink-at app.2020-02-01-10.000005 t\nfile app.2020-02-01-10.00006 z\nstart 1580551260\n|",
+        "open app.2020-02-01-10.000006\nfile app.2020-02-01-09.000009 1 x\nfile app.2020-02-01-10 1 y\nfolder app.2020-02-01-10.000004\nlink app.2020-02-01-10.000005 t\nfile app.2020-02-01-10.000006 0\nfile app.2020-02-01-10.00006 1 z\n|",
+        // A week's number counts for each of its days, also where the week begins before the first moment.
+        "rotation weekly\nsuffix log\nbytes 2\nlink latest\nfile 0000-12-31.000003.log x\nfile 0001-01-03.000006.log w\nstart -62135596800\nput -62135596800 ab\nput -62135596800 cd\n|",
+        "open 0000-12-31.000007.log\nnone ok 2\nopened ok 2\nfile 0000-12-31.000003.log 1 x\nfile 0000-12-31.000007.log 2 ab\nfile 0000-12-31.000008.log 2 cd\nfile 0001-01-03.000006.log 1 w\nlink latest 0000-12-31.000008.log\n|",
+        // A folder that can't be listed begins at 0.
+        "rotation hourly\nprefix app\nbytes 4\nfile app.2020-02-01-10.000003 x\nfail 1\nstart 1580551260\n|",
+        "open app.2020-02-01-10.000000\nfile app.2020-02-01-10.000000 0\nfile app.2020-02-01-10.000003 1 x\n|",
+        // An arrival where number 0 stands appends to it, and what it held doesn't count; a full file is left at any moment; a write counts and switches nothing.
+        "rotation hourly\nprefix app\nbytes 4\nfile app.2020-02-01-11.000000 zzzz\nstart 1580551260\nput 1580554800 abcd\nsee 1580554800\nput 1580551260 e\nput 9223372036854775807 fghi\nwrite klmn\nwrite o\nsee 1580554801\n|",
+        "open app.2020-02-01-10.000000\nopened ok 4\nopened\nnone ok 1\nopened ok 4\nok 4\nok 1\nopened\nfile app.2020-02-01-10.000000 0\nfile app.2020-02-01-11.000000 8 zzzzabcd\nfile app.2020-02-01-11.000001 1 e\nfile app.2020-02-01-11.000002 9 fghiklmno\nfile app.2020-02-01-11.000003 0\n|",
+        // Of one period the lowest numbers go first.
+        "rotation hourly\nprefix app\nbytes 1\nmax 2\nstart 1580551260\nput 1580551260 a\nput 1580551260 b\nput 1580551260 c\n|",
+        "open app.2020-02-01-10.000000\nnone ok 1\nopened ok 1\nopened ok 1\nfile app.2020-02-01-10.000001 1 b\nfile app.2020-02-01-10.000002 1 c\n|",
+        // A limit of 0 is none, also under never; the greatest limit is never reached, and an empty put fills nothing.
+        "prefix app\nbytes 0\nstart 0\nput 0 a\n|",
+        "open app\nnone ok 1\nfile app 1 a\n|",
+        "rotation daily\nbytes 18446744073709551615\nstart 0\nput 0\nput 0 ab\n|",
+        "open 1970-01-01.000000\nnone ok 0\nnone ok 2\nfile 1970-01-01.000000 2 ab\n|",
     ),
 };
 
 /// Scripts with a queue whose log is opened, and what is printed.
 pub static QUEUED: Table = Table {
-    rows: 20,
+    rows: 21,
     text: concat!(
         // A full queue drops in lossy mode, and counts it.
         "rotation hourly\nprefix app\nqueue 1 lossy\nstart 1580551260\noffer 1 a\noffer 1 b\nwork 1580551260\nwork 1580551260\nwork 1580551260\nwork 1580551260\n|",
@@ -208,6 +239,9 @@ pub static QUEUED: Table = Table {
         // A switch that fails at a write.
         "rotation hourly\nprefix app\nfolder app.2020-02-01-11\nqueue 1 lossy\nstart 1580551260\noffer 1 a\nwork 0\nwork 1580554800\n|",
         "open app.2020-02-01-10\naccepted 1\ntook 1\nwrote failed ok 1\nfile app.2020-02-01-10 1 a\nfolder app.2020-02-01-11\ncounts 1 1 0 0 0\n|",
+        // The worker's writes fill a file up to its limit.
+        "rotation hourly\nprefix app\nbytes 2\nqueue 2 waiting\nstart 1580551260\noffer 1 ab\noffer 2 c\nwork 0\nwork 1580551261\nwork 0\nwork 1580551260\n|",
+        "open app.2020-02-01-10.000000\naccepted 1\naccepted 2\ntook 1\nwrote none ok 2\ntook 2\nwrote opened ok 1\nfile app.2020-02-01-10.000000 2 ab\nfile app.2020-02-01-10.000001 1 c\ncounts 2 2 0 0 0\n|",
     ),
 };
 
