@@ -4,14 +4,14 @@ use Rattle.std.specs.FinMap as fin
 use Rattle.std.specs.declared.io.Error.{Error}
 use Rattle.appender_names.specs.declared.error.InitError.{InitError}
 use Rattle.appender_names.specs.declared.error.InitError.TheVariants.{Directory, File as NoFile, Symlink, Memory, Moment, Name, Limit}
-use Rattle.appender_store.specs.Content.{Content, Entry, File, IsLinkOrFolder, Opens, after_make_folder}
+use Rattle.appender_store.specs.Content.{Content, Entry, File, IsLink, IsLinkOrFolder, Opens, after_make_folder}
 use Rattle.appender_store.specs.NameLaws.{NameLaws}
 use Rattle.appender_store.specs.Folder.{HasCause}
 use Rattle.appender_store.specs.declared.store.Folder.{Ghosts}
 use Rattle.appender_retain.specs.Survival.{TakesOnlyOld}
 use Rattle.appender_retain.specs.Pruning.{Prunes}
 use Rattle.appender_rolling.specs.Config.{Config, naming_of}
-use Rattle.appender_rolling.specs.Opening.{GetsFile, LinksNot, RefusesFile, IsFileOrFolder}
+use Rattle.appender_rolling.specs.Opening.{GetsFile, TriesRemoveLink, LeavesNoPlace, LinksNot, RefusesFile, IsFileOrFolder}
 use Rattle.appender_rolling.specs.Limits.{FailsByItself, HasReason}
 
 module _ (maps : NameLaws) where
@@ -36,34 +36,38 @@ module _ (maps : NameLaws) where
     fails T P tells old fault new (inr (same, inl memory)) = inl (inr memory)
     fails T P tells old fault new (inr (same, inr forbidden)) = inr forbidden
 
-    link_has_reason : (link name : List ℕ) (old pruned unlinked : S) (file : F) (fault : Error) (new : S) → c.link ≡ link → Prunes kind (naming_of c) c.max_files old pruned → GetsFile kind name pruned file unlinked → LinksNot kind link name unlinked fault new → HasReason kind c name old (Symlink fault)
+    link_has_reason : (link name : List ℕ) (old pruned unlinked : S) (file : F) (fault : Error) (new : S) → c.link ≡ link → Prunes kind (naming_of c) c.max_files old pruned → GetsFile kind name pruned file unlinked → LinksNot kind link name unlinked fault new → HasReason kind c name old (Symlink fault) new
     link_has_reason [] name old pruned unlinked file fault new is prunes gets never = absurd never
-    link_has_reason (b ∷ bs) name old pruned unlinked file fault new is prunes gets links_not = elim links_not.cause [
-      | inl risen ↦ inr (inl (unlinked, links_not.freed, links_not.removes.answer, subst (λ (l : List ℕ). kind.remove_link_gives unlinked l links_not.removes.answer links_not.freed) (sym is) links_not.removes.call, risen))
-      | inr cause ↦ elim (fails (Unit {0}) (IsFileOrFolder (fin.get (kind.content unlinked).names (b ∷ bs))) kind.tells (kind.failures links_not.freed) fault (kind.failures new) cause) [
-        | inl itself ↦ inl (links_not.freed, new, subst (λ (l : List ℕ). kind.make_link_gives links_not.freed l name (Err fault) new) (sym is) links_not.call, itself)
-        | inr forbidden ↦ inr (inr (forbidden.0, in_the_way forbidden.0 forbidden.1))
-      ]
-    ]
+    link_has_reason (b ∷ bs) name old pruned unlinked file fault new is prunes gets links_not = (
+      pruned, file, unlinked, links_not.freed, prunes, gets,
+      subst (λ (l : List ℕ). TriesRemoveLink kind l unlinked links_not.freed) (sym is) links_not.removes,
+      subst (λ (l : List ℕ). kind.make_link_gives links_not.freed l name (Err fault) new) (sym is) links_not.call,
+      elim (fails (Unit {0}) (LeavesNoPlace kind (b ∷ bs) unlinked links_not.freed) kind.tells (kind.failures links_not.freed) fault (kind.failures new) links_not.cause) [
+        | inl itself ↦ inl itself
+        | inr (tells, inl other) ↦ inr (tells, elim (before tells IsFileOrFolder (λ never. never) other) [ inl own ↦ inl own | inr there ↦ inr (inl there) ])
+        | inr (tells, inr (old_link, risen)) ↦ inr (tells, elim (before tells IsLink (λ never. never) old_link) [ inl own ↦ inl own | inr there ↦ inr (inr (there, risen)) ])
+      ],
+    )
       where
-        in_the_way : IsTrue kind.tells → IsFileOrFolder (fin.get (kind.content unlinked).names (b ∷ bs)) → (c.link ≡ name) ⊎ IsFileOrFolder (fin.get (kind.content old).names c.link)
-        in_the_way tells there = elim (opened_else name (after_make_folder (kind.content pruned)) (kind.content unlinked) (kind.body file) (gets.opens tells) (b ∷ bs)) [
+        -- what has the link's name was there before, unless it is the file that was opened
+        before : IsTrue kind.tells → (P : Option Entry → Type 0) → ¬ P None → P (fin.get (kind.content unlinked).names (b ∷ bs)) → (c.link ≡ name) ⊎ P (fin.get (kind.content old).names c.link)
+        before tells P none there = elim (opened_else name (after_make_folder (kind.content pruned)) (kind.content unlinked) (kind.body file) (gets.opens tells) (b ∷ bs)) [
           | inl own ↦ inl (is ∙ own)
-          | inr same ↦ inr (subst (λ (l : List ℕ). IsFileOrFolder (fin.get (kind.content old).names l)) (sym is)
-              (found IsFileOrFolder (λ never. never) c (kind.content old) (kind.content pruned) (prunes.only_old tells) (b ∷ bs) (subst IsFileOrFolder same there)))
+          | inr same ↦ inr (subst (λ (l : List ℕ). P (fin.get (kind.content old).names l)) (sym is)
+              (found P none c (kind.content old) (kind.content pruned) (prunes.only_old tells) (b ∷ bs) (subst P same there)))
         ]
 
-    pub refusal_has_reason : (name : List ℕ) (old : S) (error : InitError) (new : S) → RefusesFile kind c name old error new → HasReason kind c name old error
-    refusal_has_reason name old (Directory fault) new (pruned, prunes, none) = elim (fails (Unit {0}) ⊥ kind.tells (kind.failures none.refused) fault (kind.failures new) none.cause) [
-      | inl itself ↦ (none.refused, new, none.call, itself)
+    pub refusal_has_reason : (name : List ℕ) (old : S) (error : InitError) (new : S) → RefusesFile kind c name old error new → HasReason kind c name old error new
+    refusal_has_reason name old (Directory fault) new (pruned, prunes, none) = (none.refused, (pruned, none.first_fault, prunes, none.first), none.call, elim (fails (Unit {0}) ⊥ kind.tells (kind.failures none.refused) fault (kind.failures new) none.cause) [
+      | inl itself ↦ itself
       | inr forbidden ↦ absurd forbidden.1
-    ]
-    refusal_has_reason name old (NoFile fault) new (pruned, prunes, none) = elim (fails F (IsLinkOrFolder (fin.get (kind.content pruned).names name)) kind.tells (kind.failures none.ready) fault (kind.failures new) none.cause) [
-      | inl itself ↦ inl (none.ready, new, none.second.call, itself)
+    ])
+    refusal_has_reason name old (NoFile fault) new (pruned, prunes, none) = (none.refused, none.ready, (pruned, none.first_fault, prunes, none.first), none.makes, none.second.call, elim (fails F (IsLinkOrFolder (fin.get (kind.content pruned).names name)) kind.tells (kind.failures none.ready) fault (kind.failures new) none.cause) [
+      | inl itself ↦ inl itself
       | inr forbidden ↦ inr (forbidden.0, found IsLinkOrFolder (λ never. never) c (kind.content old) (kind.content pruned) (prunes.only_old forbidden.0) name forbidden.1)
-    ]
+    ])
     refusal_has_reason name old (Symlink fault) new (pruned, unlinked, file, prunes, gets, links_not) = link_has_reason c.link name old pruned unlinked file fault new refl prunes gets links_not
-    refusal_has_reason name old Memory new same = tt
+    refusal_has_reason name old Memory new same = same
     refusal_has_reason name old Moment new (pruned, prunes, never) = never
     refusal_has_reason name old Name new (pruned, prunes, never) = never
     refusal_has_reason name old Limit new (pruned, prunes, never) = never

@@ -10,7 +10,7 @@ use Rattle.appender_store.specs.Folder.{Counts, HasCause, HasRisen}
 use Rattle.appender_retain.specs.Survival.{OpeningsAddOne, LinksAddNone, candidates_in}
 use Rattle.appender_retain.specs.Pruning.{Prunes, IsQuiet}
 use Rattle.appender_rolling.specs.Config.{Config, naming_of}
-use Rattle.appender_rolling.specs.Opening.{GetsFile, MayRemoveLink, TriesRemoveLink, IsFileOrFolder, Relinks, RelinksNot, LinksTo, Linked, OpensFile}
+use Rattle.appender_rolling.specs.Opening.{GetsFile, MayRemoveLink, TriesRemoveLink, IsFileOrFolder, LeavesNoPlace, Relinks, RelinksNot, LinksTo, Linked, OpensFile}
 use Rattle.appender_store.specs.NameLaws.{NameLaws}
 use Rattle.appender_rolling.proofs.Kept.{removed_name, keeps_linked}
 
@@ -20,11 +20,11 @@ weaker_cause tells P Q old new fault f (inl risen) = inl risen
 weaker_cause tells P Q old new fault f (inr (same, inl memory)) = inr (same, inl memory)
 weaker_cause tells P Q old new fault f (inr (same, inr (t, p))) = inr (same, inr (t, f t p))
 
-other_entry : (o : Option Entry) → ¬ IsLink o → IsSome o → IsFileOrFolder o
-other_entry None none some = absurd (let both : false ≡ true = some in cc)
-other_entry (Some (File b t)) none some = tt
-other_entry (Some (Link target)) none some = absurd (none tt)
-other_entry (Some Folder) none some = tt
+any_entry : (o : Option Entry) → IsSome o → IsFileOrFolder o ⊎ IsLink o
+any_entry None some = absurd (let both : false ≡ true = some in cc)
+any_entry (Some (File b t)) some = inl tt
+any_entry (Some (Link target)) some = inr tt
+any_entry (Some Folder) some = inl tt
 
 -- a link is no candidate
 linked_candidates : (n : Naming) (link name : List ℕ) (old new : Content) → LinksAddNone n → Linked link name old new → candidates_in n new ≤ candidates_in n old
@@ -44,30 +44,40 @@ module _ {S F : Type 0} (kind : Ghosts S F) where
 
   module _ (maps : NameLaws) (link name : List ℕ) (old freed new : S) (there : IsTrue kind.tells → (kind.content old).there ≡ true) (removes : TriesRemoveLink kind link old freed) where
     abbrev Forbidden : Type 0
-    Forbidden = IsFileOrFolder (fin.get (kind.content old).names link)
+    Forbidden = LeavesNoPlace kind link old freed
 
     -- the cause of a link that isn't made
     link_cause : (fault : Error) → HasCause {T = Unit {0}} kind.tells (ForbidsMakeLink link (kind.content freed)) (kind.failures freed) (kind.failures new) (Err fault)
-        → HasRisen (kind.failures old) (kind.failures freed) ⊎ HasCause {T = Unit {0}} kind.tells Forbidden (kind.failures freed) (kind.failures new) (Err fault)
+        → HasCause {T = Unit {0}} kind.tells Forbidden (kind.failures freed) (kind.failures new) (Err fault)
     link_cause fault cause = by removes.answer removes.ok removes.err removes.memory
       where
         weaker : (IsTrue kind.tells → ForbidsMakeLink link (kind.content freed) → Forbidden) → HasCause {T = Unit {0}} kind.tells Forbidden (kind.failures freed) (kind.failures new) (Err fault)
         weaker f = weaker_cause kind.tells (ForbidsMakeLink link (kind.content freed)) Forbidden (kind.failures freed) (kind.failures new) fault f cause
 
         by : (answer : Result (Unit {0}) Error) → OnOk answer (IsTrue kind.tells → RemovesLink link (kind.content old) (kind.content freed)) → OnErr answer (kind.content freed ≡ kind.content old) → OnErr answer (HasRisen (kind.failures old) (kind.failures freed) ⊎ (IsTrue kind.tells × ForbidsRemoveLink link (kind.content old)))
-            → HasRisen (kind.failures old) (kind.failures freed) ⊎ HasCause {T = Unit {0}} kind.tells Forbidden (kind.failures freed) (kind.failures new) (Err fault)
-        by (Ok u) ok err memory = inr (weaker free)
+            → HasCause {T = Unit {0}} kind.tells Forbidden (kind.failures freed) (kind.failures new) (Err fault)
+        by (Ok u) ok err memory = weaker free
           where
             free : IsTrue kind.tells → ForbidsMakeLink link (kind.content freed) → Forbidden
             free tells (inl absent) = absurd (let both : true ≡ false = sym (there tells) ∙ ap (λ (c : Content). c.there) (sym (ok tells).after) ∙ absent in cc)
             free tells (inr some) = absurd (let gone : fin.get (kind.content freed).names link ≡ None = ap (λ (c : Content). fin.get c.names link) (ok tells).after ∙ removed_name maps (kind.content old).names link in let both : false ≡ true = rw gone at some in cc)
-        by (Err e) ok err (inl risen) = inl risen
+        by (Err e) ok err (inl risen) = weaker stayed
+          where
+            stayed : IsTrue kind.tells → ForbidsMakeLink link (kind.content freed) → Forbidden
+            stayed t (inl absent) = absurd (let both : true ≡ false = sym (there t) ∙ ap (λ (c : Content). c.there) (sym err) ∙ absent in cc)
+            stayed t (inr some) = elim (any_entry (fin.get (kind.content old).names link) (subst (λ (c : Content). IsSome (fin.get c.names link)) err some)) [
+              | inl other ↦ inl other
+              | inr old_link ↦ inr (old_link, risen)
+            ]
         by (Err e) ok err (inr (tells, inl absent)) = absurd (let both : true ≡ false = sym (there tells) ∙ absent in cc)
-        by (Err e) ok err (inr (tells, inr none)) = inr (weaker in_use)
+        by (Err e) ok err (inr (tells, inr none)) = weaker in_use
           where
             in_use : IsTrue kind.tells → ForbidsMakeLink link (kind.content freed) → Forbidden
             in_use t (inl absent) = absurd (let both : true ≡ false = sym (there t) ∙ ap (λ (c : Content). c.there) (sym err) ∙ absent in cc)
-            in_use t (inr some) = other_entry (fin.get (kind.content old).names link) none (subst (λ (c : Content). IsSome (fin.get c.names link)) err some)
+            in_use t (inr some) = elim (any_entry (fin.get (kind.content old).names link) (subst (λ (c : Content). IsSome (fin.get c.names link)) err some)) [
+              | inl other ↦ inl other
+              | inr old_link ↦ absurd (none old_link)
+            ]
 
     pub links_not : (answer : Result (Unit {0}) Error) → kind.make_link_gives freed link name answer new → OnErr answer (kind.content new ≡ kind.content freed) → HasCause kind.tells (ForbidsMakeLink link (kind.content freed)) (kind.failures freed) (kind.failures new) answer → kind.noted new ≡ kind.noted freed
         → IfErr answer (λ fault. RelinksNot kind link name old fault new)

@@ -1,7 +1,8 @@
 -- An appender: a roller that a clock is read for. `kind` has what folders of one kind tell, and `time` what clocks do.
-use Rattle.std.specs.Prelude.{◌≡◌, ℕ, ℤ, Bool, true, false, List, Result, is_some}
+use Rattle.std.specs.Prelude.{◌≡◌, ◌⊎◌, ℕ, ℤ, Bool, true, false, List, Result, is_some}
 use Rattle.std.specs.declared.io.Error.{Error}
 use Rattle.appender_names.specs.declared.error.InitError.{InitError}
+use Rattle.appender_names.specs.declared.error.InitError.TheVariants.{Memory}
 use Rattle.appender_names.specs.declared.rotation.Rotation.{Rotation}
 use Rattle.appender_store.specs.declared.store.Folder.{Ghosts}
 use Rattle.appender_rolling.specs.declared.rolling.clock.Clock.{Ghosts as Readings}
@@ -52,6 +53,11 @@ pub record OpensNone {S F C : Type 0} (kind : Ghosts S F) (time : Readings C) (c
   pub told : time.now_gives clock moment
   pub refuses : OpensNoRoller kind config moment folder error left
   pub clock_is : same ≡ clock
+
+-- so it was in some folder, by some clock, or memory was refused before
+abbrev pub OpensNoneOfSome : {S F C : Type 0} → Ghosts S F → Readings C → Config → InitError → Type 0
+OpensNoneOfSome {S} {F} {C} kind time config error =
+    (error ≡ Memory) ⊎ ((folder : S) × (clock : C) × (left : S) × (same : C) × OpensNone kind time config folder clock error left same)
 
 -- ---- for many threads
 

@@ -1,5 +1,5 @@
 -- What an opening takes away at most, and why one is refused.
-use Rattle.std.specs.Prelude.{◌≡◌, ◌⊎◌, ℕ, false, List, Some, Result, Err, IsTrue}
+use Rattle.std.specs.Prelude.{◌≡◌, ◌⊎◌, ℕ, false, List, Some, Err, IsTrue}
 use Rattle.std.specs.FinMap as fin
 use Rattle.std.specs.IoError.{error_kind}
 use Rattle.std.specs.declared.io.Error.{Error}
@@ -11,7 +11,8 @@ use Rattle.appender_store.specs.Content.{Content, Entry, IsLink, IsLinkOrFolder}
 use Rattle.appender_store.specs.Folder.{HasRisen}
 use Rattle.appender_retain.specs.Survival.{name_survives}
 use Rattle.appender_rolling.specs.Config.{Config, naming_of}
-use Rattle.appender_rolling.specs.Opening.{IsFileOrFolder}
+use Rattle.appender_retain.specs.Pruning.{Prunes}
+use Rattle.appender_rolling.specs.Opening.{RefusesAtOnce, MakesFolder, GetsFile, TriesRemoveLink, IsFileOrFolder}
 
 -- Every name leads to what it led to, but those that don't survive retention, and a link under the name of the link that is
 -- set.
@@ -26,17 +27,27 @@ TakesLittle c old new =
 abbrev pub FailsByItself : ℕ → Error → ℕ → Type 0
 FailsByItself old fault new = HasRisen old new ⊎ (error_kind fault ≡ OutOfMemory)
 
--- Why an opening is refused: the call whose fault is told failed by itself; or what had the name before leaves no place for the
--- file, or for the link, whose removal may have failed by itself too; or there was no memory for the name.
-abbrev pub HasReason : {S F : Type 0} → Ghosts S F → Config → List ℕ → S → InitError → Type 0
-HasReason kind c name old (Directory fault) =
-    (s : _) × (t : _) × kind.make_folder_gives s (Err fault) t × FailsByItself (kind.failures s) fault (kind.failures t)
-HasReason kind c name old (NoFile fault) =
-    ((s : _) × (t : _) × kind.open_gives s name (Err fault) t × FailsByItself (kind.failures s) fault (kind.failures t))
-    ⊎ (IsTrue kind.tells × IsLinkOrFolder (fin.get (kind.content old).names name))
-HasReason kind c name old (Symlink fault) =
-    ((s : _) × (t : _) × kind.make_link_gives s c.link name (Err fault) t × FailsByItself (kind.failures s) fault (kind.failures t))
-    ⊎ ((s : _) × (t : _) × (answer : Result (Unit {0}) Error) × kind.remove_link_gives s c.link answer t × HasRisen (kind.failures s) (kind.failures t))
-    ⊎ (IsTrue kind.tells × ((c.link ≡ name) ⊎ IsFileOrFolder (fin.get (kind.content old).names c.link)))
-HasReason kind c name old Memory = Unit {0}
-HasReason kind c name old error = ⊥
+-- retention, and a first opening that was refused, led to this folder
+abbrev pub FirstRefused : {S F : Type 0} → Ghosts S F → Config → List ℕ → S → S → Type 0
+FirstRefused kind c name old refused =
+    (pruned : _) × (fault : Error) × Prunes kind (naming_of c) c.max_files old pruned × RefusesAtOnce kind name pruned fault refused
+
+-- Why an opening is refused, by the calls that led from the folder before it to the one after: the call whose fault is told failed by
+-- itself or was refused memory; or what had the name before leaves no place for the file, or for the link; or there was no memory
+-- for the name, and no call.
+abbrev pub HasReason : {S F : Type 0} → Ghosts S F → Config → List ℕ → S → InitError → S → Type 0
+HasReason kind c name old (Directory fault) new =
+    (refused : _) × FirstRefused kind c name old refused × kind.make_folder_gives refused (Err fault) new
+    × FailsByItself (kind.failures refused) fault (kind.failures new)
+HasReason kind c name old (NoFile fault) new =
+    (refused : _) × (ready : _) × FirstRefused kind c name old refused × MakesFolder kind refused ready × kind.open_gives ready name (Err fault) new
+    × (FailsByItself (kind.failures ready) fault (kind.failures new) ⊎ (IsTrue kind.tells × IsLinkOrFolder (fin.get (kind.content old).names name)))
+HasReason {S} {F} kind c name old (Symlink fault) new =
+    (pruned : S) × (file : F) × (unlinked : S) × (freed : S)
+    × Prunes kind (naming_of c) c.max_files old pruned × GetsFile kind name pruned file unlinked × TriesRemoveLink kind c.link unlinked freed
+    × kind.make_link_gives freed c.link name (Err fault) new
+    × (FailsByItself (kind.failures freed) fault (kind.failures new)
+    ⊎ (IsTrue kind.tells × ((c.link ≡ name) ⊎ IsFileOrFolder (fin.get (kind.content old).names c.link)
+    ⊎ (IsLink (fin.get (kind.content old).names c.link) × HasRisen (kind.failures unlinked) (kind.failures freed)))))
+HasReason kind c name old Memory new = new ≡ old
+HasReason kind c name old error new = ⊥

@@ -8,7 +8,7 @@ use Rattle.appender_names.specs.declared.error.InitError.TheVariants.{Directory,
 use Rattle.appender_names.specs.Rotation.{IsMoment, IsNever}
 use Rattle.appender_names.specs.Name.{Naming, IsAllowed, IsEntry, IsNumberIn, Reads, name_at}
 use Rattle.appender_store.specs.declared.store.Folder.{Ghosts}
-use Rattle.appender_store.specs.Content.{Content, Entry, File as PlainFile, Link, Folder, Opens, RemovesLink, MakesLink, after_make_folder, IsLinkOrFolder, ForbidsOpen, ForbidsRemoveLink, ForbidsList}
+use Rattle.appender_store.specs.Content.{Content, Entry, File as PlainFile, Link, Folder, Opens, RemovesLink, MakesLink, after_make_folder, IsLink, IsLinkOrFolder, ForbidsOpen, ForbidsRemoveLink, ForbidsList}
 use Rattle.appender_store.specs.Folder.{HasCause, HasRisen, Row, NotedList, listed_row}
 use Rattle.appender_store.specs.Notes.{Notes}
 use Rattle.appender_store.specs.declared.store.Listed.{Listed}
@@ -194,14 +194,19 @@ pub record Relinks {S F : Type 0} (kind : Ghosts S F) (link name : List ℕ) (ol
   pub content : IsTrue kind.tells → MayRemoveLink link (kind.content old) (kind.content freed) × MakesLink link name (kind.content freed) (kind.content new)
   pub noted : kind.noted new ≡ kind.noted old
 
--- The link could not be made, and at most the old one is gone: a call failed by itself, memory was refused, or what has the
--- name is a plain file or a folder.
+-- what has the link's name leaves no place for it: a plain file or a folder, or the old link, whose removal failed by itself
+abbrev pub LeavesNoPlace : {S F : Type 0} → Ghosts S F → List ℕ → S → S → Type 0
+LeavesNoPlace kind link old freed =
+    IsFileOrFolder (fin.get (kind.content old).names link)
+    ⊎ (IsLink (fin.get (kind.content old).names link) × HasRisen (kind.failures old) (kind.failures freed))
+
+-- The link could not be made, and at most the old one is gone: the call failed by itself, memory was refused, or what has the
+-- name leaves no place.
 pub record RelinksNot {S F : Type 0} (kind : Ghosts S F) (link name : List ℕ) (old : S) (fault : Error) (new : S) : Type 0 where
   pub freed : S
   pub removes : TriesRemoveLink kind link old freed
   pub call : kind.make_link_gives freed link name (Err fault) new
-  pub cause : HasRisen (kind.failures old) (kind.failures freed)
-      ⊎ HasCause {T = Unit {0}} kind.tells (IsFileOrFolder (fin.get (kind.content old).names link)) (kind.failures freed) (kind.failures new) (Err fault)
+  pub cause : HasCause {T = Unit {0}} kind.tells (LeavesNoPlace kind link old freed) (kind.failures freed) (kind.failures new) (Err fault)
   pub content : IsTrue kind.tells → MayRemoveLink link (kind.content old) (kind.content new)
   pub noted : kind.noted new ≡ kind.noted old
 

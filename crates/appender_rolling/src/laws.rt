@@ -31,12 +31,13 @@ pub fn openings_take_little<S: Folder>()
     names_change_one_at_a_time();
 }
 
-/// An opening is refused for a reason: the call whose fault is told counted a failure or was refused
-/// memory; or what had the file's name before was a link or a folder; or what had the link's name a
-/// file or a folder, or its removal counted a failure.
+/// An opening is refused for a reason, by the calls that led from the folder before it to the one after:
+/// the call whose fault is told counted a failure or was refused memory; or what had the file's name
+/// before was a link or a folder; or what had the link's name was a file or a folder, or a link whose
+/// removal counted a failure.
 pub fn refusals_have_reasons<S: Folder>()
     ensures { (config : Config) (name : List ℕ) (old : S) (error : InitError) (new : S)
-        → RefusesFile S.Folder config name old error new → HasReason S.Folder config name old error }
+        → RefusesFile S.Folder config name old error new → HasReason S.Folder config name old error new }
 {
     names_change_one_at_a_time();
 }

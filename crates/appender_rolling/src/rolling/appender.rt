@@ -3,7 +3,7 @@ ghost use Rattle.std.specs.Prelude.{◌≡◌, IfOk, IfErr};
 ghost use Rattle.appender_names.specs.declared.rotation.RotationKind.TheVariants.{Minutely, Hourly, Daily, Weekly, Never};
 ghost use Rattle.appender_names.specs.Rotation.{rotation_of};
 ghost use Rattle.appender_rolling.specs.Config.{defaults};
-ghost use Rattle.appender_rolling.specs.Appender.{plain_config, SharesSome};
+ghost use Rattle.appender_rolling.specs.Appender.{plain_config, SharesSome, OpensNoneOfSome};
 
 use super::gated::Gated;
 use super::writer::RollingWriter;
@@ -182,7 +182,9 @@ impl Builder {
         rt: R,
         directory: &str,
     ) -> Result<FileAppender<R>, InitError>
-        ensures { IfOk result (SharesSome ⟦<DirFolder<R> as Folder>⟧ ⟦<SystemClock<R> as Clock>⟧
+        ensures ok { IfOk result (SharesSome ⟦<DirFolder<R> as Folder>⟧ ⟦<SystemClock<R> as Clock>⟧
+            self.now) }
+        ensures err { IfErr result (OpensNoneOfSome ⟦<DirFolder<R> as Folder>⟧ ⟦<SystemClock<R> as Clock>⟧
             self.now) }
     {
         let waits = rt.clone()?;
@@ -213,7 +215,9 @@ impl<R: Files + AllocGlobal + Eprint + time::Clock + Clone + Drop> RollingFileAp
         directory: &str,
         prefix: &str,
     ) -> Result<FileAppender<R>, InitError>
-        ensures { IfOk result (SharesSome ⟦<DirFolder<R> as Folder>⟧ ⟦<SystemClock<R> as Clock>⟧
+        ensures ok { IfOk result (SharesSome ⟦<DirFolder<R> as Folder>⟧ ⟦<SystemClock<R> as Clock>⟧
+            (plain_config rotation prefix.now)) }
+        ensures err { IfErr result (OpensNoneOfSome ⟦<DirFolder<R> as Folder>⟧ ⟦<SystemClock<R> as Clock>⟧
             (plain_config rotation prefix.now)) }
     {
         Builder::new()
@@ -230,7 +234,9 @@ pub fn minutely<R: Files + AllocGlobal + Eprint + time::Clock + Clone + Drop>(
     directory: &str,
     prefix: &str,
 ) -> Result<FileAppender<R>, InitError>
-    ensures { IfOk result (SharesSome ⟦<DirFolder<R> as Folder>⟧ ⟦<SystemClock<R> as Clock>⟧
+    ensures ok { IfOk result (SharesSome ⟦<DirFolder<R> as Folder>⟧ ⟦<SystemClock<R> as Clock>⟧
+        (plain_config (rotation_of Minutely) prefix.now)) }
+    ensures err { IfErr result (OpensNoneOfSome ⟦<DirFolder<R> as Folder>⟧ ⟦<SystemClock<R> as Clock>⟧
         (plain_config (rotation_of Minutely) prefix.now)) }
 {
     RollingFileAppender::new(rt, Rotation::MINUTELY, directory, prefix)
@@ -243,7 +249,9 @@ pub fn hourly<R: Files + AllocGlobal + Eprint + time::Clock + Clone + Drop>(
     directory: &str,
     prefix: &str,
 ) -> Result<FileAppender<R>, InitError>
-    ensures { IfOk result (SharesSome ⟦<DirFolder<R> as Folder>⟧ ⟦<SystemClock<R> as Clock>⟧
+    ensures ok { IfOk result (SharesSome ⟦<DirFolder<R> as Folder>⟧ ⟦<SystemClock<R> as Clock>⟧
+        (plain_config (rotation_of Hourly) prefix.now)) }
+    ensures err { IfErr result (OpensNoneOfSome ⟦<DirFolder<R> as Folder>⟧ ⟦<SystemClock<R> as Clock>⟧
         (plain_config (rotation_of Hourly) prefix.now)) }
 {
     RollingFileAppender::new(rt, Rotation::HOURLY, directory, prefix)
@@ -256,7 +264,9 @@ pub fn daily<R: Files + AllocGlobal + Eprint + time::Clock + Clone + Drop>(
     directory: &str,
     prefix: &str,
 ) -> Result<FileAppender<R>, InitError>
-    ensures { IfOk result (SharesSome ⟦<DirFolder<R> as Folder>⟧ ⟦<SystemClock<R> as Clock>⟧
+    ensures ok { IfOk result (SharesSome ⟦<DirFolder<R> as Folder>⟧ ⟦<SystemClock<R> as Clock>⟧
+        (plain_config (rotation_of Daily) prefix.now)) }
+    ensures err { IfErr result (OpensNoneOfSome ⟦<DirFolder<R> as Folder>⟧ ⟦<SystemClock<R> as Clock>⟧
         (plain_config (rotation_of Daily) prefix.now)) }
 {
     RollingFileAppender::new(rt, Rotation::DAILY, directory, prefix)
@@ -269,7 +279,9 @@ pub fn weekly<R: Files + AllocGlobal + Eprint + time::Clock + Clone + Drop>(
     directory: &str,
     prefix: &str,
 ) -> Result<FileAppender<R>, InitError>
-    ensures { IfOk result (SharesSome ⟦<DirFolder<R> as Folder>⟧ ⟦<SystemClock<R> as Clock>⟧
+    ensures ok { IfOk result (SharesSome ⟦<DirFolder<R> as Folder>⟧ ⟦<SystemClock<R> as Clock>⟧
+        (plain_config (rotation_of Weekly) prefix.now)) }
+    ensures err { IfErr result (OpensNoneOfSome ⟦<DirFolder<R> as Folder>⟧ ⟦<SystemClock<R> as Clock>⟧
         (plain_config (rotation_of Weekly) prefix.now)) }
 {
     RollingFileAppender::new(rt, Rotation::WEEKLY, directory, prefix)
@@ -282,7 +294,9 @@ pub fn never<R: Files + AllocGlobal + Eprint + time::Clock + Clone + Drop>(
     directory: &str,
     prefix: &str,
 ) -> Result<FileAppender<R>, InitError>
-    ensures { IfOk result (SharesSome ⟦<DirFolder<R> as Folder>⟧ ⟦<SystemClock<R> as Clock>⟧
+    ensures ok { IfOk result (SharesSome ⟦<DirFolder<R> as Folder>⟧ ⟦<SystemClock<R> as Clock>⟧
+        (plain_config (rotation_of Never) prefix.now)) }
+    ensures err { IfErr result (OpensNoneOfSome ⟦<DirFolder<R> as Folder>⟧ ⟦<SystemClock<R> as Clock>⟧
         (plain_config (rotation_of Never) prefix.now)) }
 {
     RollingFileAppender::new(rt, Rotation::NEVER, directory, prefix)

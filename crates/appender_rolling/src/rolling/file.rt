@@ -84,7 +84,7 @@ impl<S: Folder, C: Clock> Debug for RollingFile<S, C> {
 
 impl Builder {
     ghost use Rattle.std.specs.Prelude.{◌≡◌};
-    ghost use Rattle.appender_rolling.specs.Appender.{OpensNow, OpensSome, OpensNone};
+    ghost use Rattle.appender_rolling.specs.Appender.{OpensNow, OpensSome, OpensNone, OpensNoneOfSome};
 
     /// Opens a log for one thread in a folder, at the moment that the clock tells. The errors are
     /// those of `Roller::open`, and hand folder and clock back.
@@ -112,7 +112,9 @@ impl Builder {
         rt: R,
         directory: &str,
     ) -> Result<RollingFile<DirFolder<R>, SystemClock<R>>, InitError>
-        ensures { IfOk result (OpensSome ⟦<DirFolder<R> as Folder>⟧ ⟦<SystemClock<R> as Clock>⟧
+        ensures ok { IfOk result (OpensSome ⟦<DirFolder<R> as Folder>⟧ ⟦<SystemClock<R> as Clock>⟧
+            self.now) }
+        ensures err { IfErr result (OpensNoneOfSome ⟦<DirFolder<R> as Folder>⟧ ⟦<SystemClock<R> as Clock>⟧
             self.now) }
     {
         let alloc = rt.alloc();
