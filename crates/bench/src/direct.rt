@@ -37,19 +37,35 @@ impl<W: Write> Shared for Mutex<W> {
     }
 }
 
-/// Measures a log, and a file, once a round.
+/// A log, and what its rows are called.
+#[derive(Drop)]
+pub(crate) struct Log<L: Drop> {
+    pub(crate) variant: &'static str,
+    pub(crate) log: L,
+}
+
+/// Measures each log, and a file, once a round.
 pub(crate) fn compare<
     L: Shared + Write + Sync + Drop,
     F: Shared + Sync + Drop,
     R: Threads + Wait + time::Clock + Print + Sync,
->(rt: &R, alloc: Global, case: Case, rounds: u32, mut log: L, file: F) -> io::Result<()> {
+>(
+    rt: &R,
+    alloc: Global,
+    case: Case,
+    rounds: u32,
+    mut logs: Vec<Log<L>>,
+    file: F,
+) -> io::Result<()> {
     for round in 0..rounds {
-        let nanos = if case.threads == 0 {
-            time_alone(rt, alloc, case, &mut log)?
-        } else {
-            time_together(rt, alloc, case, &log)?
-        };
-        tell(rt, "log", case, round, nanos)?;
+        for Log { variant, log } in &mut logs {
+            let nanos = if case.threads == 0 {
+                time_alone(rt, alloc, case, log)?
+            } else {
+                time_together(rt, alloc, case, &*log)?
+            };
+            tell(rt, variant, case, round, nanos)?;
+        }
         let nanos = time_together(rt, alloc, case, &file)?;
         tell(rt, "file", case, round, nanos)?;
     }

@@ -12,7 +12,8 @@ mod sink;
 mod throughput;
 
 use appender_non_blocking::non_blocking::NonBlockingBuilder;
-use appender_rolling::rolling;
+use appender_rolling::rolling::{Builder, FileAppender, Rotation};
+use direct::Log;
 use queue::Limit;
 use row::HEADER;
 use std::alloc::Global;
@@ -28,11 +29,12 @@ const USAGE: &str = "\
 usage: bench waiting ROUNDS LINES SENDERS BYTES LIMIT
        bench lossy ROUNDS LINES SENDERS BYTES LIMIT
        bench write ROUNDS LINES BYTES
-       bench direct ROUNDS LINES THREADS BYTES
+       bench direct ROUNDS LINES THREADS BYTES [LIMIT]
        bench idle SECONDS
 waiting, lossy: the time of a line through a queue of LIMIT lines, where each of SENDERS threads sends LINES lines
 write: the time of one lossy write at 100,000 a second, and of one straight to a file: half and 99 % take no longer
-direct: the time of a line of THREADS threads, or with 0 of one alone, to the log of this hour in the current folder
+direct: the time of a line of THREADS threads, or with 0 of one alone, to the log of this hour in the current folder,
+        and with LIMIT also to one whose files take so many bytes
 idle: a line, and then nothing for so long";
 
 fn main(rt: HostRuntime) -> io::Result<()> {
@@ -41,23 +43,48 @@ fn main(rt: HostRuntime) -> io::Result<()> {
         return println!(rt; "{USAGE}");
     };
     match (mode.as_str(), numbers.as_slice()) {
-        ("direct", [rounds, lines, threads, bytes]) => {
+        ("direct", [rounds, lines, threads, bytes, limits @ ..]) if limits.len() <= 1 => {
             let case = direct::Case {
                 lines: *lines,
                 threads: *threads,
                 bytes: *bytes as usize,
             };
-            let Ok(log) = rolling::hourly(rt, ".", "bench") else {
-                return Err(io::Error::from(ErrorKind::NotFound));
-            };
+            let logs = open_logs(rt, limits)?;
             let file = OpenOptions::new()
                 .create(true)
                 .append(true)
                 .open(&rt, "bench.log")?;
             println!(rt; "{HEADER}")?;
-            direct::compare(&rt, rt.alloc(), case, *rounds, log, Mutex::new(file))
+            direct::compare(&rt, rt.alloc(), case, *rounds, logs, Mutex::new(file))
         }
         (mode, numbers) => run(rt, rt.alloc(), mode, numbers),
+    }
+}
+
+// The log of this hour, and one with each limit of bytes.
+fn open_logs(rt: HostRuntime, limits: &[u32]) -> io::Result<Vec<Log<FileAppender>>> {
+    let mut logs = Vec::new(rt.alloc());
+    logs.push(Log {
+        variant: "log",
+        log: open_log(rt, 0)?,
+    })?;
+    for limit in limits {
+        logs.push(Log {
+            variant: "limited",
+            log: open_log(rt, *limit)?,
+        })?;
+    }
+    Ok(logs)
+}
+
+fn open_log(rt: HostRuntime, limit: u32) -> io::Result<FileAppender> {
+    let builder = Builder::new()
+        .rotation(Rotation::HOURLY)
+        .filename_prefix(rt.alloc(), "bench")?
+        .max_file_bytes(u64::from(limit));
+    match builder.build(rt, ".") {
+        Ok(log) => Ok(log),
+        Err(_) => Err(io::Error::from(ErrorKind::NotFound)),
     }
 }
 

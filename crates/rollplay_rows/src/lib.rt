@@ -19,7 +19,7 @@ pub fn first_row(text: &str) -> Option<(&str, &str, &str)> {
 
 /// Scripts without a queue whose log is opened, and what is printed.
 pub static PLAYED: Table = Table {
-    rows: 56,
+    rows: 57,
     text: concat!(
         // Arrivals an hour apart; a clock that goes back keeps the file.
         "rotation hourly\nprefix app\nstart 1580551260\nput 1580554800 a\nput 1580554799 b\n|",
@@ -173,6 +173,9 @@ pub static PLAYED: Table = Table {
         "open app\nnone ok 1\nfile app 1 a\n|",
         "rotation daily\nbytes 18446744073709551615\nstart 0\nput 0\nput 0 ab\n|",
         "open 1970-01-01.000000\nnone ok 0\nnone ok 2\nfile 1970-01-01.000000 2 ab\n|",
+        // Moments out of range belong to the file that is open, also when the last one of an i64 is read.
+        "rotation hourly\nprefix app\nstart 1580551260\nput 253370764800 x\nput -62135596801 y\nput 1580554800 z\nput 9223372036854775807 w\n|",
+        "open app.2020-02-01-10\nnone ok 1\nnone ok 1\nopened ok 1\nnone ok 1\nfile app.2020-02-01-10 2 xy\nfile app.2020-02-01-11 2 zw\n|",
     ),
 };
 
