@@ -25,6 +25,8 @@ enum Step {
     IsHeld,
     // So many lines of the first sender are queued, and so many were dropped.
     Counts(u64, usize),
+    // The last ticket of the first sender.
+    LastTicket(u64),
     Opens,
 }
 
@@ -250,6 +252,9 @@ pub(crate) trait Told: Send + Drop + 'static {
 
     /// How many lines are queued, and how many were dropped.
     fn counts(&self) -> (u64, usize);
+
+    /// Returns the ticket of the last line that it queued, or 0 before the first one.
+    fn last_ticket(&self) -> u64;
 }
 
 impl<
@@ -266,6 +271,10 @@ impl<
     fn counts(&self) -> (u64, usize) {
         (self.queued(), self.dropped())
     }
+
+    fn last_ticket(&self) -> u64 {
+        CountedSender::last_ticket(self)
+    }
 }
 
 // Writes a line by the first sender, and compares what it is told.
@@ -281,6 +290,12 @@ fn expect_counts<T: Told, R: Abort>(rt: &R, senders: &[T], wanted: (u64, usize))
     expect_eq(rt, sender.counts(), wanted);
 }
 
+// Compares the last ticket of the first sender.
+fn expect_last_ticket<T: Told, R: Abort>(rt: &R, senders: &[T], wanted: u64) {
+    let sender = senders.first().expect(rt, "a sender");
+    expect_eq(rt, sender.last_ticket(), wanted);
+}
+
 impl<R: Host + Abort> Stage<R> {
     fn plays<T: Told>(&mut self, senders: &mut Vec<T>, steps: &[Step]) {
         for step in steps {
@@ -291,6 +306,11 @@ impl<R: Host + Abort> Stage<R> {
                 Step::Counts(queued, dropped) => {
                     expect_counts(&self.rt, senders.as_slice(), (queued, dropped));
                 }
+                Step::LastTicket(wanted) => expect_last_ticket(
+                    &self.rt,
+                    senders.as_slice(),
+                    wanted,
+                ),
                 Step::Opens => self.seen.opens(),
             }
         }
@@ -394,11 +414,13 @@ static DROPS_LINES: Story = Story {
     lossy: true,
     senders: 1,
     steps: &[
+        Step::LastTicket(0),
         Step::Tells(b"held", Sent::Queued(1)),
         Step::IsHeld,
         Step::Tells(b"a", Sent::Queued(2)),
         Step::Tells(b"b", Sent::Dropped),
         Step::Counts(2, 1),
+        Step::LastTicket(2),
         Step::Opens,
     ],
     end: End::Settles(Account {

@@ -20,11 +20,11 @@ fn text(alloc: Global, sender: usize, line: usize) -> Result<String, AllocError>
     format!(in alloc; "{sender} {line}")
 }
 
-// Writes a line, and answers its ticket.
+// Writes a line, and returns its ticket if that is then the sender's last one.
 fn tell_one<T: Told, R: Host>(rt: R, sender: &mut T, number: usize, line: usize) -> Option<u64> {
     let text = text(rt.alloc(), number, line).ok()?;
     match sender.tell(text.as_bytes()) {
-        Ok(Sent::Queued(ticket)) => Some(ticket),
+        Ok(Sent::Queued(ticket)) if sender.last_ticket() == ticket => Some(ticket),
         _ => None,
     }
 }
@@ -84,8 +84,8 @@ pub(crate) fn write_by_ten<T: Told, R: Host + Abort>(rt: R, senders: &mut Vec<T>
     told
 }
 
-/// All tickets were told once, each for the line that came at its place, and the lines of one sender came
-/// in their order.
+/// Each line was written at the position of its ticket. The tickets of each sender's hundred lines
+/// increase, and the writer got the lines of each sender in that order.
 pub(crate) fn expect_in_order<R: Host + Abort>(rt: R, told: &[Tickets], seen: &Seen) {
     expect_eq(&rt, told.len(), 10);
     expect_eq(&rt, seen.count(), 1000);
@@ -94,8 +94,8 @@ pub(crate) fn expect_in_order<R: Host + Abort>(rt: R, told: &[Tickets], seen: &S
     }
 }
 
-// Each line came at the place of its ticket, behind the sender's line before. The lines all differ, so no
-// ticket was told twice.
+// Each ticket is greater than the sender's last one, and its line was written at its position. All lines
+// differ, so no ticket was returned twice.
 fn stands_in_order<R: Host + Abort>(rt: R, told: &Tickets, seen: &Seen) {
     expect_eq(&rt, told.tickets.len(), 100);
     let mut last = 0u64;
@@ -106,8 +106,8 @@ fn stands_in_order<R: Host + Abort>(rt: R, told: &Tickets, seen: &Seen) {
     }
 }
 
-// This line of this sender came behind so many others.
-fn expect_at<R: Host + Abort>(rt: R, seen: &Seen, place: u64, sender: usize, line: usize) {
+// This line of this sender was written after this number of others.
+fn expect_at<R: Host + Abort>(rt: R, seen: &Seen, before: u64, sender: usize, line: usize) {
     let text = text(rt.alloc(), sender, line).expect(&rt, "memory");
-    assert!(rt; seen.has_at(&rt, place as usize, text.as_bytes()));
+    assert!(rt; seen.has_at(&rt, before as usize, text.as_bytes()));
 }

@@ -1,10 +1,18 @@
 -- What counted senders, their guard and the account of both say.
-use Rattle.std.specs.Prelude.{◌≡◌, ℕ, ◌+◌, ◌-◌, ◌^◌, Bool, false, min, List, sum_by}
+use Rattle.std.specs.Prelude.{◌≡◌, ℕ, ◌+◌, ◌-◌, ◌^◌, Bool, false, min, List, map, sum_by}
+use Rattle.std.specs.List.{range_with_len}
 
--- how many lines a sender was told are queued and how many are dropped, and whether its queue is lossy
+-- what a counted sender shows
 pub record Sums : Type 0 where
+  -- how many of its lines were queued
   pub queued : ℕ
+  -- how many of its lines were dropped
   pub dropped : ℕ
+  -- the ticket of the last one that was queued, 0 before the first
+  pub last_ticket : ℕ
+  -- the place of the queue from which it offers
+  pub place : ℕ
+  -- whether its queue is lossy
   pub lossy : Bool
 
 -- how many senders were made with a guard, and whether a shutdown that it tried to send was sent
@@ -12,8 +20,12 @@ pub record Guard : Type 0 where
   pub made : ℕ
   pub sent : Bool
 
-abbrev pub new_sender : Bool → Sums
-new_sender lossy = record { queued = 0; dropped = 0; lossy = lossy }
+abbrev pub new_sender : Bool → ℕ → Sums
+new_sender lossy place = record { queued = 0; dropped = 0; last_ticket = 0; place = place; lossy = lossy }
+
+-- this number of senders, each with a place of its own: 0, 1, 2, ..
+abbrev pub new_senders : Bool → ℕ → List Sums
+new_senders lossy count = map (new_sender lossy) (range_with_len 0 count)
 
 abbrev pub new_guard : ℕ → Guard
 new_guard made = record { made = made; sent = false }

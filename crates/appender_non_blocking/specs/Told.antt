@@ -22,9 +22,10 @@ AsEnding Flushing P Q = P
 AsEnding (Ending n) P Q = Q
 AsEnding Over P Q = Q
 
--- the sums of a sender after a line: one more queued exactly with Queued, and one more dropped exactly with Dropped
+-- the sums of a sender after a line: one more queued, with this last ticket, exactly after Queued, and one more dropped exactly
+-- after Dropped
 abbrev pub after_line : Sums → Result Sent Error → Sums
-after_line s (Ok (Queued ticket)) = record s { queued = s.queued + 1 }
+after_line s (Ok (Queued ticket)) = record s { queued = s.queued + 1; last_ticket = ticket }
 after_line s (Ok Dropped) = record s { dropped = min (s.dropped + 1) (2 ^ 64 - 1) }
 after_line s (Err e) = s
 

@@ -1,5 +1,5 @@
 -- The queue of lines between senders and a worker, as its contracts see it.
-use Rattle.std.specs.Prelude.{◌≡◌, ℕ, ◌+◌, ◌-◌, ◌^◌, ◌<◌, ◌≤◌, List, [], ◌∷◌, ◌++◌, Bool, true, false, not, ◌&&◌, ◌==◌, if◌then◌else◌, nat_lt, length, Option, Some, None, min, drop}
+use Rattle.std.specs.Prelude.{◌≡◌, ℕ, ◌+◌, ◌-◌, ◌^◌, ◌<◌, ◌≤◌, List, [], ◌∷◌, ◌++◌, Bool, true, false, not, ◌&&◌, ◌==◌, if◌then◌else◌, nat_lt, length, Option, Some, None, min, drop, replicate, All, slice_set, slice_index_or}
 
 -- what a queue shows
 pub record Queue : Type 0 where
@@ -19,10 +19,12 @@ pub record Queue : Type 0 where
   pub worker_waits : Bool
   -- how many offers were refused, in lossy mode
   pub dropped : ℕ
-  -- how many places there are
+  -- for how many lines there is room, where a shutdown counts as one
   pub limit : ℕ
   -- whether a refused line is lost, and counted as dropped
   pub lossy : Bool
+  -- the last ticket of each sender's place, from place 0 on; 0 before its first line is accepted
+  pub last_tickets : List ℕ
 
 -- whether a shutdown was sent
 abbrev pub is_sent : Option ℕ → Bool
@@ -69,7 +71,16 @@ fresh limit lossy = record {
   dropped = 0;
   limit = limit;
   lossy = lossy;
+  last_tickets = [];
 }
+
+-- a new queue with this number of senders' places
+abbrev pub fresh_with : ℕ → Bool → ℕ → Queue
+fresh_with limit lossy places = record (fresh limit lossy) { last_tickets = replicate places 0 }
+
+-- the last ticket of a place, 0 if the queue has no such place
+abbrev pub last_ticket_of : Queue → ℕ → ℕ
+last_ticket_of q place = slice_index_or q.last_tickets place 0
 
 -- the queue after a line was accepted
 abbrev pub after_acceptance : Queue → List ℕ → Queue
@@ -82,6 +93,13 @@ after_refusal q = if q.lossy then record q { dropped = saturating_next q.dropped
 -- the queue after a line was offered
 abbrev pub after_offer : Queue → List ℕ → Queue
 after_offer q line = if is_open q && has_room q then after_acceptance q line else after_refusal q
+
+-- the queue after a line was offered from a place: if it is accepted and the queue has the place, its ticket is the last one of
+-- the place
+abbrev pub after_offer_from : Queue → ℕ → List ℕ → Queue
+after_offer_from q place line =
+    if is_open q && has_room q then record (after_acceptance q line) { last_tickets = slice_set q.last_tickets place (q.accepted + 1) }
+    else after_refusal q
 
 -- whether a shutdown is taken in: not closed, none was sent before, and there is room
 abbrev pub may_shut : Queue → Bool
@@ -135,3 +153,5 @@ pub record IsLawful (q : Queue) : Type 0 where
   -- in waiting mode no line is dropped
   pub none_dropped : q.lossy ≡ false → q.dropped ≡ 0
   pub tickets_fit : q.accepted < 2 ^ 64
+  -- the last ticket of each place was given
+  pub last_tickets_given : All (λ ticket. ticket ≤ q.accepted) q.last_tickets

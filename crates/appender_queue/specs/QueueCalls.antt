@@ -1,7 +1,7 @@
 -- What each call of a queue answers and leaves. The queue that it leaves is lawful.
-use Rattle.std.specs.Prelude.{◌≡◌, ℕ, Bool, Result, Vec}
+use Rattle.std.specs.Prelude.{◌≡◌, ◌≢◌, ℕ, ◌<◌, Bool, length, IfOk, Result, Vec}
 use Rattle.std.specs.declared.alloc.Global.{Global}
-use Rattle.appender_queue.specs.Queue.{Queue, IsLawful, after_offer, after_shut, after_take, saturating_next, one_less}
+use Rattle.appender_queue.specs.Queue.{Queue, IsLawful, after_offer, after_offer_from, last_ticket_of, after_shut, after_take, saturating_next, one_less}
 use Rattle.appender_queue.specs.QueueReplies.{offer_reply, shut_reply, IsTaken, counts_of}
 use Rattle.appender_queue.specs.declared.queue.Counts.{Counts}
 use Rattle.appender_queue.specs.declared.queue.Refused.{Refused}
@@ -13,6 +13,18 @@ pub record Offers (old : Queue) (line : Vec ℕ Global) (result : Result ℕ Ref
   pub reply : result ≡ offer_reply old line
   pub after : new ≡ after_offer old line.items
   pub lawful : IsLawful new
+
+-- an offer of a line from a place
+pub record OffersFrom (old : Queue) (place : ℕ) (line : Vec ℕ Global) (result : Result ℕ Refused) (new : Queue) : Type 0 where
+  pub reply : result ≡ offer_reply old line
+  pub after : new ≡ after_offer_from old place line.items
+  pub lawful : IsLawful new
+  -- the ticket is greater than the last one of the place
+  pub rises : IfOk result (λ ticket. last_ticket_of old place < ticket)
+  -- and becomes the last one
+  pub sets : IfOk result (λ ticket. place < length old.last_tickets → last_ticket_of new place ≡ ticket)
+  -- of this place alone
+  pub others : (other : ℕ) → other ≢ place → last_ticket_of new other ≡ last_ticket_of old other
 
 -- a shutdown
 pub record Shuts (old : Queue) (result : Shut) (new : Queue) : Type 0 where

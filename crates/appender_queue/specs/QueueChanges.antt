@@ -1,5 +1,5 @@
 -- What calls of a queue change, by what they answer.
-use Rattle.std.specs.Prelude.{◌≡◌, ℕ, ◌+◌, List, true, false, Some, None, Result, Ok, Err}
+use Rattle.std.specs.Prelude.{◌≡◌, ℕ, ◌+◌, List, length, true, false, Some, None, Result, Ok, Err}
 use Rattle.appender_queue.specs.Queue.{Queue, after_acceptance}
 use Rattle.appender_queue.specs.declared.queue.Refused.{Refused}
 use Rattle.appender_queue.specs.declared.queue.Shut.{Shut}
@@ -12,6 +12,13 @@ use Rattle.appender_queue.specs.declared.queue.Taken.TheVariants.{Line, Shutdown
 abbrev pub OfferLeaves : Queue → Queue → List ℕ → Result ℕ Refused → Type 0
 OfferLeaves q new line (Ok ticket) = (ticket ≡ q.accepted + 1) × (new ≡ after_acceptance q line)
 OfferLeaves q new line (Err refused) = new ≡ record q { dropped = new.dropped }
+
+-- what an offer from a place leaves: the same, but for the last tickets, of which there are as many as before
+abbrev pub OfferFromLeaves : Queue → Queue → List ℕ → Result ℕ Refused → Type 0
+OfferFromLeaves q new line (Ok ticket) =
+    (ticket ≡ q.accepted + 1) × (new ≡ record (after_acceptance q line) { last_tickets = new.last_tickets })
+    × (length new.last_tickets ≡ length q.last_tickets)
+OfferFromLeaves q new line (Err refused) = new ≡ record q { dropped = new.dropped }
 
 -- what a shutdown leaves: only Sent changes the queue
 abbrev pub ShutLeaves : Queue → Queue → Shut → Type 0

@@ -18,7 +18,7 @@ use std::marker::Model;
 /// A line that was not queued, given back, and why.
 #[derive(Debug, PartialEq, Eq, Drop)]
 pub enum Refused {
-    /// No place was free.
+    /// The queue is full.
     Full(Vec<u8>),
     /// The queue is closed, or has given out all its tickets.
     Closed(Vec<u8>),
@@ -31,7 +31,7 @@ pub enum Shut {
     Sent,
     /// One was sent before.
     Already,
-    /// No place was free.
+    /// The queue is full.
     Full,
     /// The queue is closed.
     Closed,
@@ -78,36 +78,53 @@ struct Rules<S: Store> {
     dropped: usize,
     limit: usize,
     lossy: bool,
+    // The last ticket of each sender's place.
+    last_tickets: Vec<u64>,
 }
 
 impl<S: Store> Model for Rules<S> {
-    ghost use Rattle.std.specs.Prelude.{
-      ◌≡◌,
-      ◌+◌,
-      ◌≤◌,
-      length,
-      true,
-      if◌then◌else◌,
-      [],
-      max,
-    };
     ghost use Rattle.appender_queue.specs.Queue.{Queue};
     ghost use Rattle.appender_queue.specs.Inside.Rules.{IsKept, queue_of};
 
     ghost Value = { Queue };
 
-    ghost view = { λ q. queue_of (S.lines q.store) q.accepted q.handed q.shutdown q.closed q.senders
-        q.worker_waits q.dropped q.limit q.lossy };
+    ghost view = { λ q. queue_of (record {
+      stored = S.lines q.store;
+      room = S.room q.store;
+      accepted = q.accepted;
+      handed = q.handed;
+      shutdown = q.shutdown;
+      closed = q.closed;
+      senders = q.senders;
+      worker_waits = q.worker_waits;
+      dropped = q.dropped;
+      limit = q.limit;
+      lossy = q.lossy;
+      last_tickets = q.last_tickets.items;
+    }) };
 
-    ghost invariant = { λ q. IsKept (length (S.lines q.store)) (S.room q.store) q.accepted q.handed q.shutdown
-        q.closed q.dropped q.limit q.lossy };
+    ghost invariant = { λ q. IsKept (record {
+      stored = S.lines q.store;
+      room = S.room q.store;
+      accepted = q.accepted;
+      handed = q.handed;
+      shutdown = q.shutdown;
+      closed = q.closed;
+      senders = q.senders;
+      worker_waits = q.worker_waits;
+      dropped = q.dropped;
+      limit = q.limit;
+      lossy = q.lossy;
+      last_tickets = q.last_tickets.items;
+    }) };
 }
 
 impl<S: Store> Rules<S> {
-    ghost use Rattle.std.specs.Prelude.{max, false};
-    ghost use Rattle.appender_queue.specs.Queue.{fresh, has_room};
+    ghost use Rattle.std.specs.Prelude.{◌≤◌, max, false, replicate, vec_len};
+    ghost use Rattle.appender_queue.specs.Queue.{fresh_with, has_room, last_ticket_of, IsLawful};
     ghost use Rattle.appender_queue.specs.QueueCalls.{
       Offers,
+      OffersFrom,
       Shuts,
       Takes,
       AddsSender,
@@ -115,10 +132,11 @@ impl<S: Store> Rules<S> {
       TellsCounts,
     };
 
-    fn over(store: S, limit: usize, lossy: bool) -> Rules<S>
+    fn over(store: S, limit: usize, lossy: bool, last_tickets: Vec<u64>) -> Rules<S>
         requires empty { S.lines store ≡ [] }
         requires room { S.room store ≡ max limit 1 }
-        ensures { result ≡ fresh limit lossy }
+        requires last_tickets { last_tickets.items ≡ replicate (vec_len last_tickets) 0 }
+        ensures { result ≡ fresh_with limit lossy (vec_len last_tickets) }
     {
         Rules {
             store,
@@ -131,6 +149,7 @@ impl<S: Store> Rules<S> {
             dropped: 0,
             limit,
             lossy,
+            last_tickets,
         }
     }
 
@@ -149,7 +168,8 @@ impl<S: Store> Rules<S> {
 
     #[inline(always)]
     fn offer(&mut self, line: Vec<u8>) -> Result<u64, Refused>
-        ensures { Offers self.old line result self.new }
+        ensures offers { Offers self.old line result self.new }
+        ensures before { IsLawful self.old }
     {
         let refused = if self.closed || self.accepted == u64::MAX {
             Refused::Closed(line)
@@ -164,6 +184,26 @@ impl<S: Store> Rules<S> {
             self.dropped = self.dropped.saturating_add(1);
         }
         Err(refused)
+    }
+
+    #[inline(always)]
+    fn offer_from(&mut self, place: usize, line: Vec<u8>) -> Result<u64, Refused>
+        ensures { OffersFrom self.old place line result self.new }
+    {
+        let reply = self.offer(line);
+        if let Ok(ticket) = &reply {
+            if let Some(last) = self.last_tickets.get_mut(place) {
+                *last = *ticket;
+            }
+        }
+        reply
+    }
+
+    fn last_ticket(&self, place: usize) -> u64
+        ensures last { result ≡ last_ticket_of self.now place }
+        ensures given { result ≤ self.now.accepted }
+    {
+        self.last_tickets.get(place).copied().unwrap_or(0)
     }
 
     fn shut(&mut self) -> Shut
@@ -262,10 +302,11 @@ impl Model for LineQueue {
 }
 
 impl LineQueue {
-    ghost use Rattle.std.specs.Prelude.{not, ◌&&◌};
-    ghost use Rattle.appender_queue.specs.Queue.{fresh, has_room, IsLawful};
+    ghost use Rattle.std.specs.Prelude.{◌≤◌, not, ◌&&◌};
+    ghost use Rattle.appender_queue.specs.Queue.{fresh, fresh_with, has_room, last_ticket_of, IsLawful};
     ghost use Rattle.appender_queue.specs.QueueCalls.{
       Offers,
+      OffersFrom,
       Shuts,
       Takes,
       AddsSender,
@@ -273,15 +314,30 @@ impl LineQueue {
       TellsCounts,
     };
 
-    /// An empty queue with one sender, and with all the room that it will ever need: `limit`
-    /// places, one for limit 0. No other call takes memory.
+    /// Returns an empty queue with one sender and no sender's place. All memory that it needs is
+    /// allocated here: for `limit` lines, or for one if the limit is 0.
     pub fn new(alloc: Global, limit: usize, lossy: bool) -> Result<LineQueue, AllocError>
         ensures fresh { IfOk result (λ q. q ≡ fresh limit lossy) }
         ensures lawful { IfOk result (λ q. IsLawful q) }
     {
+        LineQueue::with_places(alloc, limit, lossy, 0)
+    }
+
+    /// Returns an empty queue as `new` does, with this number of senders' places, counted from 0. It
+    /// keeps the last ticket of each place, whose memory is allocated here too.
+    pub fn with_places(
+        alloc: Global,
+        limit: usize,
+        lossy: bool,
+        places: usize,
+    ) -> Result<LineQueue, AllocError>
+        ensures fresh { IfOk result (λ q. q ≡ fresh_with limit lossy places) }
+        ensures lawful { IfOk result (λ q. IsLawful q) }
+    {
         let ring = Ring::with_capacity(alloc, limit.max(1))?;
+        let last_tickets = vec![in alloc; 0u64; places]?;
         Ok(LineQueue {
-            rules: Rules::over(ring, limit, lossy),
+            rules: Rules::over(ring, limit, lossy, last_tickets),
         })
     }
 
@@ -291,6 +347,24 @@ impl LineQueue {
         ensures { Offers self.old line result self.new }
     {
         self.rules.offer(line)
+    }
+
+    /// Puts a line at the end, as `offer` does, for the sender with this place. If the line is accepted
+    /// and the queue has the place, its ticket becomes the last one of the place.
+    #[inline(always)]
+    pub fn offer_from(&mut self, place: usize, line: Vec<u8>) -> Result<u64, Refused>
+        ensures { OffersFrom self.old place line result self.new }
+    {
+        self.rules.offer_from(place, line)
+    }
+
+    /// Returns the ticket of the last line that was accepted from a place: 0 before the first one, and
+    /// if the queue doesn't have the place.
+    pub fn last_ticket(&self, place: usize) -> u64
+        ensures last { result ≡ last_ticket_of self.now place }
+        ensures given { result ≤ self.now.accepted }
+    {
+        self.rules.last_ticket(place)
     }
 
     /// Sends the shutdown: lines that are accepted later are never handed.

@@ -205,4 +205,5 @@ queue_after limit lossy told = record {
   dropped = if lossy then min (refusals told) (2 ^ 64 - 1) else 0;
   limit = limit;
   lossy = lossy;
+  last_tickets = [];
 }

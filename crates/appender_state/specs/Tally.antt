@@ -1,5 +1,5 @@
--- What books are kept of: the counts of a queue that never go down.
-use Rattle.std.specs.Prelude.{ℕ, ◌+◌, Bool, if◌then◌else◌}
+-- What books are kept of: the counts of a queue that never go down, and its number of senders' places.
+use Rattle.std.specs.Prelude.{ℕ, ◌+◌, Bool, if◌then◌else◌, length}
 use Rattle.appender_queue.specs.Queue.{Queue, places_of}
 
 pub record Tally : Type 0 where
@@ -11,17 +11,25 @@ pub record Tally : Type 0 where
   pub shutdowns : ℕ
   -- 1 once the queue is closed
   pub closings : ℕ
+  -- how many senders' places there are
+  pub places : ℕ
 
 abbrev pub one_if : Bool → ℕ
 one_if b = if b then 1 else 0
 
 -- the counts of a queue
 abbrev pub tally_of : Queue → Tally
-tally_of q = record { accepted = q.accepted; handed = q.handed; shutdowns = places_of q.shutdown; closings = one_if q.closed }
+tally_of q = record {
+  accepted = q.accepted;
+  handed = q.handed;
+  shutdowns = places_of q.shutdown;
+  closings = one_if q.closed;
+  places = length q.last_tickets;
+}
 
--- a queue of which nothing was asked yet
-abbrev pub no_tally : Tally
-no_tally = record { accepted = 0; handed = 0; shutdowns = 0; closings = 0 }
+-- the counts of a new queue with this number of places
+abbrev pub new_tally : ℕ → Tally
+new_tally places = record { accepted = 0; handed = 0; shutdowns = 0; closings = 0; places = places }
 
 -- one line more was accepted
 abbrev pub with_line : Tally → Tally

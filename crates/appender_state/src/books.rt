@@ -1,5 +1,5 @@
 //! What is counted of a queue beside it, and who may count.
-ghost use Rattle.std.specs.Prelude.{◌≡◌, ◌+◌, ◌^◌, ◌<◌};
+ghost use Rattle.std.specs.Prelude.{◌≡◌, ℕ, ◌+◌, ◌^◌, ◌<◌, Option, Some, None, IfSome};
 ghost use Rattle.appender_state.specs.Tally.{
   Tally,
   with_line,
@@ -31,6 +31,8 @@ pub trait Books: Drop {
     ghost may_shut: { Self.Shutdowns → Type 0 };
 
     ghost may_take: { Self.Pass → Type 0 };
+    /// The place from which a sender offers its lines, if it has one.
+    ghost place_of: { Self.Mine → Option ℕ };
     /// One line, one shutdown, one take of a line more.
     ghost counts_line: { Self.Mine → Self.Mine → Type 0 };
 
@@ -39,6 +41,12 @@ pub trait Books: Drop {
     ghost counts_take: { Self.Pass → Self.Pass → Type 0 };
     /// The worker knows that the queue is closed.
     ghost has_ended: { Self.Pass → Type 0 };
+
+    /// Returns the place from which a sender offers its lines, if it has one. The queue has that place.
+    fn place(&self, mine: &Self::Mine) -> Option<usize>
+        requires { may_accept mine.now }
+        ensures place { result ≡ place_of mine.now }
+        ensures within { (t : Tally) → say self.now t → IfSome (place_of mine.now) (λ place. place < t.places) };
 
     /// A line was accepted.
     fn accept(&mut self, mine: &mut Self::Mine)
@@ -90,6 +98,8 @@ impl Books for NoBooks {
 
     ghost may_take = { λ p. Unit {0} };
 
+    ghost place_of = { λ m. None };
+
     ghost counts_line = { λ m n. Unit {0} };
 
     ghost counts_shutdown = { λ m n. Unit {0} };
@@ -97,6 +107,11 @@ impl Books for NoBooks {
     ghost counts_take = { λ p q. Unit {0} };
 
     ghost has_ended = { λ p. Unit {0} };
+
+    #[inline(always)]
+    fn place(&self, _mine: &()) -> Option<usize> {
+        None
+    }
 
     #[inline(always)]
     fn accept(&mut self, _mine: &mut ()) {}
@@ -123,6 +138,13 @@ pub struct FourBooks<A: Ledger, H: Ledger, S: Ledger, C: Ledger> {
     pub closings: Book<C>,
 }
 
+/// What a sender has: a share of the book of accepted lines, and its place in the queue.
+#[derive(Drop)]
+pub struct SenderShare<A: Ledger> {
+    pub share: Share<A>,
+    pub place: usize,
+}
+
 /// All of the books of handed lines and of closings.
 #[derive(Drop)]
 pub struct Pass<H: Ledger, C: Ledger> {
@@ -141,7 +163,7 @@ pub struct Done<H: Ledger, C: Ledger> {
 }
 
 impl<A: Ledger, H: Ledger, S: Ledger, C: Ledger> Books for FourBooks<A, H, S, C> {
-    type Mine = Share<A>;
+    type Mine = SenderShare<A>;
 
     type Shutdowns = Share<S>;
 
@@ -150,16 +172,19 @@ impl<A: Ledger, H: Ledger, S: Ledger, C: Ledger> Books for FourBooks<A, H, S, C>
     type Done = Done<H, C>;
 
     ghost say = { λ b t. (b.accepted.total ≡ t.accepted) × (b.handed.total ≡ t.handed)
-        × (b.shutdowns.total ≡ t.shutdowns) × (b.closings.total ≡ t.closings) };
+        × (b.shutdowns.total ≡ t.shutdowns) × (b.closings.total ≡ t.closings) × (t.places + 1 ≡ A.parts) };
 
-    ghost may_accept = { λ m. 0 < m.parts };
+    ghost may_accept = { λ m. (0 < m.share.parts) × (m.place + 1 < A.parts) };
 
     ghost may_shut = { λ m. 0 < m.parts };
 
     ghost may_take = { λ p. (p.handed.parts ≡ 1) × (H.parts ≡ 1) × (p.closings.parts ≡ 1) × (C.parts ≡ 1)
         × (p.closings.amount ≡ 0) };
 
-    ghost counts_line = { λ m n. (n.parts ≡ m.parts) × (n.amount ≡ m.amount + 1) × (n.amount < 2 ^ 64) };
+    ghost place_of = { λ m. Some m.place };
+
+    ghost counts_line = { λ m n. (n.place ≡ m.place) × (n.share.parts ≡ m.share.parts)
+        × (n.share.amount ≡ m.share.amount + 1) × (n.share.amount < 2 ^ 64) };
 
     ghost counts_shutdown = { λ m n. (n.parts ≡ m.parts) × (m.amount ≡ 0) × (n.amount ≡ 1) };
 
@@ -168,9 +193,14 @@ impl<A: Ledger, H: Ledger, S: Ledger, C: Ledger> Books for FourBooks<A, H, S, C>
     ghost has_ended = { λ p. (p.handed.parts ≡ 1) × (p.closings.parts ≡ 1) × (p.closings.amount ≡ 1) };
 
     #[inline(always)]
-    fn accept(&mut self, mine: &mut Share<A>) {
-        self.accepted.add(mine, 1);
-        self.accepted.audit(mine);
+    fn place(&self, mine: &SenderShare<A>) -> Option<usize> {
+        Some(mine.place)
+    }
+
+    #[inline(always)]
+    fn accept(&mut self, mine: &mut SenderShare<A>) {
+        self.accepted.add(&mut mine.share, 1);
+        self.accepted.audit(&mut mine.share);
     }
 
     fn shut(&mut self, mine: &mut Share<S>) {

@@ -1,10 +1,29 @@
 //! What lies under the lock, and who is to be woken once it is let go.
-ghost use Rattle.std.specs.Prelude.{◌≡◌, ◌<◌, ◌≤◌, ℕ, true, false, not, ◌&&◌, ◌||◌, IfOk};
-ghost use Rattle.appender_queue.specs.Queue.{has_room};
+ghost use Rattle.std.specs.Prelude.{
+  ◌≡◌,
+  ◌<◌,
+  ◌≤◌,
+  ℕ,
+  length,
+  true,
+  false,
+  not,
+  ◌&&◌,
+  ◌||◌,
+  IfOk,
+  IfSome,
+};
+ghost use Rattle.appender_queue.specs.Queue.{IsLawful, has_room, last_ticket_of};
+ghost use Rattle.appender_queue.specs.QueueChanges.{OfferFromLeaves};
+ghost use Rattle.appender_queue.specs.QueueReplies.{offer_reply};
+ghost use Rattle.appender_state.specs.Steps.{after_offer_at};
 
 use crate::books::{Books, Done, FourBooks};
 use crate::pace::{MOST_BYTES, MOST_SPARES, Pace};
-use appender_queue::laws::{offers_change_little, shutdowns_change_little, takes_change_little};
+use appender_queue::laws::{
+    offers_change_little, offers_from_change_little, other_calls_leave_last_tickets,
+    shutdowns_change_little, takes_change_little,
+};
 use appender_queue::queue::{Counts, LineQueue, Refused, Shut, Taken};
 use std::alloc::{AllocError, Global};
 use std::marker::Model;
@@ -82,26 +101,51 @@ fn call(
     }
 }
 
+// Offers a line, from the sender's place if it has one.
+#[inline(always)]
+fn offer_at(queue: &mut LineQueue, place: Option<usize>, line: Vec<u8>) -> Result<u64, Refused>
+    requires { IfSome place (λ p. p < length queue.old.last_tickets) }
+    ensures reply { result ≡ offer_reply queue.old line }
+    ensures after { queue.new ≡ after_offer_at queue.old place line.items }
+    ensures lawful { IsLawful queue.new }
+    ensures rises { IfOk result (λ ticket. IfSome place (λ p. last_ticket_of queue.old p < ticket)) }
+    ensures sets { IfOk result (λ ticket. IfSome place (λ p. last_ticket_of queue.new p ≡ ticket)) }
+    ensures leaves { OfferFromLeaves queue.old queue.new line.items result }
+{
+    offers_change_little();
+    offers_from_change_little();
+    match place {
+        Some(place) => queue.offer_from(place, line),
+        None => queue.offer(line),
+    }
+}
+
 impl<B: Books> State<B> {
     ghost use Rattle.std.specs.Prelude.{◌+◌, OnOk, OnErr, IfOk};
     ghost use Rattle.appender_state.specs.Held.{when_back, Wakes};
     ghost use Rattle.appender_state.specs.Steps.{Offers};
-    ghost use Rattle.appender_state.specs.Tally.{no_tally};
+    ghost use Rattle.appender_state.specs.Tally.{new_tally};
     ghost use Rattle.appender_state.specs.Cases.{AsSent, AsTaken};
-    ghost use Rattle.appender_queue.specs.Queue.{fresh, has_room, left_of};
+    ghost use Rattle.appender_queue.specs.Queue.{fresh_with, has_room, left_of};
     ghost use Rattle.appender_queue.specs.QueueCalls.{Shuts, Takes, AddsSender, DropsSender};
 
-    /// An empty queue with one sender, beside new books.
-    pub fn new(alloc: Global, limit: usize, lossy: bool, books: B) -> Result<State<B>, AllocError>
-        requires { B.say books no_tally }
+    /// Returns an empty queue with one sender and this number of senders' places, beside new books.
+    pub fn new(
+        alloc: Global,
+        limit: usize,
+        lossy: bool,
+        places: usize,
+        books: B,
+    ) -> Result<State<B>, AllocError>
+        requires { B.say books (new_tally places) }
         ensures { IfOk result (λ s. s ≡ record {
-          queue = fresh limit lossy;
+          queue = fresh_with limit lossy places;
           asleep = false;
           called = false;
           waiting = 0;
         }) }
     {
-        let queue = LineQueue::new(alloc, limit, lossy)?;
+        let queue = LineQueue::with_places(alloc, limit, lossy, places)?;
         let spares = Vec::with_capacity(alloc, limit.min(MOST_SPARES))?;
         Ok(State {
             asleep: false,
@@ -113,8 +157,9 @@ impl<B: Books> State<B> {
         })
     }
 
-    /// Offers a line, for a thread that `came` because it was called or woke without a call. Once it
-    /// is queued it says how the sender goes on, and may give it another buffer.
+    /// Offers a line from the sender's place, if it has one, for a thread that `came` because it was
+    /// called or woke without a call. If the line is queued, the result says how the sender goes on, and
+    /// `spare` may be another buffer.
     #[inline(always)]
     pub fn offer(
         &mut self,
@@ -124,8 +169,12 @@ impl<B: Books> State<B> {
         mine: &mut B::Mine,
     ) -> (Result<(u64, Pace), Refused>, Calls)
         requires { B.may_accept mine.old }
-        ensures offer { Offers self.old.queue line result.0 self.new.queue }
+        ensures offer { Offers self.old.queue (B.place_of mine.old) line result.0 self.new.queue }
         ensures ticket { IfOk result.0 (λ told. told.0 ≡ self.old.queue.accepted + 1) }
+        ensures rises { IfOk result.0 (λ told. IfSome (B.place_of mine.old)
+            (λ place. last_ticket_of self.old.queue place < told.0)) }
+        ensures sets { IfOk result.0 (λ told. IfSome (B.place_of mine.old)
+            (λ place. last_ticket_of self.new.queue place ≡ told.0)) }
         ensures wakes { Wakes (when_back came self.old) result.1.worker result.1.sender self.new }
         ensures counted { OnOk result.0 (B.counts_line mine.old mine.new) }
         ensures refused { OnErr result.0 (mine.new ≡ mine.old) }
@@ -142,8 +191,7 @@ impl<B: Books> State<B> {
             *waiting = waiting.saturating_sub(1);
             *called = false;
         }
-        offers_change_little();
-        let reply = queue.offer(line);
+        let reply = offer_at(queue, books.place(mine), line);
         let calls = call(asleep, called, *waiting, queue, reply.is_ok());
         match reply {
             Ok(ticket) => {
@@ -258,6 +306,7 @@ impl<B: Books> State<B> {
         } = self;
         let surplus = keep(spares, spent);
         takes_change_little();
+        other_calls_leave_last_tickets();
         let taken = queue.take(waits);
         match &taken {
             Taken::Line(..) => books.hand(pass),

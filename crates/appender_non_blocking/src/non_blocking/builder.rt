@@ -1,6 +1,6 @@
 // How a worker and its first sender are made.
-ghost use Rattle.std.specs.Prelude.{◌≡◌, ◌+◌, IfOk, Some, None, true, replicate};
-ghost use Rattle.appender_non_blocking.specs.Account.{new_sender, new_guard};
+ghost use Rattle.std.specs.Prelude.{◌≡◌, ◌+◌, IfOk, Some, None, true};
+ghost use Rattle.appender_non_blocking.specs.Account.{new_senders, new_guard};
 
 use super::account::CountedGuard;
 use super::counted::{CountedSender, make_senders};
@@ -107,7 +107,7 @@ impl NonBlockingBuilder {
         ensures { IfOk result (λ made. made.0.lossy ≡ self.lossy) }
     {
         let NonBlockingBuilder { limit, lossy, name } = self;
-        let shared = Shared::new(alloc, limit, lossy, NoBooks)?;
+        let shared = Shared::new(alloc, limit, lossy, 0, NoBooks)?;
         let guarded = Arc::try_clone(&shared)?;
         // The guard is a sender too.
         shared.add_sender(&rt);
@@ -118,9 +118,10 @@ impl NonBlockingBuilder {
         ))
     }
 
-    /// Starts the worker, and makes so many counted senders and the guard that settles their account.
-    /// The books of accepted lines need a blank of one part more than there are senders, the other
-    /// three one of one part each. Errors are those of `finish`.
+    /// Starts the worker, and makes this number of counted senders and the guard that settles their
+    /// account. Each sender has a place of its own in the queue, which keeps the last ticket of each.
+    /// The book of accepted lines needs a blank of one part more than there are senders, the other three
+    /// one of one part each. Errors are those of `finish`.
     pub fn finish_counted<
         A: Ledger + Send + Sync + 'static,
         H: Ledger + Send + Sync + 'static,
@@ -148,7 +149,7 @@ impl NonBlockingBuilder {
         requires handed { (handed.name ≡ H.name) × (handed.parts ≡ H.parts) × (handed.parts ≡ 1) }
         requires shutdowns { (shutdowns.name ≡ S.name) × (shutdowns.parts ≡ S.parts) × (shutdowns.parts ≡ 1) }
         requires closings { (closings.name ≡ C.name) × (closings.parts ≡ C.parts) × (closings.parts ≡ 1) }
-        ensures senders { IfOk result (λ made. made.0.items ≡ replicate senders (new_sender self.lossy)) }
+        ensures senders { IfOk result (λ made. made.0.items ≡ new_senders self.lossy senders) }
         ensures guard { IfOk result (λ made. made.1 ≡ new_guard senders) }
     {
         let NonBlockingBuilder { limit, lossy, name } = self;
@@ -162,8 +163,8 @@ impl NonBlockingBuilder {
             shutdowns,
             closings,
         };
-        let shared = Shared::new(alloc, limit, lossy, books)?;
-        // The guard is the sender that the queue counts already.
+        let shared = Shared::new(alloc, limit, lossy, senders, books)?;
+        // The guard is the queue's first sender. It offers no lines and has no place.
         let (made, part) = make_senders(rt, alloc, &shared, lossy, share, senders)?;
         let pass = Pass {
             handed: lines,

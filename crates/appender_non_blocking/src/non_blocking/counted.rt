@@ -1,13 +1,13 @@
 // Senders that count what they are told.
-ghost use Rattle.std.specs.Prelude.{◌≡◌, ◌≢◌, ◌+◌, Ok, IfOk, IfErr, false, replicate};
+ghost use Rattle.std.specs.Prelude.{◌≡◌, ◌≢◌, ◌+◌, ◌<◌, Ok, IfOk, IfErr, false};
 ghost use Rattle.std.specs.IoError.{error_kind};
-ghost use Rattle.appender_non_blocking.specs.Account.{Sums, new_sender};
+ghost use Rattle.appender_non_blocking.specs.Account.{Sums, new_sender, new_senders};
 ghost use Rattle.appender_non_blocking.specs.Refusal.{IsRefusal};
 ghost use Rattle.appender_non_blocking.specs.Told.{after_line};
 
 use super::sender::{Sent, copy_of, send};
 use super::shared::Shared;
-use appender_state::books::FourBooks;
+use appender_state::books::{FourBooks, SenderShare};
 use appender_sync::sync::Patience;
 use std::alloc::{AllocError, Global};
 use std::fmt::{Debug, Formatter};
@@ -27,34 +27,45 @@ pub struct CountedSender<A: Ledger, H: Ledger, S: Ledger, C: Ledger, R: Wait + D
     // The buffer for the next line.
     spare: Vec<u8>,
     patience: Patience,
-    mine: Share<A>,
+    mine: SenderShare<A>,
     queued: u64,
     dropped: usize,
+    last_ticket: u64,
 }
 
 impl<A: Ledger, H: Ledger, S: Ledger, C: Ledger, R: Wait + Drop> Model
     for CountedSender<A, H, S, C, R> {
-    ghost use Rattle.std.specs.Prelude.{◌≡◌};
+    ghost use Rattle.std.specs.Prelude.{◌≡◌, ◌+◌, ◌<◌};
     ghost use Rattle.appender_non_blocking.specs.Account.{Sums};
 
     ghost Value = { Sums };
 
-    ghost view = { λ s. record { queued = s.queued; dropped = s.dropped; lossy = s.lossy } };
+    ghost view = { λ s. record {
+      queued = s.queued;
+      dropped = s.dropped;
+      last_ticket = s.last_ticket;
+      place = s.mine.place;
+      lossy = s.lossy;
+    } };
 
-    ghost invariant = { λ s. (s.mine.parts ≡ 1) × (s.mine.amount ≡ s.queued) };
+    // The queue has the sender's place: the guard has the one part that is left.
+    ghost invariant = { λ s. (s.mine.share.parts ≡ 1) × (s.mine.share.amount ≡ s.queued)
+        × (s.mine.place + 1 < A.parts) };
 }
 
 impl<A: Ledger, H: Ledger, S: Ledger, C: Ledger, R: Wait + Drop> CountedSender<A, H, S, C, R> {
-    // One sender more.
+    // Returns one more sender, with this place in the queue.
     fn new(
         rt: R,
         alloc: Global,
         shared: Arc<Shared<FourBooks<A, H, S, C>>, Global>,
         lossy: bool,
         mine: Share<A>,
+        place: usize,
     ) -> CountedSender<A, H, S, C, R>
-        requires { (mine.parts ≡ 1) × (mine.amount ≡ 0) }
-        ensures { result ≡ new_sender lossy }
+        requires share { (mine.parts ≡ 1) × (mine.amount ≡ 0) }
+        requires place { place + 1 < A.parts }
+        ensures { result ≡ new_sender lossy place }
     {
         shared.add_sender(&rt);
         CountedSender {
@@ -64,16 +75,17 @@ impl<A: Ledger, H: Ledger, S: Ledger, C: Ledger, R: Wait + Drop> CountedSender<A
             lossy,
             spare: Vec::new(alloc),
             patience: Patience::NEW,
-            mine,
+            mine: SenderShare { share: mine, place },
             queued: 0,
             dropped: 0,
+            last_ticket: 0,
         }
     }
 
-    /// Queues a copy of the bytes as one line, be it an empty one, and tells its ticket. Where the queue
-    /// is full or closed, a lossy one drops the line and says so; else the call waits for room, and a
-    /// closed queue is an error of the kind `Other`. `OutOfMemory` where there is no memory for the copy.
-    /// With an error nothing was queued or counted.
+    /// Queues a copy of the bytes as one line, which may be empty, and returns its ticket. If the queue is
+    /// full or closed, a lossy sender drops the line and returns `Dropped`. Otherwise the call waits for
+    /// room, and returns an error of the kind `Other` if the queue is closed. `OutOfMemory` if there is no
+    /// memory for the copy. After an error nothing was queued or counted.
     pub fn write_line(&mut self, line: &[u8]) -> io::Result<Sent>
         ensures sums { self.new ≡ after_line self.old result }
         ensures waiting { self.old.lossy ≡ false → result ≢ Ok Sent.Dropped }
@@ -89,6 +101,7 @@ impl<A: Ledger, H: Ledger, S: Ledger, C: Ledger, R: Wait + Drop> CountedSender<A
             mine,
             queued,
             dropped,
+            last_ticket,
         } = self;
         let copy = match copy_of(*alloc, spare, line) {
             Ok(copy) => copy,
@@ -97,6 +110,7 @@ impl<A: Ledger, H: Ledger, S: Ledger, C: Ledger, R: Wait + Drop> CountedSender<A
         match send(rt, &**shared, *lossy, copy, spare, patience, mine) {
             Some(Sent::Queued(ticket)) => {
                 *queued += 1;
+                *last_ticket = ticket;
                 Ok(Sent::Queued(ticket))
             }
             Some(Sent::Dropped) => {
@@ -121,6 +135,13 @@ impl<A: Ledger, H: Ledger, S: Ledger, C: Ledger, R: Wait + Drop> CountedSender<A
         self.dropped
     }
 
+    /// Returns the ticket of the last line that this sender queued, or 0 before the first one.
+    pub fn last_ticket(&self) -> u64
+        ensures { result ≡ self.now.last_ticket }
+    {
+        self.last_ticket
+    }
+
     /// One sender less. Its share and its count of dropped lines are kept.
     pub(super) fn end(self) -> (Share<A>, usize)
         ensures share { (result.0.parts ≡ 1) × (result.0.amount ≡ self.queued) }
@@ -136,9 +157,11 @@ impl<A: Ledger, H: Ledger, S: Ledger, C: Ledger, R: Wait + Drop> CountedSender<A
             mine,
             queued: _,
             dropped,
+            last_ticket: _,
         } = self;
         shared.drop_sender(&rt);
-        (mine, dropped)
+        let SenderShare { share, place: _ } = mine;
+        (share, dropped)
     }
 }
 
@@ -155,6 +178,7 @@ impl<A: Ledger, H: Ledger, S: Ledger, C: Ledger, R: Wait + Drop> Drop
             mine: _,
             queued: _,
             dropped: _,
+            last_ticket: _,
         } = self;
         shared.drop_sender(&rt);
     }
@@ -167,7 +191,8 @@ impl<A: Ledger, H: Ledger, S: Ledger, C: Ledger, R: Wait + Drop> Debug
     }
 }
 
-/// So many senders, each with one part of the book of accepted lines, and what is left of it.
+/// Returns this number of senders, each with one part of the book of accepted lines and a place of its
+/// own in the queue, and the rest of the book.
 pub(super) fn make_senders<A: Ledger, H: Ledger, S: Ledger, C: Ledger, R: Wait + Drop + Copy>(
     rt: R,
     alloc: Global,
@@ -176,16 +201,16 @@ pub(super) fn make_senders<A: Ledger, H: Ledger, S: Ledger, C: Ledger, R: Wait +
     share: Share<A>,
     senders: usize,
 ) -> Result<(Vec<CountedSender<A, H, S, C, R>>, Share<A>), AllocError>
-    requires { (share.parts ≡ senders + 1) × (share.amount ≡ 0) }
-    ensures senders { IfOk result (λ made. made.0.items ≡ replicate senders (new_sender lossy)) }
+    requires { (A.parts ≡ senders + 1) × (share.parts ≡ senders + 1) × (share.amount ≡ 0) }
+    ensures senders { IfOk result (λ made. made.0.items ≡ new_senders lossy senders) }
     ensures share { IfOk result (λ made. (made.1.parts ≡ 1) × (made.1.amount ≡ 0)) }
 {
     let mut share = share;
     let mut made = Vec::with_capacity(alloc, senders)?;
-    for _i in 0..senders {
+    for place in 0..senders {
         let mine = share.split_off(1, 0);
         let shared = Arc::try_clone(shared)?;
-        made.push(CountedSender::new(rt, alloc, shared, lossy, mine))?;
+        made.push(CountedSender::new(rt, alloc, shared, lossy, mine, place))?;
     }
     Ok((made, share))
 }

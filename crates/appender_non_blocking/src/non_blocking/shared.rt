@@ -1,7 +1,7 @@
 // What senders, guard and worker share.
 ghost use Rattle.std.specs.Prelude.{◌≡◌};
 ghost use Rattle.appender_state.specs.Cases.{AsSent};
-ghost use Rattle.appender_state.specs.Tally.{no_tally};
+ghost use Rattle.appender_state.specs.Tally.{new_tally};
 
 use appender_queue::queue::Shut;
 use appender_state::books::Books;
@@ -29,17 +29,18 @@ pub(super) struct Shared<B: Books> {
 }
 
 impl<B: Books> Shared<B> {
-    /// An empty queue with one sender, beside new books.
+    /// Returns an empty queue with one sender and this number of senders' places, beside new books.
     pub(super) fn new(
         alloc: Global,
         limit: usize,
         lossy: bool,
+        places: usize,
         books: B,
     ) -> Result<Arc<Shared<B>, Global>, AllocError>
-        requires { B.say books no_tally }
+        requires { B.say books (new_tally places) }
     {
         let shared = Shared {
-            state: CachePadded::new(Mutex::new(State::new(alloc, limit, lossy, books)?)),
+            state: CachePadded::new(Mutex::new(State::new(alloc, limit, lossy, places, books)?)),
             came: Condvar::new(),
             room: Condvar::new(),
             ended: Mutex::new(false),

@@ -1,28 +1,45 @@
 -- The queue's rules over its fields and the lines of its store.
-use Rattle.std.specs.Prelude.{◌≡◌, ℕ, ◌+◌, List, [], Bool, true, false, if◌then◌else◌, Option, None, max}
+use Rattle.std.specs.Prelude.{◌≡◌, ℕ, ◌+◌, ◌≤◌, List, [], Bool, true, false, if◌then◌else◌, length, Option, None, max, All}
 use Rattle.appender_queue.specs.Queue.{Queue, Stands}
 
--- the queue whose store has these lines, which nobody can take once it is closed
-abbrev pub queue_of : List (List ℕ) → ℕ → ℕ → Option ℕ → Bool → ℕ → Bool → ℕ → ℕ → Bool → Queue
-queue_of lines accepted handed shutdown closed senders worker_waits dropped limit lossy = record {
-  lines = if closed then [] else lines;
-  accepted = accepted;
-  handed = handed;
-  shutdown = shutdown;
-  closed = closed;
-  senders = senders;
-  worker_waits = worker_waits;
-  dropped = dropped;
-  limit = limit;
-  lossy = lossy;
+-- the lines that a queue's store has, for how many it has room, and the queue's other fields
+pub record Fields : Type 0 where
+  pub stored : List (List ℕ)
+  pub room : ℕ
+  pub accepted : ℕ
+  pub handed : ℕ
+  pub shutdown : Option ℕ
+  pub closed : Bool
+  pub senders : ℕ
+  pub worker_waits : Bool
+  pub dropped : ℕ
+  pub limit : ℕ
+  pub lossy : Bool
+  pub last_tickets : List ℕ
+
+-- the queue, whose lines nobody can take once it is closed
+abbrev pub queue_of : Fields → Queue
+queue_of f = record {
+  lines = if f.closed then [] else f.stored;
+  accepted = f.accepted;
+  handed = f.handed;
+  shutdown = f.shutdown;
+  closed = f.closed;
+  senders = f.senders;
+  worker_waits = f.worker_waits;
+  dropped = f.dropped;
+  limit = f.limit;
+  lossy = f.lossy;
+  last_tickets = f.last_tickets;
 }
 
--- what the fields keep, with so many lines stored and room for so many
-pub record IsKept (stored room accepted handed : ℕ) (shutdown : Option ℕ) (closed : Bool) (dropped limit : ℕ) (lossy : Bool) : Type 0 where
+-- what the fields keep
+pub record IsKept (f : Fields) : Type 0 where
   -- every accepted line was handed or is stored
-  pub counted : accepted ≡ handed + stored
-  pub shutdown_between : Stands shutdown handed accepted
+  pub counted : f.accepted ≡ f.handed + length f.stored
+  pub shutdown_between : Stands f.shutdown f.handed f.accepted
   -- one place at limit 0
-  pub wide : room ≡ max limit 1
-  pub drained : closed ≡ true → shutdown ≡ None → stored ≡ 0
-  pub none_dropped : lossy ≡ false → dropped ≡ 0
+  pub wide : f.room ≡ max f.limit 1
+  pub drained : f.closed ≡ true → f.shutdown ≡ None → length f.stored ≡ 0
+  pub none_dropped : f.lossy ≡ false → f.dropped ≡ 0
+  pub last_tickets_given : All (λ ticket. ticket ≤ f.accepted) f.last_tickets

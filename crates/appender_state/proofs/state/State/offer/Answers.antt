@@ -1,6 +1,6 @@
 use Rattle.std.proofs.Common.{◌+◌, ◌^◌, ◌<◌, rules, subst, sym}
-use Rattle.appender_queue.specs.QueueChanges.{OfferLeaves}
-use Rattle.appender_state.specs.Tally.{tally_of}
+use Rattle.appender_queue.specs.QueueChanges.{OfferFromLeaves}
+use Rattle.appender_state.specs.Tally.{tally_of, with_line}
 use Rattle.appender_state.proofs.state.State.offer.Goals.{in-Ok, in-Err}
 use Rattle.appender_state.proofs.state.State.offer.Goals as goal
 
@@ -8,22 +8,25 @@ use Rattle.appender_state.proofs.state.State.offer.Goals as goal
 -- lines
 pub invariant_of-self : goal.invariant_of-self
 invariant_of-self g c =
-    let leaves = c.offers_change_little.ensures c.self.inside.queue c.offer-reply.new.self c.args.line c.offer-reply.result c.offer-reply.ensures in
+    let old = c.self.inside.queue in
+    let new = c.offer_at-reply.new.queue in
+    let leaves = c.offer_at-reply.ensures.leaves in
     elim c.match-reply.branch [
       | in-Ok w ↦
-          let more = subst (λ reply. OfferLeaves c.self.inside.queue c.offer-reply.new.self c.args.line.items reply) w.in-Ok.is leaves in
-          let fits : c.self.inside.queue.accepted + 1 < 2 ^ 64 = subst (λ q. q.accepted < 2 ^ 64) more.1 c.offer-reply.ensures.lawful.tickets_fit in
-          let counted = w.accept.ensures (tally_of c.self.inside.queue) c.self.invariant.1 fits in
+          let more = subst (λ reply. OfferFromLeaves old new c.args.line.items reply) w.in-Ok.is leaves in
+          let fits : old.accepted + 1 < 2 ^ 64 = subst (λ q. q.accepted < 2 ^ 64) more.1 c.offer_at-reply.ensures.lawful.tickets_fit in
+          let counted = w.accept.ensures (tally_of old) c.self.invariant.1 fits in
+          let placed = subst (λ n. g.B.Books.say w.accept.new.self (record (with_line (tally_of old)) { places = n })) (sym more.2) counted.0 in
           rw w.self-inside-is (
-            c.offer-reply.ensures.lawful,
-            subst (λ q. g.B.Books.say w.accept.new.self (tally_of q)) (sym more.1) counted.0,
+            c.offer_at-reply.ensures.lawful,
+            subst (λ q. g.B.Books.say w.accept.new.self (tally_of q)) (sym more.1) placed,
             c.call-calls.ensures.room,
             search rules,
           )
       | in-Err w ↦
-          let little = subst (λ reply. OfferLeaves c.self.inside.queue c.offer-reply.new.self c.args.line.items reply) w.in-Err.is leaves in
+          let little = subst (λ reply. OfferFromLeaves old new c.args.line.items reply) w.in-Err.is leaves in
           rw w.self-inside-is (
-            c.offer-reply.ensures.lawful,
+            c.offer_at-reply.ensures.lawful,
             subst (λ q. g.B.Books.say c.self.inside.books (tally_of q)) (sym little) c.self.invariant.1,
             c.call-calls.ensures.room,
             search rules,
