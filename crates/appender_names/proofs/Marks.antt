@@ -18,9 +18,9 @@ use Rattle.appender_names.proofs.Order.{IsLess, digits_less, cmp_front, cmp_behi
 number_less : (j k : ℕ) → j < k → IsLess (number_text j) (number_text k)
 number_less j k h = digits_less (two_digits (j / 10000) ++ two_digits (j / 100 % 100)) (two_digits (k / 10000) ++ two_digits (k / 100 % 100)) (j % 100) (k % 100) (elim (cases_lt (j / 100) (k / 100)) [
   | inl front ↦ inl (digits_less (two_digits (j / 10000)) (two_digits (k / 10000)) (j / 100 % 100) (k / 100 % 100) (elim (cases_lt (j / 10000) (k / 10000)) [
-      | inl high ↦ inl (digits_less [] [] (j / 10000) (k / 10000) (inr (refl, high)))
-      | inr back ↦ inr (ap two_digits (omega arith), omega arith)
-    ]))
+    | inl high ↦ inl (digits_less [] [] (j / 10000) (k / 10000) (inr (refl, high)))
+    | inr back ↦ inr (ap two_digits (omega arith), omega arith)
+  ]))
   | inr back ↦ (
       let high : j / 10000 ≡ k / 10000 = omega arith in
       let middle : j / 100 % 100 ≡ k / 100 % 100 = omega arith in

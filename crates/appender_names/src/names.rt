@@ -272,7 +272,11 @@ fn split_number(numbered: bool, mark: &[u8]) -> Option<(&[u8], u32)>
 fn tail_len(suffix: &str) -> usize
     ensures { result ≡ 6 + length (back suffix.now) }
 {
-    if suffix.is_empty() { 6 } else { suffix.len() + 7 }
+    if suffix.is_empty() {
+        6
+    } else {
+        suffix.len() + 7
+    }
 }
 
 // Adds a dot and the suffix, if one is set, for which there is room.

@@ -171,7 +171,7 @@ module _ {S F : Type 0} (c : Config) (first : Stamp) (laws : Laws c.rotation) wh
       let t = turn c.rotation first.moment e h laws so.in_range in
       let due : is_due old.boundary m ≡ arrives c.rotation first.moment e h = ap (λ b. is_due b m) so.boundary_is ∙ sym t.arrived in
       let full : roller_is_full old offered ≡ is_full c first (times c first h) e h =
-          rw (same, so.last_is) (full_is c.max_bytes (count_since (times c first h) h) (wanted offered) (last_stamp first (times c first h)).number old.room (wanted_some offered) so.room_is) in
+      rw (same, so.last_is) (full_is c.max_bytes (count_since (times c first h) h) (wanted offered) (last_stamp first (times c first h)).number old.room (wanted_some offered) so.room_is) in
       by (arrives c.rotation first.moment e h) refl due full (λ came. t.is_it (sym t.arrived ∙ came))
     where
       e : Event

@@ -39,7 +39,12 @@ module _ (maps : NameLaws) where
     link_has_reason : (link name : List ℕ) (old pruned unlinked : S) (file : F) (fault : Error) (new : S) → c.link ≡ link → Prunes kind (naming_of c) c.max_files old pruned → GetsFile kind name pruned file unlinked → LinksNot kind link name unlinked fault new → HasReason kind c name old (Symlink fault) new
     link_has_reason [] name old pruned unlinked file fault new is prunes gets never = absurd never
     link_has_reason (b ∷ bs) name old pruned unlinked file fault new is prunes gets links_not = (
-      pruned, file, unlinked, links_not.freed, prunes, gets,
+      pruned,
+      file,
+      unlinked,
+      links_not.freed,
+      prunes,
+      gets,
       subst (λ (l : List ℕ). TriesRemoveLink kind l unlinked links_not.freed) (sym is) links_not.removes,
       subst (λ (l : List ℕ). kind.make_link_gives links_not.freed l name (Err fault) new) (sym is) links_not.call,
       elim (fails (Unit {0}) (LeavesNoPlace kind (b ∷ bs) unlinked links_not.freed) kind.tells (kind.failures links_not.freed) fault (kind.failures new) links_not.cause) [
@@ -58,14 +63,26 @@ module _ (maps : NameLaws) where
         ]
 
     pub refusal_has_reason : (name : List ℕ) (old : S) (error : InitError) (new : S) → RefusesFile kind c name old error new → HasReason kind c name old error new
-    refusal_has_reason name old (Directory fault) new (pruned, prunes, none) = (none.refused, (pruned, none.first_fault, prunes, none.first), none.call, elim (fails (Unit {0}) ⊥ kind.tells (kind.failures none.refused) fault (kind.failures new) none.cause) [
-      | inl itself ↦ itself
-      | inr forbidden ↦ absurd forbidden.1
-    ])
-    refusal_has_reason name old (NoFile fault) new (pruned, prunes, none) = (none.refused, none.ready, (pruned, none.first_fault, prunes, none.first), none.makes, none.second.call, elim (fails F (IsLinkOrFolder (fin.get (kind.content pruned).names name)) kind.tells (kind.failures none.ready) fault (kind.failures new) none.cause) [
-      | inl itself ↦ inl itself
-      | inr forbidden ↦ inr (forbidden.0, found IsLinkOrFolder (λ never. never) c (kind.content old) (kind.content pruned) (prunes.only_old forbidden.0) name forbidden.1)
-    ])
+    refusal_has_reason name old (Directory fault) new (pruned, prunes, none) = (
+      none.refused,
+      (pruned, none.first_fault, prunes, none.first),
+      none.call,
+      elim (fails (Unit {0}) ⊥ kind.tells (kind.failures none.refused) fault (kind.failures new) none.cause) [
+        | inl itself ↦ itself
+        | inr forbidden ↦ absurd forbidden.1
+      ],
+    )
+    refusal_has_reason name old (NoFile fault) new (pruned, prunes, none) = (
+      none.refused,
+      none.ready,
+      (pruned, none.first_fault, prunes, none.first),
+      none.makes,
+      none.second.call,
+      elim (fails F (IsLinkOrFolder (fin.get (kind.content pruned).names name)) kind.tells (kind.failures none.ready) fault (kind.failures new) none.cause) [
+        | inl itself ↦ inl itself
+        | inr forbidden ↦ inr (forbidden.0, found IsLinkOrFolder (λ never. never) c (kind.content old) (kind.content pruned) (prunes.only_old forbidden.0) name forbidden.1)
+      ],
+    )
     refusal_has_reason name old (Symlink fault) new (pruned, unlinked, file, prunes, gets, links_not) = link_has_reason c.link name old pruned unlinked file fault new refl prunes gets links_not
     refusal_has_reason name old Memory new same = same
     refusal_has_reason name old Moment new (pruned, prunes, never) = never

@@ -58,9 +58,9 @@ module _ (n : Naming) (m : ℤ) where
       within key e false u in_period below = record {
         at_most = lit≤ tt;
         above = λ other k there has.
-          let same = same_key key e other k has.0 there has.1 in
-          let period : period_of n.rotation key.0 ≡ period_of n.rotation m = ap (λ (x : ℤ × ℕ). period_of n.rotation x.0) same ∙ has.2 in
-          absurd (let both : false ≡ true = sym in_period ∙ ap (λ p. is_same_start p (period_of n.rotation m)) period ∙ is_same_is (period_of n.rotation m) in cc);
+            let same = same_key key e other k has.0 there has.1 in
+            let period : period_of n.rotation key.0 ≡ period_of n.rotation m = ap (λ (x : ℤ × ℕ). period_of n.rotation x.0) same ∙ has.2 in
+            absurd (let both : false ≡ true = sym in_period ∙ ap (λ p. is_same_start p (period_of n.rotation m)) period ∙ is_same_is (period_of n.rotation m) in cc);
         least = inl refl;
       }
       within key e true true in_period below =
@@ -83,8 +83,8 @@ module _ (n : Naming) (m : ℤ) where
       by None e = rw e (record {
         at_most = lit≤ tt;
         above = λ other k there has.
-          let reads = subst (λ (x : List ℕ). ReadsAt n x has.0 k) (sym (some_is name other there)) has.1 in
-          absurd (let both : ◌≡◌ {A = Option (ℤ × ℕ)} None (Some (has.0, k)) = sym e ∙ reads_reading n name has.0 k reads in cc);
+            let reads = subst (λ (x : List ℕ). ReadsAt n x has.0 k) (sym (some_is name other there)) has.1 in
+            absurd (let both : ◌≡◌ {A = Option (ℤ × ℕ)} None (Some (has.0, k)) = sym e ∙ reads_reading n name has.0 k reads in cc);
         least = inl refl;
       })
       by (Some key) e = rw e (within key e (is_in_period n.rotation m key.0) (nat_lt key.1 999999) refl refl)
@@ -157,8 +157,9 @@ module _ (n : Naming) (m : ℤ) where
           (w.0.1, subst (λ (x : List ℕ). fin.get c.names x ≡ Some w.0.1) same (entry_there nat_list_cmp_total c.names w.0 w.1))
 
       from : (name : List ℕ) → HasEntry c name → IsListed (map listed_row all) name
-      from name (e, at) =
-          (entry_row (name, e),
-          Contains-permutation (map entry_row (fin.entries c.names)) (map listed_row all) (entry_row (name, e)) (IsPermutation-sym (map listed_row all) (map entry_row (fin.entries c.names)) lists)
-          (Contains_map entry_row (fin.entries c.names) (name, e) (there_entry exact_bytes c.names name e at)),
-          row_name (name, e))
+      from name (e, at) = (
+        entry_row (name, e),
+        Contains-permutation (map entry_row (fin.entries c.names)) (map listed_row all) (entry_row (name, e)) (IsPermutation-sym (map listed_row all) (map entry_row (fin.entries c.names)) lists)
+            (Contains_map entry_row (fin.entries c.names) (name, e) (there_entry exact_bytes c.names name e at)),
+        row_name (name, e),
+      )

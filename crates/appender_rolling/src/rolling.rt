@@ -102,14 +102,12 @@ impl<S: Folder> Roller<S> {
         }
     }
 
-    /// Returns whether a look at the clock at this moment would begin the next file: the moment is in
-    /// range and at or past the boundary, or the file is full.
+    /// Returns whether a look at the clock at this moment would begin the next file: a moment of the range
+    /// that is not before the boundary, or any moment if the file is full.
     pub fn due(&self, moment: i64) -> bool
         ensures { result ≡ is_some (next_stamp self.now moment 0) }
     {
-        self.schedule
-            .next_stamp(self.log.room, moment, 0)
-            .is_some()
+        self.schedule.next_stamp(self.log.room, moment, 0).is_some()
     }
 
     /// Looks at the clock. If a boundary has come, opens the file of the moment's period in place of the

@@ -87,10 +87,7 @@ impl<S: Folder, C: Clock, R: Drop> RollingFileAppender<S, C, R> {
     pub fn into_parts(self) -> (S, C)
         ensures clock { result.1 ≡ self.clock }
     {
-        (
-            self.gate.into_inner().into_folder(),
-            self.clock,
-        )
+        (self.gate.into_inner().into_folder(), self.clock)
     }
 }
 

@@ -4,9 +4,9 @@ ghost use Rattle.appender_rolling.specs.Config.{is_limited};
 ghost use Rattle.appender_rolling.specs.Opening.{file_name_of};
 ghost use Rattle.appender_rolling.specs.Roller.{ClosesLast, Looks, Stands, rolling_of, is_due, is_full_with, next_with};
 
+use super::Switch;
 use super::log_file::LogFile;
 use super::setup::{LAST_NUMBER, Opened, Setup, Stamp};
-use super::Switch;
 use appender_names::rotation::in_range;
 use appender_store::laws::names_change_one_at_a_time;
 use appender_store::store::{Folder, Notice};

@@ -152,9 +152,9 @@ impl Setup {
         Ok(self.names.file_name_at(stamp.moment, stamp.number)?)
     }
 
-    /// Returns the number of the first file: one above the greatest that is listed for the moment's
-    /// period, 0 if there is none, and at most 999,999. If the folder can't be listed, that is noted, and
-    /// the number is 0. Without a limit of bytes it is 0, and no call is made.
+    /// Returns the number of the first file: the one after the greatest that is listed for the moment's
+    /// period, up to 999,999, or 0 if none is listed. A listing that fails is noted, and gives 0. Without
+    /// a limit of bytes the number is 0, and no call is made.
     pub(super) fn first_number<S: Folder>(&self, folder: &mut S, moment: i64) -> u32
         requires { IsMoment moment }
         ensures { FindsNumber S.Folder self.now moment folder.old result folder.new }
@@ -294,7 +294,11 @@ fn number_after(rotation: Rotation, moment: i64, second: i64, number: u32) -> u3
     if !rotation.is_in_period(moment, second) {
         return 0;
     }
-    if number < LAST_NUMBER { number + 1 } else { LAST_NUMBER }
+    if number < LAST_NUMBER {
+        number + 1
+    } else {
+        LAST_NUMBER
+    }
 }
 
 // The second and the number that the name of a listed entry reads as.
