@@ -1,5 +1,5 @@
 -- What stands between prefix and suffix: later dates, and greater numbers of one date, have greater texts.
-use Rattle.std.proofs.Common.{◌≡◌, ◌≢◌, ℕ, suc, ◌+◌, ◌-◌, ◌*◌, ◌/◌, ◌%◌, ◌<◌, ◌≤◌, ℤ, pos, ◌+ℤ◌, ◌<ℤ◌, Bool, true, false, ◌⊎◌, inl, inr, List, [], ◌∷◌, ◌++◌, length, take, length-append, append_assoc, ◌==◌, if◌then◌else◌, arith, refl, ap, sym, ◌∙◌, subst}
+use Rattle.std.proofs.Common.{◌≡◌, ℕ, suc, ◌+◌, ◌-◌, ◌*◌, ◌/◌, ◌%◌, ◌<◌, ◌≤◌, ℤ, Bool, true, false, inl, inr, List, [], ◌∷◌, ◌++◌, length, take, length-append, append_assoc, arith, refl, ap, sym, ◌∙◌}
 use Rattle.std.specs.Cmp.Lexicographic.{slice_cmp}
 use Rattle.std.specs.Ordering.{nat_cmp}
 use Rattle.std.specs.declared.cmp.Ordering.TheVariants.{Less, Equal}
@@ -8,7 +8,7 @@ use Rattle.std.proofs.lemmas.Int.{ints}
 use Rattle.appender_names.specs.declared.rotation.RotationKind.{RotationKind}
 use Rattle.appender_names.specs.declared.rotation.RotationKind.TheVariants.{Minutely, Hourly, Daily, Weekly, Never}
 use Rattle.appender_names.specs.DateText.{IsDated, second_of, two_digits, date_text, text_at, unit_of}
-use Rattle.appender_names.specs.Name.{number_text, marked, last_by, before, behind, back, dated_name, IsLaterName}
+use Rattle.appender_names.specs.Name.{number_text, marked, last_by, before, back, dated_name, IsLaterName}
 use Rattle.std.specs.List.{slice_index}
 use Rattle.std.proofs.lemmas.List.{append-nil}
 use Rattle.appender_names.proofs.Clock.{second_is}

@@ -10,7 +10,7 @@ use Rattle.appender_names.specs.declared.rotation.RotationKind.{RotationKind}
 use Rattle.appender_names.specs.declared.rotation.RotationKind.TheVariants.{Minutely, Hourly, Daily, Weekly, Never}
 use Rattle.appender_names.specs.declared.rotation.Rotation.{Rotation}
 use Rattle.appender_names.specs.Rotation.{IsMoment, period_of, period_of_kind, step_of, StartsItself}
-use Rattle.appender_names.specs.DateText.{IsDated, second_of, date_text, text_at, unit_of}
+use Rattle.appender_names.specs.DateText.{IsDated, second_of, date_text, unit_of}
 use Rattle.appender_names.specs.Name.{Naming, name_at, mark_of, dated_name, behind, before, ReadsAt, NamesRise, NamesArePeriods, NamesReadAsStarts, NamesReadOnce}
 use Rattle.appender_names.proofs.Periods.{floor, floor_whole, whole_is, period_is, start_is}
 use Rattle.appender_names.proofs.Clock.{second_is}

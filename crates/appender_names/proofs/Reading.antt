@@ -1,20 +1,17 @@
 -- A name reads as one second and one number at most.
-use Rattle.std.proofs.Common.{◌≡◌, ◌≢◌, ◌↔◌, ℕ, zero, suc, ◌<◌, ◌≤◌, ◌+◌, ◌*◌, ◌/◌, ◌%◌, ℤ, pos, ◌+ℤ◌, ◌<ℤ◌, Bool, true, false, if◌then◌else◌, List, [], ◌∷◌, arith, refl, ap, sym, ◌∙◌, subst, inl, inr, Option, Some, None}
+use Rattle.std.proofs.Common.{◌≡◌, ◌≢◌, ◌↔◌, ℕ, zero, suc, ◌<◌, ◌+◌, ◌*◌, ◌/◌, ◌%◌, ℤ, pos, ◌+ℤ◌, Bool, true, false, if◌then◌else◌, List, [], ◌∷◌, arith, refl, ap, sym, ◌∙◌, subst, inl, inr, Option, Some, None}
 use Rattle.std.specs.Int.{int_rem_euclid}
 use Rattle.std.specs.Str.{bytes_eq}
 use Rattle.std.proofs.Math.Nat.{mul-mod_left}
 use Rattle.std.proofs.lemmas.Slice.Eq.{bytes_eq-Decides}
 use Rattle.std.specs.Prelude.{MatchOption, unwrap_or}
-use Rattle.std.specs.Cmp.Lexicographic.{slice_cmp}
-use Rattle.std.specs.Ordering.{nat_cmp}
-use Rattle.std.specs.declared.cmp.Ordering.TheVariants.{Equal}
 use Rattle.std.proofs.lemmas.Bool.{cases_order}
 use Rattle.std.proofs.lemmas.Int.{ints}
 use Rattle.std.proofs.lemmas.List.{append_cancel_left, append_cancel_right}
 use Rattle.appender_names.specs.declared.rotation.RotationKind.{RotationKind}
 use Rattle.appender_names.specs.declared.rotation.RotationKind.TheVariants.{Minutely, Hourly, Daily, Weekly, Never}
 use Rattle.appender_names.specs.DateText.{IsDated, second_of, unit_of, IsDateText, date_text}
-use Rattle.appender_names.specs.Name.{Naming, Reads, ReadsAt, IsMark, NamesReadOnce, behind, before, dated_name, marked, mark_of, last_by, unit_start, numbers_of, second_in, number_in, last_named, reading_at}
+use Rattle.appender_names.specs.Name.{Naming, Reads, ReadsAt, IsMark, NamesReadOnce, behind, before, dated_name, marked, mark_of, unit_start, numbers_of, second_in, number_in, last_named, reading_at}
 use Rattle.appender_names.proofs.Marks.{IsWhole, mark_once, place, place_low, unit_low}
 use Rattle.std.specs.Option.{option_map}
 use Rattle.appender_names.proofs.Clock.{second_is}

@@ -1,5 +1,5 @@
 -- Under a limit of bytes, what is written to a file below the greatest number is no more than the limit, or one piece.
-use Rattle.std.proofs.Common.{◌≡◌, ◌≢◌, ◌⊎◌, inl, inr, ℕ, suc, ◌+◌, ◌<◌, ◌≤◌, ◌==◌, nat_le, nat_lt, ◌&&◌, Bool, true, false, not, if◌then◌else◌, ℤ, List, [], ◌∷◌, ◌++◌, length, length-append, map, Option, None, Some, is_some, arith, refl, ap, sym, ◌∙◌, subst}
+use Rattle.std.proofs.Common.{◌≡◌, ◌≢◌, ◌⊎◌, inl, inr, ℕ, suc, ◌+◌, ◌<◌, ◌≤◌, ◌==◌, nat_le, nat_lt, ◌&&◌, Bool, true, false, if◌then◌else◌, ℤ, List, [], ◌∷◌, ◌++◌, length, length-append, map, Option, None, Some, is_some, arith, refl, ap, sym, ◌∙◌, subst}
 use Rattle.std.proofs.lemmas.Bool.Decides.{nat_tests}
 use Rattle.std.proofs.lemmas.List.{append-nil}
 use Rattle.appender_rolling.specs.Config.{Config, is_limited, stamp}
@@ -7,7 +7,7 @@ use Rattle.appender_rolling.specs.Roller.{wanted}
 use Rattle.appender_rolling.specs.declared.rolling.setup.Stamp.{Stamp}
 use Rattle.appender_rolling.specs.declared.rolling.Switch.{Switch}
 use Rattle.appender_rolling.specs.declared.rolling.Switch.TheVariants.{None as Stayed, Opened as Switched, Failed as SwitchFailed}
-use Rattle.appender_replay.specs.Run.{Event, Attempt, Time, time_of, times, with_time, stamp_at, arrives, is_full, latest_moment, last_stamp, last_step, count_since, since, carrier, passes, bytes_of_attempt, is_switch, is_opened, SwitchesAtAttempts, NoneFailed, EachWriteReadsClock, PiecesFit, IsOnePiece, KeepsToLimit, EachOf}
+use Rattle.appender_replay.specs.Run.{Event, Attempt, Time, time_of, times, with_time, stamp_at, arrives, is_full, latest_moment, last_stamp, last_step, count_since, since, carrier, bytes_of_attempt, is_switch, is_opened, SwitchesAtAttempts, NoneFailed, EachWriteReadsClock, PiecesFit, IsOnePiece, KeepsToLimit, EachOf}
 use Rattle.appender_replay.proofs.Clocks.{since_now}
 use Rattle.appender_replay.proofs.Owners.{each_map, pieces_before}
 use Rattle.appender_replay.proofs.Files.{nothing_later}

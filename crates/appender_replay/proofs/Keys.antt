@@ -1,11 +1,11 @@
 -- Each attempt has a later key than those before it: a later period, or in one period a greater number.
-use Rattle.std.proofs.Common.{◌≡◌, ◌⊎◌, inl, inr, ℕ, suc, ◌+◌, ℤ, Bool, true, false, if◌then◌else◌, List, [], ◌∷◌, length, Option, None, Some, arith, refl, ap, sym, ◌∙◌, subst}
-use Rattle.appender_names.specs.Rotation.{IsMoment, period_of, next_of}
-use Rattle.appender_rolling.specs.Config.{Config, stamp}
+use Rattle.std.proofs.Common.{◌≡◌, ◌⊎◌, inl, inr, ℕ, ℤ, Bool, true, false, List, [], ◌∷◌, Option, arith, refl, ap, sym, ◌∙◌, subst}
+use Rattle.appender_names.specs.Rotation.{IsMoment}
+use Rattle.appender_rolling.specs.Config.{Config}
 use Rattle.appender_rolling.specs.declared.rolling.setup.Stamp.{Stamp}
-use Rattle.appender_replay.specs.Run.{Event, Time, Key, latest_moment, period_at, arrives, is_full, is_opened, stamp_at, with_time, times, last_stamp, key_of, key_at, bytes_under}
-use Rattle.appender_replay.proofs.Periods.{Laws, IsLater, IsLaterKey, later_key_differs, later_key_still}
-use Rattle.appender_replay.proofs.Clocks.{turn, due_by}
+use Rattle.appender_replay.specs.Run.{Event, Time, Key, latest_moment, period_at, arrives, is_full, with_time, times, last_stamp, key_at, bytes_under}
+use Rattle.appender_replay.proofs.Periods.{Laws, IsLaterKey, later_key_differs, later_key_still}
+use Rattle.appender_replay.proofs.Clocks.{turn}
 
 module _ (c : Config) (first : Stamp) (laws : Laws c.rotation) (starts : IsMoment first.moment) where
   pub latest_in_range : (h : List Event) → IsMoment (latest_moment first.moment h)

@@ -1,5 +1,5 @@
 -- The law of the files at work: what it says of quiet attempts, and which counts it refuses.
-use Rattle.std.proofs.Common.{◌≡◌, ◌∙◌, ℕ, suc, List, Option, None, Some, inl, refl, sym}
+use Rattle.std.proofs.Common.{◌≡◌, ◌∙◌, ℕ, suc, Option, None, Some, inl, refl, sym}
 use Rattle.std.specs.Prelude.{zero}
 use Rattle.std.specs.FinMap as fin
 use Rattle.appender_store.specs.Content.{Entry}

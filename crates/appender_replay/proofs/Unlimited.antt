@@ -1,5 +1,5 @@
 -- Without a limit of bytes every number is 0, so that a file is told by its period alone.
-use Rattle.std.proofs.Common.{◌≡◌, ◌∙◌, ℕ, suc, ◌+◌, ◌≤◌, ◌==◌, ◌&&◌, ℤ, Bool, true, false, if◌then◌else◌, List, [], ◌∷◌, ◌++◌, length, Option, None, Some, is_some, arith, refl, ap, sym}
+use Rattle.std.proofs.Common.{◌≡◌, ◌∙◌, ℕ, suc, ◌+◌, ◌==◌, ◌&&◌, ℤ, Bool, true, false, if◌then◌else◌, List, [], ◌∷◌, ◌++◌, length, Option, None, Some, is_some, arith, refl, ap, sym}
 use Rattle.std.specs.Prelude.{nat_lt, unwrap_or}
 use Rattle.appender_names.specs.Rotation.{period_of, is_same_start}
 use Rattle.appender_names.specs.Name.{last_by}
@@ -7,8 +7,7 @@ use Rattle.appender_store.specs.Content.{Content, body_at}
 use Rattle.appender_rolling.specs.Config.{Config, is_limited, IsStamp, last_of, stamp}
 use Rattle.appender_rolling.specs.declared.rolling.setup.Stamp.{Stamp}
 use Rattle.appender_rolling.specs.Roller.{wanted}
-use Rattle.appender_rolling.specs.declared.rolling.Switch.{Switch}
-use Rattle.appender_replay.specs.Run.{count_since, Event, Attempt, Time, arrives, is_full, latest_moment, period_at, last_stamp, stamp_at, times, with_time, is_opened, is_switch, is_same_key, key_at, key_of, bytes_in_period, bytes_under, CarriesItsPeriod, CarriesItsNumber, HoldsItsPeriod, HoldsItsNumber, SwitchesAtArrivals, SwitchesAtAttempts, EachOf}
+use Rattle.appender_replay.specs.Run.{count_since, Event, Attempt, Time, arrives, is_full, latest_moment, period_at, last_stamp, stamp_at, times, with_time, is_opened, bytes_in_period, bytes_under, CarriesItsPeriod, CarriesItsNumber, HoldsItsPeriod, HoldsItsNumber, SwitchesAtArrivals, SwitchesAtAttempts, EachOf}
 
 module _ (c : Config) (start : Stamp) (unlimited : is_limited c ≡ false) where
   none_greater : (s : Stamp) → IsStamp c s → s.number ≡ 0

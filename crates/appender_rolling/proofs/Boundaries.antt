@@ -1,5 +1,5 @@
 -- When the next boundary lies ahead.
-use Rattle.std.proofs.Common.{◌≡◌, ◌↔◌, inl, inr, List, ℕ, ◌+◌, ◌<◌, ℤ, ◌<ℤ◌, Bool, true, false, if◌then◌else◌, Option, None, Some, IsNone, IfSome, arith, refl, ap, sym, subst, lit≤}
+use Rattle.std.proofs.Common.{◌≡◌, ◌↔◌, inl, inr, List, ℕ, ◌+◌, ◌<◌, ℤ, ◌<ℤ◌, Bool, true, false, if◌then◌else◌, Option, None, Some, IsNone, IfSome, arith, refl, ap, subst}
 use Rattle.std.proofs.lemmas.Int.{ints}
 use Rattle.appender_names.specs.declared.rotation.Rotation.{Rotation}
 use Rattle.appender_names.specs.Rotation.{IsMoment, IsNever, IsNextBoundary, IsBoundary}

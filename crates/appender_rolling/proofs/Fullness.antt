@@ -1,10 +1,9 @@
 -- When a file is full, and what follows if none is to begin.
-use Rattle.std.proofs.Common.{◌≡◌, ◌∙◌, ℕ, ◌+◌, ◌<◌, ℤ, Bool, true, false, if◌then◌else◌, Option, None, Some, is_some, arith, refl, ap, sym}
-use Rattle.std.specs.Prelude.{not, ◌==◌, nat_lt, ◌&&◌}
+use Rattle.std.proofs.Common.{◌≡◌, ℕ, ◌+◌, ℤ, Bool, true, false, if◌then◌else◌, Option, None, Some, is_some, arith, refl, sym}
 use Rattle.std.proofs.lemmas.Bool.Decides.{nat_tests}
 use Rattle.appender_store.specs.declared.store.Folder.{Ghosts}
 use Rattle.appender_rolling.specs.declared.rolling.setup.Stamp.{Stamp}
-use Rattle.appender_rolling.specs.Config.{Config, is_limited, stamp}
+use Rattle.appender_rolling.specs.Config.{is_limited, stamp}
 use Rattle.appender_rolling.specs.Roller.{Scheduled, is_due, is_full_with, next_with}
 use Rattle.appender_rolling.specs.Appender.{AsksSome, LooksNow}
 use Rattle.appender_rolling.specs.declared.rolling.clock.Clock.{Ghosts as Readings}

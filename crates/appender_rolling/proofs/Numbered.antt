@@ -1,8 +1,7 @@
 -- The names of a setup are those of its configuration.
-use Rattle.std.proofs.Common.{◌≡◌, ℕ, ◌≤◌, ◌==◌, ℤ, Bool, true, false, not, List, arith, refl, ap, sym, subst}
-use Rattle.appender_names.specs.Name.{Naming, name_at, last_by}
+use Rattle.std.proofs.Common.{◌≡◌, ℕ, ◌≤◌, ◌==◌, true, false, not, List, arith, ap}
+use Rattle.appender_names.specs.Name.{Naming, last_by}
 use Rattle.appender_rolling.specs.Config.{Config, naming_of, is_limited, last_of, IsStamp}
-use Rattle.appender_rolling.specs.Opening.{file_name_of}
 use Rattle.appender_rolling.specs.declared.rolling.setup.Stamp.{Stamp}
 
 abbrev pub config_with : Naming → List ℕ → ℕ → ℕ → Config

@@ -1,24 +1,23 @@
 -- The number of the first file: of a listing, and so of the folder's names.
-use Rattle.std.proofs.Common.{◌≡◌, ◌∙◌, ◌⊎◌, inl, inr, ℕ, zero, suc, ◌+◌, ◌<◌, ◌≤◌, ℤ, Bool, true, false, if◌then◌else◌, List, [], ◌∷◌, length, map, Option, None, Some, refl, sym, ap, subst, arith, lit≤}
+use Rattle.std.proofs.Common.{◌≡◌, ◌∙◌, ◌⊎◌, inl, inr, ℕ, zero, suc, ◌+◌, ◌<◌, ◌≤◌, ℤ, Bool, true, false, if◌then◌else◌, List, [], ◌∷◌, map, Option, None, Some, refl, sym, ap, subst, arith, lit≤}
 use Rattle.std.specs.Prelude.{nat_lt, unwrap_or}
-use Rattle.std.specs.List.{Contains}
 use Rattle.std.specs.FinMap as fin
 use Rattle.std.specs.Cmp.Lexicographic.{nat_list_cmp_total}
 use Rattle.std.proofs.lemmas.Bool.Decides.{nat_tests}
 use Rattle.std.proofs.lemmas.List.Sorted.{Contains-permutation, IsPermutation-sym}
 use Rattle.std.proofs.lemmas.Map.Lookups.{exact_bytes}
 use Rattle.appender_names.specs.Rotation.{period_of, is_same_start, is_in_period}
-use Rattle.appender_names.specs.Name.{Naming, ReadsAt, IsNumberIn, reading_at, last_by}
+use Rattle.appender_names.specs.Name.{Naming, ReadsAt, reading_at, last_by}
 use Rattle.appender_names.proofs.Periods.{is_same_is, is_same_to}
 use Rattle.appender_names.proofs.Reading.{reading_reads, reads_reading}
-use Rattle.appender_store.specs.Content.{Content, Entry}
+use Rattle.appender_store.specs.Content.{Content}
 use Rattle.appender_store.specs.Folder.{Row, Lists, listed_row, entry_row}
 use Rattle.appender_store.specs.declared.store.Listed.{Listed}
 use Rattle.appender_retain.proofs.Elements.{Contains_later, Contains_map, map_Contains}
 use Rattle.appender_retain.proofs.Entries.{entry_there, there_entry}
 use Rattle.appender_retain.proofs.Listing.{row_name}
 use Rattle.appender_rolling.specs.Opening.{IsFirstNumber, IsListed, HasEntry}
-use Rattle.appender_rolling.specs.Inside.Numbers.{number_after, number_behind, greater_of, first_number}
+use Rattle.appender_rolling.specs.Inside.Numbers.{number_behind, greater_of, first_number}
 
 some_is : {X : Type 0} (x y : X) → ◌≡◌ {A = Option X} (Some x) (Some y) → x ≡ y
 some_is x y e = ap (λ (o : Option _). unwrap_or o x) e

@@ -1,5 +1,5 @@
 -- A line that is written in pieces.
-use Rattle.std.proofs.Common.{◌≢◌, ◌∙◌, refl, sym, ap, ℕ, List, [], ◌∷◌, ◌++◌, take, drop, append_assoc, arith, length, length-append, ◌-◌, ◌≤◌}
+use Rattle.std.proofs.Common.{◌≢◌, ◌∙◌, refl, sym, ap, ℕ, List, [], ◌∷◌, ◌++◌, take, drop, append_assoc, arith, length-append}
 use Rattle.std.proofs.lemmas.List.{take-append-drop}
 use Rattle.std.proofs.Math.Seq.{length-take-le}
 use Rattle.std.specs.Prelude.{Result}

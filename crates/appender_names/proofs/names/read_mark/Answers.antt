@@ -1,4 +1,4 @@
-use Rattle.std.proofs.Common.{◌≡◌, ◌∙◌, sym, subst, List, ℕ}
+use Rattle.std.proofs.Common.{◌∙◌, sym, subst, List, ℕ}
 use Rattle.appender_names.specs.DateText.{IsDateText}
 use Rattle.appender_names.proofs.Marks.{marked_date}
 use Rattle.appender_names.proofs.names.read_mark.Goals as goal

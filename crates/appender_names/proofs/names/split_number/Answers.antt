@@ -1,5 +1,4 @@
-use Rattle.std.proofs.Common.{rules, ◌≡◌, ◌≢◌, ◌≤◌, ◌-◌, ◌*◌, ◌+◌, length, take, get_or, arith, ◌∙◌, ap, ℕ, refl}
-use Rattle.appender_names.specs.Name.{marked}
+use Rattle.std.proofs.Common.{rules, ◌≡◌, ◌-◌, ◌*◌, ◌+◌, length, get_or, arith, refl}
 use Rattle.appender_names.proofs.Digits.{number_read}
 use Rattle.appender_names.proofs.names.split_number.Goals as goal
 

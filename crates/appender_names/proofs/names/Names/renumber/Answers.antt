@@ -3,7 +3,7 @@ use Rattle.appender_names.specs.declared.rotation.RotationKind.TheVariants.{Neve
 use Rattle.appender_names.specs.Name.{Naming, named_moment, number_text, back}
 use Rattle.appender_names.specs.DateText.{date_text}
 use Rattle.appender_names.proofs.Joins.{name_at-numbered}
-use Rattle.appender_names.proofs.Marks.{IsCut, cut, front, numbered_is}
+use Rattle.appender_names.proofs.Marks.{cut, front, numbered_is}
 use Rattle.appender_names.proofs.names.Names.renumber.Goals as goal
 
 pub truncate-requires : goal.truncate-requires

@@ -1,7 +1,6 @@
-use Rattle.std.proofs.Common.{rules, w64, FitsSigned, ◌≡◌, ◌∙◌, sym, ap, arith, true, false, Some, refl, ℤ, ◌+ℤ◌, pos}
-use Rattle.std.specs.Prelude.{int_lt, not, ◌&&◌}
+use Rattle.std.proofs.Common.{rules, w64, FitsSigned, ◌≡◌, arith, true, false, refl}
+use Rattle.std.specs.Prelude.{int_lt}
 use Rattle.std.proofs.lemmas.Int.{ints, to_z-of_z}
-use Rattle.appender_names.specs.Rotation.{step_of, period_of}
 use Rattle.appender_names.proofs.Periods.{between, next_is}
 use Rattle.appender_names.proofs.rotation.Rotation.is_between.Goals as goal
 

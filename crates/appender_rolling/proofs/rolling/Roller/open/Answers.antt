@@ -1,4 +1,4 @@
-use Rattle.std.proofs.Common.{w64, FitsSigned, ◌≡◌, ◌≢◌, ◌∙◌, Err, ap}
+use Rattle.std.proofs.Common.{w64, FitsSigned, ◌≢◌, ◌∙◌, Err, ap}
 use Rattle.std.proofs.lemmas.Int.{to_z-of_z}
 use Rattle.appender_names.specs.declared.error.InitError.TheVariants.{Memory}
 use Rattle.appender_rolling.specs.Config.{stamp}

@@ -1,4 +1,4 @@
-use Rattle.std.proofs.Common.{w64, FitsSigned, rules}
+use Rattle.std.proofs.Common.{w64, FitsSigned}
 use Rattle.std.proofs.lemmas.Int.{to_z-of_z}
 use Rattle.appender_rolling.proofs.Fullness.{looks_now}
 use Rattle.appender_rolling.proofs.rolling.appender.RollingFileAppenderMakeWriter.make_writer.Goals as goal

@@ -1,9 +1,7 @@
 use Rattle.std.proofs.Common.{w64, FitsSigned, ◌≡◌, ◌∙◌, true, false, ap, sym}
 use Rattle.std.proofs.lemmas.Int.{to_z-of_z}
 use Rattle.std.specs.Prelude.{is_some}
-use Rattle.appender_rolling.specs.Config.{is_limited}
 use Rattle.appender_rolling.specs.Roller.{Held, next_with}
-use Rattle.appender_rolling.specs.Appender.{AsksSome}
 use Rattle.appender_rolling.proofs.Fullness.{begins_at_boundaries}
 use Rattle.appender_rolling.proofs.rolling.gated.Gated.due.Goals.{then-is_limited, else-is_limited}
 use Rattle.appender_rolling.proofs.rolling.gated.Gated.due.Goals as goal
