@@ -11,6 +11,10 @@ mod expect;
 #[cfg(test)]
 mod hundred_hours;
 #[cfg(test)]
+mod limited;
+#[cfg(test)]
+mod looks;
+#[cfg(test)]
 mod scene;
 #[cfg(test)]
 mod shared;
