@@ -8,7 +8,11 @@ mod disk;
 #[cfg(test)]
 mod expect;
 #[cfg(test)]
+mod failed_ways;
+#[cfg(test)]
 mod faults;
+#[cfg(test)]
+mod limits;
 #[cfg(test)]
 mod logs;
 #[cfg(test)]
