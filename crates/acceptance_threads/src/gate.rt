@@ -132,6 +132,11 @@ impl Seen {
         Ok(text)
     }
 
+    /// Waits until so many flushes came behind the last line, and tells whether they did.
+    pub(crate) fn flushes_come<R: Clock + Copy>(&self, rt: R, count: usize) -> bool {
+        reaches(rt, &self.flushes, count)
+    }
+
     /// How many flushes came behind the last line.
     pub(crate) fn last_flushes(&self) -> usize {
         self.flushes.load(SeqCst)

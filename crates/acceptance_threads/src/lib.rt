@@ -9,6 +9,8 @@ mod counted_crowd;
 #[cfg(test)]
 mod crowds;
 #[cfg(test)]
+mod endings;
+#[cfg(test)]
 mod expect;
 #[cfg(test)]
 mod gate;

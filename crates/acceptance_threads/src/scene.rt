@@ -51,6 +51,8 @@ pub(crate) enum Step {
     EveryByteCame,
     /// So many flushes at least came behind the last line.
     LastFlushes(usize),
+    /// So many flushes come behind the last line, after a wait if need be.
+    FlushesCome(usize),
     /// So many lines were dropped.
     Dropped(usize),
     /// Sender, guard and counter have their `Debug` texts.
@@ -186,6 +188,7 @@ impl<R: Host + Abort> Scene<R> {
             Step::Came(lines) => self.expect_lines(lines),
             Step::EveryByteCame => self.every_byte_came(),
             Step::LastFlushes(least) => self.last_flushes(least),
+            Step::FlushesCome(count) => self.flushes_come(count),
             Step::Dropped(count) => self.expect_dropped(count),
             Step::CanBeShown => self.can_be_shown(),
         }
@@ -289,6 +292,10 @@ impl<R: Host + Abort> Scene<R> {
     fn every_byte_came(&self) {
         let line = every_byte(self.rt.alloc(), b"|").expect(&self.rt, "memory");
         expect_text(self.rt, &self.seen, line.as_slice());
+    }
+
+    fn flushes_come(&self, count: usize) {
+        assert!(self.rt; self.seen.flushes_come(self.rt, count));
     }
 
     fn last_flushes(&self, least: usize) {

@@ -1,0 +1,121 @@
+// Limits of a queue, and how its worker ends.
+use crate::gate::{Gate, Host, new_gate};
+use crate::scene::{Queue, Step, play, play_over};
+use appender_non_blocking::non_blocking::Closing;
+use std::io;
+use std::io::{ErrorKind, Write};
+use std::process::Abort;
+
+// A queue of no line takes one while its worker waits.
+static ONE_BY_ONE: [Step; 6] = [
+    Step::Takes(b"a"),
+    Step::Takes(b"b"),
+    Step::Takes(b"c"),
+    Step::Comes(3),
+    Step::Came(b"a|b|c|"),
+    Step::Dropped(0),
+];
+
+#[test]
+fn a_queue_of_no_line_keeps_the_order(rt: HostRuntime) {
+    play(rt, Queue::Waiting(0), b"", &ONE_BY_ONE);
+}
+
+// The shutdown finds no room. The worker ends after the last sender, by two flushes.
+static NO_ROOM_FOR_THE_SHUTDOWN: [Step; 9] = [
+    Step::Takes(b"g"),
+    Step::IsHeld,
+    Step::Takes(b"a"),
+    Step::Closes(Closing::Full),
+    Step::Opens,
+    Step::DropsSender,
+    Step::Comes(2),
+    Step::Came(b"g|a|"),
+    Step::FlushesCome(2),
+];
+
+#[test]
+fn a_worker_without_a_shutdown_ends_after_its_senders(rt: HostRuntime) {
+    play(rt, Queue::Lossy(1), b"g", &NO_ROOM_FOR_THE_SHUTDOWN);
+}
+
+// The shutdown is sent, and the worker is not done within a second.
+static STILL_GOING_ON: [Step; 6] = [
+    Step::Takes(b"g"),
+    Step::IsHeld,
+    Step::Closes(Closing::Pending),
+    Step::Opens,
+    Step::FlushesCome(2),
+    Step::Came(b"g|"),
+];
+
+#[test]
+fn a_guard_reports_a_worker_that_goes_on(rt: HostRuntime) {
+    play(rt, Queue::Lossy(2), b"g", &STILL_GOING_ON);
+    play(rt, Queue::Waiting(2), b"g", &STILL_GOING_ON);
+}
+
+static ENDS: [Step; 5] = [
+    Step::Takes(b"a"),
+    Step::Takes(b"b"),
+    Step::Closes(Closing::Done { left: 0 }),
+    Step::Came(b"a|b|"),
+    Step::LastFlushes(2),
+];
+
+#[test]
+fn a_guard_reports_that_all_was_written(rt: HostRuntime) {
+    play(rt, Queue::Lossy(4), b"", &ENDS);
+    play(rt, Queue::Waiting(4), b"", &ENDS);
+}
+
+// A writer that is interrupted so often before it takes anything.
+#[derive(Drop)]
+struct Interrupted<R: Host> {
+    gate: Gate<R>,
+    left: u32,
+}
+
+impl<R: Host> Write for Interrupted<R> {
+    fn write(&mut self, buf: &[u8]) -> io::Result<usize> {
+        if self.left == 0 {
+            return self.gate.write(buf);
+        }
+        self.left -= 1;
+        Err(io::Error::from(ErrorKind::Interrupted))
+    }
+
+    fn flush(&mut self) -> io::Result<()> {
+        self.gate.flush()
+    }
+}
+
+// Plays the steps over a writer that is interrupted so often.
+fn play_interrupted<R: Host + Abort>(rt: R, times: u32, steps: &[Step]) {
+    let (gate, seen) = new_gate(rt, b"").expect(&rt, "memory");
+    let writer = Interrupted { gate, left: times };
+    play_over(rt, Queue::Waiting(4), writer, seen, steps);
+}
+
+static FIRST_IS_GIVEN_UP: [Step; 6] = [
+    Step::Takes(b"1"),
+    Step::Takes(b"2"),
+    Step::Closes(Closing::Done { left: 0 }),
+    Step::Came(b"2|"),
+    Step::HasCome(1),
+    Step::Dropped(0),
+];
+
+static NONE_IS_LOST: [Step; 5] = [
+    Step::Takes(b"1"),
+    Step::Takes(b"2"),
+    Step::Closes(Closing::Done { left: 0 }),
+    Step::Came(b"1|2|"),
+    Step::Dropped(0),
+];
+
+#[test]
+fn a_line_is_given_up_at_the_101st_interruption(rt: HostRuntime) {
+    play_interrupted(rt, 101, &FIRST_IS_GIVEN_UP);
+    play_interrupted(rt, 100, &NONE_IS_LOST);
+}

@@ -1,0 +1,76 @@
+//! Drops a guard while its queue is full, for a look at what is printed on standard output then.
+#![tactic(auto)]
+
+use std::alloc::Global;
+use std::io::{ErrorKind, Write};
+use std::sync::Arc;
+use std::sync::atomic::AtomicBool;
+use std::sync::atomic::Ordering::SeqCst;
+use std::time::{Clock, Duration};
+use std::{io, thread};
+use tracing_appender::non_blocking::NonBlockingBuilder;
+
+// What the worker's thread and the main thread tell each other.
+#[derive(Drop)]
+struct Flags {
+    held: AtomicBool,
+    open: AtomicBool,
+}
+
+// Holds each line until a flag is set, for ten seconds at most.
+#[derive(Drop)]
+struct Holding<R: Clock + Drop> {
+    rt: R,
+    flags: Arc<Flags, Global>,
+}
+
+impl<R: Clock + Drop> Write for Holding<R> {
+    fn write(&mut self, line: &[u8]) -> io::Result<usize> {
+        self.flags.held.store(true, SeqCst);
+        if comes(&self.rt, &self.flags.open) {
+            return Ok(line.len());
+        }
+        Err(io::Error::from(ErrorKind::TimedOut))
+    }
+
+    fn flush(&mut self) -> io::Result<()> {
+        Ok(())
+    }
+}
+
+// Waits until a flag is set, for ten seconds at most, and returns whether it is.
+fn comes(rt: &impl Clock, flag: &AtomicBool) -> bool {
+    for _ in 0..10_000u32 {
+        if flag.load(SeqCst) {
+            return true;
+        }
+        thread::sleep(rt, Duration::from_millis(1));
+    }
+    false
+}
+
+// The worker holds one line, and the queue has no room behind the next.
+fn main(rt: HostRuntime) -> io::Result<()> {
+    let flags = Arc::new(
+        rt.alloc(),
+        Flags {
+            held: AtomicBool::new(false),
+            open: AtomicBool::new(false),
+        },
+    )?;
+    let writer = Holding {
+        rt,
+        flags: Arc::try_clone(&flags)?,
+    };
+    let (mut lines, guard) = NonBlockingBuilder::default()
+        .buffered_lines_limit(1)
+        .finish(rt, rt.alloc(), writer)?;
+    lines.write(b"held\n")?;
+    if !comes(&rt, &flags.held) {
+        return Err(io::Error::from(ErrorKind::TimedOut));
+    }
+    lines.write(b"queued\n")?;
+    drop(guard);
+    flags.open.store(true, SeqCst);
+    Ok(())
+}
