@@ -18,3 +18,5 @@ mod gate;
 mod lines;
 #[cfg(test)]
 mod scene;
+#[cfg(test)]
+mod whole_lines;

@@ -4,8 +4,10 @@ ghost use Rattle.std.specs.Prelude.{
   ◌≢◌,
   length,
   Some,
+  None,
   IfOk,
   IfErr,
+  OnOk,
   IsErr,
   IsOk,
   IsSome,
@@ -13,6 +15,7 @@ ghost use Rattle.std.specs.Prelude.{
   false,
 };
 ghost use Rattle.std.specs.IoError.{error_kind};
+ghost use Rattle.std.specs.Io.KnownBytes.{Appends};
 ghost use Rattle.appender_non_blocking.specs.Refusal.{IsRefusal};
 ghost use Rattle.appender_non_blocking.specs.Told.{AsQueued};
 
@@ -97,7 +100,7 @@ impl<R: Wait + Drop> NonBlocking<R> {
     #[inline(always)]
     fn send_copy(&mut self, buf: &[u8]) -> Result<(), ErrorKind>
         ensures kind { IfErr result (λ kind. IsRefusal self.old.lossy kind) }
-        ensures same { self.new.lossy ≡ self.old.lossy }
+        ensures same { self.new ≡ self.old }
     {
         let NonBlocking {
             rt,
@@ -124,11 +127,23 @@ impl<R: Wait + Drop> Write for NonBlocking<R> {
     fn write(&mut self, buf: &[u8]) -> io::Result<usize>
         ensures whole { IfOk result (λ n. n ≡ length buf.now) }
         ensures kind { IfErr result (λ e. IsRefusal self.old.lossy (error_kind e)) }
+        ensures same { self.new ≡ self.old }
     {
         if let Err(kind) = self.send_copy(buf) {
             return fault(kind);
         }
         Ok(buf.len())
+    }
+
+    /// Calls `write` once, and for an empty line too. Errors are those of `write`.
+    #[inline]
+    fn write_all(&mut self, buf: &[u8]) -> io::Result<()>
+        ensures bytes { OnOk result (Appends None None buf.now) }
+        ensures kind { IfErr result (λ e. IsRefusal self.old.lossy (error_kind e)) }
+        ensures same { self.new ≡ self.old }
+    {
+        self.write(buf)?;
+        Ok(())
     }
 
     fn flush(&mut self) -> io::Result<()>

@@ -1,0 +1,60 @@
+// One call of `write_all` is one line, whatever its length.
+use crate::expect::expect_text;
+use crate::gate::{Host, new_gate};
+use appender_non_blocking::non_blocking::{Closing, NonBlocking, NonBlockingBuilder, WorkerGuard};
+use std::io;
+use std::io::{ErrorKind, Write};
+use std::process::Abort;
+use std::test::Fail;
+
+// A queue of four lines whose senders wait.
+fn waiting<R: Host, W: Write + Send + Drop + 'static>(
+    rt: R,
+    writer: W,
+) -> io::Result<(NonBlocking<R>, WorkerGuard<R>)> {
+    NonBlockingBuilder::default()
+        .lossy(false)
+        .buffered_lines_limit(4)
+        .finish(rt, rt.alloc(), writer)
+}
+
+// Writes a line, and ends the test if the closed queue takes it.
+fn expect_closed<R: Host + Abort>(rt: R, sender: &mut NonBlocking<R>, line: &[u8]) {
+    match sender.write_all(line) {
+        Ok(()) => rt.panic("the queue is closed"),
+        Err(fault) => assert!(rt; fault.kind() == ErrorKind::Other),
+    }
+}
+
+// An empty line takes its place in the queue, and the worker makes no write for it.
+#[test]
+fn an_empty_line_is_one_line(rt: HostRuntime) -> Result<(), Fail> {
+    let (writer, seen) = new_gate(rt, b"held")?;
+    let (mut sender, guard) = NonBlockingBuilder::default()
+        .buffered_lines_limit(1)
+        .finish(rt, rt.alloc(), writer)?;
+    let counter = sender.error_counter()?;
+    sender.write_all(b"held")?;
+    assert!(rt; seen.is_held(rt));
+    sender.write_all(b"")?;
+    assert!(rt; counter.dropped_lines() == 0);
+    sender.write_all(b"")?;
+    sender.write_all(b"b")?;
+    assert!(rt; counter.dropped_lines() == 2);
+    seen.opens();
+    assert!(rt; guard.close() == Closing::Done { left: 0 });
+    expect_text(rt, &seen, b"held|");
+    Ok(())
+}
+
+#[test]
+fn a_closed_queue_takes_no_empty_line(rt: HostRuntime) -> Result<(), Fail> {
+    let (writer, seen) = new_gate(rt, b"held")?;
+    let (mut sender, guard) = waiting(rt, writer)?;
+    sender.write_all(b"a")?;
+    assert!(rt; guard.close() == Closing::Done { left: 0 });
+    expect_closed(rt, &mut sender, b"");
+    expect_closed(rt, &mut sender, b"late");
+    expect_text(rt, &seen, b"a|");
+    Ok(())
+}
