@@ -10,6 +10,9 @@ ghost use Rattle.std.specs.Prelude.{
   not,
   ◌&&◌,
   ◌||◌,
+  ◌-◌,
+  if◌then◌else◌,
+  is_some,
   IfOk,
   IfSome,
 };
@@ -36,6 +39,14 @@ pub struct Calls {
     pub worker: bool,
     /// One thread that waits for room. It calls the next one, where there is more.
     pub sender: bool,
+}
+
+/// A thread that is counted among those that wait for room. It can't be dropped: the thread's next
+/// `offer` or `shut` takes it, and counts the thread no longer.
+#[must_use]
+pub struct Waiter {
+    // Only `begins_waiting` makes one.
+    _counted: (),
 }
 
 /// The queue and its books, who sleeps, and the buffers that may be used again.
@@ -101,6 +112,21 @@ fn call(
     }
 }
 
+// A thread that comes from waiting is counted no longer, and its call is used up.
+#[inline(always)]
+fn come_back(came: Option<Waiter>, called: &mut bool, waiting: &mut u32)
+    ensures called { called.new ≡ (called.old && not (is_some came)) }
+    ensures waiting { waiting.new ≡ (if is_some came then waiting.old - 1 else waiting.old) }
+{
+    match came {
+        Some(Waiter { _counted: () }) => {
+            *waiting = waiting.saturating_sub(1);
+            *called = false;
+        }
+        None => {}
+    }
+}
+
 // Offers a line, from the sender's place if it has one.
 #[inline(always)]
 fn offer_at(queue: &mut LineQueue, place: Option<usize>, line: Vec<u8>) -> Result<u64, Refused>
@@ -121,7 +147,7 @@ fn offer_at(queue: &mut LineQueue, place: Option<usize>, line: Vec<u8>) -> Resul
 }
 
 impl<B: Books> State<B> {
-    ghost use Rattle.std.specs.Prelude.{◌+◌, OnOk, OnErr, IfOk};
+    ghost use Rattle.std.specs.Prelude.{◌+◌, ◌^◌, min, IsSome, IsNone, OnOk, OnErr, IfOk};
     ghost use Rattle.appender_state.specs.Held.{when_back, Wakes};
     ghost use Rattle.appender_state.specs.Steps.{Offers};
     ghost use Rattle.appender_state.specs.Tally.{new_tally};
@@ -157,14 +183,14 @@ impl<B: Books> State<B> {
         })
     }
 
-    /// Offers a line from the sender's place, if it has one, for a thread that `came` because it was
-    /// called or woke without a call. If the line is queued, the result says how the sender goes on, and
+    /// Offers a line from the sender's place, if it has one. A thread that `came` from waiting, whatever
+    /// woke it, is counted no longer. If the line is queued, the result says how the sender goes on, and
     /// `spare` may be another buffer.
     #[inline(always)]
     pub fn offer(
         &mut self,
         line: Vec<u8>,
-        came: bool,
+        came: Option<Waiter>,
         spare: &mut Vec<u8>,
         mine: &mut B::Mine,
     ) -> (Result<(u64, Pace), Refused>, Calls)
@@ -175,7 +201,7 @@ impl<B: Books> State<B> {
             (λ place. last_ticket_of self.old.queue place < told.0)) }
         ensures sets { IfOk result.0 (λ told. IfSome (B.place_of mine.old)
             (λ place. last_ticket_of self.new.queue place ≡ told.0)) }
-        ensures wakes { Wakes (when_back came self.old) result.1.worker result.1.sender self.new }
+        ensures wakes { Wakes (when_back (is_some came) self.old) result.1.worker result.1.sender self.new }
         ensures counted { OnOk result.0 (B.counts_line mine.old mine.new) }
         ensures refused { OnErr result.0 (mine.new ≡ mine.old) }
     {
@@ -187,10 +213,7 @@ impl<B: Books> State<B> {
             queue,
             books,
         } = self;
-        if came {
-            *waiting = waiting.saturating_sub(1);
-            *called = false;
-        }
+        come_back(came, called, waiting);
         let reply = offer_at(queue, books.place(mine), line);
         let calls = call(asleep, called, *waiting, queue, reply.is_ok());
         match reply {
@@ -219,18 +242,18 @@ impl<B: Books> State<B> {
         self.queue.counts().left
     }
 
-    /// Whether a thread that found no room has to wait, and is counted among those that do.
-    pub fn begins_waiting(&mut self) -> bool
-        ensures full { result ≡ (not self.old.queue.closed && not (has_room self.old.queue)) }
-        ensures same { self.new ≡ record self.old { waiting = self.new.waiting } }
-        ensures waits { result ≡ true → (self.old.waiting ≤ self.new.waiting) × (0 < self.new.waiting) }
-        ensures stays { result ≡ false → self.new ≡ self.old }
+    /// Counts a thread that found no room among those that wait, if it has to wait: if the queue is open
+    /// and full. The count stays at `u32::MAX`, once it is reached.
+    pub fn begins_waiting(&mut self) -> Option<Waiter>
+        ensures full { is_some result ≡ (not self.old.queue.closed && not (has_room self.old.queue)) }
+        ensures waits { IsSome result → self.new ≡ record self.old { waiting = min (self.old.waiting + 1) (2 ^ 32 - 1) } }
+        ensures stays { IsNone result → self.new ≡ self.old }
     {
         if !self.queue.is_full() {
-            return false;
+            return None;
         }
         self.waiting = self.waiting.saturating_add(1);
-        true
+        Some(Waiter { _counted: () })
     }
 
     /// Whether a guard that waits has to go on. A call that came to it is used up.
@@ -248,10 +271,10 @@ impl<B: Books> State<B> {
     }
 
     /// Tries to send the shutdown, for a guard that `came` from waiting.
-    pub fn shut(&mut self, came: bool, mine: &mut B::Shutdowns) -> (Shut, Calls)
+    pub fn shut(&mut self, came: Option<Waiter>, mine: &mut B::Shutdowns) -> (Shut, Calls)
         requires { B.may_shut mine.old }
         ensures shut { Shuts self.old.queue result.0 self.new.queue }
-        ensures wakes { Wakes (when_back came self.old) result.1.worker result.1.sender self.new }
+        ensures wakes { Wakes (when_back (is_some came) self.old) result.1.worker result.1.sender self.new }
         ensures counted { AsSent result.0 (B.counts_shutdown mine.old mine.new) (mine.new ≡ mine.old) }
     {
         let State {
@@ -262,10 +285,7 @@ impl<B: Books> State<B> {
             books,
             ..
         } = self;
-        if came {
-            *waiting = waiting.saturating_sub(1);
-            *called = false;
-        }
+        come_back(came, called, waiting);
         shutdowns_change_little();
         let reply = queue.shut();
         let calls = call(asleep, called, *waiting, queue, true);

@@ -102,7 +102,7 @@ fn send_shutdown<B: Books, R: Wait + Clock>(
 {
     let mut state = shared.lock(rt, &mut Patience::NEW);
     let waits = state.begins_waiting();
-    if waits {
+    if waits.is_some() {
         let time = Duration::from_millis(SHUTDOWN_MILLIS);
         state = shared
             .room

@@ -194,7 +194,7 @@ pub(super) fn send<B: Books, R: Wait>(
     ensures lossy { lossy ≡ true → IsSome result }
 {
     let mut state = shared.lock(rt, patience);
-    let (reply, calls) = state.offer(line, false, spare, mine);
+    let (reply, calls) = state.offer(line, None, spare, mine);
     match reply {
         Ok((ticket, pace)) => {
             drop(state);
@@ -238,13 +238,12 @@ fn send_later<B: Books, R: Wait>(
     ensures waiting { result ≢ Some Sent.Dropped }
 {
     let mut line = line;
-    let mut came = false;
+    let mut came = None;
     let mut looks = 1u32;
     rest(FULL_REST);
     let mut state = shared.lock(rt, patience);
     for _ in rt.forever() {
         let (reply, calls) = state.offer(line, came, spare, mine);
-        came = false;
         match reply {
             Ok((ticket, _)) => {
                 drop(state);
@@ -264,9 +263,12 @@ fn send_later<B: Books, R: Wait>(
                     rest(FULL_REST);
                     looks += 1;
                     state = shared.lock(rt, patience);
-                } else if state.begins_waiting() {
+                    came = None;
+                    continue;
+                }
+                came = state.begins_waiting();
+                if came.is_some() {
                     state = shared.room.wait(rt, state);
-                    came = true;
                 }
             }
         }

@@ -99,7 +99,7 @@ impl<B: Books> Shared<B> {
         ensures { AsSent result (B.counts_shutdown mine.old mine.new) (mine.new ≡ mine.old) }
     {
         let mut state = self.lock(rt, &mut Patience::NEW);
-        let (reply, calls) = state.shut(false, mine);
+        let (reply, calls) = state.shut(None, mine);
         drop(state);
         self.wake(calls);
         reply
