@@ -7,6 +7,8 @@ mod counted;
 #[cfg(test)]
 mod counted_crowd;
 #[cfg(test)]
+mod counted_ends;
+#[cfg(test)]
 mod crowds;
 #[cfg(test)]
 mod endings;
@@ -16,6 +18,8 @@ mod expect;
 mod gate;
 #[cfg(test)]
 mod lines;
+#[cfg(test)]
+mod plain_ends;
 #[cfg(test)]
 mod scene;
 #[cfg(test)]

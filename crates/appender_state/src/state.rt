@@ -49,6 +49,14 @@ pub struct Waiter {
     _counted: (),
 }
 
+/// One of the senders that a queue counts. It can't be dropped: `drop_sender` takes it, and counts the
+/// sender no longer.
+#[must_use]
+pub struct Counted {
+    // Only `add_sender` makes one.
+    _counted: (),
+}
+
 /// The queue and its books, who sleeps, and the buffers that may be used again.
 #[derive(Drop)]
 pub struct State<B: Books> {
@@ -155,7 +163,7 @@ impl<B: Books> State<B> {
     ghost use Rattle.appender_queue.specs.Queue.{fresh_with, has_room, left_of};
     ghost use Rattle.appender_queue.specs.QueueCalls.{Shuts, Takes, AddsSender, DropsSender};
 
-    /// Returns an empty queue with one sender and this number of senders' places, beside new books.
+    /// Returns an empty queue with no sender and this number of senders' places, beside new books.
     pub fn new(
         alloc: Global,
         limit: usize,
@@ -165,20 +173,22 @@ impl<B: Books> State<B> {
     ) -> Result<State<B>, AllocError>
         requires { B.say books (new_tally places) }
         ensures { IfOk result (λ s. s ≡ record {
-          queue = fresh_with limit lossy places;
+          queue = record (fresh_with limit lossy places) { senders = 0 };
           asleep = false;
           called = false;
           waiting = 0;
         }) }
     {
-        let queue = LineQueue::with_places(alloc, limit, lossy, places)?;
+        let mut empty = LineQueue::with_places(alloc, limit, lossy, places)?;
+        // A new queue counts one sender, and here `add_sender` counts all of them.
+        empty.drop_sender();
         let spares = Vec::with_capacity(alloc, limit.min(MOST_SPARES))?;
         Ok(State {
             asleep: false,
             called: false,
             waiting: 0,
             spares,
-            queue,
+            queue: empty,
             books,
         })
     }
@@ -348,19 +358,21 @@ impl<B: Books> State<B> {
         self.asleep = false;
     }
 
-    /// One sender more.
-    pub fn add_sender(&mut self)
+    /// One sender more, which is counted until `drop_sender` takes the result.
+    pub fn add_sender(&mut self) -> Counted
         ensures add { AddsSender self.old.queue self.new.queue.senders self.new.queue }
         ensures same { self.new ≡ record self.old { queue = self.new.queue } }
     {
         self.queue.add_sender();
+        Counted { _counted: () }
     }
 
     /// One sender less. Where it was the last one, the worker ends.
-    pub fn drop_sender(&mut self) -> Calls
+    pub fn drop_sender(&mut self, counted: Counted) -> Calls
         ensures drop { DropsSender self.old.queue self.new.queue.senders self.new.queue }
         ensures wakes { Wakes self.old result.worker result.sender self.new }
     {
+        let Counted { _counted: () } = counted;
         let State {
             asleep,
             called,

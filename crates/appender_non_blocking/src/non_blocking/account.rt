@@ -26,6 +26,7 @@ use super::guard::end;
 use super::shared::Shared;
 use appender_queue::queue::Shut;
 use appender_state::books::{Done, FourBooks};
+use appender_state::state::Counted;
 use appender_sync::sync::Patience;
 use std::alloc::Global;
 use std::fmt;
@@ -61,6 +62,7 @@ pub struct CountedGuard<
 > {
     rt: R,
     shared: Arc<Shared<FourBooks<A, H, S, C>>, Global>,
+    counted: Counted,
     part: Share<A>,
     shutdowns: Share<S>,
     made: usize,
@@ -102,6 +104,7 @@ impl<A: Ledger, H: Ledger, S: Ledger, C: Ledger, R: Wait + Clock + Print + Drop>
     pub(super) fn new(
         rt: R,
         shared: Arc<Shared<FourBooks<A, H, S, C>>, Global>,
+        counted: Counted,
         part: Share<A>,
         shutdowns: Share<S>,
         made: usize,
@@ -114,6 +117,7 @@ impl<A: Ledger, H: Ledger, S: Ledger, C: Ledger, R: Wait + Clock + Print + Drop>
         CountedGuard {
             rt,
             shared,
+            counted,
             part,
             shutdowns,
             made,
@@ -176,6 +180,7 @@ impl<
         let CountedGuard {
             rt,
             shared,
+            counted,
             part,
             shutdowns,
             made: _,
@@ -183,7 +188,7 @@ impl<
             worker,
         } = self;
         let (accepted, dropped) = end_all(senders, part);
-        shared.drop_sender(&rt);
+        shared.drop_sender(&rt, counted);
         let done = worker.join(&rt);
         Ok(account_of(&rt, &*shared, accepted, shutdowns, done, dropped))
     }
@@ -247,6 +252,7 @@ impl<A: Ledger, H: Ledger, S: Ledger, C: Ledger, R: Wait + Clock + Print + Drop>
         let CountedGuard {
             rt,
             shared,
+            counted,
             part: _,
             shutdowns,
             made: _,
@@ -254,7 +260,7 @@ impl<A: Ledger, H: Ledger, S: Ledger, C: Ledger, R: Wait + Clock + Print + Drop>
             worker: _,
         } = self;
         let mut shutdowns = shutdowns;
-        end(&rt, &*shared, &mut shutdowns);
+        end(&rt, &*shared, counted, &mut shutdowns);
     }
 }
 

@@ -109,13 +109,11 @@ impl NonBlockingBuilder {
         let NonBlockingBuilder { limit, lossy, name } = self;
         let shared = Shared::new(alloc, limit, lossy, 0, NoBooks)?;
         let guarded = Arc::try_clone(&shared)?;
-        // The guard is a sender too.
-        shared.add_sender(&rt);
-        start(rt, alloc, name, &shared, writer)?;
-        Ok((
-            NonBlocking::first(rt, alloc, shared, lossy),
-            WorkerGuard::new(rt, guarded),
-        ))
+        let served = Arc::try_clone(&shared)?;
+        // A worker that finds no sender ends.
+        let sender = NonBlocking::counted(rt, alloc, shared, lossy);
+        start(rt, alloc, name, served, writer)?;
+        Ok((sender, WorkerGuard::new(rt, guarded)))
     }
 
     /// Starts the worker, and makes this number of counted senders and the guard that settles their
@@ -164,17 +162,24 @@ impl NonBlockingBuilder {
             closings,
         };
         let shared = Shared::new(alloc, limit, lossy, senders, books)?;
-        // The guard is the queue's first sender. It offers no lines and has no place.
+        let served = Arc::try_clone(&shared)?;
         let (made, part) = make_senders(rt, alloc, &shared, lossy, share, senders)?;
         let pass = Pass {
             handed: lines,
             closings: closed,
         };
-        let worker = start_counted(rt, alloc, name, &shared, writer, pass)?;
-        Ok((
-            made,
-            CountedGuard::new(rt, shared, part, sent, senders, worker),
-        ))
+        // The guard is a sender that offers no lines and has no place. A worker that finds no sender ends.
+        let counted = shared.add_sender(&rt);
+        match start_counted(rt, alloc, name, served, writer, pass) {
+            Ok(worker) => Ok((
+                made,
+                CountedGuard::new(rt, shared, counted, part, sent, senders, worker),
+            )),
+            Err(fault) => {
+                shared.drop_sender(&rt, counted);
+                Err(fault)
+            }
+        }
     }
 }
 
@@ -183,11 +188,10 @@ fn start<W: Write + Send + Drop + 'static, R: Threads + Wait + Eprint + Copy + S
     rt: R,
     alloc: Global,
     name: Option<String>,
-    shared: &Arc<Shared<NoBooks>, Global>,
+    shared: Arc<Shared<NoBooks>, Global>,
     writer: W,
 ) -> io::Result<()> {
     let name = name_or_default(alloc, name)?;
-    let shared = Arc::try_clone(shared)?;
     let mut writer = writer;
     let _worker = thread::Builder::new()
         .name(name)
@@ -207,7 +211,7 @@ fn start_counted<
     rt: R,
     alloc: Global,
     name: Option<String>,
-    shared: &Arc<Shared<FourBooks<A, H, S, C>>, Global>,
+    shared: Arc<Shared<FourBooks<A, H, S, C>>, Global>,
     writer: W,
     pass: Pass<H, C>,
 ) -> io::Result<JoinHandle<Done<H, C>>>
@@ -215,7 +219,6 @@ fn start_counted<
         × (pass.closings.amount ≡ 0) }
 {
     let name = name_or_default(alloc, name)?;
-    let shared = Arc::try_clone(shared)?;
     let mut writer = writer;
     let job = move || -> Done<H, C>
         requires { (pass.handed.parts ≡ 1) × (H.parts ≡ 1) × (pass.closings.parts ≡ 1) × (C.parts ≡ 1)

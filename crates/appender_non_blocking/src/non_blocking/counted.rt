@@ -8,6 +8,7 @@ ghost use Rattle.appender_non_blocking.specs.Told.{after_line};
 use super::sender::{Sent, copy_of, send};
 use super::shared::Shared;
 use appender_state::books::{FourBooks, SenderShare};
+use appender_state::state::Counted;
 use appender_sync::sync::Patience;
 use std::alloc::{AllocError, Global};
 use std::fmt::{Debug, Formatter};
@@ -23,6 +24,7 @@ pub struct CountedSender<A: Ledger, H: Ledger, S: Ledger, C: Ledger, R: Wait + D
     rt: R,
     alloc: Global,
     shared: Arc<Shared<FourBooks<A, H, S, C>>, Global>,
+    counted: Counted,
     lossy: bool,
     // The buffer for the next line.
     spare: Vec<u8>,
@@ -67,11 +69,12 @@ impl<A: Ledger, H: Ledger, S: Ledger, C: Ledger, R: Wait + Drop> CountedSender<A
         requires place { place + 1 < A.parts }
         ensures { result ≡ new_sender lossy place }
     {
-        shared.add_sender(&rt);
+        let counted = shared.add_sender(&rt);
         CountedSender {
             rt,
             alloc,
             shared,
+            counted,
             lossy,
             spare: Vec::new(alloc),
             patience: Patience::NEW,
@@ -102,6 +105,7 @@ impl<A: Ledger, H: Ledger, S: Ledger, C: Ledger, R: Wait + Drop> CountedSender<A
             queued,
             dropped,
             last_ticket,
+            ..
         } = self;
         let copy = match copy_of(*alloc, spare, line) {
             Ok(copy) => copy,
@@ -151,6 +155,7 @@ impl<A: Ledger, H: Ledger, S: Ledger, C: Ledger, R: Wait + Drop> CountedSender<A
             rt,
             alloc: _,
             shared,
+            counted,
             lossy: _,
             spare: _,
             patience: _,
@@ -159,7 +164,7 @@ impl<A: Ledger, H: Ledger, S: Ledger, C: Ledger, R: Wait + Drop> CountedSender<A
             dropped,
             last_ticket: _,
         } = self;
-        shared.drop_sender(&rt);
+        shared.drop_sender(&rt, counted);
         let SenderShare { share, place: _ } = mine;
         (share, dropped)
     }
@@ -172,6 +177,7 @@ impl<A: Ledger, H: Ledger, S: Ledger, C: Ledger, R: Wait + Drop> Drop
             rt,
             alloc: _,
             shared,
+            counted,
             lossy: _,
             spare: _,
             patience: _,
@@ -180,7 +186,7 @@ impl<A: Ledger, H: Ledger, S: Ledger, C: Ledger, R: Wait + Drop> Drop
             dropped: _,
             last_ticket: _,
         } = self;
-        shared.drop_sender(&rt);
+        shared.drop_sender(&rt, counted);
     }
 }
 

@@ -4,6 +4,7 @@ ghost use Rattle.std.specs.Prelude.{◌≡◌};
 use super::shared::Shared;
 use appender_queue::queue::Shut;
 use appender_state::books::{Books, NoBooks};
+use appender_state::state::Counted;
 use appender_sync::sync::Patience;
 use std::alloc::Global;
 use std::fmt;
@@ -39,26 +40,40 @@ pub enum Closing {
 pub struct WorkerGuard<R: Wait + Clock + Print + Drop> {
     rt: R,
     shared: Arc<Shared<NoBooks>, Global>,
+    counted: Counted,
 }
 
 impl<R: Wait + Clock + Print + Drop> WorkerGuard<R> {
     pub(super) fn new(rt: R, shared: Arc<Shared<NoBooks>, Global>) -> WorkerGuard<R> {
-        WorkerGuard { rt, shared }
+        let counted = shared.add_sender(&rt);
+        WorkerGuard {
+            rt,
+            shared,
+            counted,
+        }
     }
 
     /// Does what dropping does, and tells what came of it.
     pub fn close(self) -> Closing {
-        let WorkerGuard { rt, shared } = self;
+        let WorkerGuard {
+            rt,
+            shared,
+            counted,
+        } = self;
         let closing = close(&rt, &*shared, &mut ());
-        shared.drop_sender(&rt);
+        shared.drop_sender(&rt, counted);
         closing
     }
 }
 
 impl<R: Wait + Clock + Print + Drop> Drop for WorkerGuard<R> {
     fn drop(self) {
-        let WorkerGuard { rt, shared } = self;
-        end(&rt, &*shared, &mut ());
+        let WorkerGuard {
+            rt,
+            shared,
+            counted,
+        } = self;
+        end(&rt, &*shared, counted, &mut ());
     }
 }
 
@@ -72,6 +87,7 @@ impl<R: Wait + Clock + Print + Drop> Debug for WorkerGuard<R> {
 pub(super) fn end<B: Books, R: Wait + Clock + Print>(
     rt: &R,
     shared: &Shared<B>,
+    counted: Counted,
     mine: &mut B::Shutdowns,
 )
     requires { B.may_shut mine.old }
@@ -79,7 +95,7 @@ pub(super) fn end<B: Books, R: Wait + Clock + Print>(
     if let Closing::Full = close(rt, shared, mine) {
         let _ = rt.println("Failed to send shutdown signal to logging worker. Error: Shutdown");
     }
-    shared.drop_sender(rt);
+    shared.drop_sender(rt, counted);
 }
 
 fn close<B: Books, R: Wait + Clock>(rt: &R, shared: &Shared<B>, mine: &mut B::Shutdowns) -> Closing

@@ -23,6 +23,7 @@ use super::shared::Shared;
 use appender_queue::queue::Refused;
 use appender_state::books::{Books, NoBooks};
 use appender_state::pace::{FULL_REST, LOOKS, MOST_BYTES};
+use appender_state::state::Counted;
 use appender_sync::sync::{Patience, rest};
 use appender_writers::MakeWriter;
 use std::alloc::{AllocError, Global};
@@ -50,6 +51,7 @@ pub struct NonBlocking<R: Wait + Drop> {
     rt: R,
     alloc: Global,
     shared: Arc<Shared<NoBooks>, Global>,
+    counted: Counted,
     lossy: bool,
     // The buffer for the next line.
     spare: Vec<u8>,
@@ -65,8 +67,8 @@ impl<R: Wait + Drop> Model for NonBlocking<R> {
 }
 
 impl<R: Wait + Drop> NonBlocking<R> {
-    /// The sender that a new queue counts already.
-    pub(super) fn first(
+    /// Returns one more sender.
+    pub(super) fn counted(
         rt: R,
         alloc: Global,
         shared: Arc<Shared<NoBooks>, Global>,
@@ -74,10 +76,12 @@ impl<R: Wait + Drop> NonBlocking<R> {
     ) -> NonBlocking<R>
         ensures { result.lossy ≡ lossy }
     {
+        let counted = shared.add_sender(&rt);
         NonBlocking {
             rt,
             alloc,
             shared,
+            counted,
             lossy,
             spare: Vec::new(alloc),
             patience: Patience::NEW,
@@ -109,6 +113,7 @@ impl<R: Wait + Drop> NonBlocking<R> {
             lossy,
             spare,
             patience,
+            ..
         } = self;
         let line = copy_of(*alloc, spare, buf)?;
         match send(rt, &**shared, *lossy, line, spare, patience, &mut ()) {
@@ -290,15 +295,7 @@ impl<R: Wait + Clone> Clone for NonBlocking<R> {
     fn clone(&self) -> Result<NonBlocking<R>, AllocError> {
         let rt = self.rt.clone()?;
         let shared = Arc::try_clone(&self.shared)?;
-        shared.add_sender(&rt);
-        Ok(NonBlocking {
-            rt,
-            alloc: self.alloc,
-            shared,
-            lossy: self.lossy,
-            spare: Vec::new(self.alloc),
-            patience: Patience::NEW,
-        })
+        Ok(NonBlocking::counted(rt, self.alloc, shared, self.lossy))
     }
 }
 
@@ -319,11 +316,12 @@ impl<R: Wait + Drop> Drop for NonBlocking<R> {
             rt,
             alloc: _,
             shared,
+            counted,
             lossy: _,
             spare: _,
             patience: _,
         } = self;
-        shared.drop_sender(&rt);
+        shared.drop_sender(&rt, counted);
     }
 }
 

@@ -5,7 +5,7 @@ ghost use Rattle.appender_state.specs.Tally.{new_tally};
 
 use appender_queue::queue::Shut;
 use appender_state::books::Books;
-use appender_state::state::{Calls, State};
+use appender_state::state::{Calls, Counted, State};
 use appender_sync::sync;
 use appender_sync::sync::Patience;
 use crossbeam_utils::CachePadded;
@@ -29,7 +29,7 @@ pub(super) struct Shared<B: Books> {
 }
 
 impl<B: Books> Shared<B> {
-    /// Returns an empty queue with one sender and this number of senders' places, beside new books.
+    /// Returns an empty queue with no sender and this number of senders' places, beside new books.
     pub(super) fn new(
         alloc: Global,
         limit: usize,
@@ -81,14 +81,14 @@ impl<B: Books> Shared<B> {
     }
 
     /// One sender more.
-    pub(super) fn add_sender<R: Wait>(&self, rt: &R) {
-        self.lock(rt, &mut Patience::NEW).add_sender();
+    pub(super) fn add_sender<R: Wait>(&self, rt: &R) -> Counted {
+        self.lock(rt, &mut Patience::NEW).add_sender()
     }
 
     /// One sender less.
-    pub(super) fn drop_sender<R: Wait>(&self, rt: &R) {
+    pub(super) fn drop_sender<R: Wait>(&self, rt: &R, counted: Counted) {
         let mut state = self.lock(rt, &mut Patience::NEW);
-        let calls = state.drop_sender();
+        let calls = state.drop_sender(counted);
         drop(state);
         self.wake(calls);
     }

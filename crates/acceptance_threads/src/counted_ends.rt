@@ -1,0 +1,217 @@
+// Which counted senders count, and what their queue was asked for.
+ghost use Rattle.std.specs.Prelude.{◌≡◌, ◌+◌};
+
+use crate::counted::Told;
+use crate::expect::{expect_eq, expect_text};
+use crate::gate::{Gate, Host, Seen, new_gate};
+use appender_non_blocking::non_blocking::{CountedGuard, NonBlockingBuilder, Sent, Shut};
+use std::io::{ErrorKind, Write};
+use std::marker::Brand;
+use std::process::Abort;
+use std::sync::Wait;
+use std::sync::ledger::{Blank, Ledger};
+use std::time::{Clock, Duration};
+use std::{fs, io, thread};
+
+/// What a test does with three senders of one worker and their guard.
+#[derive(Clone, Copy)]
+pub(crate) enum Act {
+    /// Two senders are dropped, and the third one writes a hundred lines.
+    DropsTwo,
+    /// The writer holds a line, three more find room in a queue of three, and the fourth does not.
+    Fills,
+    /// One line is written.
+    Writes,
+    /// Empty lines are written.
+    WritesEmptyLines,
+    /// The guard shuts the queue, and the senders write until it is closed.
+    Closes,
+}
+
+/// A guard of counted senders. A proof over it is shorter than one over the five parameters of a
+/// `CountedGuard`.
+trait Shuts: Drop {
+    fn shuts(&mut self) -> Shut;
+}
+
+impl<A: Ledger, H: Ledger, S: Ledger, C: Ledger, R: Wait + Clock + Print + Drop> Shuts
+    for CountedGuard<A, H, S, C, R> {
+    fn shuts(&mut self) -> Shut {
+        self.shut()
+    }
+}
+
+/// Plays over a queue of three lines and three senders, and drops them.
+pub(crate) fn run<R: Host + Abort, W: Write + Send + Drop + 'static>(
+    rt: R,
+    writer: W,
+    seen: &Seen,
+    lossy: bool,
+    act: Act,
+) {
+    tell::<Brand, Brand, Brand, Brand, R, W>(
+        rt,
+        writer,
+        seen,
+        lossy,
+        act,
+        Blank::new(4),
+        Blank::new(1),
+        Blank::new(1),
+        Blank::new(1),
+    );
+}
+
+fn tell<
+    A: Ledger + Send + Sync + 'static,
+    H: Ledger + Send + Sync + 'static,
+    S: Ledger + Send + Sync + 'static,
+    C: Ledger + Send + Sync + 'static,
+    R: Host + Abort,
+    W: Write + Send + Drop + 'static,
+>(
+    rt: R,
+    writer: W,
+    seen: &Seen,
+    lossy: bool,
+    act: Act,
+    accepted: Blank,
+    handed: Blank,
+    shutdowns: Blank,
+    closings: Blank,
+)
+    requires accepted { (accepted.name ≡ A.name) × (accepted.parts ≡ A.parts) × (accepted.parts ≡ 4) }
+    requires handed { (handed.name ≡ H.name) × (handed.parts ≡ H.parts) × (handed.parts ≡ 1) }
+    requires shutdowns { (shutdowns.name ≡ S.name) × (shutdowns.parts ≡ S.parts) × (shutdowns.parts ≡ 1) }
+    requires closings { (closings.name ≡ C.name) × (closings.parts ≡ C.parts) × (closings.parts ≡ 1) }
+{
+    let builder = NonBlockingBuilder::default()
+        .buffered_lines_limit(3)
+        .lossy(lossy)
+        .thread_name(rt.alloc(), "counter")
+        .expect(&rt, "memory");
+    let (mut senders, mut guard) = builder
+        .finish_counted::<A, H, S, C, _, R>(
+            rt,
+            rt.alloc(),
+            writer,
+            3,
+            accepted,
+            handed,
+            shutdowns,
+            closings,
+        )
+        .expect(&rt, "a worker");
+    play(rt, seen, act, &mut senders, &mut guard);
+    drop(senders);
+    drop(guard);
+}
+
+fn play<T: Told, G: Shuts, R: Host + Abort>(
+    rt: R,
+    seen: &Seen,
+    act: Act,
+    senders: &mut Vec<T>,
+    guard: &mut G,
+) {
+    match act {
+        Act::DropsTwo => {
+            drop(senders.pop());
+            drop(senders.pop());
+            write_hundred(rt, senders);
+        }
+        Act::Fills => fills(rt, seen, senders),
+        Act::Writes => expect_told(rt, senders, b"a", Sent::Queued(1)),
+        Act::WritesEmptyLines => {
+            expect_told(rt, senders, b"", Sent::Queued(1));
+            expect_told(rt, senders, b"a", Sent::Queued(2));
+            expect_told(rt, senders, b"", Sent::Queued(3));
+        }
+        Act::Closes => closes(rt, senders, guard),
+    }
+}
+
+// Writes a line by the first sender, and compares what it is told.
+fn expect_told<T: Told, R: Abort + Copy>(rt: R, senders: &mut Vec<T>, line: &[u8], wanted: Sent) {
+    let sender = senders.first_mut().expect(&rt, "a sender");
+    let told = sender.tell(line).expect(&rt, "the queue is open");
+    expect_eq(&rt, told, wanted);
+}
+
+// All of a hundred lines are queued.
+fn write_hundred<T: Told, R: Abort + Copy>(rt: R, senders: &mut Vec<T>) {
+    for line in 0..100u64 {
+        expect_told(rt, senders, b"a", Sent::Queued(line + 1));
+    }
+}
+
+fn fills<T: Told, R: Host + Abort>(rt: R, seen: &Seen, senders: &mut Vec<T>) {
+    expect_told(rt, senders, b"held", Sent::Queued(1));
+    assert!(rt; seen.is_held(rt));
+    expect_told(rt, senders, b"a", Sent::Queued(2));
+    expect_told(rt, senders, b"b", Sent::Queued(3));
+    expect_told(rt, senders, b"c", Sent::Queued(4));
+    expect_told(rt, senders, b"d", Sent::Dropped);
+    seen.opens();
+}
+
+// Shuts the queue, and writes until a sender is told that it is closed. Then the guard is told so too.
+fn closes<T: Told, G: Shuts, R: Host + Abort>(rt: R, senders: &mut Vec<T>, guard: &mut G) {
+    let sender = senders.first_mut().expect(&rt, "a sender");
+    expect_eq(&rt, guard.shuts(), Shut::Sent);
+    let mut closed = false;
+    for _ in 0..10_000u32 {
+        match sender.tell(b"late") {
+            Ok(_) => thread::sleep(&rt, Duration::from_millis(1)),
+            Err(fault) => {
+                assert!(rt; fault.kind() == ErrorKind::Other);
+                closed = true;
+                break;
+            }
+        }
+    }
+    assert!(rt; closed);
+    expect_eq(&rt, guard.shuts(), Shut::Closed);
+}
+
+#[test]
+fn a_dropped_sender_leaves_the_others(rt: HostRuntime) {
+    let (writer, seen) = new_gate(rt, b"held").expect(&rt, "memory");
+    run(rt, writer, &*seen, false, Act::DropsTwo);
+    assert!(rt; seen.come(rt, 100));
+}
+
+#[test]
+fn a_queue_of_three_takes_three(rt: HostRuntime) {
+    let (writer, seen) = new_gate(rt, b"held").expect(&rt, "memory");
+    run(rt, writer, &*seen, true, Act::Fills);
+    assert!(rt; seen.come(rt, 4));
+    expect_text(rt, &seen, b"held|a|b|c|");
+}
+
+// In place of a line it writes the name of the thread that writes.
+#[derive(Drop)]
+struct Naming<R: Host> {
+    files: HostRuntime,
+    gate: Gate<R>,
+}
+
+impl<R: Host> Write for Naming<R> {
+    fn write(&mut self, buf: &[u8]) -> io::Result<usize> {
+        let name = fs::read(&self.files, "/proc/thread-self/comm")?;
+        self.gate.write(name.trim_ascii_end())?;
+        Ok(buf.len())
+    }
+
+    fn flush(&mut self) -> io::Result<()> {
+        self.gate.flush()
+    }
+}
+
+#[test]
+fn the_worker_of_counted_senders_has_its_name(rt: HostRuntime) {
+    let (gate, seen) = new_gate(rt, b"held").expect(&rt, "memory");
+    run(rt, Naming { files: rt, gate }, &*seen, false, Act::Writes);
+    assert!(rt; seen.come(rt, 1));
+    expect_text(rt, &seen, b"counter|");
+}
