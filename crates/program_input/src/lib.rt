@@ -1,10 +1,13 @@
-//! What programs are given: a runtime, arguments, and an input of lines, which may go to a writer.
+//! What programs are given: a runtime, arguments, and an input of lines, which may go to a writer. What they report of
+//! a fault is in `report`.
 #![tactic(auto)]
 
 ghost use Rattle.std.specs.Prelude.{◌≡◌, ◌≢◌, ℕ, List, [], Some, Ok, OnOk, OnErr, true, false};
 ghost use Rattle.std.specs.Io.BufRead.{take_through, drop_through};
 ghost use Rattle.std.specs.Io.KnownBytes.{Appends, IsAtEnd};
 ghost use Rattle.program_input.specs.Line.{ended};
+
+pub mod report;
 
 use std::alloc::{AllocError, Global};
 use std::io::{BufRead, ErrorKind, Read, Write};

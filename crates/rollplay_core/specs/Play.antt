@@ -1,7 +1,7 @@
 -- A play of a script: its run over a folder in memory, and what is printed of it. `kind` has what such a folder tells.
-use Rattle.std.specs.Prelude.{◌≡◌, ℕ, ℤ, Bool, List, [], ◌++◌, length, Option, IfSome, codes}
+use Rattle.std.specs.Prelude.{◌≡◌, ◌<◌, ◌⊎◌, ℕ, ℤ, Bool, List, [], ◌++◌, length, Option, IfSome, IsUtf8, codes}
 use Rattle.std.specs.Fmt.{decimal}
-use Rattle.std.specs.Io.KnownBytes.{Appends}
+use Rattle.std.specs.Io.KnownBytes.{Appends, Keeps}
 use Rattle.appender_names.specs.declared.error.InitError.{InitError}
 use Rattle.appender_store.specs.declared.store.Folder.{Ghosts}
 use Rattle.appender_store.specs.declared.store.memory.MemoryFolder.{MemoryFolder}
@@ -26,6 +26,7 @@ use Rattle.rollplay_core.specs.declared.play.Opening.{Opening}
 use Rattle.rollplay_core.specs.declared.play.Opening.TheVariants.{Opened, Refused}
 use Rattle.rollplay_core.specs.declared.play.Failure.{Failure}
 use Rattle.rollplay_core.specs.declared.play.Failure.TheVariants.{Line, Script, Read, Write, Memory}
+use Rattle.program_input.specs.Report.{AppendsBeginning}
 use Rattle.rollplay_script.specs.declared.script.ScriptError.{ScriptError}
 use Rattle.rollplay_script.specs.declared.script.ScriptError.TheVariants.{Fault, Memory as OutOfMemory}
 use Rattle.rollplay_core.specs.Page.{line_of, run_page, queued_page, refusal_page}
@@ -125,14 +126,27 @@ abbrev pub failure_of : ScriptError → Failure
 failure_of (Fault number) = Line number
 failure_of OutOfMemory = Memory
 
+-- what was given is no UTF-8, or longer than a script may be: a MiB
+abbrev pub IsNoText : Option (List ℕ) → Type 0
+IsNoText given = (text : List ℕ) × IsGiven given text × ((1048576 < length text) ⊎ ¬ (IsUtf8 text))
+
 -- what reading the script can lead to
-abbrev pub IsOfReading : Failure → Type 0
-IsOfReading (Line number) = ⊥
-IsOfReading Write = ⊥
-IsOfReading failure = Unit {0}
+abbrev pub IsOfReading : Option (List ℕ) → Failure → Type 0
+IsOfReading given (Line number) = ⊥
+IsOfReading given Write = ⊥
+IsOfReading given Script = IsNoText given
+IsOfReading given failure = Unit {0}
 
 -- what each says of the input and the output, of which only a fault of writing changes something
 abbrev pub Fails : {F : Type 0} → Ghosts MemoryFolder F → Failure → Option (List ℕ) → Type 0 → Type 0
 Fails kind (Line number) given Same = ((text : List ℕ) × IsGiven given text × HasFirstFault text number) × Same
+Fails kind Script given Same = IsNoText given × Same
 Fails kind Write given Same = IsUnwritten kind given
 Fails kind failure given Same = Same
+
+-- One failure has this status. It is that of the input and the output, and a beginning of its words was added to the errors.
+pub record Reports {F : Type 0} (kind : Ghosts MemoryFolder F) (status : ℕ) (given old new errors_old errors_new : Option (List ℕ)) : Type 0 where
+  pub failure : Failure
+  pub status_is : status ≡ status_of failure
+  pub fails : Fails kind failure given (Keeps old new)
+  pub words : AppendsBeginning errors_old errors_new (words_of failure)

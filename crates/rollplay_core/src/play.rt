@@ -1,17 +1,20 @@
 //! A play of a script: what is read, what is printed, and the status at the end.
 
-ghost use Rattle.std.specs.Prelude.{◌≡◌, ◌⊎◌, ◌≤◌, IfOk, IfErr, OnOk, IfSome, string_bytes, string_len};
+ghost use Rattle.std.specs.Prelude.{◌≡◌, ◌≤◌, IfOk, IfErr, OnOk, IfSome, string_bytes, string_len};
 ghost use Rattle.std.specs.Io.KnownBytes.{Keeps, Appends};
 ghost use Rattle.appender_store.specs.MemoryView.{state_of};
-ghost use Rattle.rollplay_core.specs.Play.{Tells, IsGiven, Prints, IsUnwritten, IsOfReading, Fails, words_of};
+ghost use Rattle.rollplay_core.specs.Play.{Tells, IsGiven, Prints, IsOfReading, Fails, Reports, words_of};
 ghost use Rattle.rollplay_core.specs.Play.{status_of, IsRefusalPage};
+ghost use Rattle.program_input.specs.Report.{AppendsBeginning};
 ghost use Rattle.rollplay_script.specs.Draft.{plan_of};
 ghost use Rattle.rollplay_script.specs.Script.{rolling, queued};
 
 use crate::page;
+use program_input::report::report;
 use rollplay_script::line::Queueing;
 use rollplay_script::script::{LONGEST, Plan, Script, ScriptError};
 use std::alloc::Global;
+use std::fmt::{InlineText, Write as _};
 use std::io;
 use std::io::{Read, Write};
 use tracing_appender::replay::{ReplayError, RollStep, Step, replay, replay_rolling};
@@ -62,18 +65,29 @@ impl Failure {
         }
     }
 
-    // Tells it on `errors`.
+    // Reports it on `errors`, and needs no memory for that.
     fn tell<E: Write>(self, errors: &mut E) -> io::Result<()>
-        ensures { OnOk result (Appends (E.contents errors.old) (E.contents errors.new) (words_of self)) }
+        ensures whole { OnOk result (Appends (E.contents errors.old) (E.contents errors.new) (words_of self)) }
+        ensures beginning { AppendsBeginning (E.contents errors.old) (E.contents errors.new) (words_of self) }
     {
         match self {
-            Failure::Line(number) => writeln!(errors, "line {number}: fault"),
-            Failure::Script => writeln!(errors, "bad script"),
-            Failure::Read => writeln!(errors, "read failed"),
-            Failure::Write => Ok(()),
-            Failure::Memory => writeln!(errors, "no memory"),
+            Failure::Line(number) => report_line(errors, number),
+            Failure::Script => report(errors, b"bad script\n"),
+            Failure::Read => report(errors, b"read failed\n"),
+            Failure::Write => report(errors, b""),
+            Failure::Memory => report(errors, b"no memory\n"),
         }
     }
+}
+
+// Reports that this line is faulty. A text of 64 bytes has room for every number.
+fn report_line<E: Write>(errors: &mut E, number: usize) -> io::Result<()>
+    ensures whole { OnOk result (Appends (E.contents errors.old) (E.contents errors.new) (words_of (Failure.Line number))) }
+    ensures beginning { AppendsBeginning (E.contents errors.old) (E.contents errors.new) (words_of (Failure.Line number)) }
+{
+    let mut text = InlineText::<64>::new();
+    writeln!(text, "line {number}: fault")?;
+    report(errors, text.as_str().as_bytes())
 }
 
 impl From<ScriptError> for Failure {
@@ -104,9 +118,9 @@ pub fn play<R: Read, W: Write, E: Write>(
         (R.remaining input.old) (W.contents output.old) (W.contents output.new) }
     ensures refused { result ≡ 1 → Prints ⟦<MemoryFolder as Folder>⟧ Opening.Refused
         (R.remaining input.old) (W.contents output.old) (W.contents output.new) }
-    ensures fault { result ≡ 2 → Keeps (W.contents output.old) (W.contents output.new)
-        ⊎ IsUnwritten ⟦<MemoryFolder as Folder>⟧ (R.remaining input.old) }
-    ensures memory { result ≡ 3 → Keeps (W.contents output.old) (W.contents output.new) }
+    ensures silent { result ≤ 1 → Keeps (E.contents errors.old) (E.contents errors.new) }
+    ensures fails { 2 ≤ result → Reports ⟦<MemoryFolder as Folder>⟧ result (R.remaining input.old)
+        (W.contents output.old) (W.contents output.new) (E.contents errors.old) (E.contents errors.new) }
 {
     match play_input(alloc, input, output) {
         Ok(opening) => opening.status(),
@@ -140,7 +154,7 @@ fn play_input<R: Read, W: Write>(
 fn read_text<R: Read>(alloc: Global, input: &mut R) -> Result<String, Failure>
     ensures length { IfOk result (λ text. string_len text ≤ LONGEST) }
     ensures given { IfOk result (λ text. IsGiven (R.remaining input.old) (string_bytes text)) }
-    ensures err { IfErr result IsOfReading }
+    ensures err { IfErr result (IsOfReading (R.remaining input.old)) }
 {
     let mut bytes = Vec::new(alloc);
     let mut limited = Read::take(&mut *input, LONGEST as u64 + 1);
@@ -153,7 +167,10 @@ fn read_text<R: Read>(alloc: Global, input: &mut R) -> Result<String, Failure>
     if bytes.len() > LONGEST {
         return Err(Failure::Script);
     }
-    String::from_utf8(bytes).map_err(|_| Failure::Script)
+    match String::from_utf8(bytes) {
+        Ok(text) => Ok(text),
+        Err(_) => Err(Failure::Script),
+    }
 }
 
 // Runs a script, and tells on a page what is to be printed.

@@ -1,0 +1,37 @@
+//! What a program reports of a fault.
+
+ghost use Rattle.std.specs.Prelude.{◌≤◌, IfOk, OnOk, length};
+ghost use Rattle.std.specs.Io.KnownBytes.{Appends, WriteAppends};
+ghost use Rattle.program_input.specs.Report.{AppendsBeginning};
+
+use std::io;
+use std::io::{ErrorKind, Write};
+
+/// Writes all of `words`, and repeats a write that was interrupted. The error is the writer's, or `WriteZero` if it
+/// takes no more; then a beginning of the words was written.
+pub fn report<E: Write>(errors: &mut E, words: &[u8]) -> io::Result<()>
+    ensures whole { OnOk result (Appends (E.contents errors.old) (E.contents errors.new) words.now) }
+    ensures beginning { AppendsBeginning (E.contents errors.old) (E.contents errors.new) words.now }
+{
+    let mut rest = words;
+    for _ in 0..u64::MAX {
+        if rest.is_empty() {
+            return Ok(());
+        }
+        let taken = write_some(errors, rest)?;
+        rest = &rest[taken..];
+    }
+    Err(io::Error::from(ErrorKind::TimedOut))
+}
+
+// How many of these bytes one write takes. None are of a write that was interrupted; of another it is an error.
+fn write_some<E: Write>(errors: &mut E, bytes: &[u8]) -> io::Result<usize>
+    ensures bound { IfOk result (λ n. n ≤ length bytes.now) }
+    ensures bytes { WriteAppends (E.contents errors.old) (E.contents errors.new) result bytes.now }
+{
+    match errors.write(bytes) {
+        Ok(0) => Err(io::Error::from(ErrorKind::WriteZero)),
+        Err(error) if error.kind() == ErrorKind::Interrupted => Ok(0),
+        taken => taken,
+    }
+}
