@@ -119,3 +119,41 @@ fn a_line_is_given_up_at_the_101st_interruption(rt: HostRuntime) {
     play_interrupted(rt, 101, &FIRST_IS_GIVEN_UP);
     play_interrupted(rt, 100, &NONE_IS_LOST);
 }
+
+// A writer whose flushes fail.
+#[derive(Drop)]
+struct Unflushed<R: Host> {
+    gate: Gate<R>,
+}
+
+impl<R: Host> Write for Unflushed<R> {
+    fn write(&mut self, buf: &[u8]) -> io::Result<usize> {
+        self.gate.write(buf)
+    }
+
+    fn flush(&mut self) -> io::Result<()> {
+        self.gate.flush()?;
+        Err(io::Error::from(ErrorKind::StorageFull))
+    }
+}
+
+// The faults of its two flushes don't keep the worker from its end.
+static FLUSHES_FAIL: [Step; 5] = [
+    Step::Takes(b"a"),
+    Step::Closes(Closing::Done { left: 0 }),
+    Step::Came(b"a|"),
+    Step::LastFlushes(2),
+    Step::Dropped(0),
+];
+
+#[test]
+fn a_worker_whose_flushes_fail_ends_after_two(rt: HostRuntime) {
+    let (gate, seen) = new_gate(rt, b"").expect(&rt, "memory");
+    play_over(
+        rt,
+        Queue::Waiting(4),
+        Unflushed { gate },
+        seen,
+        &FLUSHES_FAIL,
+    );
+}
