@@ -19,7 +19,7 @@ pub fn first_row(text: &str) -> Option<(&str, &str, &str)> {
 
 /// Scripts without a queue whose log is opened, and what is printed.
 pub static PLAYED: Table = Table {
-    rows: 57,
+    rows: 58,
     text: concat!(
         // Arrivals an hour apart; a clock that goes back keeps the file.
         "rotation hourly\nprefix app\nstart 1580551260\nput 1580554800 a\nput 1580554799 b\n|",
@@ -110,6 +110,9 @@ pub static PLAYED: Table = Table {
         "open 1969-12-31\nnone ok 1\nopened ok 1\nfile 1969-12-31 1 v\nfile 1970-01-01 1 w\n|",
         "rotation weekly\nprefix my_prefix\nsuffix log\nstart 1739786460\nput 1740268799 x\nput 1740268800 y\n|",
         "open my_prefix.2025-02-16.log\nnone ok 1\nopened ok 1\nfile my_prefix.2025-02-16.log 1 x\nfile my_prefix.2025-02-23.log 1 y\n|",
+        // A week that begins before the first year.
+        "rotation weekly\nstart -62135596800\nput -62135078401 x\nput -62135078400 y\n|",
+        "open 0000-12-31\nnone ok 1\nopened ok 1\nfile 0000-12-31 1 x\nfile 0001-01-07 1 y\n|",
         "rotation minutely\nsuffix log\nstart 1580551260\nput 1580551319 x\nput 1580551320 y\n|",
         "open 2020-02-01-10-01.log\nnone ok 1\nopened ok 1\nfile 2020-02-01-10-01.log 1 x\nfile 2020-02-01-10-02.log 1 y\n|",
         // Moments outside the years 1 to 9998 count as not seen.
@@ -193,8 +196,8 @@ pub static QUEUED: Table = Table {
         "rotation hourly\nprefix app\nshort 2 1\nqueue 1 waiting\nstart 1580551260\noffer 1 ab\nwork 1580558400\nwork 1580551260\nwork 1580554800\n|",
         "open app.2020-02-01-10\naccepted 1\ntook 1\nwrote none ok 1\nwrote opened ok 1\nfile app.2020-02-01-10 1 a\nfile app.2020-02-01-11 1 b\ncounts 1 1 0 0 0\n|",
         // A queue of no line has room while the worker waits, for one.
-        "prefix app\nqueue 0 lossy\nstart 0\noffer 1 a\nwork 0\noffer 2 b\noffer 3 c\nwork 0\nwork 0\n|",
-        "open app\nfull\nempty\naccepted 1\nfull\ntook 1\nwrote none ok 1\nfile app 1 b\ncounts 1 1 0 0 2\n|",
+        "prefix app\nqueue 0 lossy\nstart 0\noffer 1 a\nwork 0\noffer 2 b\noffer 3 c\nwork 0\noffer 4 d\nwork 0\n|",
+        "open app\nfull\nempty\naccepted 1\nfull\ntook 1\nfull\nwrote none ok 1\nfile app 1 b\ncounts 1 1 0 0 3\n|",
         // It has room for a shutdown in the same way.
         "prefix app\nqueue 0 waiting\nstart 0\nshut\nwork 0\nshut\nshut\nwork 0\nshut\n|",
         "open app\nfull\nempty\nsent\nalready\nshutdown\nclosed\nfile app 0\ncounts 0 0 0 0 0\n|",
@@ -236,9 +239,9 @@ pub static QUEUED: Table = Table {
         // So does a write that takes no byte.
         "prefix app\nshort 2 0\nqueue 2 lossy\nstart 0\noffer 1 a\noffer 1 b\nwork 0\nwork 0\nwork 0\nwork 0\n|",
         "open app\naccepted 1\naccepted 2\ntook 1\nwrote none ok 0\ntook 2\nwrote none ok 1\nfile app 1 b\ncounts 2 2 0 0 0\n|",
-        // A flush that fails before the end, which comes nevertheless.
-        "prefix app\nfail 2\nqueue 1 lossy\nstart 0\nshut\nwork 0\nwork 0\nwork 0\nwork 0\n|",
-        "open app\nsent\nshutdown\nflush err\nflushed\nended\nfile app 0\ncounts 0 0 0 0 0\n|",
+        // The two flushes before the end fail, and it comes nevertheless.
+        "prefix app\nfail 2\nfail 3\nqueue 1 lossy\nstart 0\nshut\nwork 0\nwork 0\nwork 0\nwork 0\n|",
+        "open app\nsent\nshutdown\nflush err\nflush err\nended\nfile app 0\ncounts 0 0 0 0 0\n|",
         // A switch that fails at a write.
         "rotation hourly\nprefix app\nfolder app.2020-02-01-11\nqueue 1 lossy\nstart 1580551260\noffer 1 a\nwork 0\nwork 1580554800\n|",
         "open app.2020-02-01-10\naccepted 1\ntook 1\nwrote failed ok 1\nfile app.2020-02-01-10 1 a\nfolder app.2020-02-01-11\ncounts 1 1 0 0 0\n|",
