@@ -3,6 +3,7 @@
 mod faults;
 mod listings;
 mod notices;
+mod openings;
 pub(crate) mod runs;
 mod scene;
 mod turns;
