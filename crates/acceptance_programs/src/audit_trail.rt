@@ -57,9 +57,9 @@ fn check<R: Runtime + AllocGlobal + Abort, I: Read + Drop>(
     told: &str,
 ) {
     let mut errors = Vec::new(rt.alloc());
-    let answer = keep(rt, arguments, &mut input, &mut errors);
+    let kept = keep(rt, arguments, &mut input, &mut errors);
     expect_eq(rt, errors.as_slice(), told.as_bytes());
-    expect_eq(rt, answer, status);
+    expect_eq(rt, kept.err().unwrap_or(0), status);
 }
 
 // What is asked of the runtime where a test looks at the disk.

@@ -16,7 +16,10 @@ fn main(rt: HostRuntime) -> ExitCode {
             let (directory, paths) = (arguments[0].as_str(), &arguments[1..]);
             gather::keep_all(rt, &rt, directory, paths, &mut output, &mut errors)
         }
-        Ok(arguments) => trail::keep(&rt, arguments.as_slice(), &mut rt.stdin(), &mut errors),
+        Ok(arguments) => {
+            let kept = trail::keep(&rt, arguments.as_slice(), &mut rt.stdin(), &mut errors);
+            kept.err().unwrap_or(0)
+        }
         Err(fault) => trail::tell(&Fault::Argument.unless_memory(fault.kind()), &mut errors),
     };
     ExitCode::from(status)

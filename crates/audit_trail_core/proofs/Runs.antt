@@ -1,5 +1,5 @@
 -- What the answers about a run have in common.
-use Rattle.std.proofs.Common.{◌≡◌, ℕ, ◌==◌, List, [], Option, None, Some, Result, Ok, Err, IfOk, OnOk, if◌then◌else◌, subst, sym, ◌∙◌, ap}
+use Rattle.std.proofs.Common.{◌≡◌, ℕ, ◌==◌, List, [], Option, None, Some, Result, Ok, Err, IfOk, if◌then◌else◌, subst, sym, ◌∙◌, ap}
 use Rattle.std.specs.Io.KnownBytes.{prepend_known}
 use Rattle.std.specs.Io.Buffered.{reader_buffer, reader_capacity, reader_inner, reader_remaining}
 use Rattle.std.specs.declared.io.buffered.BufReader.{BufReader}
@@ -13,15 +13,10 @@ pub opens_with : {S F C E : Type 0} (kind : Ghosts S F) (time : Readings C) (res
     → IfOk result (OpensSome kind time a) → IfOk result (OpensSome kind time b)
 opens_with kind time result same = subst (λ config. IfOk result (OpensSome kind time config)) same
 
--- what holds anyhow holds where there is a value
-pub on_ok : {T E P : Type 0} (result : Result T E) → P → OnOk result P
-on_ok (Ok value) p = p
-on_ok (Err error) p = tt
-
 -- what follows from it holds where it does
-pub on_ok_by : {T E P Q : Type 0} (result : Result T E) → (P → Q) → OnOk result P → OnOk result Q
-on_ok_by (Ok value) step p = step p
-on_ok_by (Err error) step p = tt
+pub if_ok_by : {T E : Type 0} {P Q : T → Type 0} (result : Result T E) → ((value : T) → P value → Q value) → IfOk result P → IfOk result Q
+if_ok_by (Ok value) step p = step value p
+if_ok_by (Err error) step p = tt
 
 -- a new buffer has the bytes of the reader that it is made of
 pub buffers_all : {R A : Type 0} (remaining : R → Option (List ℕ)) (buffered : BufReader R A) (input : R) (text : List ℕ)

@@ -6,7 +6,7 @@ use Rattle.appender_names.specs.Rotation.{rotation_of}
 use Rattle.appender_store.specs.declared.store.Folder.{Ghosts}
 use Rattle.appender_rolling.specs.declared.rolling.Switch.{Switch}
 use Rattle.appender_rolling.specs.declared.rolling.clock.Clock.{Ghosts as Readings}
-use Rattle.appender_rolling.specs.Appender.{Appending, OpensSome, PutsNow}
+use Rattle.appender_rolling.specs.Appender.{Appending, FlushesNow, OpensSome, PutsNow}
 use Rattle.appender_rolling.specs.Config.{Config}
 use Rattle.program_input.specs.Line.{ended}
 
@@ -27,10 +27,11 @@ PutsLines {S} {F} {C} kind time (suc count) text start rest now =
 abbrev pub trail_config : Config
 trail_config = record { rotation = rotation_of Daily; prefix = codes "audit"; suffix = codes "log"; link = codes "latest.log"; max_files = 366; max_bytes = 0 }
 
--- the log was opened, and then all lines of the text were put into it
-pub record KeepsLines {S F C : Type 0} (kind : Ghosts S F) (time : Readings C) (text : List ℕ) : Type 0 where
+-- The log was opened, all lines of the text were put into it, and it was flushed: so it is this log now.
+pub record KeepsLines {S F C : Type 0} (kind : Ghosts S F) (time : Readings C) (text : List ℕ) (kept : Appending S F C) : Type 0 where
   pub begun : Appending S F C
   pub opens : OpensSome kind time trail_config begun
   pub count : ℕ
-  pub ended : Appending S F C
-  pub puts : PutsLines kind time count text begun [] ended
+  pub written : Appending S F C
+  pub puts : PutsLines kind time count text begun [] written
+  pub flushes : FlushesNow kind (Ok tt) written kept

@@ -1,5 +1,5 @@
 //! An audit trail of lines.
-ghost use Rattle.std.specs.Prelude.{◌≡◌, ◌≢◌, ◌≤◌, ℕ, List, [], length, Some, Err, OnOk, IfOk};
+ghost use Rattle.std.specs.Prelude.{◌≡◌, ◌≢◌, ◌≤◌, ℕ, List, [], length, Some, Err, OnOk, IfOk, IfErr};
 ghost use Rattle.audit_trail_core.specs.Fault.{opening_fault, status_of, unless_memory};
 ghost use Rattle.audit_trail_core.specs.Trail.{PutsLine, PutsLines, KeepsLines, trail_config};
 ghost use Rattle.appender_rolling.specs.Appender.{OpensSome};
@@ -113,24 +113,27 @@ impl From<io::Error> for Fault {
     }
 }
 
-/// Writes each line of `input` to the log of its day, in the folder that the one argument names.
-/// What stands in the way goes to `errors`, whose own faults are ignored. The answer is the status of
-/// the process: 0; 1 where the log was not opened, the input not read or a line not written whole; 2
-/// where there isn't one argument; 3 where memory was refused.
+/// The log of a trail.
+pub type TrailLog<R> = RollingFile<DirFolder<R>, SystemClock<R>>;
+
+/// Writes each line of `input` to the log of its day, in the folder that the one argument names, and
+/// returns the log, flushed. What stands in the way goes to `errors`, whose own faults are ignored. The
+/// error is the status of the process: 1 if the log was not opened, the input not read or a line not
+/// written whole; 2 if there isn't one argument; 3 if memory was refused.
 pub fn keep<R: Runtime + AllocGlobal, I: Read, E: Write>(
     rt: &R,
     arguments: &[String],
     input: &mut I,
     errors: &mut E,
-) -> u8
-    ensures status { result ≤ 3 }
-    ensures usage { length arguments.now ≢ 1 → result ≡ 2 }
-    ensures lines { result ≡ 0 → (text : List ℕ) → I.remaining input.old ≡ Some text →
-        KeepsLines ⟦<DirFolder<R> as Folder>⟧ ⟦<SystemClock<R> as Clock>⟧ text }
+) -> Result<TrailLog<R>, u8>
+    ensures status { IfErr result (λ status. (1 ≤ status) × (status ≤ 3)) }
+    ensures usage { length arguments.now ≢ 1 → result ≡ Err 2 }
+    ensures lines { IfOk result (λ log. (text : List ℕ) → I.remaining input.old ≡ Some text →
+        KeepsLines ⟦<DirFolder<R> as Folder>⟧ ⟦<SystemClock<R> as Clock>⟧ text log) }
 {
     match copy_lines(rt, arguments, input) {
-        Ok(()) => 0,
-        Err(fault) => tell(&fault, errors),
+        Ok(log) => Ok(log),
+        Err(fault) => Err(tell(&fault, errors)),
     }
 }
 
@@ -146,10 +149,10 @@ fn copy_lines<R: Runtime + AllocGlobal, I: Read>(
     rt: &R,
     arguments: &[String],
     input: &mut I,
-) -> Result<(), Fault>
+) -> Result<TrailLog<R>, Fault>
     ensures usage { length arguments.now ≢ 1 → result ≡ Err Fault.Usage }
-    ensures lines { OnOk result ((text : List ℕ) → I.remaining input.old ≡ Some text →
-        KeepsLines ⟦<DirFolder<R> as Folder>⟧ ⟦<SystemClock<R> as Clock>⟧ text) }
+    ensures lines { IfOk result (λ log. (text : List ℕ) → I.remaining input.old ≡ Some text →
+        KeepsLines ⟦<DirFolder<R> as Folder>⟧ ⟦<SystemClock<R> as Clock>⟧ text log) }
 {
     let [directory] = arguments else {
         return Err(Fault::Usage);
@@ -158,25 +161,25 @@ fn copy_lines<R: Runtime + AllocGlobal, I: Read>(
     log_lines(rt, directory.as_str(), &mut input)
 }
 
-// Opens the log, and writes each line of `input` to it.
+// Opens the log, writes each line of `input` to it, and flushes it.
 fn log_lines<R: Runtime + AllocGlobal, I: BufRead>(
     rt: &R,
     directory: &str,
     input: &mut I,
-) -> Result<(), Fault>
-    ensures { OnOk result ((text : List ℕ) → I.remaining input.old ≡ Some text →
-        KeepsLines ⟦<DirFolder<R> as Folder>⟧ ⟦<SystemClock<R> as Clock>⟧ text) }
+) -> Result<TrailLog<R>, Fault>
+    ensures { IfOk result (λ log. (text : List ℕ) → I.remaining input.old ≡ Some text →
+        KeepsLines ⟦<DirFolder<R> as Folder>⟧ ⟦<SystemClock<R> as Clock>⟧ text log) }
 {
     let mut log = open_log(rt, directory)?;
     write_lines(rt.alloc(), input, &mut log)?;
-    log.flush().map_err(Fault::of_write)
+    match log.flush() {
+        Ok(()) => Ok(log),
+        Err(fault) => Err(Fault::of_write(fault)),
+    }
 }
 
 /// Opens the log of the day in a folder, which is made where it isn't there.
-pub fn open_log<R: Runtime + AllocGlobal>(
-    rt: &R,
-    directory: &str,
-) -> Result<RollingFile<DirFolder<R>, SystemClock<R>>, InitError>
+pub fn open_log<R: Runtime + AllocGlobal>(rt: &R, directory: &str) -> Result<TrailLog<R>, InitError>
     ensures { IfOk result (OpensSome ⟦<DirFolder<R> as Folder>⟧ ⟦<SystemClock<R> as Clock>⟧
         trail_config) }
 {
