@@ -1,7 +1,11 @@
 -- Which fault is told, and what a process ends with.
-use Rattle.std.specs.Prelude.{ℕ}
+use Rattle.std.specs.Prelude.{◌≡◌, ℕ, List, [], ◌∷◌, ◌++◌, Option, None, Some, IfSome, codes}
+use Rattle.program_input.specs.Report.{AppendsBeginning}
 use Rattle.std.specs.declared.io.ErrorKind.{ErrorKind}
 use Rattle.std.specs.declared.io.ErrorKind.TheVariants.{OutOfMemory}
+use Rattle.std.specs.IoError.{error_kind}
+use Rattle.program_input.specs.declared.CopyFault.{CopyFault}
+use Rattle.program_input.specs.declared.CopyFault.TheVariants.{Read as Failed, Write as Refused, Cut}
 use Rattle.rolltee_core.specs.declared.tee.Fault.{Fault}
 use Rattle.rolltee_core.specs.declared.tee.Fault.TheVariants.{Usage, Open, Thread, Read, Write, Pending, Full, Memory}
 
@@ -9,6 +13,12 @@ use Rattle.rolltee_core.specs.declared.tee.Fault.TheVariants.{Usage, Open, Threa
 abbrev pub unless_memory : ErrorKind → Fault → Fault
 unless_memory OutOfMemory fault = Memory
 unless_memory kind fault = fault
+
+-- the fault of lines that were not copied
+abbrev pub copying_fault : CopyFault → Fault
+copying_fault (Failed error) = unless_memory (error_kind error) Read
+copying_fault (Refused error) = unless_memory (error_kind error) Write
+copying_fault Cut = Write
 
 -- the status of a process that a fault ended
 abbrev pub status_of : Fault → ℕ
@@ -20,3 +30,19 @@ status_of Write = 1
 status_of Pending = 1
 status_of Full = 1
 status_of Memory = 3
+
+-- what is reported of a fault, on a line; an error of opening has its own words
+abbrev pub words_of : Fault → Option (List ℕ)
+words_of Usage = Some (codes "usage: rolltee ROTATION DIR PREFIX" ++ (10 ∷ []))
+words_of (Open error) = None
+words_of Thread = Some (codes "no thread" ++ (10 ∷ []))
+words_of Read = Some (codes "read failed" ++ (10 ∷ []))
+words_of Write = Some (codes "write failed" ++ (10 ∷ []))
+words_of Pending = Some (codes "shutdown pending" ++ (10 ∷ []))
+words_of Full = Some (codes "shutdown full" ++ (10 ∷ []))
+words_of Memory = Some (codes "no memory" ++ (10 ∷ []))
+
+-- the status is that of the fault, and a beginning of its words, if those are known, was added to the errors
+pub record Tells (fault : Fault) (status : ℕ) (errors_old errors_new : Option (List ℕ)) : Type 0 where
+  pub status_is : status ≡ status_of fault
+  pub words : IfSome (words_of fault) (AppendsBeginning errors_old errors_new)

@@ -1,8 +1,10 @@
 //! Lines from an input to a rolling log, through a non-blocking writer.
-ghost use Rattle.std.specs.Prelude.{◌≡◌, ◌≢◌, ◌≤◌, length, Err};
+ghost use Rattle.std.specs.Prelude.{◌≡◌, ◌≢◌, ◌≤◌, length, Err, IfSome};
+ghost use Rattle.std.specs.Io.KnownBytes.{Keeps};
 ghost use Rattle.std.specs.IoError.{error_kind};
-ghost use Rattle.rolltee_core.specs.Fault.{status_of, unless_memory};
+ghost use Rattle.rolltee_core.specs.Fault.{status_of, unless_memory, words_of, Tells};
 
+use program_input::report::report;
 use program_input::{CopyFault, Host, copy_lines};
 use std::alloc::{AllocError, Global};
 use std::io;
@@ -84,6 +86,22 @@ impl Fault {
         }
     }
 
+    // What is reported of it, on a line. An error of opening has its own words.
+    fn words(&self) -> &'static [u8]
+        ensures { IfSome (words_of self.now) (λ words. result.now ≡ words) }
+    {
+        match self {
+            Fault::Usage => b"usage: rolltee ROTATION DIR PREFIX\n",
+            Fault::Open(_) => b"",
+            Fault::Thread => b"no thread\n",
+            Fault::Read => b"read failed\n",
+            Fault::Write => b"write failed\n",
+            Fault::Pending => b"shutdown pending\n",
+            Fault::Full => b"shutdown full\n",
+            Fault::Memory => b"no memory\n",
+        }
+    }
+
     /// This fault, or that memory was refused, where the error behind it is of that kind.
     pub fn unless_memory(self, kind: ErrorKind) -> Fault
         ensures { result ≡ unless_memory kind self }
@@ -112,7 +130,12 @@ impl From<io::Error> for Fault {
     }
 }
 
+/// A fault of copying. A line that was cut was not taken.
 impl From<CopyFault> for Fault {
+    ghost use Rattle.rolltee_core.specs.Fault.{copying_fault};
+
+    ghost from_gives = { λ error fault. fault ≡ copying_fault error };
+
     fn from(fault: CopyFault) -> Fault {
         match fault {
             CopyFault::Read(error) => Fault::Read.unless_memory(error.kind()),
@@ -136,6 +159,8 @@ pub fn tee<R: Host, L: Logs, I: Read, E: Write>(
 ) -> u8
     ensures status { result ≤ 3 }
     ensures usage { length arguments.now ≢ 3 → result ≡ 2 }
+    ensures silent { result ≡ 0 → Keeps (E.contents errors.old) (E.contents errors.new) }
+    ensures told { 1 ≤ result → (fault : Fault) × Tells fault result (E.contents errors.old) (E.contents errors.new) }
 {
     match copy_through(rt, logs, arguments, input) {
         Ok(()) => 0,
@@ -145,9 +170,12 @@ pub fn tee<R: Host, L: Logs, I: Read, E: Write>(
 
 /// Tells a fault on `errors`, and answers its status.
 pub fn tell<E: Write>(fault: &Fault, errors: &mut E) -> u8
-    ensures { result ≡ status_of fault.now }
+    ensures { Tells fault.now result (E.contents errors.old) (E.contents errors.new) }
 {
-    let _ = writeln!(errors, "{fault}");
+    let _ = match fault {
+        Fault::Open(error) => writeln!(errors, "{error}"),
+        fault => report(errors, fault.words()),
+    };
     fault.status()
 }
 
