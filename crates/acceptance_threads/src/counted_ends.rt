@@ -215,3 +215,17 @@ fn the_worker_of_counted_senders_has_its_name(rt: HostRuntime) {
     assert!(rt; seen.come(rt, 1));
     expect_text(rt, &seen, b"counter|");
 }
+
+#[test]
+fn empty_lines_of_counted_senders_are_queued(rt: HostRuntime) {
+    let (writer, seen) = new_gate(rt, b"held").expect(&rt, "memory");
+    run(rt, writer, &*seen, false, Act::WritesEmptyLines);
+    assert!(rt; seen.come(rt, 1));
+    expect_text(rt, &seen, b"a|");
+}
+
+#[test]
+fn a_closed_queue_refuses_counted_senders(rt: HostRuntime) {
+    let (writer, seen) = new_gate(rt, b"held").expect(&rt, "memory");
+    run(rt, writer, &*seen, false, Act::Closes);
+}

@@ -2,6 +2,7 @@
 use crate::expect::expect_text;
 use crate::gate::{Host, new_gate};
 use appender_non_blocking::non_blocking::{Closing, NonBlocking, NonBlockingBuilder, WorkerGuard};
+use std::alloc::{AllocError, Global};
 use std::io;
 use std::io::{ErrorKind, Write};
 use std::process::Abort;
@@ -56,5 +57,35 @@ fn a_closed_queue_takes_no_empty_line(rt: HostRuntime) -> Result<(), Fail> {
     expect_closed(rt, &mut sender, b"");
     expect_closed(rt, &mut sender, b"late");
     expect_text(rt, &seen, b"a|");
+    Ok(())
+}
+
+// A line of this length, whose bytes differ.
+fn line_of(alloc: Global, length: usize) -> Result<Vec<u8>, AllocError> {
+    let mut line = Vec::with_capacity(alloc, length)?;
+    for at in 0..length {
+        line.push((at % 251) as u8).map_err(AllocError::from)?;
+    }
+    Ok(line)
+}
+
+// Buffers of up to 512 bytes are used again: a longer line comes before and after each short one.
+#[test]
+fn long_lines_come_whole(rt: HostRuntime) -> Result<(), Fail> {
+    let lengths = [513usize, 511, 1_048_576, 512, 5000, 1];
+    let (writer, seen) = new_gate(rt, b"held")?;
+    let (mut sender, guard) = waiting(rt, writer)?;
+    for length in lengths {
+        let line = line_of(rt.alloc(), length)?;
+        sender.write_all(line.as_slice())?;
+    }
+    assert!(rt; seen.come(rt, lengths.len()));
+    let mut place = 0usize;
+    for length in lengths {
+        let line = line_of(rt.alloc(), length)?;
+        assert!(rt; seen.has_at(&rt, place, line.as_slice()));
+        place = place.saturating_add(1);
+    }
+    assert!(rt; guard.close() == Closing::Done { left: 0 });
     Ok(())
 }
