@@ -6,6 +6,9 @@ use std::alloc::{AllocError, Global};
 use std::io::{Read, Write};
 use std::process::Abort;
 use std::rt::Files;
+use std::sync::Arc;
+use std::sync::atomic::AtomicU64;
+use std::sync::atomic::Ordering::SeqCst;
 use std::test::Fail;
 use std::time::{Clock, Duration};
 use std::{env, fs, io, process, thread};
@@ -59,6 +62,75 @@ impl<R: Clock + Copy + Send + 'static> Logs for SlowLogs<R> {
             rt: self.rt,
             millis: self.millis,
         })
+    }
+}
+
+// A log that takes its time for the first line, whose write it interrupts once, and counts the lines that it takes.
+#[derive(Drop)]
+struct Interrupting<R: Clock> {
+    rt: R,
+    begun: bool,
+    lines: Arc<AtomicU64, Global>,
+}
+
+impl<R: Clock> Write for Interrupting<R> {
+    fn write(&mut self, buf: &[u8]) -> io::Result<usize> {
+        if !self.begun {
+            self.begun = true;
+            thread::sleep(&self.rt, Duration::from_millis(300));
+            return Err(io::Error::from(io::ErrorKind::Interrupted));
+        }
+        if buf == b"one line\n".as_slice() {
+            self.lines.fetch_add(1, SeqCst);
+        }
+        Ok(buf.len())
+    }
+
+    fn flush(&mut self) -> io::Result<()> {
+        Ok(())
+    }
+}
+
+#[derive(Drop)]
+struct InterruptingLogs<R: Drop> {
+    rt: R,
+    lines: Arc<AtomicU64, Global>,
+}
+
+impl<R: Clock + Copy + Drop + Send + 'static> Logs for InterruptingLogs<R> {
+    type Log = Interrupting<R>;
+
+    fn open_log(&self, _: Rotation, _: &str, _: &str) -> Result<Interrupting<R>, InitError> {
+        match self.lines.clone() {
+            Ok(lines) => Ok(Interrupting {
+                rt: self.rt,
+                begun: false,
+                lines,
+            }),
+            Err(_) => Err(InitError::Memory),
+        }
+    }
+}
+
+// Logs of this rotation alone, in this folder and with this prefix.
+#[derive(Clone, Copy)]
+struct OnlyLogs {
+    rotation: Rotation,
+}
+
+impl Logs for OnlyLogs {
+    type Log = io::Sink;
+
+    fn open_log(
+        &self,
+        rotation: Rotation,
+        directory: &str,
+        prefix: &str,
+    ) -> Result<io::Sink, InitError> {
+        if rotation == self.rotation && directory == "dir" && prefix == "app" {
+            return Ok(io::sink());
+        }
+        Err(InitError::Memory)
     }
 }
 
@@ -190,6 +262,85 @@ fn waits_for_the_log(rt: HostRuntime) -> Result<(), Fail> {
         fills(rt, &rt, rotation, lines.as_slice());
     }
     Ok(())
+}
+
+// Also while the log takes no line, and if its first write is interrupted.
+#[test]
+fn loses_no_line(rt: HostRuntime) -> Result<(), Fail> {
+    let mut text = Vec::new(rt.alloc());
+    for _ in 0..3000u32 {
+        text.extend_from_slice(b"one line\n")?;
+    }
+    let lines = Arc::new(rt.alloc(), AtomicU64::new(0)).map_err(AllocError::from)?;
+    let logs = InterruptingLogs {
+        rt,
+        lines: lines.clone()?,
+    };
+    let arguments = ["never", "dir", "app"];
+    check(rt, &logs, &arguments, &mut text.as_slice(), 0, "");
+    expect_eq(&rt, lines.load(SeqCst), 3000);
+    Ok(())
+}
+
+// An input that is interrupted once, after its first line.
+#[derive(Drop)]
+struct Stuttering<'a> {
+    first: &'a [u8],
+    second: &'a [u8],
+    interrupted: bool,
+}
+
+impl<'a> Read for Stuttering<'a> {
+    fn read(&mut self, buf: &mut [u8]) -> io::Result<usize> {
+        if !self.first.is_empty() {
+            return self.first.read(buf);
+        }
+        if !self.interrupted {
+            self.interrupted = true;
+            return Err(io::Error::from(io::ErrorKind::Interrupted));
+        }
+        self.second.read(buf)
+    }
+}
+
+#[test]
+fn reads_on_after_an_interruption(rt: HostRuntime) {
+    let directory = fresh(&rt, "interrupted").expect(&rt, "a path");
+    let directory = directory.as_str();
+    let mut input = Stuttering {
+        first: b"a\n".as_slice(),
+        second: b"bc\nd".as_slice(),
+        interrupted: false,
+    };
+    check_log(rt, &rt, directory, &mut input, (0, ""), b"a\nbc\nd");
+    fs::remove_dir_all(&rt, directory).expect(&rt, "a folder");
+}
+
+#[test]
+fn opens_a_log_of_each_rotation(rt: HostRuntime) {
+    for (word, rotation) in [
+        ("minutely", Rotation::MINUTELY),
+        ("hourly", Rotation::HOURLY),
+        ("daily", Rotation::DAILY),
+        ("weekly", Rotation::WEEKLY),
+        ("never", Rotation::NEVER),
+    ] {
+        let logs = OnlyLogs { rotation };
+        let arguments = [word, "dir", "app"];
+        check(rt, &logs, &arguments, &mut b"a\n".as_slice(), 0, "");
+    }
+}
+
+// The input fails, and then the log takes longer for its line than the end waits.
+#[test]
+fn tells_the_first_fault(rt: HostRuntime) {
+    let logs = SlowLogs { rt, millis: 3000 };
+    let mut input = Broken {
+        left: b"a\n".as_slice(),
+        kind: io::ErrorKind::PermissionDenied,
+    };
+    let arguments = ["never", "dir", "app"];
+    check(rt, &logs, &arguments, &mut input, 1, "read failed\n");
 }
 
 #[test]
