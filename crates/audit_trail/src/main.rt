@@ -7,9 +7,13 @@
 use audit_trail_core::trail::Fault;
 use audit_trail_core::{gather, trail};
 use program_input::arguments;
+use program_input::streams::fill_streams;
 use std::process::ExitCode;
 
 fn main(rt: HostRuntime) -> ExitCode {
+    if fill_streams(&rt).is_err() {
+        return ExitCode::FAILURE;
+    }
     let (mut output, mut errors) = (rt.stdout(), rt.stderr());
     let status = match arguments(&rt) {
         Ok(arguments) if arguments.len() > 1 => {

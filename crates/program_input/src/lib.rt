@@ -1,5 +1,5 @@
 //! What programs are given: a runtime, arguments, and an input of lines, which may go to a writer. What they report of
-//! a fault is in `report`.
+//! a fault is in `report`, and `streams` fills standard streams that are closed.
 #![tactic(auto)]
 
 ghost use Rattle.std.specs.Prelude.{◌≡◌, ◌≢◌, ℕ, List, [], Some, Ok, OnOk, OnErr, true, false};
@@ -8,6 +8,7 @@ ghost use Rattle.std.specs.Io.KnownBytes.{Appends, IsAtEnd};
 ghost use Rattle.program_input.specs.Line.{ended};
 
 pub mod report;
+pub mod streams;
 
 use std::alloc::{AllocError, Global};
 use std::io::{BufRead, ErrorKind, Read, Write};

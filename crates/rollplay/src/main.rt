@@ -2,10 +2,14 @@
 //! and prints what each step answered and what the folder holds at the end.
 #![tactic(auto)]
 
+use program_input::streams::fill_streams;
 use rollplay_core::play;
 use std::process::ExitCode;
 
 fn main(rt: HostRuntime) -> ExitCode {
+    if fill_streams(&rt).is_err() {
+        return ExitCode::FAILURE;
+    }
     let status = play::play(
         rt.alloc(),
         &mut rt.stdin(),

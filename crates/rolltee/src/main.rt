@@ -3,11 +3,15 @@
 #![tactic(auto)]
 
 use program_input::arguments;
+use program_input::streams::fill_streams;
 use rolltee_core::tee;
 use rolltee_core::tee::Fault;
 use std::process::ExitCode;
 
 fn main(rt: HostRuntime) -> ExitCode {
+    if fill_streams(&rt).is_err() {
+        return ExitCode::FAILURE;
+    }
     let (mut input, mut errors) = (rt.stdin(), rt.stderr());
     let status = match arguments(&rt) {
         Ok(arguments) => tee::tee(rt, &rt, arguments.as_slice(), &mut input, &mut errors),
