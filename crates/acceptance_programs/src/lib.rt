@@ -5,6 +5,8 @@
 #[cfg(test)]
 mod audit_trail;
 #[cfg(test)]
+mod counting;
+#[cfg(test)]
 mod expect;
 #[cfg(test)]
 mod rollplay;

@@ -1,4 +1,5 @@
 pub mod Core
 pub mod CoreReplies
 pub mod Runs
+pub mod Counting
 pub mod Inside

@@ -2,5 +2,6 @@
 //! one line. No call here waits or starts a thread.
 #![tactic(auto)]
 
+mod counting;
 pub mod laws;
 pub mod worker;

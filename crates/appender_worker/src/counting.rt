@@ -1,0 +1,129 @@
+//! A writer that counts the lines which it was handed.
+ghost use Rattle.std.specs.Prelude.{◌≡◌, ◌≢◌, IfOk, IfErr, length};
+ghost use Rattle.std.specs.IoError.{error_kind};
+
+use crate::worker::{LineFault, run_line};
+use std::alloc::{AllocError, Global};
+use std::io;
+use std::io::{ErrorKind, Write};
+use std::marker::Model;
+use std::sync::Arc;
+use std::sync::atomic::AtomicU64;
+use std::sync::atomic::Ordering::SeqCst;
+
+/// Writes each line as a worker does, and counts the lines that its writer took whole and those that it did not. Hand
+/// it to a worker to learn what was lost: the counts are read by the `LineCounts` that it is made with.
+#[derive(Drop)]
+pub struct CountingWriter<W> {
+    writer: W,
+    taken: u64,
+    lost: u64,
+    shared: Arc<SharedCounts, Global>,
+}
+
+/// Reads the counts of a `CountingWriter`, also while a worker has it.
+#[derive(Drop)]
+pub struct LineCounts {
+    shared: Arc<SharedCounts, Global>,
+}
+
+// The counts as the handle reads them.
+#[derive(Drop)]
+struct SharedCounts {
+    taken: AtomicU64,
+    lost: AtomicU64,
+}
+
+impl<W> Model for CountingWriter<W> {
+    ghost use Rattle.appender_worker.specs.Counting.{Counting};
+
+    ghost Value = { Counting W };
+
+    ghost view = { λ c. record { writer = c.writer; taken = c.taken; lost = c.lost } };
+}
+
+impl<W> CountingWriter<W> {
+    ghost use Rattle.appender_worker.specs.Counting.{counting_none};
+
+    /// A writer that counted nothing yet, and the handle to its counts. `AllocError` if memory is refused; then the
+    /// writer is dropped.
+    pub fn new(alloc: Global, writer: W) -> Result<(CountingWriter<W>, LineCounts), AllocError>
+    where
+        W: Drop,
+        ensures { IfOk result (λ made. made.0 ≡ counting_none writer) }
+    {
+        let counts = SharedCounts {
+            taken: AtomicU64::new(0),
+            lost: AtomicU64::new(0),
+        };
+        let shared = Arc::new(alloc, counts).map_err(AllocError::from)?;
+        let counting = CountingWriter {
+            writer,
+            taken: 0,
+            lost: 0,
+            shared: shared.clone()?,
+        };
+        Ok((counting, LineCounts { shared }))
+    }
+}
+
+impl LineCounts {
+    /// How many lines were taken whole so far.
+    pub fn taken(&self) -> u64 {
+        self.shared.taken.load(SeqCst)
+    }
+
+    /// How many lines were not taken whole so far.
+    pub fn lost(&self) -> u64 {
+        self.shared.lost.load(SeqCst)
+    }
+}
+
+impl<W: Write> Write for CountingWriter<W> {
+    ghost use Rattle.std.specs.Prelude.{None};
+    ghost use Rattle.std.specs.Io.{WritesAtMost};
+    ghost use Rattle.std.specs.Io.KnownBytes.{Keeps, WriteAppends};
+    ghost use Rattle.appender_worker.specs.Counting.{Takes, Loses, KeepsCounts};
+
+    /// Writes one whole line, and counts it. The error is that of the writer's last write, but never `Interrupted`,
+    /// so that nobody writes the line again. An empty line makes no write, and is taken.
+    fn write(&mut self, line: &[u8]) -> io::Result<usize>
+        ensures bound { WritesAtMost result line.now }
+        ensures bytes { WriteAppends None None result line.now }
+        ensures ok { IfOk result (λ n. (n ≡ length line.now) × Takes W.contents line.now self.old self.new) }
+        ensures err { IfErr result (λ error. (error_kind error ≢ ErrorKind.Interrupted)
+            × Loses W.contents line.now self.old self.new) }
+    {
+        match run_line(&mut self.writer, line) {
+            Ok(()) => {
+                self.taken = self.taken.saturating_add(1);
+                self.shared.taken.store(self.taken, SeqCst);
+                Ok(line.len())
+            }
+            Err(fault) => {
+                self.lost = self.lost.saturating_add(1);
+                self.shared.lost.store(self.lost, SeqCst);
+                Err(told(fault))
+            }
+        }
+    }
+
+    /// Flushes the writer, and counts nothing.
+    fn flush(&mut self) -> io::Result<()>
+        ensures bytes { Keeps None None }
+        ensures writer { Keeps (W.contents self.old.writer) (W.contents self.new.writer) }
+        ensures counts { KeepsCounts self.old self.new }
+    {
+        self.writer.flush()
+    }
+}
+
+// The fault of a line as it is answered.
+fn told(fault: LineFault) -> io::Error
+    ensures { error_kind result ≢ ErrorKind.Interrupted }
+{
+    match fault.error.kind() {
+        ErrorKind::Interrupted => io::Error::other("interrupted too often"),
+        _ => fault.error,
+    }
+}
