@@ -6,25 +6,72 @@
 
 use audit_trail_core::trail::Fault;
 use audit_trail_core::{gather, trail};
-use program_input::arguments;
+use program_input::options::{Request, request_of};
+use program_input::report::print;
 use program_input::streams::fill_streams;
+use program_input::{Host, arguments};
 use std::process::ExitCode;
+
+static HELP: &str = concat!(
+    "Writes each line of standard input, or of files, to the log of its day.\n",
+    "\n",
+    "usage: audit_trail DIRECTORY [SOURCE..]\n",
+    "       audit_trail --help | -h | --version\n",
+    "\n",
+    "  DIRECTORY  the folder of the logs, which is made if it is not there\n",
+    "  SOURCE     a file whose lines are written in place of those of standard input;\n",
+    "             the account of all their lines is printed\n",
+    "  --         ends the options: the words after it are arguments\n",
+    "\n",
+    "Status: 0 if every line was written; 1 if no log was opened, an input not read or a\n",
+    "line not written whole; 2 if the arguments are wrong; 3 if memory was refused.\n",
+    "\n",
+    "It ends at the end of its input. It catches no signal: INT or TERM ends it at once.\n",
+    "A line of standard input is written before the next one is read; lines of a SOURCE\n",
+    "that wait to be written are lost. So end the program whose output it reads, or let it\n",
+    "ignore both signals:\n",
+    "\n",
+    "  (trap '' INT TERM; exec audit_trail DIRECTORY)\n",
+);
+
+static VERSION: &str = "audit_trail, over a port of tracing-appender 0.2.5\n";
 
 fn main(rt: HostRuntime) -> ExitCode {
     if fill_streams(&rt).is_err() {
         return ExitCode::FAILURE;
     }
-    let (mut output, mut errors) = (rt.stdout(), rt.stderr());
     let status = match arguments(&rt) {
-        Ok(arguments) if arguments.len() > 1 => {
-            let (directory, paths) = (arguments[0].as_str(), &arguments[1..]);
-            gather::keep_all(rt, &rt, directory, paths, &mut output, &mut errors)
+        Ok(arguments) => run(rt, &rt, request_of(arguments)),
+        Err(fault) => {
+            let fault = Fault::Argument.unless_memory(fault.kind());
+            trail::tell(&fault, &mut rt.stderr())
         }
-        Ok(arguments) => {
-            let kept = trail::keep(&rt, arguments.as_slice(), &mut rt.stdin(), &mut errors);
-            kept.err().unwrap_or(0)
-        }
-        Err(fault) => trail::tell(&Fault::Argument.unless_memory(fault.kind()), &mut errors),
     };
     ExitCode::from(status)
+}
+
+fn run<R: Host>(rt: R, host: &HostRuntime, request: Request) -> u8 {
+    let (mut output, mut errors) = (host.stdout(), host.stderr());
+    match request {
+        Request::Help => print(&mut output, HELP, 1),
+        Request::Version => print(&mut output, VERSION, 1),
+        Request::Run(arguments) => keep(rt, host, arguments.as_slice()),
+        Request::Unknown => trail::tell(&Fault::Usage, &mut errors),
+    }
+}
+
+// Keeps the lines of standard input, or of the files that are named.
+fn keep<R: Host>(rt: R, host: &HostRuntime, arguments: &[String]) -> u8 {
+    let (mut output, mut errors) = (host.stdout(), host.stderr());
+    match arguments {
+        [directory, ..] if directory.is_empty() => trail::tell(&Fault::Usage, &mut errors),
+        [directory, paths @ ..] if !paths.is_empty() => {
+            let directory = directory.as_str();
+            gather::keep_all(rt, host, directory, paths, &mut output, &mut errors)
+        }
+        _ => {
+            let kept = trail::keep(host, arguments, &mut host.stdin(), &mut errors);
+            kept.err().unwrap_or(0)
+        }
+    }
 }

@@ -1,5 +1,5 @@
 //! What programs are given: a runtime, arguments, and an input of lines, which may go to a writer. What they report of
-//! a fault is in `report`, and `streams` fills standard streams that are closed.
+//! a fault is in `report`, what its arguments ask for in `options`, and `streams` fills standard streams that are closed.
 #![tactic(auto)]
 
 ghost use Rattle.std.specs.Prelude.{◌≡◌, ◌≢◌, ℕ, List, [], Some, Ok, OnOk, OnErr, true, false};
@@ -7,6 +7,7 @@ ghost use Rattle.std.specs.Io.BufRead.{take_through, drop_through};
 ghost use Rattle.std.specs.Io.KnownBytes.{Appends, IsAtEnd};
 ghost use Rattle.program_input.specs.Line.{ended};
 
+pub mod options;
 pub mod report;
 pub mod streams;
 

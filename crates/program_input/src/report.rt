@@ -1,6 +1,6 @@
-//! What a program reports of a fault.
+//! What a program reports of a fault, and what it prints.
 
-ghost use Rattle.std.specs.Prelude.{◌≤◌, IfOk, OnOk, length};
+ghost use Rattle.std.specs.Prelude.{◌≡◌, ◌≢◌, ◌<◌, ◌≤◌, IfOk, OnOk, length};
 ghost use Rattle.std.specs.Io.KnownBytes.{Appends, WriteAppends};
 ghost use Rattle.program_input.specs.Report.{AppendsBeginning};
 
@@ -33,5 +33,17 @@ fn write_some<E: Write>(errors: &mut E, bytes: &[u8]) -> io::Result<usize>
         Ok(0) => Err(io::Error::from(ErrorKind::WriteZero)),
         Err(error) if error.kind() == ErrorKind::Interrupted => Ok(0),
         taken => taken,
+    }
+}
+
+/// Prints a text that was asked for. The answer is the status of the process: 0, or this one if not all was written.
+pub fn print<W: Write>(output: &mut W, text: &str, failed: u8) -> u8
+    ensures whole { result ≡ 0 → 0 < failed → Appends (W.contents output.old) (W.contents output.new) text.now }
+    ensures beginning { AppendsBeginning (W.contents output.old) (W.contents output.new) text.now }
+    ensures failed { result ≢ 0 → result ≡ failed }
+{
+    match report(output, text.as_bytes()) {
+        Ok(()) => 0,
+        Err(_) => failed,
     }
 }

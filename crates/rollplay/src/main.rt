@@ -2,19 +2,61 @@
 //! and prints what each step answered and what the folder holds at the end.
 #![tactic(auto)]
 
+use program_input::arguments;
+use program_input::options::{Request, request_of};
+use program_input::report::{print, report};
 use program_input::streams::fill_streams;
 use rollplay_core::play;
+use std::io::ErrorKind;
 use std::process::ExitCode;
+
+static HELP: &str = concat!(
+    "Plays a script from standard input: runs a rolling log writer over a folder in\n",
+    "memory, by itself or behind a queue, and prints what each step answered and what the\n",
+    "folder holds at the end.\n",
+    "\n",
+    "usage: rollplay < SCRIPT\n",
+    "       rollplay --help | -h | --version\n",
+    "\n",
+    "  SCRIPT  a setting or a step a line; any other argument is ignored\n",
+    "  --      ends the options: the words after it are arguments\n",
+    "\n",
+    "Status: 0 if the script was played; 1 if its log was not opened; 2 if the script or an\n",
+    "option is wrong, the script not read or the output not written; 3 if memory was refused.\n",
+    "\n",
+    "It ends when the whole script was read and played. It catches no signal: INT or TERM\n",
+    "ends it at once, and nothing is printed.\n",
+);
+
+static VERSION: &str = "rollplay, over a port of tracing-appender 0.2.5\n";
 
 fn main(rt: HostRuntime) -> ExitCode {
     if fill_streams(&rt).is_err() {
         return ExitCode::FAILURE;
     }
-    let status = play::play(
-        rt.alloc(),
-        &mut rt.stdin(),
-        &mut rt.stdout(),
-        &mut rt.stderr(),
-    );
+    let status = match arguments(&rt) {
+        Ok(arguments) => run(rt, request_of(arguments)),
+        Err(fault) if fault.kind() == ErrorKind::OutOfMemory => tell(rt, b"no memory\n", 3),
+        // One of them is no UTF-8.
+        Err(_) => tell(rt, USAGE, 2),
+    };
     ExitCode::from(status)
+}
+
+static USAGE: &[u8] = b"usage: rollplay < SCRIPT\n";
+
+fn run(rt: HostRuntime, request: Request) -> u8 {
+    let mut output = rt.stdout();
+    match request {
+        Request::Help => print(&mut output, HELP, 2),
+        Request::Version => print(&mut output, VERSION, 2),
+        Request::Run(_) => play::play(rt.alloc(), &mut rt.stdin(), &mut output, &mut rt.stderr()),
+        Request::Unknown => tell(rt, USAGE, 2),
+    }
+}
+
+// Reports why nothing was played, and answers the status.
+fn tell(rt: HostRuntime, words: &[u8], status: u8) -> u8 {
+    let _ = report(&mut rt.stderr(), words);
+    status
 }

@@ -2,21 +2,59 @@
 //! of UTC: `rolltee ROTATION DIR PREFIX`. One thread reads the lines, and another writes them.
 #![tactic(auto)]
 
-use program_input::arguments;
+use program_input::options::{Request, request_of};
+use program_input::report::print;
 use program_input::streams::fill_streams;
+use program_input::{Host, arguments};
 use rolltee_core::tee;
 use rolltee_core::tee::Fault;
 use std::process::ExitCode;
+
+static HELP: &str = concat!(
+    "Writes each line of standard input to a log that begins a new file each minute,\n",
+    "hour, day or week of UTC, or never.\n",
+    "\n",
+    "usage: rolltee ROTATION DIR PREFIX\n",
+    "       rolltee --help | -h | --version\n",
+    "\n",
+    "  ROTATION  minutely, hourly, daily, weekly or never\n",
+    "  DIR       the folder of the log, which is made if it is not there\n",
+    "  PREFIX    the beginning of the files' names\n",
+    "  --        ends the options: the words after it are arguments\n",
+    "\n",
+    "Status: 0 if every line was written; 1 if no log was opened, the input not read or\n",
+    "a line not written whole; 2 if the arguments are wrong; 3 if memory was refused.\n",
+    "\n",
+    "It ends at the end of its input. It catches no signal: INT or TERM ends it at once,\n",
+    "and up to 1,024 lines that wait to be written are lost. So end the program whose\n",
+    "output it reads, or let it ignore both signals:\n",
+    "\n",
+    "  (trap '' INT TERM; exec rolltee ROTATION DIR PREFIX)\n",
+);
+
+static VERSION: &str = "rolltee, over a port of tracing-appender 0.2.5\n";
 
 fn main(rt: HostRuntime) -> ExitCode {
     if fill_streams(&rt).is_err() {
         return ExitCode::FAILURE;
     }
-    let (mut input, mut errors) = (rt.stdin(), rt.stderr());
     let status = match arguments(&rt) {
-        Ok(arguments) => tee::tee(rt, &rt, arguments.as_slice(), &mut input, &mut errors),
+        Ok(arguments) => run(rt, &rt, request_of(arguments)),
         // One of them is no UTF-8, or memory was refused.
-        Err(fault) => tee::tell(&Fault::Usage.unless_memory(fault.kind()), &mut errors),
+        Err(fault) => tee::tell(&Fault::Usage.unless_memory(fault.kind()), &mut rt.stderr()),
     };
     ExitCode::from(status)
+}
+
+fn run<R: Host>(rt: R, host: &HostRuntime, request: Request) -> u8 {
+    let (mut output, mut errors) = (host.stdout(), host.stderr());
+    match request {
+        Request::Help => print(&mut output, HELP, 1),
+        Request::Version => print(&mut output, VERSION, 1),
+        Request::Run(arguments) => {
+            let arguments = arguments.as_slice();
+            tee::tee(rt, host, arguments, &mut host.stdin(), &mut errors)
+        }
+        Request::Unknown => tee::tell(&Fault::Usage, &mut errors),
+    }
 }

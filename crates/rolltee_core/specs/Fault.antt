@@ -1,5 +1,6 @@
 -- Which fault is told, and what a process ends with.
-use Rattle.std.specs.Prelude.{◌≡◌, ℕ, List, [], ◌∷◌, ◌++◌, Option, None, Some, IfSome, codes}
+use Rattle.std.specs.Prelude.{◌≡◌, ℕ, List, [], ◌∷◌, ◌++◌, Option, None, Some, IfSome, String, string_bytes, codes}
+use Rattle.std.specs.declared.alloc.Global.{Global}
 use Rattle.program_input.specs.Report.{AppendsBeginning}
 use Rattle.std.specs.declared.io.ErrorKind.{ErrorKind}
 use Rattle.std.specs.declared.io.ErrorKind.TheVariants.{OutOfMemory}
@@ -8,6 +9,11 @@ use Rattle.program_input.specs.declared.CopyFault.{CopyFault}
 use Rattle.program_input.specs.declared.CopyFault.TheVariants.{Read as Failed, Write as Refused, Cut}
 use Rattle.rolltee_core.specs.declared.tee.Fault.{Fault}
 use Rattle.rolltee_core.specs.declared.tee.Fault.TheVariants.{Usage, Open, Thread, Read, Write, Pending, Full, Memory}
+
+-- the second argument, which names the folder of the log, is empty
+abbrev pub HasNoFolder : List (String Global) → Type 0
+HasNoFolder arguments =
+    (rotation folder : String Global) × (others : List (String Global)) × (arguments ≡ rotation ∷ folder ∷ others) × (string_bytes folder ≡ [])
 
 -- the fault, but want of memory where the error behind it is of that kind
 abbrev pub unless_memory : ErrorKind → Fault → Fault

@@ -1,8 +1,8 @@
 //! Lines from an input to a rolling log, through a non-blocking writer.
-ghost use Rattle.std.specs.Prelude.{◌≡◌, ◌≢◌, ◌≤◌, length, Err, IfSome};
+ghost use Rattle.std.specs.Prelude.{◌≡◌, ◌≢◌, ◌≤◌, [], length, Err, IfSome};
 ghost use Rattle.std.specs.Io.KnownBytes.{Keeps};
 ghost use Rattle.std.specs.IoError.{error_kind};
-ghost use Rattle.rolltee_core.specs.Fault.{status_of, unless_memory, words_of, Tells};
+ghost use Rattle.rolltee_core.specs.Fault.{status_of, unless_memory, words_of, HasNoFolder, Tells};
 
 use program_input::report::report;
 use program_input::{CopyFault, Host, copy_lines};
@@ -48,7 +48,7 @@ impl Logs for HostRuntime {
 /// Why not all lines were written.
 #[derive(Debug, Drop, Error)]
 pub enum Fault {
-    /// There weren't three arguments, or the first was no rotation.
+    /// There weren't three arguments, or the first was no rotation, or the second was empty.
     #[error("usage: rolltee ROTATION DIR PREFIX")]
     Usage,
     /// No log was opened.
@@ -159,6 +159,7 @@ pub fn tee<R: Host, L: Logs, I: Read, E: Write>(
 ) -> u8
     ensures status { result ≤ 3 }
     ensures usage { length arguments.now ≢ 3 → result ≡ 2 }
+    ensures no_folder { HasNoFolder arguments.now → result ≡ 2 }
     ensures silent { result ≡ 0 → Keeps (E.contents errors.old) (E.contents errors.new) }
     ensures told { 1 ≤ result → (fault : Fault) × Tells fault result (E.contents errors.old) (E.contents errors.new) }
 {
@@ -185,7 +186,8 @@ fn copy_through<R: Host, L: Logs, I: Read>(
     arguments: &[String],
     input: &mut I,
 ) -> Result<(), Fault>
-    ensures { length arguments.now ≢ 3 → result ≡ Err Fault.Usage }
+    ensures usage { length arguments.now ≢ 3 → result ≡ Err Fault.Usage }
+    ensures no_folder { HasNoFolder arguments.now → result ≡ Err Fault.Usage }
 {
     let [rotation, directory, prefix] = arguments else {
         return Err(Fault::Usage);
@@ -195,7 +197,12 @@ fn copy_through<R: Host, L: Logs, I: Read>(
 }
 
 // Opens the log that the arguments name.
-fn open<L: Logs>(logs: &L, rotation: &str, directory: &str, prefix: &str) -> Result<L::Log, Fault> {
+fn open<L: Logs>(logs: &L, rotation: &str, directory: &str, prefix: &str) -> Result<L::Log, Fault>
+    ensures { directory.now ≡ [] → result ≡ Err Fault.Usage }
+{
+    if directory.is_empty() {
+        return Err(Fault::Usage);
+    }
     let rotation = rotation_of(rotation).ok_or(Fault::Usage)?;
     logs.open_log(rotation, directory, prefix)
         .map_err(Fault::Open)

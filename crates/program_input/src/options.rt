@@ -1,0 +1,72 @@
+//! Options of a program.
+ghost use Rattle.std.specs.Prelude.{◌≡◌, position};
+ghost use Rattle.program_input.specs.Options.{begins_with_dash, is_dashed, means, IsRequest};
+
+/// What a program is asked to do.
+#[derive(Debug, Drop)]
+pub enum Request {
+    /// To print how it is used.
+    Help,
+    /// To print its version.
+    Version,
+    /// Its work, on these arguments.
+    Run(Vec<String>),
+    /// Something that it doesn't know.
+    Unknown,
+}
+
+/// What arguments ask for. The first one that begins with a dash decides: `-h` and `--help` ask for the usage, and
+/// `--version` for the version; `--` is left out, and those behind it are arguments; any other is unknown.
+pub fn request_of(arguments: Vec<String>) -> Request
+    ensures { IsRequest arguments.items result }
+{
+    let mut arguments = arguments;
+    let Some(place) = first_dashed(arguments.as_slice()) else {
+        return Request::Run(arguments);
+    };
+    match read_option(arguments[place].as_str()) {
+        Meaning::Help => Request::Help,
+        Meaning::Version => Request::Version,
+        Meaning::End => {
+            let _ = arguments.remove(place);
+            Request::Run(arguments)
+        }
+        Meaning::Unknown => Request::Unknown,
+    }
+}
+
+// What a word that begins with a dash means.
+#[derive(Clone, Copy)]
+enum Meaning {
+    Help,
+    Version,
+    End,
+    Unknown,
+}
+
+// The place of the first argument that begins with a dash.
+fn first_dashed(arguments: &[String]) -> Option<usize>
+    ensures { result ≡ position is_dashed arguments.now }
+{
+    arguments.iter().position(|word| begins(word.as_str()))
+}
+
+fn begins(word: &str) -> bool
+    ensures { result ≡ begins_with_dash word.now }
+{
+    match word.as_bytes() {
+        [first, ..] => *first == b'-',
+        [] => false,
+    }
+}
+
+fn read_option(word: &str) -> Meaning
+    ensures { means word.now result }
+{
+    match word {
+        "-h" | "--help" => Meaning::Help,
+        "--version" => Meaning::Version,
+        "--" => Meaning::End,
+        _ => Meaning::Unknown,
+    }
+}
