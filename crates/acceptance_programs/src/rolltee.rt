@@ -112,6 +112,34 @@ impl<R: Clock + Copy + Drop + Send + 'static> Logs for InterruptingLogs<R> {
     }
 }
 
+// A log that takes the whole of a line, 2 bytes of one that begins with `c`, and nothing of one that begins with `r`.
+#[derive(Drop)]
+struct Narrow;
+
+impl Write for Narrow {
+    fn write(&mut self, buf: &[u8]) -> io::Result<usize> {
+        match buf {
+            [b'c', _, ..] => Ok(2),
+            [b'r', ..] => Err(io::Error::from(io::ErrorKind::StorageFull)),
+            _ => Ok(buf.len()),
+        }
+    }
+
+    fn flush(&mut self) -> io::Result<()> {
+        Ok(())
+    }
+}
+
+struct NarrowLogs;
+
+impl Logs for NarrowLogs {
+    type Log = Narrow;
+
+    fn open_log(&self, _: Rotation, _: &str, _: &str) -> Result<Narrow, InitError> {
+        Ok(Narrow)
+    }
+}
+
 // Logs of this rotation alone, in this folder and with this prefix.
 #[derive(Clone, Copy)]
 struct OnlyLogs {
@@ -343,10 +371,40 @@ fn tells_the_first_fault(rt: HostRuntime) {
     check(rt, &logs, &arguments, &mut input, 1, "read failed\n");
 }
 
+// Lines that the log takes whole, and of which it takes nothing or a beginning.
+#[test]
+fn tells_lines_that_the_log_did_not_take(rt: HostRuntime) {
+    let failed = (1, "write failed\n");
+    let inputs = [
+        ("a\n\nb", (0, "")),
+        ("a\ncut\nb\n", (0, "")),
+        ("refused\na\n", failed),
+        ("a\nb\nrefused", failed),
+        ("a\ncarried\nb", failed),
+    ];
+    for (text, (status, told)) in inputs {
+        let mut input = text.as_bytes();
+        let arguments = ["never", "dir", "app"];
+        check(rt, &NarrowLogs, &arguments, &mut input, status, told);
+    }
+}
+
+// The input fails after a line that the log does not take.
+#[test]
+fn tells_the_fault_of_the_input_before_lost_lines(rt: HostRuntime) {
+    let mut input = Broken {
+        left: b"refused\n".as_slice(),
+        kind: io::ErrorKind::PermissionDenied,
+    };
+    let arguments = ["never", "dir", "app"];
+    check(rt, &NarrowLogs, &arguments, &mut input, 1, "read failed\n");
+}
+
 #[test]
 fn tells_its_usage(rt: HostRuntime) {
-    let wrong: [&[&str]; 5] = [
+    let wrong: [&[&str]; 6] = [
         &[],
+        &["never", "", "app"],
         &["never", "dir"],
         &["never", "dir", "app", "more"],
         &["yearly", "dir", "app"],

@@ -14,6 +14,7 @@ use std::time::Clock;
 use thiserror::Error;
 use tracing_appender::non_blocking::{Closing, NonBlocking, NonBlockingBuilder, WorkerGuard};
 use tracing_appender::rolling::{FileAppender, InitError, RollingFileAppender, Rotation};
+use tracing_appender::worker::{CountingWriter, LineCounts};
 
 /// How many lines may wait to be written; behind them the reading waits.
 const LIMIT: usize = 1024;
@@ -60,7 +61,7 @@ pub enum Fault {
     /// The input was not read.
     #[error("read failed")]
     Read,
-    /// A line was not taken.
+    /// A line was not taken whole, by the queue or by the log.
     #[error("write failed")]
     Write,
     /// Lines were still being written a second after the last one was read.
@@ -69,7 +70,7 @@ pub enum Fault {
     /// The queue stayed full at the end.
     #[error("shutdown full")]
     Full,
-    /// Memory was refused.
+    /// Memory was refused, but not by the opening of the log.
     #[error("no memory")]
     Memory,
 }
@@ -148,8 +149,8 @@ impl From<CopyFault> for Fault {
 /// Writes each line of `input` to the log that the three arguments name, which `logs` opens: a
 /// rotation, a folder and the beginning of the files' names. The first fault goes to `errors`, whose
 /// own faults are ignored; the lines read before it are written. The answer is the status of the
-/// process: 0; 1 where no log was opened, no thread made, the input not read or a line not written; 2
-/// where the arguments aren't of that form; 3 where memory was refused.
+/// process: 0; 1 if no log was opened, also for want of memory, no thread made, the input not read or a
+/// line not written whole; 2 if the arguments aren't of that form; 3 if memory was refused elsewhere.
 pub fn tee<R: Host, L: Logs, I: Read, E: Write>(
     rt: R,
     logs: &L,
@@ -208,16 +209,26 @@ fn open<L: Logs>(logs: &L, rotation: &str, directory: &str, prefix: &str) -> Res
         .map_err(Fault::Open)
 }
 
-// Copies the lines to a log, by the thread of its worker. The worker is waited for also behind a fault.
+// Copies the lines to a log, by the thread of its worker. The worker is waited for also behind a fault, and
+// only then are the lines counted that the log did not take whole.
 fn copy_to<R: Host, W: Write + Send + Drop + 'static, I: Read>(
     rt: R,
     log: W,
     input: &mut I,
 ) -> Result<(), Fault> {
+    let (log, counts) = CountingWriter::new(rt.alloc(), log)?;
     let (mut sender, guard) = start(rt, log)?;
     let copied = copy_all(rt.alloc(), input, &mut sender);
     let closed = end(guard);
-    copied.and(closed)
+    copied.and(closed).and(none_lost(&counts))
+}
+
+// Whether the log took each of its lines whole.
+fn none_lost(counts: &LineCounts) -> Result<(), Fault> {
+    if counts.lost() > 0 {
+        return Err(Fault::Write);
+    }
+    Ok(())
 }
 
 // Starts the worker that writes to the log.
