@@ -123,15 +123,17 @@ impl From<io::Error> for CopyFault {
     }
 }
 
-/// Writes each line of `input` by one write, with its newline, if it has one. Lines before a fault are
-/// written.
+/// Writes each line of `input` by one write, with its newline, if it has one, until nothing is left. Lines before a
+/// fault are written.
 pub fn copy_lines<I: BufRead, W: Write>(
     alloc: Global,
     input: &mut I,
     writer: &mut W,
 ) -> Result<(), CopyFault>
-    ensures { OnOk result ((text : List ℕ) → I.remaining input.old ≡ Some text →
+    ensures all { OnOk result ((text : List ℕ) → I.remaining input.old ≡ Some text →
         Appends (W.contents writer.old) (W.contents writer.new) text) }
+    ensures end { OnOk result ((text : List ℕ) → I.remaining input.old ≡ Some text →
+        I.remaining input.new ≡ Some []) }
 {
     let mut line = Vec::new(alloc);
     for _ in 0..u64::MAX {

@@ -1,4 +1,4 @@
-use Rattle.std.proofs.Common.{[], refl, subst, sym, ◌∙◌, ap, Ok, ◌++◌, append-nil, append_assoc}
+use Rattle.std.proofs.Common.{[], refl, subst, sym, ◌∙◌, ap, Ok, Some, ◌++◌, append-nil, append_assoc}
 use Rattle.std.specs.Io.BufRead.{take_through, drop_through}
 use Rattle.std.specs.Io.KnownBytes.{Appends, IsAtEnd}
 use Rattle.program_input.proofs.Copied.{appends_nothing, appends_both, joined}
@@ -7,8 +7,15 @@ use Rattle.program_input.proofs.copy_lines.Goals as goal
 pub loop-init : goal.loop-init
 loop-init g c = λ text told. ([], text, told, refl, appends_nothing (g.W.Write.contents c.args.writer.now))
 
-pub returns-then-not-branch : goal.returns-then-not-branch
-returns-then-not-branch g c = λ text told.
+pub returns-then-not-branch-clause-end : goal.returns-then-not-branch-clause-end
+returns-then-not-branch-clause-end g c = λ text told.
+    let t = c.loop.invariant text told in
+    let end = c.in_ok-read_line.ensures.end (ap Ok c.if-not-branch.true) in
+    let none = subst IsAtEnd t.2 end in
+    c.in_ok-read_line.ensures.rest t.1 t.2 ∙ ap (λ rest. Some (drop_through 10 rest)) none
+
+pub returns-then-not-branch-clause-all : goal.returns-then-not-branch-clause-all
+returns-then-not-branch-clause-all g c = λ text told.
     let t = c.loop.invariant text told in
     let end = c.in_ok-read_line.ensures.end (ap Ok c.if-not-branch.true) in
     let none = subst IsAtEnd t.2 end in
