@@ -12,3 +12,5 @@ mod expect;
 mod rollplay;
 #[cfg(test)]
 mod rolltee;
+#[cfg(test)]
+mod short_lines;

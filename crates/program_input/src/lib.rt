@@ -42,8 +42,8 @@ pub struct ShortLines<R> {
     open: usize,
 }
 
-/// The length in bytes from which on a line is too long.
-pub const TOO_LONG: usize = 1 << 20;
+/// The greatest length of a line in bytes, without its newline.
+pub const LONGEST_LINE: usize = 1 << 20;
 
 impl<R> ShortLines<R> {
     /// The input from here on.
@@ -57,13 +57,14 @@ impl<R> ShortLines<R> {
 impl<R: Read> Read for ShortLines<R> {
     ghost remaining = { λ lines. R.remaining lines.input };
 
-    /// Reads on, unless `TOO_LONG` bytes came behind the last newline: then the error is InvalidData,
-    /// and nothing is read.
+    /// Reads on, up to one byte more than a line may have. If more than `LONGEST_LINE` bytes came behind the last
+    /// newline, the error is InvalidData, and nothing is read.
     fn read(&mut self, buf: &mut [u8]) -> io::Result<usize> {
-        if self.open >= TOO_LONG {
+        if self.open > LONGEST_LINE {
             return Err(io::Error::new(ErrorKind::InvalidData, "line too long"));
         }
-        let length = self.input.read(buf)?;
+        let most = buf.len().min(LONGEST_LINE + 1 - self.open);
+        let length = self.input.read(&mut buf[..most])?;
         self.open = open_bytes(self.open, &buf[..length]);
         Ok(length)
     }
