@@ -1,0 +1,235 @@
+#!/usr/bin/env bash
+# Runs the built programs as a user does, and compares what they write and how they end. `rt run` in the folder of each
+# builds them before. Each check prints a line, and the last line is `N passed, M failed`. It ends within 40 seconds.
+if [ "${1-}" != bounded ]; then exec timeout -k 6 33 bash "$0" bounded; fi
+set -u
+export LC_ALL=C
+
+top=$(cd "$(dirname "${BASH_SOURCE[0]}")/../.." && pwd)
+rolltee=$top/crates/rolltee/out/rolltee
+audit_trail=$top/crates/audit_trail/out/audit_trail
+rollplay=$top/crates/rollplay/out/rollplay
+work=$(mktemp -d)
+out=$work/out
+err=$work/err
+disk=$work/disk
+passed=0
+failed=0
+
+finish() {
+  cd /
+  mountpoint -q "$disk" && umount "$disk"
+  rm -rf "$work"
+}
+trap finish EXIT
+trap 'exit 1' INT TERM
+
+# check NAME WANTED GOT
+check() {
+  if [ "$2" = "$3" ]; then
+    passed=$((passed + 1))
+    echo "ok $1"
+  else
+    failed=$((failed + 1))
+    printf 'FAILED %s: got %q wanted %q\n' "$1" "$3" "$2"
+  fi
+}
+
+# skip NAME WHY
+skip() {
+  echo "skipped $1: $2"
+}
+
+# run PROGRAM ARGUMENT..: with this script's input; leaves its status in `status`, and what it writes in $out and $err.
+run() {
+  timeout 5 "$@" > "$out" 2> "$err"
+  status=$?
+}
+
+# run_closed STREAMS PROGRAM ARGUMENT..: the same, with these standard streams closed, as 02.
+run_closed() {
+  local closings= stream
+  for stream in 0 1 2; do
+    case $1 in *$stream*) closings="$closings $stream>&-" ;; esac
+  done
+  shift
+  run bash -c "exec \"\$@\"$closings" run_closed "$@"
+}
+
+# The status, and both streams.
+told() {
+  echo "$status|$(cat "$out")|$(cat "$err")"
+}
+
+# The bytes of a file, and whether there is none.
+content() {
+  if [ -f "$1" ]; then
+    echo "[$(cat "$1")]"
+  else
+    echo "no file"
+  fi
+}
+
+lines=$work/lines
+printf 'one\ntwo\n' > "$lines"
+script=$work/script
+printf 'rotation never\nprefix app\nstart 1580551260\nput 1580551261 a\n' > "$script"
+played=$'open app\nnone ok 1\nfile app 1 a'
+streams_closed='0 1 2 01 02 12 012'
+
+for program in "$rolltee" "$audit_trail" "$rollplay"; do
+  check "$(basename "$program") is built" yes "$([ -x "$program" ] && echo yes || echo no)"
+done
+[ "$failed" = 0 ] || { echo "$passed passed, $failed failed"; exit 1; }
+
+# ---- standard streams that are closed
+
+# What is written to a closed stream is lost, and nothing is read of one: the log holds the lines alone.
+for streams in '' $streams_closed; do
+  name="streams closed: ${streams:-none}"
+  case $streams in
+    *0*) lines_wanted='[]' fault_status=0 ;;
+    *) lines_wanted=$'[one\ntwo]' fault_status=1 ;;
+  esac
+  case $streams in *2*) fault_told= ;; *) fault_told='read failed' ;; esac
+  [ "$fault_status" = 0 ] && fault_told=
+
+  folder=$work/tee$streams
+  run_closed "$streams" "$rolltee" never "$folder" app < "$lines"
+  check "rolltee, $name" "0||" "$(told)"
+  check "rolltee, $name: the log" "$lines_wanted" "$(content "$folder/app")"
+  # A folder can be opened as the input, and not be read.
+  run_closed "$streams" "$rolltee" never "$folder.fault" app < /
+  check "rolltee, $name: no input" "$fault_status||$fault_told" "$(told)"
+  check "rolltee, $name: the log of no input" '[]' "$(content "$folder.fault/app")"
+
+  folder=$work/trail$streams
+  run_closed "$streams" "$audit_trail" "$folder" < "$lines"
+  check "audit_trail, $name" "0||" "$(told)"
+  check "audit_trail, $name: the log" "$lines_wanted" "$(content "$folder/latest.log")"
+  run_closed "$streams" "$audit_trail" "$folder.fault" < /
+  check "audit_trail, $name: no input" "$fault_status" "$status"
+  check "audit_trail, $name: the log of no input" '[]' "$(content "$folder.fault/latest.log")"
+  run_closed "$streams" "$audit_trail" "$folder.files" "$lines" "$work/none" < /dev/null
+  check "audit_trail, $name: files" 1 "$status"
+  check "audit_trail, $name: the log of files" $'[one\ntwo]' "$(content "$folder.files/latest.log")"
+
+  case $streams in *0*) play="2||line 1: fault" ;; *) play="0|$played|" ;; esac
+  case $streams in *1*) play=${play/"$played"/} ;; esac
+  case $streams in *2*) play=${play/line 1: fault/} ;; esac
+  run_closed "$streams" "$rollplay" < "$script"
+  check "rollplay, $name" "$play" "$(told)"
+done
+
+# Where /dev/null can't be opened, nothing else is.
+mkdir "$work/dev"
+if unshare -m true 2> "$err"; then
+  for program in "rolltee never $work/no_null app" "audit_trail $work/no_null" rollplay; do
+    set -- $program
+    name=$1
+    shift
+    run unshare -m sh -c 'mount --bind "$1" /dev && shift && exec "$@" 2>&-' sh "$work/dev" "$top/crates/$name/out/$name" "$@" < "$script"
+    check "$name, no /dev/null" "1||" "$(told)"
+    check "$name, no /dev/null: no folder" "no" "$([ -e "$work/no_null" ] && echo yes || echo no)"
+  done
+else
+  skip "no /dev/null" "$(head -1 "$err")"
+fi
+
+# ---- options
+
+for name in rolltee audit_trail rollplay; do
+  program=$top/crates/$name/out/$name
+  case $name in
+    rolltee) usage='usage: rolltee ROTATION DIR PREFIX' failed_print=1 ;;
+    audit_trail) usage='usage: audit_trail DIRECTORY [SOURCE..]' failed_print=1 ;;
+    rollplay) usage='usage: rollplay < SCRIPT' failed_print=2 ;;
+  esac
+  run "$program" --help < /dev/null
+  help=$(told)
+  check "$name --help: status" 0 "$status"
+  check "$name --help: errors" '' "$(cat "$err")"
+  for words in "$usage" '--version' 'Status: 0 ' 'INT or TERM'; do
+    check "$name --help: $words" yes "$(grep -qF -e "$words" "$out" && echo yes || echo no)"
+  done
+  run "$program" -h < /dev/null
+  check "$name -h" "$help" "$(told)"
+  run "$program" here --help -x < /dev/null
+  check "$name here --help -x" "$help" "$(told)"
+  run "$program" --version < /dev/null
+  check "$name --version" "0|$name, over a port of tracing-appender 0.2.5|" "$(told)"
+  for option in -x --helpme -; do
+    run "$program" "$option" "$work/option" app --help < /dev/null
+    check "$name $option" "2||$usage" "$(told)"
+  done
+  check "$name: options make no folder" no "$([ -e "$work/option" ] && echo yes || echo no)"
+  for option in --help --version; do
+    timeout 5 "$program" "$option" > /dev/full 2> "$err" < /dev/null
+    check "$name $option > /dev/full" "$failed_print|" "$?|$(cat "$err")"
+  done
+done
+
+for word in minutely hourly daily weekly never "trap '' INT TERM"; do
+  run "$rolltee" --help < /dev/null
+  check "rolltee --help: $word" yes "$(grep -qF -e "$word" "$out" && echo yes || echo no)"
+done
+
+run "$rolltee" -- never "$work/dashes" -x < "$lines"
+check 'rolltee -- never DIR -x' '0||' "$(told)"
+check 'rolltee -- never DIR -x: the log' $'[one\ntwo]' "$(content "$work/dashes/-x")"
+run "$rolltee" never -- "$work/dashes" -- < "$lines"
+check 'rolltee never -- DIR --' '0||' "$(told)"
+check 'rolltee never -- DIR --: the log' $'[one\ntwo]' "$(content "$work/dashes/--")"
+run "$rolltee" -- --help < "$lines"
+check 'rolltee -- --help' '2||usage: rolltee ROTATION DIR PREFIX' "$(told)"
+run "$rolltee" never '' app < "$lines"
+check 'rolltee, an empty folder' '2||usage: rolltee ROTATION DIR PREFIX' "$(told)"
+
+mkdir "$work/place"
+cd "$work/place" || exit 1
+run "$audit_trail" -- -trail < "$lines"
+check 'audit_trail -- -DIR' '0||' "$(told)"
+check 'audit_trail -- -DIR: the log' $'[one\ntwo]' "$(content "$work/place/-trail/latest.log")"
+for paths in '' lines; do
+  run "$audit_trail" '' ${paths:+"$lines"} < "$lines"
+  check "audit_trail, an empty folder${paths:+, and a file}" '2||usage: audit_trail DIRECTORY [SOURCE..]' "$(told)"
+done
+run "$audit_trail" < "$lines"
+check 'audit_trail, no folder' '2||usage: audit_trail DIRECTORY [SOURCE..]' "$(told)"
+check 'an empty folder is not the current one' '-trail' "$(ls "$work/place")"
+
+run "$rollplay" here there < "$script"
+check 'rollplay, arguments' "0|$played|" "$(told)"
+run "$rollplay" -- -x --help < "$script"
+check 'rollplay -- -x --help' "0|$played|" "$(told)"
+run "$rollplay" $'\xff' < "$script"
+check 'rollplay, an argument that is no UTF-8' '2||usage: rollplay < SCRIPT' "$(told)"
+
+# ---- outputs and disks that are full
+
+timeout 5 "$rollplay" > /dev/full 2> "$err" < "$script"
+check 'rollplay > /dev/full' '2|' "$?|$(cat "$err")"
+timeout 5 "$rolltee" never "$work/full" app > /dev/full 2>&1 < "$lines"
+check 'rolltee > /dev/full' 0 "$?"
+check 'rolltee > /dev/full: the log' $'[one\ntwo]' "$(content "$work/full/app")"
+timeout 5 "$rolltee" > /dev/null 2> /dev/full < "$lines"
+check 'rolltee 2> /dev/full' 2 "$?"
+
+many=$work/many
+for ((i = 0; i < 400; i++)); do printf '%0127d\n' "$i"; done > "$many"
+mkdir "$disk"
+if mount -t tmpfs -o size=16k programs "$disk" 2> "$err"; then
+  run "$rolltee" never "$disk/logs" app < "$many"
+  check 'rolltee, a full disk' '1||write failed' "$(told)"
+  check 'rolltee, a full disk: the log begins with the lines' same \
+    "$(cmp -s -n "$(stat -c %s "$disk/logs/app")" "$disk/logs/app" "$many" && echo same || echo other)"
+  rm -r "$disk/logs"
+  run "$rolltee" never "$disk/logs" app < "$lines"
+  check 'rolltee, a disk with room' '0||' "$(told)"
+  check 'rolltee, a disk with room: the log' $'[one\ntwo]' "$(content "$disk/logs/app")"
+else
+  skip 'rolltee, a full disk' "$(head -1 "$err")"
+fi
+
+echo "$passed passed, $failed failed"
+[ "$failed" = 0 ]
