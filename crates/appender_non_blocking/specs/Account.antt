@@ -1,6 +1,12 @@
 -- What counted senders, their guard and the account of both say.
 use Rattle.std.specs.Prelude.{◌≡◌, ℕ, ◌+◌, ◌-◌, ◌^◌, Bool, false, min, List, map, sum_by}
 use Rattle.std.specs.List.{range_with_len}
+use Rattle.std.specs.declared.sync.ledger.Blank.{Blank}
+use Rattle.std.specs.declared.sync.ledger.Ledger.{Ghosts}
+
+-- a blank of a ledger, with all its parts, of which there are this many
+abbrev pub IsBlankOf : {L : Type 0} → Ghosts L → ℕ → Blank → Type 0
+IsBlankOf ledger parts blank = (blank.name ≡ ledger.name) × (blank.parts ≡ ledger.parts) × (blank.parts ≡ parts)
 
 -- what a counted sender shows
 pub record Sums : Type 0 where

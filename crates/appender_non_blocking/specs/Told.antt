@@ -1,26 +1,11 @@
--- What a sender, a guard and a worker are told.
-use Rattle.std.specs.Prelude.{◌+◌, ◌-◌, ◌^◌, Bool, true, false, ◌||◌, min, Option, Some, None, Result, Ok, Err}
+-- What a sender and a guard are told.
+use Rattle.std.specs.Prelude.{◌+◌, ◌-◌, ◌^◌, Bool, true, false, ◌||◌, min, Result, Ok, Err}
 use Rattle.std.specs.declared.io.Error.{Error}
 use Rattle.appender_non_blocking.specs.Account.{Sums, Guard}
 use Rattle.appender_non_blocking.specs.declared.non_blocking.sender.Sent.{Sent}
 use Rattle.appender_non_blocking.specs.declared.non_blocking.sender.Sent.TheVariants.{Queued, Dropped}
 use Rattle.appender_queue.specs.declared.queue.Shut.{Shut}
 use Rattle.appender_queue.specs.declared.queue.Shut.TheVariants.{Sent as ShutSent, Already, Full, Closed}
-use Rattle.appender_worker.specs.Core.{Core, Taking, Writing, Flushing, Ending, Over}
-
--- a sender is told a ticket, and then the first fact holds; else the second one does
-abbrev pub AsQueued : Option Sent → Type 0 → Type 0 → Type 0
-AsQueued (Some (Queued ticket)) P Q = P
-AsQueued (Some Dropped) P Q = Q
-AsQueued None P Q = Q
-
--- a worker that was told of the end has the second fact, and else the first
-abbrev pub AsEnding : Core → Type 0 → Type 0 → Type 0
-AsEnding (Taking waits) P Q = P
-AsEnding (Writing rest repeats) P Q = P
-AsEnding Flushing P Q = P
-AsEnding (Ending n) P Q = Q
-AsEnding Over P Q = Q
 
 -- the sums of a sender after a line: one more queued, with this last ticket, exactly after Queued, and one more dropped exactly
 -- after Dropped

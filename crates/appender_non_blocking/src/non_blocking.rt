@@ -12,7 +12,7 @@ mod sender;
 mod shared;
 mod worker;
 
-pub use account::{Account, CountedGuard, Unsettled};
+pub use account::{Account, CountedGuard, Settled, Unsettled};
 pub use appender_queue::queue::Shut;
 pub use builder::{DEFAULT_BUFFERED_LINES_LIMIT, NonBlockingBuilder, non_blocking};
 pub use counted::CountedSender;

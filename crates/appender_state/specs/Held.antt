@@ -16,11 +16,15 @@ pub record Held : Type 0 where
 abbrev pub when_back : Bool → Held → Held
 when_back came h = if came then record h { called = false; waiting = h.waiting - 1 } else h
 
--- The worker is called or not, and so is one of those who wait. A worker that isn't called sleeps on, if it slept; nobody is called
--- who doesn't sleep or wait, nor a second one while the first has not come.
+-- One of those who wait for room is called or not: none if nobody waits, and no second one before the first has come.
+pub record CallsSender (old : Held) (calls : Bool) (new : Held) : Type 0 where
+  pub called : new.called ≡ (old.called || calls)
+  pub waiter : calls ≡ true → (old.called ≡ false) × (0 < old.waiting)
+  pub waiting : new.waiting ≡ old.waiting
+
+-- The worker is called or not, and so is one of those who wait. A worker that isn't called sleeps on, if it slept, and it is called
+-- only if it slept.
 pub record Wakes (old : Held) (calls_worker calls_sender : Bool) (new : Held) : Type 0 where
   pub worker : new.asleep ≡ (old.asleep && not calls_worker)
   pub sleeper : calls_worker ≡ true → old.asleep ≡ true
-  pub sender : new.called ≡ (old.called || calls_sender)
-  pub waiter : calls_sender ≡ true → (old.called ≡ false) × (0 < old.waiting)
-  pub waiting : new.waiting ≡ old.waiting
+  pub sender : CallsSender old calls_sender new

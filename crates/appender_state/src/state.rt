@@ -155,11 +155,11 @@ fn offer_at(queue: &mut LineQueue, place: Option<usize>, line: Vec<u8>) -> Resul
 }
 
 impl<B: Books> State<B> {
-    ghost use Rattle.std.specs.Prelude.{◌+◌, ◌^◌, min, IsSome, IsNone, OnOk, OnErr, IfOk};
-    ghost use Rattle.appender_state.specs.Held.{when_back, Wakes};
+    ghost use Rattle.std.specs.Prelude.{◌+◌, ◌^◌, ◌≢◌, min, IsSome, IsNone, OnOk, OnErr, IfOk};
+    ghost use Rattle.appender_state.specs.Held.{when_back, CallsSender, Wakes};
     ghost use Rattle.appender_state.specs.Steps.{Offers};
     ghost use Rattle.appender_state.specs.Tally.{new_tally};
-    ghost use Rattle.appender_state.specs.Cases.{AsSent, AsTaken};
+    ghost use Rattle.appender_state.specs.Cases.{OnLine, OnEnd, OnEmpty};
     ghost use Rattle.appender_queue.specs.Queue.{fresh_with, has_room, left_of};
     ghost use Rattle.appender_queue.specs.QueueCalls.{Shuts, Takes, AddsSender, DropsSender};
 
@@ -285,7 +285,8 @@ impl<B: Books> State<B> {
         requires { B.may_shut mine.old }
         ensures shut { Shuts self.old.queue result.0 self.new.queue }
         ensures wakes { Wakes (when_back (is_some came) self.old) result.1.worker result.1.sender self.new }
-        ensures counted { AsSent result.0 (B.counts_shutdown mine.old mine.new) (mine.new ≡ mine.old) }
+        ensures sent { result.0 ≡ Shut.Sent → B.counts_shutdown mine.old mine.new }
+        ensures not_sent { result.0 ≢ Shut.Sent → mine.new ≡ mine.old }
     {
         let State {
             asleep,
@@ -320,11 +321,13 @@ impl<B: Books> State<B> {
     ) -> (Taken, Option<Vec<u8>>, Calls)
         requires { B.may_take pass.old }
         ensures take { Takes self.old.queue waits result.0 self.new.queue }
-        ensures wakes { Wakes (record self.old { asleep = false }) result.2.worker result.2.sender
-            (record self.new { asleep = false }) }
-        ensures sleeps { AsTaken result.0 (self.new.asleep ≡ false) (self.new.asleep ≡ false) (self.new.asleep ≡ sleeps) }
-        ensures counted { AsTaken result.0 (B.counts_take pass.old pass.new) (B.has_ended pass.new) (pass.new ≡ pass.old) }
-        ensures may { AsTaken result.0 (B.may_take pass.new) (B.has_ended pass.new) (B.may_take pass.new) }
+        ensures worker { result.2.worker ≡ false }
+        ensures sender { CallsSender self.old result.2.sender self.new }
+        ensures line { OnLine result.0 ((B.counts_take pass.old pass.new) × (B.may_take pass.new)
+            × (self.new.asleep ≡ false)) }
+        ensures ended { OnEnd result.0 ((B.has_ended pass.new) × (self.new.asleep ≡ false)) }
+        ensures empty { OnEmpty result.0 ((pass.new ≡ pass.old) × (B.may_take pass.new)
+            × (self.new.asleep ≡ sleeps)) }
     {
         let State {
             asleep,
@@ -388,18 +391,20 @@ impl<B: Books> State<B> {
 impl<A: Ledger, H: Ledger, S: Ledger, C: Ledger> State<FourBooks<A, H, S, C>> {
     ghost use Rattle.std.specs.Prelude.{◌+◌};
 
-    /// What all shares together say of the queue, once the worker has closed it.
+    /// Returns the counts of the queue, which the worker has closed, and the worker's share of the book of
+    /// handed lines. That share has all parts, so its amount is the number of lines that the worker took.
     pub fn final_counts(
         &mut self,
         accepted: Share<A>,
         shutdowns: Share<S>,
         done: Done<H, C>,
-    ) -> Counts
+    ) -> (Counts, Share<H>)
         requires { (accepted.parts ≡ A.parts) × (H.parts ≡ 1) × (shutdowns.parts ≡ S.parts) × (C.parts ≡ 1) }
-        ensures accepted { result.accepted ≡ accepted.amount }
-        ensures handed { result.handed ≡ done.handed.amount }
-        ensures adds_up { result.accepted ≡ result.handed + result.left }
-        ensures none_left { shutdowns.amount ≡ 0 → result.left ≡ 0 }
+        ensures accepted { result.0.accepted ≡ accepted.amount }
+        ensures handed { result.0.handed ≡ done.handed.amount }
+        ensures book { (result.1.parts ≡ H.parts) × (result.0.handed ≡ result.1.amount) }
+        ensures adds_up { result.0.accepted ≡ result.0.handed + result.0.left }
+        ensures none_left { shutdowns.amount ≡ 0 → result.0.left ≡ 0 }
         ensures same { self.new ≡ self.old }
     {
         let Done { handed, closings } = done;
@@ -412,7 +417,7 @@ impl<A: Ledger, H: Ledger, S: Ledger, C: Ledger> State<FourBooks<A, H, S, C>> {
         books.handed.audit(&mut handed);
         books.shutdowns.audit(&mut shutdowns);
         books.closings.audit(&mut closings);
-        queue.counts()
+        (queue.counts(), handed)
     }
 }
 

@@ -84,6 +84,16 @@ impl<A: Ledger, H: Ledger, S: Ledger, C: Ledger, R: Wait + Clock + Print + Drop>
         × (g.shutdowns.amount ≡ one_if g.sent) };
 }
 
+/// An account, and the share that its `handed` is checked against.
+#[derive(Drop)]
+pub struct Settled<H: Ledger> {
+    /// The account.
+    pub account: Account,
+    /// The worker's share of the book of handed lines. It has all parts, so its amount is the book's
+    /// total: the number of lines that the worker took.
+    pub handed: Share<H>,
+}
+
 /// Some senders are missing. All that came is given back as it was.
 #[derive(Drop)]
 pub struct Unsettled<A: Ledger, H: Ledger, S: Ledger, C: Ledger, R: Wait + Clock + Print + Drop> {
@@ -159,7 +169,7 @@ impl<
     C: Ledger,
     R: Threads + Wait + Clock + Print + Drop,
 > CountedGuard<A, H, S, C, R> {
-    /// Ends all senders, waits for the worker's end, and tells what became of the lines. Where senders
+    /// Ends all senders, waits for the worker's end, and returns the account of their lines. If senders
     /// are missing, all is given back and nothing has changed.
     pub fn settle(
         self,
@@ -167,6 +177,27 @@ impl<
     ) -> Result<Account, Unsettled<A, H, S, C, R>>
         requires { (A.parts ≡ self.made + 1) × (H.parts ≡ 1) × (S.parts ≡ 1) × (C.parts ≡ 1) }
         ensures account { IfOk result (λ a. IsAccount a.accepted a.handed a.left a.dropped self senders.items) }
+        ensures all { OnOk result (vec_len senders ≡ self.made) }
+        ensures missing { IfErr result (λ u. vec_len senders < self.made) }
+        ensures given_back { IfErr result (λ u. (u.guard ≡ self) × (u.senders ≡ senders)) }
+    {
+        match self.settle_with_share(senders) {
+            Ok(Settled { account, handed: _ }) => Ok(account),
+            Err(unsettled) => Err(unsettled),
+        }
+    }
+
+    /// Settles as `settle` does, and returns the worker's share of the book of handed lines too. It is for
+    /// a caller that has to check the account against the book itself, as after a shutdown, when the other
+    /// clauses do not tell which lines were handed and which are left.
+    pub fn settle_with_share(
+        self,
+        senders: Vec<CountedSender<A, H, S, C, R>>,
+    ) -> Result<Settled<H>, Unsettled<A, H, S, C, R>>
+        requires { (A.parts ≡ self.made + 1) × (H.parts ≡ 1) × (S.parts ≡ 1) × (C.parts ≡ 1) }
+        ensures account { IfOk result (λ s. IsAccount s.account.accepted s.account.handed s.account.left
+            s.account.dropped self senders.items) }
+        ensures book { IfOk result (λ s. (s.handed.parts ≡ H.parts) × (s.account.handed ≡ s.handed.amount)) }
         ensures all { OnOk result (vec_len senders ≡ self.made) }
         ensures missing { IfErr result (λ u. vec_len senders < self.made) }
         ensures given_back { IfErr result (λ u. (u.guard ≡ self) × (u.senders ≡ senders)) }
@@ -190,7 +221,7 @@ impl<
         let (accepted, dropped) = end_all(senders, part);
         shared.drop_sender(&rt, counted);
         let done = worker.join(&rt);
-        Ok(account_of(&rt, &*shared, accepted, shutdowns, done, dropped))
+        Ok(audit(&rt, &*shared, accepted, shutdowns, done, dropped))
     }
 }
 
@@ -220,30 +251,31 @@ fn end_all<A: Ledger, H: Ledger, S: Ledger, C: Ledger, R: Wait + Drop>(
 }
 
 // Takes the lock once more, with all shares in hand.
-fn account_of<A: Ledger, H: Ledger, S: Ledger, C: Ledger, R: Wait>(
+fn audit<A: Ledger, H: Ledger, S: Ledger, C: Ledger, R: Wait>(
     rt: &R,
     shared: &Shared<FourBooks<A, H, S, C>>,
     accepted: Share<A>,
     shutdowns: Share<S>,
     done: Done<H, C>,
     dropped: usize,
-) -> Account
+) -> Settled<H>
     requires all { (accepted.parts ≡ A.parts) × (H.parts ≡ 1) × (shutdowns.parts ≡ S.parts) × (C.parts ≡ 1) }
-    ensures accepted { result.accepted ≡ accepted.amount }
-    ensures handed { result.handed ≡ done.handed.amount }
-    ensures left { result.accepted ≡ result.handed + result.left }
-    ensures none { shutdowns.amount ≡ 0 → result.left ≡ 0 }
-    ensures dropped { result.dropped ≡ dropped }
+    ensures accepted { result.account.accepted ≡ accepted.amount }
+    ensures book { (result.handed.parts ≡ H.parts) × (result.account.handed ≡ result.handed.amount) }
+    ensures left { result.account.accepted ≡ result.account.handed + result.account.left }
+    ensures none { shutdowns.amount ≡ 0 → result.account.left ≡ 0 }
+    ensures dropped { result.account.dropped ≡ dropped }
 {
-    let counts = shared
+    let (counts, handed) = shared
         .lock(rt, &mut Patience::NEW)
         .final_counts(accepted, shutdowns, done);
-    Account {
+    let account = Account {
         accepted: counts.accepted,
         handed: counts.handed,
         left: counts.left,
         dropped,
-    }
+    };
+    Settled { account, handed }
 }
 
 impl<A: Ledger, H: Ledger, S: Ledger, C: Ledger, R: Wait + Clock + Print + Drop> Drop
@@ -275,5 +307,11 @@ impl<A: Ledger, H: Ledger, S: Ledger, C: Ledger, R: Wait + Clock + Print + Drop>
     for Unsettled<A, H, S, C, R> {
     fn fmt<W: fmt::Write>(&self, f: &mut Formatter<W>) -> fmt::Result {
         f.pad("Unsettled { .. }")
+    }
+}
+
+impl<H: Ledger> Debug for Settled<H> {
+    fn fmt<W: fmt::Write>(&self, f: &mut Formatter<W>) -> fmt::Result {
+        f.pad("Settled { .. }")
     }
 }

@@ -1,6 +1,6 @@
 // How a worker and its first sender are made.
 ghost use Rattle.std.specs.Prelude.{◌≡◌, ◌+◌, IfOk, Some, None, true};
-ghost use Rattle.appender_non_blocking.specs.Account.{new_senders, new_guard};
+ghost use Rattle.appender_non_blocking.specs.Account.{IsBlankOf, new_senders, new_guard};
 
 use super::account::CountedGuard;
 use super::counted::{CountedSender, make_senders};
@@ -143,10 +143,10 @@ impl NonBlockingBuilder {
             CountedGuard<A, H, S, C, R>,
         ),
     >
-        requires accepted { (accepted.name ≡ A.name) × (accepted.parts ≡ A.parts) × (accepted.parts ≡ senders + 1) }
-        requires handed { (handed.name ≡ H.name) × (handed.parts ≡ H.parts) × (handed.parts ≡ 1) }
-        requires shutdowns { (shutdowns.name ≡ S.name) × (shutdowns.parts ≡ S.parts) × (shutdowns.parts ≡ 1) }
-        requires closings { (closings.name ≡ C.name) × (closings.parts ≡ C.parts) × (closings.parts ≡ 1) }
+        requires accepted { IsBlankOf A.Ledger (senders + 1) accepted }
+        requires handed { IsBlankOf H.Ledger 1 handed }
+        requires shutdowns { IsBlankOf S.Ledger 1 shutdowns }
+        requires closings { IsBlankOf C.Ledger 1 closings }
         ensures senders { IfOk result (λ made. made.0.items ≡ new_senders self.lossy senders) }
         ensures guard { IfOk result (λ made. made.1 ≡ new_guard senders) }
     {

@@ -2,6 +2,7 @@
 ghost use Rattle.std.specs.Prelude.{
   ◌≡◌,
   ◌≢◌,
+  ℕ,
   length,
   Some,
   None,
@@ -17,7 +18,6 @@ ghost use Rattle.std.specs.Prelude.{
 ghost use Rattle.std.specs.IoError.{error_kind};
 ghost use Rattle.std.specs.Io.KnownBytes.{Appends};
 ghost use Rattle.appender_non_blocking.specs.Refusal.{IsRefusal};
-ghost use Rattle.appender_non_blocking.specs.Told.{AsQueued};
 
 use super::shared::Shared;
 use appender_queue::queue::Refused;
@@ -194,7 +194,9 @@ pub(super) fn send<B: Books, R: Wait>(
     mine: &mut B::Mine,
 ) -> Option<Sent>
     requires { B.may_accept mine.old }
-    ensures counted { AsQueued result (B.counts_line mine.old mine.new) (mine.new ≡ mine.old) }
+    ensures queued { (ticket : ℕ) → result ≡ Some (Sent.Queued ticket) → B.counts_line mine.old mine.new }
+    ensures dropped { result ≡ Some Sent.Dropped → mine.new ≡ mine.old }
+    ensures closed { result ≡ None → mine.new ≡ mine.old }
     ensures waiting { lossy ≡ false → result ≢ Some Sent.Dropped }
     ensures lossy { lossy ≡ true → IsSome result }
 {
@@ -239,7 +241,9 @@ fn send_later<B: Books, R: Wait>(
     mine: &mut B::Mine,
 ) -> Option<Sent>
     requires { B.may_accept mine.old }
-    ensures counted { AsQueued result (B.counts_line mine.old mine.new) (mine.new ≡ mine.old) }
+    ensures queued { (ticket : ℕ) → result ≡ Some (Sent.Queued ticket) → B.counts_line mine.old mine.new }
+    ensures dropped { result ≡ Some Sent.Dropped → mine.new ≡ mine.old }
+    ensures closed { result ≡ None → mine.new ≡ mine.old }
     ensures waiting { result ≢ Some Sent.Dropped }
 {
     let mut line = line;

@@ -1,6 +1,5 @@
 // What senders, guard and worker share.
-ghost use Rattle.std.specs.Prelude.{◌≡◌};
-ghost use Rattle.appender_state.specs.Cases.{AsSent};
+ghost use Rattle.std.specs.Prelude.{◌≡◌, ◌≢◌};
 ghost use Rattle.appender_state.specs.Tally.{new_tally};
 
 use appender_queue::queue::Shut;
@@ -96,7 +95,8 @@ impl<B: Books> Shared<B> {
     /// Tries once to send the shutdown.
     pub(super) fn shut<R: Wait>(&self, rt: &R, mine: &mut B::Shutdowns) -> Shut
         requires { B.may_shut mine.old }
-        ensures { AsSent result (B.counts_shutdown mine.old mine.new) (mine.new ≡ mine.old) }
+        ensures sent { result ≡ Shut.Sent → B.counts_shutdown mine.old mine.new }
+        ensures not_sent { result ≢ Shut.Sent → mine.new ≡ mine.old }
     {
         let mut state = self.lock(rt, &mut Patience::NEW);
         let (reply, calls) = state.shut(None, mine);

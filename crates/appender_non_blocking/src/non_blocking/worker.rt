@@ -1,6 +1,6 @@
 // What the worker's thread does.
 ghost use Rattle.std.specs.Prelude.{◌≡◌, true};
-ghost use Rattle.appender_state.specs.Cases.{AsTaken};
+ghost use Rattle.appender_state.specs.Cases.{OnLine, OnEnd, OnEmpty};
 ghost use Rattle.appender_worker.specs.Core.{after_flushed, is_flushing};
 
 use super::shared::Shared;
@@ -26,7 +26,9 @@ fn take<B: Books, R: Wait>(
     pass: &mut B::Pass,
 ) -> Taken
     requires { B.may_take pass.old }
-    ensures { AsTaken result (B.may_take pass.new) (B.has_ended pass.new) (B.may_take pass.new) }
+    ensures line { OnLine result (B.may_take pass.new) }
+    ensures ended { OnEnd result (B.has_ended pass.new) }
+    ensures empty { OnEmpty result (B.may_take pass.new) }
 {
     let mut state = shared.lock(rt, patience);
     let (taken, surplus, calls) = state.take(waits, sleeps, spent, pass);
@@ -60,7 +62,7 @@ fn flush<W: Write, R: Eprint>(rt: &R, core: &mut WorkerCore, writer: &mut W)
 }
 
 /// Does what the worker's core wants, until it has ended, and tells the guard so.
-#[tactic(auto, using(crate::proofs::Endings::ends_took, crate::proofs::Endings::ends_wrote, crate::proofs::Endings::ends_flushed))]
+#[tactic(auto, using(crate::proofs::Endings::took_goes_on, crate::proofs::Endings::took_ends, crate::proofs::Endings::ending_wrote, crate::proofs::Endings::ending_flushed))]
 pub(super) fn serve<B: Books, W: Write, R: Wait + Eprint>(
     rt: &R,
     shared: &Shared<B>,
