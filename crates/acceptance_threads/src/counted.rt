@@ -1,5 +1,6 @@
 // What counted senders are told, and what their guard answers.
 ghost use Rattle.std.specs.Prelude.{◌≡◌, ◌+◌, ◌<◌};
+ghost use Rattle.appender_non_blocking.specs.Account.{IsBlankOf};
 
 use crate::counted_crowd::{Tickets, expect_in_order, write_by_ten};
 use crate::expect::{expect_eq, expect_shown, expect_text, put};
@@ -37,6 +38,8 @@ enum End {
     Settles(Account),
     // The queue is shut. Then come these steps, and all are settled.
     Shuts(&'static [Step], Account),
+    // As `Shuts`, and the worker's share comes with the account.
+    ShutsWithShare(&'static [Step], Account),
     // They are settled without one of them, and then with it.
     LacksOne(Account),
     // The guard is dropped, the gate opens, and the senders are dropped.
@@ -115,10 +118,10 @@ fn tell<
     shutdowns: Blank,
     closings: Blank,
 )
-    requires accepted { (accepted.name ≡ A.name) × (accepted.parts ≡ A.parts) × (accepted.parts ≡ story.now.senders + 1) }
-    requires handed { (handed.name ≡ H.name) × (handed.parts ≡ H.parts) × (handed.parts ≡ 1) }
-    requires shutdowns { (shutdowns.name ≡ S.name) × (shutdowns.parts ≡ S.parts) × (shutdowns.parts ≡ 1) }
-    requires closings { (closings.name ≡ C.name) × (closings.parts ≡ C.parts) × (closings.parts ≡ 1) }
+    requires accepted { IsBlankOf A.Ledger (story.now.senders + 1) accepted }
+    requires handed { IsBlankOf H.Ledger 1 handed }
+    requires shutdowns { IsBlankOf S.Ledger 1 shutdowns }
+    requires closings { IsBlankOf C.Ledger 1 closings }
 {
     let rt = stage.rt;
     let builder = builder(rt.alloc(), story).expect(&rt, "memory");
@@ -155,6 +158,9 @@ fn play<
     match story.end {
         End::Settles(wanted) => settles(stage.rt, senders, guard, wanted),
         End::Shuts(steps, wanted) => shuts(stage, senders, guard, steps, wanted),
+        End::ShutsWithShare(steps, wanted) => {
+            shuts_with_share(stage, senders, guard, steps, wanted);
+        }
         End::LacksOne(wanted) => lacks_one(stage.rt, senders, guard, wanted),
         End::DropsGuard => {
             drop(guard);
@@ -198,6 +204,33 @@ fn shuts<
     expect_shut(stage.rt, &mut guard);
     stage.plays(&mut senders, steps);
     settles(stage.rt, senders, guard, wanted);
+}
+
+// As `shuts`, and the worker's share comes with the account.
+fn shuts_with_share<
+    A: Ledger + Send + Sync + 'static,
+    H: Ledger + Send + Sync + 'static,
+    S: Ledger + Send + Sync + 'static,
+    C: Ledger + Send + Sync + 'static,
+    R: Host + Abort,
+>(
+    stage: &mut Stage<R>,
+    mut senders: Vec<CountedSender<A, H, S, C, R>>,
+    mut guard: CountedGuard<A, H, S, C, R>,
+    steps: &[Step],
+    wanted: Account,
+)
+    requires { (A.parts ≡ guard.made + 1) × (H.parts ≡ 1) × (S.parts ≡ 1) × (C.parts ≡ 1) }
+{
+    expect_shut(stage.rt, &mut guard);
+    stage.plays(&mut senders, steps);
+    match guard.settle_with_share(senders) {
+        Ok(settled) => {
+            expect_shown(&stage.rt, &settled, "Settled { .. }");
+            expect_eq(&stage.rt, settled.account, wanted);
+        }
+        Err(_) => stage.rt.panic("senders are missing"),
+    }
 }
 
 // Shuts the queue, which can be done once.
@@ -379,6 +412,32 @@ static LEAVES_LINES: Story = Story {
 #[test]
 fn lines_behind_the_shutdown_are_left(rt: HostRuntime) {
     run(rt, &LEAVES_LINES);
+}
+
+static SETTLES_WITH_SHARE: Story = Story {
+    limit: 4,
+    lossy: true,
+    senders: 1,
+    steps: &[Step::Tells(b"held", Sent::Queued(1)), Step::IsHeld],
+    end: End::ShutsWithShare(
+        &[
+            Step::Tells(b"b", Sent::Queued(2)),
+            Step::Tells(b"c", Sent::Queued(3)),
+            Step::Opens,
+        ],
+        Account {
+            accepted: 3,
+            handed: 1,
+            left: 2,
+            dropped: 0,
+        },
+    ),
+    came: Came::Lines(b"held|"),
+};
+
+#[test]
+fn the_share_comes_with_the_account(rt: HostRuntime) {
+    run(rt, &SETTLES_WITH_SHARE);
 }
 
 static GIVES_BACK: Story = Story {

@@ -1,5 +1,6 @@
 // Which counted senders count, and what their queue was asked for.
 ghost use Rattle.std.specs.Prelude.{◌≡◌, ◌+◌};
+ghost use Rattle.appender_non_blocking.specs.Account.{IsBlankOf};
 
 use crate::counted::Told;
 use crate::expect::{expect_eq, expect_text};
@@ -80,10 +81,10 @@ fn tell<
     shutdowns: Blank,
     closings: Blank,
 )
-    requires accepted { (accepted.name ≡ A.name) × (accepted.parts ≡ A.parts) × (accepted.parts ≡ 4) }
-    requires handed { (handed.name ≡ H.name) × (handed.parts ≡ H.parts) × (handed.parts ≡ 1) }
-    requires shutdowns { (shutdowns.name ≡ S.name) × (shutdowns.parts ≡ S.parts) × (shutdowns.parts ≡ 1) }
-    requires closings { (closings.name ≡ C.name) × (closings.parts ≡ C.parts) × (closings.parts ≡ 1) }
+    requires accepted { IsBlankOf A.Ledger 4 accepted }
+    requires handed { IsBlankOf H.Ledger 1 handed }
+    requires shutdowns { IsBlankOf S.Ledger 1 shutdowns }
+    requires closings { IsBlankOf C.Ledger 1 closings }
 {
     let builder = NonBlockingBuilder::default()
         .buffered_lines_limit(3)
