@@ -17,8 +17,8 @@ use std::{fs, io, thread};
 /// What a test does with three senders of one worker and their guard.
 #[derive(Clone, Copy)]
 pub(crate) enum Act {
-    /// Two senders are dropped, and the third one writes a hundred lines.
-    DropsTwo,
+    /// One sender stays, and writes a hundred lines.
+    LeavesOne,
     /// The writer holds a line, three more find room in a queue of three, and the fourth does not.
     Fills,
     /// One line is written.
@@ -91,7 +91,7 @@ fn tell<
         .lossy(lossy)
         .thread_name(rt.alloc(), "counter")
         .expect(&rt, "memory");
-    let (mut senders, mut guard) = builder
+    let (mut senders, guard) = builder
         .finish_counted::<A, H, S, C, _, R>(
             rt,
             rt.alloc(),
@@ -103,9 +103,8 @@ fn tell<
             closings,
         )
         .expect(&rt, "a worker");
-    play(rt, seen, act, &mut senders, &mut guard);
+    play(rt, seen, act, &mut senders, guard);
     drop(senders);
-    drop(guard);
 }
 
 fn play<T: Told, G: Shuts, R: Host + Abort>(
@@ -113,14 +112,10 @@ fn play<T: Told, G: Shuts, R: Host + Abort>(
     seen: &Seen,
     act: Act,
     senders: &mut Vec<T>,
-    guard: &mut G,
+    mut guard: G,
 ) {
     match act {
-        Act::DropsTwo => {
-            drop(senders.pop());
-            drop(senders.pop());
-            write_hundred(rt, senders);
-        }
+        Act::LeavesOne => leaves_one(rt, seen, senders, guard),
         Act::Fills => fills(rt, seen, senders),
         Act::Writes => expect_told(rt, senders, b"a", Sent::Queued(1)),
         Act::WritesEmptyLines => {
@@ -128,7 +123,7 @@ fn play<T: Told, G: Shuts, R: Host + Abort>(
             expect_told(rt, senders, b"a", Sent::Queued(2));
             expect_told(rt, senders, b"", Sent::Queued(3));
         }
-        Act::Closes => closes(rt, senders, guard),
+        Act::Closes => closes(rt, senders, &mut guard),
     }
 }
 
@@ -139,21 +134,38 @@ fn expect_told<T: Told, R: Abort + Copy>(rt: R, senders: &mut Vec<T>, line: &[u8
     expect_eq(&rt, told, wanted);
 }
 
-// All of a hundred lines are queued.
-fn write_hundred<T: Told, R: Abort + Copy>(rt: R, senders: &mut Vec<T>) {
-    for line in 0..100u64 {
-        expect_told(rt, senders, b"a", Sent::Queued(line + 1));
-    }
-}
-
-fn fills<T: Told, R: Host + Abort>(rt: R, seen: &Seen, senders: &mut Vec<T>) {
+// The writer holds a line, and three more find room.
+fn fill<T: Told, R: Host + Abort>(rt: R, seen: &Seen, senders: &mut Vec<T>) {
     expect_told(rt, senders, b"held", Sent::Queued(1));
     assert!(rt; seen.is_held(rt));
     expect_told(rt, senders, b"a", Sent::Queued(2));
     expect_told(rt, senders, b"b", Sent::Queued(3));
     expect_told(rt, senders, b"c", Sent::Queued(4));
+}
+
+fn fills<T: Told, R: Host + Abort>(rt: R, seen: &Seen, senders: &mut Vec<T>) {
+    fill(rt, seen, senders);
     expect_told(rt, senders, b"d", Sent::Dropped);
     seen.opens();
+}
+
+// The guard, which finds no room for its shutdown, and two of three senders are dropped. The worker finds
+// the queue empty, and closes it if it counts no sender. Then the third sender writes.
+fn leaves_one<T: Told, G: Shuts, R: Host + Abort>(
+    rt: R,
+    seen: &Seen,
+    senders: &mut Vec<T>,
+    guard: G,
+) {
+    fill(rt, seen, senders);
+    drop(guard);
+    drop(senders.pop());
+    drop(senders.pop());
+    seen.opens();
+    assert!(rt; seen.flushes_come(rt, 1));
+    for ticket in 5..105u64 {
+        expect_told(rt, senders, b"d", Sent::Queued(ticket));
+    }
 }
 
 // Shuts the queue, and writes until a sender is told that it is closed. Then the guard is told so too.
@@ -178,8 +190,8 @@ fn closes<T: Told, G: Shuts, R: Host + Abort>(rt: R, senders: &mut Vec<T>, guard
 #[test]
 fn a_dropped_sender_leaves_the_others(rt: HostRuntime) {
     let (writer, seen) = new_gate(rt, b"held").expect(&rt, "memory");
-    run(rt, writer, &*seen, false, Act::DropsTwo);
-    assert!(rt; seen.come(rt, 100));
+    run(rt, writer, &*seen, false, Act::LeavesOne);
+    assert!(rt; seen.come(rt, 104));
 }
 
 #[test]
