@@ -41,6 +41,17 @@ pub struct Calls {
     pub sender: bool,
 }
 
+/// How a worker takes.
+#[derive(Drop)]
+pub struct TakeRequest {
+    /// It waits for a line: with a limit of 0 there is room then.
+    pub waits: bool,
+    /// It sleeps if nothing is there.
+    pub sleeps: bool,
+    /// The buffer of its last line.
+    pub spent: Option<Vec<u8>>,
+}
+
 /// A thread that is counted among those that wait for room. It can't be dropped: the thread's next
 /// `offer` or `shut` takes it, and counts the thread no longer.
 #[must_use]
@@ -309,25 +320,22 @@ impl<B: Books> State<B> {
         }
     }
 
-    /// Takes for the worker, which sleeps then, if it wants to and nothing is there. The buffer of its
-    /// last line is kept for a sender, or comes back where enough are kept.
+    /// Takes for the worker. The spent buffer is kept for a sender, or is returned if enough are kept.
     #[inline(always)]
     pub fn take(
         &mut self,
-        waits: bool,
-        sleeps: bool,
-        spent: Option<Vec<u8>>,
+        request: TakeRequest,
         pass: &mut B::Pass,
     ) -> (Taken, Option<Vec<u8>>, Calls)
         requires { B.may_take pass.old }
-        ensures take { Takes self.old.queue waits result.0 self.new.queue }
+        ensures take { Takes self.old.queue request.waits result.0 self.new.queue }
         ensures worker { result.2.worker ≡ false }
         ensures sender { CallsSender self.old result.2.sender self.new }
         ensures line { OnLine result.0 ((B.counts_take pass.old pass.new) × (B.may_take pass.new)
             × (self.new.asleep ≡ false)) }
         ensures ended { OnEnd result.0 ((B.has_ended pass.new) × (self.new.asleep ≡ false)) }
         ensures empty { OnEmpty result.0 ((pass.new ≡ pass.old) × (B.may_take pass.new)
-            × (self.new.asleep ≡ sleeps)) }
+            × (self.new.asleep ≡ request.sleeps)) }
     {
         let State {
             asleep,
@@ -337,6 +345,11 @@ impl<B: Books> State<B> {
             queue,
             books,
         } = self;
+        let TakeRequest {
+            waits,
+            sleeps,
+            spent,
+        } = request;
         let surplus = keep(spares, spent);
         takes_change_little();
         other_calls_leave_last_tickets();

@@ -15,7 +15,6 @@ ghost use Rattle.std.specs.Prelude.{
 ghost use Rattle.appender_non_blocking.specs.Account.{
   Guard,
   IsAccount,
-  new_guard,
   total_queued,
   total_dropped,
 };
@@ -27,7 +26,6 @@ use super::shared::Shared;
 use appender_queue::queue::Shut;
 use appender_state::books::{Done, FourBooks};
 use appender_state::state::Counted;
-use appender_sync::sync::Patience;
 use std::alloc::Global;
 use std::fmt;
 use std::fmt::{Debug, Formatter};
@@ -60,14 +58,17 @@ pub struct CountedGuard<
     C: Ledger,
     R: Wait + Clock + Print + Drop,
 > {
-    rt: R,
-    shared: Arc<Shared<FourBooks<A, H, S, C>>, Global>,
-    counted: Counted,
-    part: Share<A>,
-    shutdowns: Share<S>,
-    made: usize,
-    sent: bool,
-    worker: JoinHandle<Done<H, C>>,
+    pub(super) rt: R,
+    pub(super) shared: Arc<Shared<FourBooks<A, H, S, C>>, Global>,
+    pub(super) counted: Counted,
+    // What the senders left of the book of accepted lines.
+    pub(super) part: Share<A>,
+    pub(super) shutdowns: Share<S>,
+    // How many senders there are.
+    pub(super) made: usize,
+    // Whether a shutdown was sent.
+    pub(super) sent: bool,
+    pub(super) worker: JoinHandle<Done<H, C>>,
 }
 
 impl<A: Ledger, H: Ledger, S: Ledger, C: Ledger, R: Wait + Clock + Print + Drop> Model
@@ -110,32 +111,6 @@ impl<A: Ledger, H: Ledger, S: Ledger, C: Ledger, R: Wait + Clock + Print + Drop>
     C,
     R,
 > {
-    /// The guard of so many senders, with what they left of the book of accepted lines.
-    pub(super) fn new(
-        rt: R,
-        shared: Arc<Shared<FourBooks<A, H, S, C>>, Global>,
-        counted: Counted,
-        part: Share<A>,
-        shutdowns: Share<S>,
-        made: usize,
-        worker: JoinHandle<Done<H, C>>,
-    ) -> CountedGuard<A, H, S, C, R>
-        requires part { (part.parts ≡ 1) × (part.amount ≡ 0) }
-        requires shutdowns { (shutdowns.parts ≡ 1) × (shutdowns.amount ≡ 0) }
-        ensures { result ≡ new_guard made }
-    {
-        CountedGuard {
-            rt,
-            shared,
-            counted,
-            part,
-            shutdowns,
-            made,
-            sent: false,
-            worker,
-        }
-    }
-
     /// Tries once to send the shutdown: lines that are accepted later are left.
     pub fn shut(&mut self) -> Shut
         ensures { self.new ≡ after_try self.old result }
@@ -221,7 +196,14 @@ impl<
         let (accepted, dropped) = end_all(senders, part);
         shared.drop_sender(&rt, counted);
         let done = worker.join(&rt);
-        Ok(audit(&rt, &*shared, accepted, shutdowns, done, dropped))
+        let (counts, handed) = shared.final_counts(&rt, accepted, shutdowns, done);
+        let account = Account {
+            accepted: counts.accepted,
+            handed: counts.handed,
+            left: counts.left,
+            dropped,
+        };
+        Ok(Settled { account, handed })
     }
 }
 
@@ -248,34 +230,6 @@ fn end_all<A: Ledger, H: Ledger, S: Ledger, C: Ledger, R: Wait + Drop>(
     let none = all.empty();
     all.merge(none);
     (all, dropped)
-}
-
-// Takes the lock once more, with all shares in hand.
-fn audit<A: Ledger, H: Ledger, S: Ledger, C: Ledger, R: Wait>(
-    rt: &R,
-    shared: &Shared<FourBooks<A, H, S, C>>,
-    accepted: Share<A>,
-    shutdowns: Share<S>,
-    done: Done<H, C>,
-    dropped: usize,
-) -> Settled<H>
-    requires all { (accepted.parts ≡ A.parts) × (H.parts ≡ 1) × (shutdowns.parts ≡ S.parts) × (C.parts ≡ 1) }
-    ensures accepted { result.account.accepted ≡ accepted.amount }
-    ensures book { (result.handed.parts ≡ H.parts) × (result.account.handed ≡ result.handed.amount) }
-    ensures left { result.account.accepted ≡ result.account.handed + result.account.left }
-    ensures none { shutdowns.amount ≡ 0 → result.account.left ≡ 0 }
-    ensures dropped { result.account.dropped ≡ dropped }
-{
-    let (counts, handed) = shared
-        .lock(rt, &mut Patience::NEW)
-        .final_counts(accepted, shutdowns, done);
-    let account = Account {
-        accepted: counts.accepted,
-        handed: counts.handed,
-        left: counts.left,
-        dropped,
-    };
-    Settled { account, handed }
 }
 
 impl<A: Ledger, H: Ledger, S: Ledger, C: Ledger, R: Wait + Clock + Print + Drop> Drop

@@ -107,12 +107,13 @@ impl NonBlockingBuilder {
         ensures { IfOk result (λ made. made.0.lossy ≡ self.lossy) }
     {
         let NonBlockingBuilder { limit, lossy, name } = self;
+        let name = name_or_default(alloc, name)?;
         let shared = Shared::new(alloc, limit, lossy, 0, NoBooks)?;
         let guarded = Arc::try_clone(&shared)?;
         let served = Arc::try_clone(&shared)?;
         // A worker that finds no sender ends.
         let sender = NonBlocking::counted(rt, alloc, shared, lossy);
-        start(rt, alloc, name, served, writer)?;
+        start(rt, name, served, writer)?;
         Ok((sender, WorkerGuard::new(rt, guarded)))
     }
 
@@ -151,9 +152,10 @@ impl NonBlockingBuilder {
         ensures guard { IfOk result (λ made. made.1 ≡ new_guard senders) }
     {
         let NonBlockingBuilder { limit, lossy, name } = self;
+        let name = name_or_default(alloc, name)?;
         let (accepted, share) = accepted.open::<A>();
         let (handed, lines) = handed.open::<H>();
-        let (shutdowns, sent) = shutdowns.open::<S>();
+        let (shutdowns, shut) = shutdowns.open::<S>();
         let (closings, closed) = closings.open::<C>();
         let books = FourBooks {
             accepted,
@@ -170,11 +172,20 @@ impl NonBlockingBuilder {
         };
         // The guard is a sender that offers no lines and has no place. A worker that finds no sender ends.
         let counted = shared.add_sender(&rt);
-        match start_counted(rt, alloc, name, served, writer, pass) {
-            Ok(worker) => Ok((
-                made,
-                CountedGuard::new(rt, shared, counted, part, sent, senders, worker),
-            )),
+        match start_counted(rt, name, served, writer, pass) {
+            Ok(worker) => {
+                let guard = CountedGuard {
+                    rt,
+                    shared,
+                    counted,
+                    part,
+                    shutdowns: shut,
+                    made: senders,
+                    sent: false,
+                    worker,
+                };
+                Ok((made, guard))
+            }
             Err(fault) => {
                 shared.drop_sender(&rt, counted);
                 Err(fault)
@@ -186,12 +197,10 @@ impl NonBlockingBuilder {
 // Starts the worker's thread.
 fn start<W: Write + Send + Drop + 'static, R: Threads + Wait + Eprint + Copy + Send + 'static>(
     rt: R,
-    alloc: Global,
-    name: Option<String>,
+    name: String,
     shared: Arc<Shared<NoBooks>, Global>,
     writer: W,
 ) -> io::Result<()> {
-    let name = name_or_default(alloc, name)?;
     let mut writer = writer;
     let _worker = thread::Builder::new()
         .name(name)
@@ -209,8 +218,7 @@ fn start_counted<
     R: Threads + Wait + Eprint + Copy + Send + 'static,
 >(
     rt: R,
-    alloc: Global,
-    name: Option<String>,
+    name: String,
     shared: Arc<Shared<FourBooks<A, H, S, C>>, Global>,
     writer: W,
     pass: Pass<H, C>,
@@ -218,7 +226,6 @@ fn start_counted<
     requires { (pass.handed.parts ≡ 1) × (H.parts ≡ 1) × (pass.closings.parts ≡ 1) × (C.parts ≡ 1)
         × (pass.closings.amount ≡ 0) }
 {
-    let name = name_or_default(alloc, name)?;
     let mut writer = writer;
     let job = move || -> Done<H, C>
         requires { (pass.handed.parts ≡ 1) × (H.parts ≡ 1) × (pass.closings.parts ≡ 1) × (C.parts ≡ 1)

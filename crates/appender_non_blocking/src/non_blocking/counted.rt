@@ -5,11 +5,10 @@ ghost use Rattle.appender_non_blocking.specs.Account.{Sums, new_sender, new_send
 ghost use Rattle.appender_non_blocking.specs.Refusal.{IsRefusal};
 ghost use Rattle.appender_non_blocking.specs.Told.{after_line};
 
-use super::sender::{Sent, copy_of, send};
+use super::sender::{Local, Sent, copy_of, send};
 use super::shared::Shared;
 use appender_state::books::{FourBooks, SenderShare};
 use appender_state::state::Counted;
-use appender_sync::sync::Patience;
 use std::alloc::{AllocError, Global};
 use std::fmt::{Debug, Formatter};
 use std::io::ErrorKind;
@@ -25,10 +24,7 @@ pub struct CountedSender<A: Ledger, H: Ledger, S: Ledger, C: Ledger, R: Wait + D
     alloc: Global,
     shared: Arc<Shared<FourBooks<A, H, S, C>>, Global>,
     counted: Counted,
-    lossy: bool,
-    // The buffer for the next line.
-    spare: Vec<u8>,
-    patience: Patience,
+    local: Local,
     mine: SenderShare<A>,
     queued: u64,
     dropped: usize,
@@ -47,7 +43,7 @@ impl<A: Ledger, H: Ledger, S: Ledger, C: Ledger, R: Wait + Drop> Model
       dropped = s.dropped;
       last_ticket = s.last_ticket;
       place = s.mine.place;
-      lossy = s.lossy;
+      lossy = s.local.lossy;
     } };
 
     // The queue has the sender's place: the guard has the one part that is left.
@@ -56,18 +52,17 @@ impl<A: Ledger, H: Ledger, S: Ledger, C: Ledger, R: Wait + Drop> Model
 }
 
 impl<A: Ledger, H: Ledger, S: Ledger, C: Ledger, R: Wait + Drop> CountedSender<A, H, S, C, R> {
-    // Returns one more sender, with this place in the queue.
+    // Returns one more sender, with this share and this place in the queue.
     fn new(
         rt: R,
         alloc: Global,
         shared: Arc<Shared<FourBooks<A, H, S, C>>, Global>,
         lossy: bool,
-        mine: Share<A>,
-        place: usize,
+        mine: SenderShare<A>,
     ) -> CountedSender<A, H, S, C, R>
-        requires share { (mine.parts ≡ 1) × (mine.amount ≡ 0) }
-        requires place { place + 1 < A.parts }
-        ensures { result ≡ new_sender lossy place }
+        requires share { (mine.share.parts ≡ 1) × (mine.share.amount ≡ 0) }
+        requires place { mine.place + 1 < A.parts }
+        ensures { result ≡ new_sender lossy mine.place }
     {
         let counted = shared.add_sender(&rt);
         CountedSender {
@@ -75,10 +70,8 @@ impl<A: Ledger, H: Ledger, S: Ledger, C: Ledger, R: Wait + Drop> CountedSender<A
             alloc,
             shared,
             counted,
-            lossy,
-            spare: Vec::new(alloc),
-            patience: Patience::NEW,
-            mine: SenderShare { share: mine, place },
+            local: Local::new(alloc, lossy),
+            mine,
             queued: 0,
             dropped: 0,
             last_ticket: 0,
@@ -98,20 +91,18 @@ impl<A: Ledger, H: Ledger, S: Ledger, C: Ledger, R: Wait + Drop> CountedSender<A
             rt,
             alloc,
             shared,
-            lossy,
-            spare,
-            patience,
+            local,
             mine,
             queued,
             dropped,
             last_ticket,
             ..
         } = self;
-        let copy = match copy_of(*alloc, spare, line) {
+        let copy = match copy_of(*alloc, &mut local.spare, line) {
             Ok(copy) => copy,
             Err(kind) => return Err(io::Error::from(kind)),
         };
-        match send(rt, &**shared, *lossy, copy, spare, patience, mine) {
+        match send(rt, &**shared, local, copy, mine) {
             Some(Sent::Queued(ticket)) => {
                 *queued += 1;
                 *last_ticket = ticket;
@@ -156,9 +147,7 @@ impl<A: Ledger, H: Ledger, S: Ledger, C: Ledger, R: Wait + Drop> CountedSender<A
             alloc: _,
             shared,
             counted,
-            lossy: _,
-            spare: _,
-            patience: _,
+            local: _,
             mine,
             queued: _,
             dropped,
@@ -178,9 +167,7 @@ impl<A: Ledger, H: Ledger, S: Ledger, C: Ledger, R: Wait + Drop> Drop
             alloc: _,
             shared,
             counted,
-            lossy: _,
-            spare: _,
-            patience: _,
+            local: _,
             mine: _,
             queued: _,
             dropped: _,
@@ -214,9 +201,10 @@ pub(super) fn make_senders<A: Ledger, H: Ledger, S: Ledger, C: Ledger, R: Wait +
     let mut share = share;
     let mut made = Vec::with_capacity(alloc, senders)?;
     for place in 0..senders {
-        let mine = share.split_off(1, 0);
+        let share = share.split_off(1, 0);
         let shared = Arc::try_clone(shared)?;
-        made.push(CountedSender::new(rt, alloc, shared, lossy, mine, place))?;
+        let mine = SenderShare { share, place };
+        made.push(CountedSender::new(rt, alloc, shared, lossy, mine))?;
     }
     Ok((made, share))
 }

@@ -43,6 +43,16 @@ pub enum Sent {
     Dropped,
 }
 
+/// What is not shared: each sender has its own.
+#[derive(Drop)]
+pub(super) struct Local {
+    /// Whether a line that finds no room is dropped.
+    pub(super) lossy: bool,
+    /// The buffer for the next line.
+    pub(super) spare: Vec<u8>,
+    patience: Patience,
+}
+
 /// Offers lines to a queue, which a worker empties. Each `write` is one line, and `flush` does
 /// nothing: the worker flushes its writer whenever it finds the queue empty. A clone is one more
 /// sender; once the last one and the guard are dropped, the worker writes what lies in the queue, and
@@ -52,10 +62,7 @@ pub struct NonBlocking<R: Wait + Drop> {
     alloc: Global,
     shared: Arc<Shared<NoBooks>, Global>,
     counted: Counted,
-    lossy: bool,
-    // The buffer for the next line.
-    spare: Vec<u8>,
-    patience: Patience,
+    local: Local,
 }
 
 impl<R: Wait + Drop> Model for NonBlocking<R> {
@@ -63,7 +70,20 @@ impl<R: Wait + Drop> Model for NonBlocking<R> {
 
     ghost Value = { Mode };
 
-    ghost view = { λ s. record { lossy = s.lossy } };
+    ghost view = { λ s. record { lossy = s.local.lossy } };
+}
+
+impl Local {
+    /// Returns that of a new sender.
+    pub(super) fn new(alloc: Global, lossy: bool) -> Local
+        ensures { result.lossy ≡ lossy }
+    {
+        Local {
+            lossy,
+            spare: Vec::new(alloc),
+            patience: Patience::NEW,
+        }
+    }
 }
 
 impl<R: Wait + Drop> NonBlocking<R> {
@@ -82,9 +102,7 @@ impl<R: Wait + Drop> NonBlocking<R> {
             alloc,
             shared,
             counted,
-            lossy,
-            spare: Vec::new(alloc),
-            patience: Patience::NEW,
+            local: Local::new(alloc, lossy),
         }
     }
 
@@ -95,7 +113,7 @@ impl<R: Wait + Drop> NonBlocking<R> {
     {
         Ok(ErrorCounter {
             shared: Arc::try_clone(&self.shared)?,
-            lossy: self.lossy,
+            lossy: self.local.lossy,
         })
     }
 
@@ -110,13 +128,11 @@ impl<R: Wait + Drop> NonBlocking<R> {
             rt,
             alloc,
             shared,
-            lossy,
-            spare,
-            patience,
+            local,
             ..
         } = self;
-        let line = copy_of(*alloc, spare, buf)?;
-        match send(rt, &**shared, *lossy, line, spare, patience, &mut ()) {
+        let line = copy_of(*alloc, &mut local.spare, buf)?;
+        match send(rt, &**shared, local, line, &mut ()) {
             Some(_) => Ok(()),
             None => Err(ErrorKind::Other),
         }
@@ -187,21 +203,20 @@ pub(super) fn copy_of(alloc: Global, spare: &mut Vec<u8>, buf: &[u8]) -> Result<
 pub(super) fn send<B: Books, R: Wait>(
     rt: &R,
     shared: &Shared<B>,
-    lossy: bool,
+    local: &mut Local,
     line: Vec<u8>,
-    spare: &mut Vec<u8>,
-    patience: &mut Patience,
     mine: &mut B::Mine,
 ) -> Option<Sent>
     requires { B.may_accept mine.old }
     ensures queued { (ticket : ℕ) → result ≡ Some (Sent.Queued ticket) → B.counts_line mine.old mine.new }
     ensures dropped { result ≡ Some Sent.Dropped → mine.new ≡ mine.old }
     ensures closed { result ≡ None → mine.new ≡ mine.old }
-    ensures waiting { lossy ≡ false → result ≢ Some Sent.Dropped }
-    ensures lossy { lossy ≡ true → IsSome result }
+    ensures waiting { local.old.lossy ≡ false → result ≢ Some Sent.Dropped }
+    ensures lossy { local.old.lossy ≡ true → IsSome result }
+    ensures same { local.new.lossy ≡ local.old.lossy }
 {
-    let mut state = shared.lock(rt, patience);
-    let (reply, calls) = state.offer(line, None, spare, mine);
+    let mut state = shared.lock(rt, &mut local.patience);
+    let (reply, calls) = state.offer(line, None, &mut local.spare, mine);
     match reply {
         Ok((ticket, pace)) => {
             drop(state);
@@ -209,11 +224,11 @@ pub(super) fn send<B: Books, R: Wait>(
             pace.keep();
             Some(Sent::Queued(ticket))
         }
-        Err(refused) if lossy => {
+        Err(refused) if local.lossy => {
             shared.dropped.store(state.dropped(), SeqCst);
             drop(state);
             shared.wake(calls);
-            recycle(spare, refused);
+            recycle(&mut local.spare, refused);
             Some(Sent::Dropped)
         }
         Err(Refused::Closed(_)) => {
@@ -224,7 +239,7 @@ pub(super) fn send<B: Books, R: Wait>(
         Err(Refused::Full(line)) => {
             drop(state);
             shared.wake(calls);
-            send_later(rt, shared, line, spare, patience, mine)
+            send_later(rt, shared, local, line, mine)
         }
     }
 }
@@ -235,9 +250,8 @@ pub(super) fn send<B: Books, R: Wait>(
 fn send_later<B: Books, R: Wait>(
     rt: &R,
     shared: &Shared<B>,
+    local: &mut Local,
     line: Vec<u8>,
-    spare: &mut Vec<u8>,
-    patience: &mut Patience,
     mine: &mut B::Mine,
 ) -> Option<Sent>
     requires { B.may_accept mine.old }
@@ -245,14 +259,15 @@ fn send_later<B: Books, R: Wait>(
     ensures dropped { result ≡ Some Sent.Dropped → mine.new ≡ mine.old }
     ensures closed { result ≡ None → mine.new ≡ mine.old }
     ensures waiting { result ≢ Some Sent.Dropped }
+    ensures same { local.new.lossy ≡ local.old.lossy }
 {
     let mut line = line;
     let mut came = None;
     let mut looks = 1u32;
     rest(FULL_REST);
-    let mut state = shared.lock(rt, patience);
+    let mut state = shared.lock(rt, &mut local.patience);
     for _ in rt.forever() {
-        let (reply, calls) = state.offer(line, came, spare, mine);
+        let (reply, calls) = state.offer(line, came, &mut local.spare, mine);
         match reply {
             Ok((ticket, _)) => {
                 drop(state);
@@ -271,7 +286,7 @@ fn send_later<B: Books, R: Wait>(
                     drop(state);
                     rest(FULL_REST);
                     looks += 1;
-                    state = shared.lock(rt, patience);
+                    state = shared.lock(rt, &mut local.patience);
                     came = None;
                     continue;
                 }
@@ -299,7 +314,7 @@ impl<R: Wait + Clone> Clone for NonBlocking<R> {
     fn clone(&self) -> Result<NonBlocking<R>, AllocError> {
         let rt = self.rt.clone()?;
         let shared = Arc::try_clone(&self.shared)?;
-        Ok(NonBlocking::counted(rt, self.alloc, shared, self.lossy))
+        Ok(NonBlocking::counted(rt, self.alloc, shared, self.local.lossy))
     }
 }
 
@@ -321,9 +336,7 @@ impl<R: Wait + Drop> Drop for NonBlocking<R> {
             alloc: _,
             shared,
             counted,
-            lossy: _,
-            spare: _,
-            patience: _,
+            local: _,
         } = self;
         shared.drop_sender(&rt, counted);
     }

@@ -1,15 +1,16 @@
 // What senders, guard and worker share.
-ghost use Rattle.std.specs.Prelude.{◌≡◌, ◌≢◌};
+ghost use Rattle.std.specs.Prelude.{◌≡◌, ◌≢◌, ◌+◌};
 ghost use Rattle.appender_state.specs.Tally.{new_tally};
 
-use appender_queue::queue::Shut;
-use appender_state::books::Books;
+use appender_queue::queue::{Counts, Shut};
+use appender_state::books::{Books, Done, FourBooks};
 use appender_state::state::{Calls, Counted, State};
 use appender_sync::sync;
 use appender_sync::sync::Patience;
 use crossbeam_utils::CachePadded;
 use std::alloc::{AllocError, Global};
 use std::sync::atomic::AtomicUsize;
+use std::sync::ledger::{Ledger, Share};
 use std::sync::{Arc, Condvar, Mutex, MutexGuard, Wait};
 
 #[derive(Drop)]
@@ -109,5 +110,25 @@ impl<B: Books> Shared<B> {
     pub(super) fn announce_end<R: Wait>(&self, rt: &R) {
         *self.ended.lock(rt) = true;
         self.end.notify_all();
+    }
+}
+
+impl<A: Ledger, H: Ledger, S: Ledger, C: Ledger> Shared<FourBooks<A, H, S, C>> {
+    /// Returns the counts of the queue, and the worker's share of the book of handed lines: all its parts.
+    pub(super) fn final_counts<R: Wait>(
+        &self,
+        rt: &R,
+        accepted: Share<A>,
+        shutdowns: Share<S>,
+        done: Done<H, C>,
+    ) -> (Counts, Share<H>)
+        requires { (accepted.parts ≡ A.parts) × (H.parts ≡ 1) × (shutdowns.parts ≡ S.parts) × (C.parts ≡ 1) }
+        ensures accepted { result.0.accepted ≡ accepted.amount }
+        ensures book { (result.1.parts ≡ H.parts) × (result.0.handed ≡ result.1.amount) }
+        ensures adds_up { result.0.accepted ≡ result.0.handed + result.0.left }
+        ensures none_left { shutdowns.amount ≡ 0 → result.0.left ≡ 0 }
+    {
+        let mut state = self.lock(rt, &mut Patience::NEW);
+        state.final_counts(accepted, shutdowns, done)
     }
 }

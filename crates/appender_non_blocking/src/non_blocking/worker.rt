@@ -7,22 +7,20 @@ use super::shared::Shared;
 use appender_queue::queue::Taken;
 use appender_state::books::Books;
 use appender_state::pace::{EMPTY_REST, LOOKS};
+use appender_state::state::TakeRequest;
 use appender_sync::sync::{Patience, rest};
 use appender_worker::worker::{Want, WorkerCore};
 use std::io;
 use std::io::Write;
 use std::sync::Wait;
 
-// One locked take. Where nothing is there and the worker `sleeps`, it sleeps until it is called. The
-// buffer of the line that was written last goes back.
+// One locked take. If nothing is there and the worker sleeps then, it sleeps until it is called.
 #[inline]
 fn take<B: Books, R: Wait>(
     rt: &R,
     shared: &Shared<B>,
     patience: &mut Patience,
-    waits: bool,
-    sleeps: bool,
-    spent: Option<Vec<u8>>,
+    request: TakeRequest,
     pass: &mut B::Pass,
 ) -> Taken
     requires { B.may_take pass.old }
@@ -30,8 +28,9 @@ fn take<B: Books, R: Wait>(
     ensures ended { OnEnd result (B.has_ended pass.new) }
     ensures empty { OnEmpty result (B.may_take pass.new) }
 {
+    let sleeps = request.sleeps;
     let mut state = shared.lock(rt, patience);
-    let (taken, surplus, calls) = state.take(waits, sleeps, spent, pass);
+    let (taken, surplus, calls) = state.take(request, pass);
     if sleeps && matches!(&taken, Taken::Empty) {
         // With a limit of 0 there is room only now.
         shared.wake(calls);
@@ -79,9 +78,12 @@ pub(super) fn serve<B: Books, W: Write, R: Wait + Eprint>(
     for _ in rt.forever() {
         match core.want() {
             Want::Take { waits } => {
-                let spent = core.take_spent();
-                let sleeps = waits && looks >= LOOKS;
-                let taken = take(rt, shared, &mut patience, waits, sleeps, spent, &mut pass);
+                let request = TakeRequest {
+                    waits,
+                    sleeps: waits && looks >= LOOKS,
+                    spent: core.take_spent(),
+                };
+                let taken = take(rt, shared, &mut patience, request, &mut pass);
                 if !matches!(&taken, Taken::Empty) || looks >= LOOKS {
                     looks = 0;
                 } else if waits {
