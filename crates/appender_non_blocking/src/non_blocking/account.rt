@@ -163,8 +163,8 @@ impl<
     }
 
     /// Settles as `settle` does, and returns the worker's share of the book of handed lines too. It is for
-    /// a caller that has to check the account against the book itself, as after a shutdown, when the other
-    /// clauses do not tell which lines were handed and which are left.
+    /// a caller that has to check the account against the book itself. After a shutdown no other clause
+    /// says how many lines the worker took.
     pub fn settle_with_share(
         self,
         senders: Vec<CountedSender<A, H, S, C, R>>,
