@@ -1,4 +1,5 @@
 //! A folder of the file system, as an appender writes to it.
+ghost use Rattle.std.specs.Io.KnownBytes.{Keeps};
 ghost use Rattle.appender_folder.specs.Calls.{CountsFailure};
 
 mod entries;
@@ -6,8 +7,9 @@ mod files;
 
 use appender_store::store::{Folder, Listed, Notice, NoticeCounts, NoticeKind};
 use entries::list_entries;
-use files::{make_link, open_plain, remove_link, remove_plain};
+use files::{is_named, make_link, open_plain, remove_link, remove_plain};
 use std::alloc::AllocError;
+use std::fs::OpenFile;
 use std::io::Write;
 use std::marker::Model;
 use std::rt::Files;
@@ -23,6 +25,8 @@ pub struct DirFolder<R = HostRuntime> {
     rt: R,
     // Ends with a slash.
     path: String,
+    // Whether each flush also syncs.
+    syncs: bool,
     failures: u64,
     noted: NoticeCounts,
 }
@@ -57,9 +61,38 @@ impl<R: Files + AllocGlobal + Eprint + Clone + Drop> DirFolder<R> {
         Ok(DirFolder {
             rt,
             path: base,
+            syncs: false,
             failures: 0,
             noted: NoticeCounts::new(),
         })
+    }
+
+    /// Makes each flush of a file also sync its data to the disk (`fdatasync`): what was written before it then
+    /// survives a loss of power, as far as the disk keeps its word.
+    #[must_use]
+    pub fn synced(self) -> DirFolder<R>
+        ensures { result ≡ self }
+    {
+        let DirFolder {
+            rt,
+            path,
+            syncs: _,
+            failures,
+            noted,
+        } = self;
+        DirFolder {
+            rt,
+            path,
+            syncs: true,
+            failures,
+            noted,
+        }
+    }
+
+    /// Returns whether a name leads to this very open file: it no longer does once the file was removed,
+    /// renamed or replaced. Nothing is counted in `failures`.
+    pub fn is_named(&self, file: &R::File, name: &str) -> io::Result<bool> {
+        is_named(&self.rt, self.path.as_str(), file, name)
     }
 
     /// How often a kind of notice was noted, modulo 2^64.
@@ -94,6 +127,14 @@ impl<R: Files + AllocGlobal + Eprint + Clone + Drop> DirFolder<R> {
             Notice::Open(fault) => eprintln!(rt; "Couldn't create writer for logs: {fault}"),
         }
     }
+}
+
+// Flushes a file, and then syncs its data if that is asked for.
+fn flush_file<F: Write + OpenFile>(file: &mut F, syncs: bool) -> io::Result<()>
+    ensures { Keeps (F.contents file.old) (F.contents file.new) }
+{
+    file.flush()?;
+    if syncs { file.sync_data() } else { Ok(()) }
 }
 
 impl<R: Files + AllocGlobal + Eprint + Clone + Drop> Folder for DirFolder<R> {
@@ -187,7 +228,7 @@ impl<R: Files + AllocGlobal + Eprint + Clone + Drop> Folder for DirFolder<R> {
     }
 
     fn flush(&mut self, file: &mut R::File) -> io::Result<()> {
-        let answer = file.flush();
+        let answer = flush_file(file, self.syncs);
         self.count_failure(answer)
     }
 

@@ -31,6 +31,18 @@ pub record PutsNow {S F C : Type 0} (kind : Ghosts S F) (time : Readings C) (byt
 abbrev pub WritesNow : {S F C : Type 0} → Ghosts S F → Readings C → List ℕ → Result ℕ Error → Appending S F C → Appending S F C → Type 0
 WritesNow kind time bytes answer old new = (switch : Switch) × PutsNow kind time bytes switch answer old new
 
+-- the clock was read, and it was looked whether a file begins at the moment that it told
+pub record SeesNow {S F C : Type 0} (kind : Ghosts S F) (time : Readings C) (switch : Switch) (old new : Appending S F C) : Type 0 where
+  pub moment : ℤ
+  pub told : time.now_gives old.clock moment
+  pub sees : Sees kind moment switch old.roller new.roller
+  pub clock : new.clock ≡ old.clock
+
+-- the bytes were added to the open file by one append, and the clock not read
+pub record AppendsNow {S F C : Type 0} (kind : Ghosts S F) (bytes : List ℕ) (answer : Result ℕ Error) (old new : Appending S F C) : Type 0 where
+  pub writes : Writes kind bytes answer old.roller new.roller
+  pub clock : new.clock ≡ old.clock
+
 -- the open file was flushed, and the clock not read
 pub record FlushesNow {S F C : Type 0} (kind : Ghosts S F) (answer : Result (Unit {0}) Error) (old new : Appending S F C) : Type 0 where
   pub flushes : Flushes kind answer old.roller new.roller

@@ -179,6 +179,13 @@ impl<S: Folder> Roller<S> {
         self.schedule.setup.names()
     }
 
+    /// Returns the open file.
+    pub fn open_file(&self) -> &S::File
+        ensures { result.now ≡ self.now.file }
+    {
+        &self.log.file
+    }
+
     /// Returns the folder.
     pub fn folder(&self) -> &S
         ensures { result.now ≡ self.now.folder }

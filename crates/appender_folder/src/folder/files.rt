@@ -4,7 +4,7 @@ ghost use Rattle.appender_names.specs.Name.{IsEntry};
 
 use appender_names::names::is_entry_name;
 use std::alloc::Global;
-use std::fs::{OpenFile, OpenOptions};
+use std::fs::{Metadata, OpenFile, OpenOptions};
 use std::io::{Error, ErrorKind};
 use std::os::unix::fs::{MetadataExt, symlink};
 use std::rt::Files;
@@ -34,16 +34,51 @@ pub(super) fn open_plain<R: Files + AllocGlobal>(
 }
 
 // A link may have come since the look: what was opened has to be the plain file that the name leads
-// to now, while it is open and its number can't be another's.
+// to now, while it is open and its number can't be another's. Nor may the file have a second name, by a
+// hard link, since lines would then be found where no log was asked for.
 fn open_standing<R: Files>(rt: &R, path: &str) -> io::Result<R::File> {
-    let file = OpenOptions::new().append(true).open(rt, path)?;
+    let file = open_to_append(rt, path)?;
     let opened = file.metadata()?;
     let named = fs::symlink_metadata(rt, path)?;
-    if named.is_file() && named.dev() == opened.dev() && named.ino() == opened.ino() {
-        Ok(file)
-    } else {
+    if !is_same_file(&named, &opened) {
         Err(not_plain())
+    } else if opened.nlink() > 1 {
+        Err(Error::new(ErrorKind::AlreadyExists, "a file with a second hard link"))
+    } else {
+        Ok(file)
     }
+}
+
+// Opened for reading too, a pipe that has come since the look doesn't wait for a reader. A file that
+// can't be read is opened for appends alone.
+fn open_to_append<R: Files>(rt: &R, path: &str) -> io::Result<R::File> {
+    match OpenOptions::new().read(true).append(true).open(rt, path) {
+        Err(fault) if fault.kind() == ErrorKind::PermissionDenied => {
+            OpenOptions::new().append(true).open(rt, path)
+        }
+        opened => opened,
+    }
+}
+
+/// Whether a name leads to this open file. A name that is gone leads to none.
+pub(super) fn is_named<R: Files + AllocGlobal>(
+    rt: &R,
+    folder: &str,
+    file: &R::File,
+    name: &str,
+) -> io::Result<bool> {
+    let path = entry_path(rt.alloc(), folder, name)?;
+    let opened = file.metadata()?;
+    match fs::symlink_metadata(rt, path.as_str()) {
+        Ok(named) => Ok(is_same_file(&named, &opened)),
+        Err(fault) if fault.kind() == ErrorKind::NotFound => Ok(false),
+        Err(fault) => Err(fault),
+    }
+}
+
+// Whether what a name leads to is a plain file, and this one.
+fn is_same_file(named: &Metadata, opened: &Metadata) -> bool {
+    named.is_file() && named.dev() == opened.dev() && named.ino() == opened.ino()
 }
 
 /// Removes a plain file.
@@ -80,7 +115,8 @@ pub(super) fn remove_link<R: Files + AllocGlobal>(
     }
 }
 
-/// Makes a link to a target, whatever that names.
+/// Makes a link to a target, whatever that names. One that already leads there, which another process
+/// made, is what was wanted.
 pub(super) fn make_link<R: Files + AllocGlobal>(
     rt: &R,
     folder: &str,
@@ -90,7 +126,21 @@ pub(super) fn make_link<R: Files + AllocGlobal>(
     ensures { OnOk result (IsEntry name.now) }
 {
     let path = entry_path(rt.alloc(), folder, name)?;
-    symlink(rt, target, path.as_str())
+    let path = path.as_str();
+    match symlink(rt, target, path) {
+        Err(fault) if fault.kind() == ErrorKind::AlreadyExists && leads_to(rt, path, target) => Ok(
+            (),
+        ),
+        answer => answer,
+    }
+}
+
+// Whether there is a link with this target.
+fn leads_to<R: Files + AllocGlobal>(rt: &R, path: &str, target: &str) -> bool {
+    match fs::read_link(rt, path) {
+        Ok(found) => found.as_str() == target,
+        Err(_) => false,
+    }
 }
 
 fn not_plain() -> Error {

@@ -29,7 +29,8 @@ impl<S: Folder, C: Clock> Model for RollingFile<S, C> {
 
 impl<S: Folder, C: Clock> RollingFile<S, C> {
     ghost use Rattle.std.specs.Prelude.{◌≡◌};
-    ghost use Rattle.appender_rolling.specs.Appender.{PutsNow};
+    ghost use Rattle.appender_rolling.specs.Appender.{AppendsNow, PutsNow, SeesNow};
+    ghost use Rattle.appender_rolling.specs.Opening.{file_name_of};
 
     /// Looks at the clock, and then adds bytes to the open file by one append. Tells whether a new
     /// file was begun, and how many bytes were taken.
@@ -38,6 +39,43 @@ impl<S: Folder, C: Clock> RollingFile<S, C> {
     {
         let moment = self.clock.now();
         self.roller.put(moment, bytes)
+    }
+
+    /// Looks at the clock, and writes nothing. Returns whether a new file was begun.
+    pub fn look(&mut self) -> Switch
+        ensures { SeesNow S.Folder C.Clock result self.old self.new }
+    {
+        let moment = self.clock.now();
+        self.roller.see(moment)
+    }
+
+    /// Adds bytes to the open file by one append, and reads no clock: what follows a `look` or a short
+    /// `put` is in the same file. Returns how many were taken.
+    pub fn append(&mut self, bytes: &[u8]) -> io::Result<usize>
+        ensures { AppendsNow S.Folder bytes.now result self.old self.new }
+    {
+        self.roller.write(bytes)
+    }
+
+    /// Returns the name of the open file.
+    pub fn open_name(&self) -> &str
+        ensures { result.now ≡ file_name_of self.now.roller.config self.now.roller.opened }
+    {
+        self.roller.open_name()
+    }
+
+    /// Returns the open file.
+    pub fn open_file(&self) -> &S::File
+        ensures { result.now ≡ self.now.roller.file }
+    {
+        self.roller.open_file()
+    }
+
+    /// Returns the folder.
+    pub fn folder(&self) -> &S
+        ensures { result.now ≡ self.now.roller.folder }
+    {
+        self.roller.folder()
     }
 
     /// The folder and the clock, with the open file let go.
