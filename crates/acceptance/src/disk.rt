@@ -4,6 +4,7 @@ mod faults;
 mod listings;
 mod notices;
 mod openings;
+mod others;
 pub(crate) mod runs;
 mod scene;
 mod turns;

@@ -19,6 +19,7 @@ pub enum Call {
     CreateDir,
     Symlink,
     Flush,
+    Sync,
     /// Any other call.
     Other,
 }
@@ -46,6 +47,7 @@ pub(crate) enum Kind {
     File,
     Link,
     Folder,
+    Pipe,
 }
 
 // A name that is gone is empty; what its file holds stays.
@@ -63,7 +65,8 @@ impl Entry {
         match self.kind {
             Kind::File => Metadata::of_file(length),
             Kind::Link => Metadata::of_symlink(length),
-            Kind::Folder => Metadata::of_dir(),
+            // std makes no metadata of a pipe; a folder's says as well that it is no plain file.
+            Kind::Folder | Kind::Pipe => Metadata::of_dir(),
         }
     }
 
@@ -73,6 +76,7 @@ impl Entry {
             Kind::File => " ",
             Kind::Link => " -> ",
             Kind::Folder => "/",
+            Kind::Pipe => "|",
         };
         let text = text_of(self.bytes.as_slice());
         format!(in alloc; "{name}{mark}{text}\n")
@@ -151,13 +155,19 @@ pub struct Disk {
     pub takes: Cell<Option<usize>>,
     /// How many bytes there is room for.
     pub room: Cell<Option<usize>>,
-    /// Just before the call of this number the name becomes a link to `other.txt`.
-    pub link_comes: Cell<Option<(usize, &'static str)>>,
+    /// Just before the call of this number the first name becomes a link to the second.
+    pub link_comes: Cell<Option<(usize, &'static str, &'static str)>>,
+    /// Just before the call of this number the name becomes a pipe that nobody reads.
+    pub pipe_comes: Cell<Option<(usize, &'static str)>>,
+    /// No file may be read.
+    pub hides_bytes: Cell<bool>,
     /// The metadata of this name can't be read.
     pub hides: Cell<Option<&'static str>>,
     /// The seconds since 1970 that the clock tells.
     pub seconds: Cell<u64>,
     calls: Cell<usize>,
+    pub(crate) syncs: Cell<usize>,
+    waits: Cell<usize>,
     pub(crate) has_folder: Cell<bool>,
     // In the order of a listing.
     entries: RefCell<Vec<Entry>>,
@@ -175,9 +185,13 @@ impl Disk {
             takes: Cell::new(None),
             room: Cell::new(None),
             link_comes: Cell::new(None),
+            pipe_comes: Cell::new(None),
+            hides_bytes: Cell::new(false),
             hides: Cell::new(None),
             seconds: Cell::new(0),
             calls: Cell::new(0),
+            syncs: Cell::new(0),
+            waits: Cell::new(0),
             has_folder: Cell::new(true),
             entries: RefCell::new(Vec::new(alloc)),
             printed: Cell::new(String::new(alloc)),
@@ -211,6 +225,16 @@ impl Disk {
     /// How many calls were made.
     pub fn calls(&self) -> usize {
         self.calls.get()
+    }
+
+    /// How often an opening would have waited for ever.
+    pub fn waits(&self) -> usize {
+        self.waits.get()
+    }
+
+    /// How often the data of a file was synced.
+    pub fn syncs(&self) -> usize {
+        self.syncs.get()
     }
 
     /// The names in byte order, a line each with what they hold.
@@ -267,7 +291,11 @@ impl Disk {
         let number = self.calls.get().saturating_add(1);
         self.calls.set(number);
         match self.link_comes.get() {
-            Some((at, name)) if at == number => self.put_link(name, "other.txt")?,
+            Some((at, name, target)) if at == number => self.put_link(name, target)?,
+            _ => {}
+        }
+        match self.pipe_comes.get() {
+            Some((at, name)) if at == number => self.put(name.as_bytes(), Kind::Pipe, b"")?,
             _ => {}
         }
         if self.fails_at.get() == Some(number) || self.fails_each.get() == Some(call) {
@@ -293,8 +321,9 @@ impl Disk {
         self.put(name, kind, bytes)
     }
 
-    // The number of a file, also through a link to one.
-    pub(crate) fn file_at(&self, path: &str) -> io::Result<usize> {
+    // The number of a file, also through a link to one. A pipe that is opened to be written alone would
+    // wait for a reader.
+    pub(crate) fn file_at(&self, path: &str, reads: bool) -> io::Result<usize> {
         let name = self.name_in(path)?;
         let entries = self.entries()?;
         let (number, entry) = find(&entries, name)?;
@@ -302,6 +331,22 @@ impl Disk {
             Kind::File => Ok(number),
             Kind::Link => Ok(find(&entries, entry.bytes.as_slice())?.0),
             Kind::Folder => Err(Error::from(ErrorKind::IsADirectory)),
+            Kind::Pipe if reads => Ok(number),
+            Kind::Pipe => {
+                self.waits.set(self.waits.get().saturating_add(1));
+                Err(Error::other("waits for ever"))
+            }
+        }
+    }
+
+    // The target of a link.
+    pub(crate) fn target_at(&self, path: &str) -> io::Result<String> {
+        let name = self.name_in(path)?;
+        let entries = self.entries()?;
+        let (_, entry) = find(&entries, name)?;
+        match entry.kind {
+            Kind::Link => Ok(String::from_str(self.alloc, text_of(entry.bytes.as_slice()))?),
+            _ => Err(Error::from(ErrorKind::InvalidInput)),
         }
     }
 }

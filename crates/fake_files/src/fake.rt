@@ -5,6 +5,7 @@ use std::alloc::{Allocator, Global};
 use std::fmt::Display;
 use std::fs::{Metadata, OpenFile, OpenOptions};
 use std::io::{Error, ErrorKind, Read, Seek, SeekFrom, Write};
+use std::path::PathBuf;
 use std::rt::Files;
 use std::time::Duration;
 use std::{io, time};
@@ -66,7 +67,10 @@ impl<'a> Files for Fake<'a> {
         if how.asks_create_new() {
             disk.put_new(path, Kind::File, b"")?;
         }
-        let number = disk.file_at(path)?;
+        if how.asks_read() && disk.hides_bytes.get() {
+            return Err(Error::from(ErrorKind::PermissionDenied));
+        }
+        let number = disk.file_at(path, how.asks_read())?;
         Ok(FakeFile { disk, number })
     }
 
@@ -136,6 +140,12 @@ impl<'a> Files for Fake<'a> {
         Err(unsupported_error())
     }
 
+    fn read_link<B: Allocator>(&self, alloc: B, path: &str) -> io::Result<PathBuf<B>> {
+        self.disk.begin(Call::Other)?;
+        let target = self.disk.target_at(path)?;
+        Ok(PathBuf::from_str(alloc, target.as_str())?)
+    }
+
     fn symlink(&self, original: &str, link: &str) -> io::Result<()> {
         self.disk.begin(Call::Symlink)?;
         self.disk.put_new(link, Kind::Link, original.as_bytes())
@@ -203,7 +213,9 @@ impl OpenFile for FakeFile<'_> {
     }
 
     fn sync_data(&self) -> io::Result<()> {
-        Err(unsupported_error())
+        self.disk.begin(Call::Sync)?;
+        self.disk.syncs.set(self.disk.syncs.get().saturating_add(1));
+        Ok(())
     }
 }
 

@@ -150,7 +150,7 @@ fn write_linked(rt: &impl Host, stands: bool, call: usize, name: &'static str) -
     if stands {
         put_file(rt, &disk, LOG.as_bytes(), "x");
     }
-    disk.link_comes.set(Some((call, name)));
+    disk.link_comes.set(Some((call, name, "other.txt")));
     write_log(rt, &disk, 0, "", &TWO_LINES)
 }
 

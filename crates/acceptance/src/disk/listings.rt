@@ -98,7 +98,8 @@ fn what_cannot_be_told_stays(rt: HostRuntime) {
 fn a_link_is_not_removed_as_a_file(rt: HostRuntime) {
     let disk = three_logs(&rt);
     // The listing is eight calls; then the oldest log is looked at and removed.
-    disk.link_comes.set(Some((9, "app.2020-02-01-07")));
+    disk.link_comes
+        .set(Some((9, "app.2020-02-01-07", "other.txt")));
     expect_opened(
         &rt,
         &disk,
