@@ -1,4 +1,5 @@
-//! Drops a guard while its queue is full, for a look at what is printed on standard output then.
+//! Drops a guard while its queue is full, over a writer whose flushes fail, for a look at what is then printed on
+//! standard output and standard error.
 #![tactic(auto)]
 
 use std::alloc::Global;
@@ -15,10 +16,10 @@ use tracing_appender::non_blocking::NonBlockingBuilder;
 struct Flags {
     held: AtomicBool,
     open: AtomicBool,
+    gone: AtomicBool,
 }
 
-// Holds each line until a flag is set, for ten seconds at most.
-#[derive(Drop)]
+// Holds each line until a flag is set, for ten seconds at most. Its flushes fail.
 struct Holding<R: Clock + Drop> {
     rt: R,
     flags: Arc<Flags, Global>,
@@ -34,7 +35,14 @@ impl<R: Clock + Drop> Write for Holding<R> {
     }
 
     fn flush(&mut self) -> io::Result<()> {
-        Ok(())
+        Err(io::Error::from(ErrorKind::StorageFull))
+    }
+}
+
+impl<R: Clock + Drop> Drop for Holding<R> {
+    fn drop(self) {
+        let Holding { rt: _, flags } = self;
+        flags.gone.store(true, SeqCst);
     }
 }
 
@@ -49,13 +57,15 @@ fn comes(rt: &impl Clock, flag: &AtomicBool) -> bool {
     false
 }
 
-// The worker holds one line, and the queue has no room behind the next.
+// The worker holds one line, and the queue has no room after the next. Once the guard is dropped, the worker
+// ends after the last sender, and its last flush fails.
 fn main(rt: HostRuntime) -> io::Result<()> {
     let flags = Arc::new(
         rt.alloc(),
         Flags {
             held: AtomicBool::new(false),
             open: AtomicBool::new(false),
+            gone: AtomicBool::new(false),
         },
     )?;
     let writer = Holding {
@@ -72,5 +82,10 @@ fn main(rt: HostRuntime) -> io::Result<()> {
     lines.write(b"queued\n")?;
     drop(guard);
     flags.open.store(true, SeqCst);
-    Ok(())
+    drop(lines);
+    if comes(&rt, &flags.gone) {
+        Ok(())
+    } else {
+        Err(io::Error::from(ErrorKind::TimedOut))
+    }
 }
