@@ -28,9 +28,10 @@ impl<S: Folder, C: Clock> Model for RollingFile<S, C> {
 }
 
 impl<S: Folder, C: Clock> RollingFile<S, C> {
-    ghost use Rattle.std.specs.Prelude.{◌≡◌};
+    ghost use Rattle.std.specs.Prelude.{◌≡◌, is_some};
     ghost use Rattle.appender_rolling.specs.Appender.{AppendsNow, PutsNow, SeesNow};
     ghost use Rattle.appender_rolling.specs.Opening.{file_name_of};
+    ghost use Rattle.appender_rolling.specs.Roller.{Sees, next_stamp};
 
     /// Looks at the clock, and then adds bytes to the open file by one append. Tells whether a new
     /// file was begun, and how many bytes were taken.
@@ -46,6 +47,29 @@ impl<S: Folder, C: Clock> RollingFile<S, C> {
         ensures { SeesNow S.Folder C.Clock result self.old self.new }
     {
         let moment = self.clock.now();
+        self.roller.see(moment)
+    }
+
+    /// Reads the clock, and does nothing else. Returns seconds of UTC since the epoch. A `see` of this moment then
+    /// does what a `look` does.
+    pub fn moment(&self) -> i64
+        ensures { C.now_gives self.now.clock result }
+    {
+        self.clock.now()
+    }
+
+    /// Returns whether a look at the clock at this moment would begin the next file.
+    pub fn due(&self, moment: i64) -> bool
+        ensures { result ≡ is_some (next_stamp self.now.roller moment 0) }
+    {
+        self.roller.due(moment)
+    }
+
+    /// Begins the next file if one is due at this moment, and reads no clock. Returns whether a file was begun.
+    pub fn see(&mut self, moment: i64) -> Switch
+        ensures sees { Sees S.Folder moment result self.old.roller self.new.roller }
+        ensures clock { self.new.clock ≡ self.old.clock }
+    {
         self.roller.see(moment)
     }
 
