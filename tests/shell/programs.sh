@@ -203,7 +203,7 @@ check 'rollplay, arguments' "0|$played|" "$(told)"
 run "$rollplay" -- -x --help < "$script"
 check 'rollplay -- -x --help' "0|$played|" "$(told)"
 run "$rollplay" $'\xff' < "$script"
-check 'rollplay, an argument that is no UTF-8' '2||usage: rollplay < SCRIPT' "$(told)"
+check 'rollplay, an argument that is not UTF-8' "0|$played|" "$(told)"
 
 # ---- outputs and disks that are full
 
@@ -230,6 +230,12 @@ if mount -t tmpfs -o size=16k programs "$disk" 2> "$err"; then
 else
   skip 'rolltee, a full disk' "$(head -1 "$err")"
 fi
+
+# ---- what a guard and a worker print
+
+run "$top/crates/dropped_guard/out/dropped_guard" < /dev/null
+check 'dropped_guard' \
+  '0|Failed to send shutdown signal to logging worker. Error: Shutdown|Failed to flush. Error: no storage space' "$(told)"
 
 echo "$passed passed, $failed failed"
 [ "$failed" = 0 ]

@@ -37,8 +37,8 @@ fn main(rt: HostRuntime) -> ExitCode {
     let status = match arguments(&rt) {
         Ok(arguments) => run(rt, request_of(arguments)),
         Err(fault) if fault.kind() == ErrorKind::OutOfMemory => tell(rt, b"no memory\n", 3),
-        // One of them is no UTF-8.
-        Err(_) => tell(rt, USAGE, 2),
+        // One of them is not UTF-8. It is ignored, as any argument that is no option.
+        Err(_) => run(rt, Request::Run(Vec::new(rt.alloc()))),
     };
     ExitCode::from(status)
 }
