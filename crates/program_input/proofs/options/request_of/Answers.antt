@@ -42,12 +42,12 @@ returns-in-Unknown c = record {
 
 pub returns-in-End : goal.returns-in-End
 returns-in-End c = inr (
-    record {
-      place = c.in-Some.place;
-      word = c.index.result.now;
-      first = search rules;
-      word_is = search rules;
-      meant = search rules;
-    },
-    c.remove.ensures.by_index.2 ∙ without_first _ c.args.arguments.items c.in-Some.place (search rules),
-  )
+  record {
+    place = c.in-Some.place;
+    word = c.index.result.now;
+    first = search rules;
+    word_is = search rules;
+    meant = search rules;
+  },
+  c.remove.ensures.by_index.2 ∙ without_first _ c.args.arguments.items c.in-Some.place (search rules),
+)
