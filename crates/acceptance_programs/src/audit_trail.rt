@@ -1,17 +1,15 @@
-// The whole program over a real folder, and its lines over a folder in memory.
-use crate::expect::{expect_eq, expect_eq_of};
-use audit_trail_core::gather::{Trails, keep_all};
-use audit_trail_core::trail::{Fault, keep, tell, write_lines};
-use program_input::Host;
-use std::alloc::{AllocError, Global};
-use std::cell::Cell;
+// The whole program over a real folder; its lines over folders in memory, and several sources.
+mod lines;
+mod sources;
+
+use crate::expect::expect_eq;
+use audit_trail_core::trail::{Fault, keep, tell};
 use std::io::{Read, Write};
 use std::process::Abort;
 use std::rt::{Files, Runtime};
 use std::test::Fail;
 use std::{env, fs, io, process};
-use tracing_appender::rolling::{Builder, Clock, InitError, RollingFile, Rotation};
-use tracing_appender::store::MemoryFolder;
+use tracing_appender::rolling::InitError;
 
 // An input that can't be read.
 #[derive(Drop)]
@@ -23,24 +21,8 @@ impl Read for Broken {
     }
 }
 
-// A clock that goes on by half an hour at each reading.
-#[derive(Drop)]
-struct Ticking {
-    now: Cell<i64>,
-}
-
-impl Clock for Ticking {
-    ghost now_gives = { λ clock m. Unit {0} };
-
-    fn now(&self) -> i64 {
-        let moment = self.now.get();
-        self.now.set(moment.saturating_add(1800));
-        moment
-    }
-}
-
 // A path of this test's own, where nothing stands.
-fn fresh(rt: &HostRuntime, name: &str) -> io::Result<String> {
+pub(crate) fn fresh(rt: &HostRuntime, name: &str) -> io::Result<String> {
     let parent = env::temp_dir(rt)?;
     let id = process::id(rt.process());
     let path = format!(in rt.alloc(); "{}/audit_trail_{id}_{name}", parent.as_str())?;
@@ -63,29 +45,29 @@ fn check<R: Runtime + AllocGlobal + Abort, I: Read + Drop>(
 }
 
 // What is asked of the runtime where a test looks at the disk.
-trait Disk: Files + AllocGlobal + Abort + Copy + Drop {}
+pub(crate) trait Disk: Files + AllocGlobal + Abort + Copy + Drop {}
 
 impl<R: Files + AllocGlobal + Abort + Copy + Drop> Disk for R {}
 
 // The path of the link to the newest log.
-fn latest(rt: &impl Disk, directory: &str) -> String {
+pub(crate) fn latest(rt: &impl Disk, directory: &str) -> String {
     format!(in rt.alloc(); "{directory}/latest.log").expect(rt, "memory")
 }
 
 // What the newest log holds.
-fn newest_text(rt: &impl Disk, directory: &str) -> String {
+pub(crate) fn newest_text(rt: &impl Disk, directory: &str) -> String {
     fs::read_to_string(rt, latest(rt, directory)).expect(rt, "a log")
 }
 
 // Checks what the newest log holds, and that it is the log of a day.
-fn check_newest(rt: &impl Disk, directory: &str, wanted: &str) {
+pub(crate) fn check_newest(rt: &impl Disk, directory: &str, wanted: &str) {
     expect_eq(rt, newest_text(rt, directory).as_str(), wanted);
     let target = fs::read_link(rt, latest(rt, directory)).expect(rt, "a link");
     expect_eq(rt, target.as_str().len(), "audit.2020-02-01.log".len());
 }
 
 // Removes a folder of a test.
-fn clear(rt: &impl Disk, directory: &str) {
+pub(crate) fn clear(rt: &impl Disk, directory: &str) {
     fs::remove_dir_all(rt, directory).expect(rt, "a folder");
 }
 
@@ -122,7 +104,7 @@ fn tells_its_usage(rt: HostRuntime) -> Result<(), Fail> {
 // What the system says of arguments, and what the program makes of it.
 static ARGUMENTS: [(io::ErrorKind, &str, u8); 2] = [
     (io::ErrorKind::InvalidData, "an argument is not UTF-8\n", 2),
-    (io::ErrorKind::OutOfMemory, "out of memory\n", 3),
+    (io::ErrorKind::OutOfMemory, "no memory\n", 3),
 ];
 
 #[test]
@@ -158,13 +140,13 @@ fn tells_an_input_that_is_not_read(rt: HostRuntime) -> Result<(), Fail> {
 
 // Two lines, and then, unless it ends there, one that never does.
 #[derive(Drop)]
-struct Given {
+pub(crate) struct Given {
     left: &'static [u8],
     ends: bool,
 }
 
 impl Given {
-    fn new(ends: bool) -> Given {
+    pub(crate) fn new(ends: bool) -> Given {
         Given {
             left: b"x\ny\n",
             ends,
@@ -195,215 +177,105 @@ fn tells_a_line_that_never_ends(rt: HostRuntime) -> Result<(), Fail> {
     Ok(())
 }
 
-// What the system says of a file that isn't there.
-const LACKING: &str = "No such file or directory (os error 2)";
+// What the system says of an opening, and what the program makes of it.
+static OPENINGS: [(io::ErrorKind, &str, u8); 2] = [
+    (
+        io::ErrorKind::NotFound,
+        "failed to create log file: entity not found\n",
+        1,
+    ),
+    (io::ErrorKind::OutOfMemory, "no memory\n", 3),
+];
 
-// A file of this test's own, with this content.
-fn source(rt: &HostRuntime, name: &str, content: &str) -> io::Result<String> {
-    let path = fresh(rt, name)?;
-    fs::write(rt, path.as_str(), content)?;
-    Ok(path)
-}
-
-// Two sources that can be read, and after each of them one that can't.
-fn sources(rt: &HostRuntime) -> io::Result<[String; 4]> {
-    let first = source(rt, "source_1", "a 1\na 2\na 3")?;
-    let second = source(rt, "source_2", "b 1\n\n")?;
-    let (lacks, fails) = (fresh(rt, "nothing")?, fresh(rt, "no_more")?);
-    Ok([first, lacks, second, fails])
-}
-
-// What the program tells of the two that can't be read.
-fn faults_of(alloc: Global, sources: &[String; 4]) -> Result<String, AllocError> {
-    let [_, lacks, _, fails] = sources;
-    format!(in alloc; "{lacks}: read failed: {LACKING}\n{fails}: read failed: {LACKING}\n")
-}
-
-// Runs the program over these sources, and checks what it tells.
-fn check_account<R: Host + Abort, T: Trails>(
-    rt: R,
-    trails: &T,
-    directory: &str,
-    sources: &[String],
-    account: &str,
-    faults: &str,
-) {
-    let (mut output, mut errors) = (Vec::new(rt.alloc()), Vec::new(rt.alloc()));
-    let status = keep_all(rt, trails, directory, sources, &mut output, &mut errors);
-    expect_eq(&rt, output.as_slice(), account.as_bytes());
-    expect_eq(&rt, errors.as_slice(), faults.as_bytes());
-    expect_eq(&rt, status, 1);
-}
-
-// The lines that begin so, in their order, with a bar behind each.
-fn lines_of(rt: &(impl AllocGlobal + Abort), text: &str, begin: &str) -> String {
-    let mut found = String::new(rt.alloc());
-    for line in text.lines() {
-        if line.starts_with(begin) {
-            found.push_str(line).expect(rt, "memory");
-            found.push('|').expect(rt, "memory");
-        }
+#[test]
+fn tells_logs_that_are_not_opened(rt: HostRuntime) {
+    for (kind, told, status) in &OPENINGS {
+        let mut errors = Vec::new(rt.alloc());
+        let fault = Fault::from(InitError::File(io::Error::from(*kind)));
+        expect_eq(&rt, tell(&fault, &mut errors), *status);
+        expect_eq(&rt, errors.as_slice(), told.as_bytes());
     }
-    found
-}
-
-// Checks what the log holds: the lines of one source stand in their order.
-fn check_written(rt: &(impl AllocGlobal + Abort), written: &str) {
-    expect_eq(rt, written.len(), 17);
-    for (begin, wanted) in [("a", "a 1|a 2|a 3|"), ("b", "b 1|")] {
-        expect_eq(rt, lines_of(rt, written, begin).as_str(), wanted);
-    }
-    let all = lines_of(rt, written, "");
-    expect_eq(rt, all.len(), "a 1|a 2|a 3|b 1||".len());
 }
 
 #[test]
-fn gives_an_account_of_all_sources(rt: HostRuntime) -> Result<(), Fail> {
-    let directory = fresh(&rt, "sources")?;
-    let sources = sources(&rt)?;
-    let faults = faults_of(rt.alloc(), &sources)?;
-    check_account(
-        rt,
-        &rt,
-        directory.as_str(),
-        sources.as_slice(),
-        "accepted 5 handed 5 left 0 dropped 0\n",
-        faults.as_str(),
-    );
-    check_written(&rt, newest_text(&rt, directory.as_str()).as_str());
-    clear(&rt, directory.as_str());
+fn ends_a_part_of_a_line_that_another_run_left(rt: HostRuntime) -> Result<(), Fail> {
+    let arguments = Vec::from_array(rt.alloc(), [fresh(&rt, "part")?])?;
+    let directory = arguments[0].as_str();
+    check(&rt, arguments.as_slice(), b"first\n".as_slice(), 0, "");
+    fs::write(&rt, latest(&rt, directory), "first\npar")?;
+    check(&rt, arguments.as_slice(), b"last\n".as_slice(), 0, "");
+    check_newest(&rt, directory, "first\npar\nlast\n");
+    clear(&rt, directory);
     Ok(())
 }
 
-// A log that takes a byte at a time, and so many bytes in all.
-#[derive(Drop)]
-struct Filling {
-    room: u32,
+// What happens to the log file while it is written to.
+#[derive(Clone, Copy)]
+pub(crate) enum Harm {
+    Removed,
+    Renamed,
+    Replaced,
 }
 
-impl Write for Filling {
-    fn write(&mut self, buf: &[u8]) -> io::Result<usize> {
-        if self.room == 0 {
-            return Err(io::Error::from(io::ErrorKind::StorageFull));
-        }
-        self.room -= 1;
-        Ok(buf.len().min(1))
+// Two lines, and between them harm to the newest log file of a folder.
+#[derive(Drop)]
+pub(crate) struct Harming {
+    rt: HostRuntime,
+    directory: String,
+    harm: Harm,
+    reads: u32,
+}
+
+impl Harming {
+    pub(crate) fn new(rt: HostRuntime, directory: &str, harm: Harm) -> io::Result<Harming> {
+        Ok(Harming {
+            rt,
+            directory: String::from_str(rt.alloc(), directory)?,
+            harm,
+            reads: 0,
+        })
     }
 
-    fn flush(&mut self) -> io::Result<()> {
+    fn harm(&self) -> io::Result<()> {
+        let rt = &self.rt;
+        let link = format!(in rt.alloc(); "{}/latest.log", self.directory)?;
+        let target = fs::read_link(rt, link)?;
+        let path = format!(in rt.alloc(); "{}/{}", self.directory, target.as_str())?;
+        if matches!(self.harm, Harm::Renamed) {
+            let other = format!(in rt.alloc(); "{}/other", self.directory)?;
+            return fs::rename(rt, path, other);
+        }
+        fs::remove_file(rt, path.as_str())?;
+        if matches!(self.harm, Harm::Replaced) {
+            fs::write(rt, path, "")?;
+        }
         Ok(())
     }
 }
 
-// A log with room for so many bytes, and sources of two lines of two bytes, of which one never ends.
-#[derive(Drop)]
-struct Narrow {
-    room: u32,
-}
-
-impl Trails for Narrow {
-    type Log = Filling;
-
-    type Source = Given;
-
-    fn open_trail(&self, _directory: &str) -> Result<Filling, InitError> {
-        Ok(Filling { room: self.room })
-    }
-
-    fn open_source(&self, path: &str) -> io::Result<Given> {
-        Ok(Given::new(path != "endless"))
-    }
-}
-
-// Runs the program over two sources of such, and checks what it tells.
-fn check_narrow<R: Host + Abort>(
-    rt: R,
-    room: u32,
-    first: &str,
-    faults: &str,
-) -> Result<(), AllocError> {
-    let (first, second) = (
-        String::from_str(rt.alloc(), first)?,
-        String::from_str(rt.alloc(), "short")?,
-    );
-    let account = "accepted 4 handed 4 left 0 dropped 0\n";
-    check_account(rt, &Narrow { room }, "", &[first, second], account, faults);
-    Ok(())
-}
-
-#[test]
-fn tells_lines_that_found_no_room(rt: HostRuntime) -> Result<(), Fail> {
-    Ok(check_narrow(rt, 7, "long", "lines not written whole: 1\n")?)
-}
-
-#[test]
-fn a_line_that_never_ends_keeps_no_other_from_the_log(rt: HostRuntime) -> Result<(), Fail> {
-    let faults = "endless: read failed: line too long\n";
-    Ok(check_narrow(rt, 8, "endless", faults)?)
-}
-
-// A log over a folder in memory, opened at 2020-02-01 10:01:00.
-fn hourly(
-    rt: &(impl AllocGlobal + Abort),
-    folder: MemoryFolder,
-) -> RollingFile<MemoryFolder, Ticking> {
-    let builder = Builder::new()
-        .rotation(Rotation::HOURLY)
-        .filename_prefix(rt.alloc(), "app")
-        .expect(rt, "memory");
-    let clock = Ticking {
-        now: Cell::new(1_580_551_260),
-    };
-    match builder.open_in(rt.alloc(), folder, clock) {
-        Ok(log) => log,
-        Err((error, _, _)) => rt.panic(error),
-    }
-}
-
-// Checks what a file of a folder in memory holds.
-fn expect_file(rt: &impl Abort, folder: &MemoryFolder, name: &str, text: &str) {
-    match folder.bytes(name) {
-        Some(bytes) => expect_eq_of(rt, name, bytes, text.as_bytes()),
-        None => assert!(rt; false, "no {name}"),
+impl Read for Harming {
+    fn read(&mut self, buf: &mut [u8]) -> io::Result<usize> {
+        self.reads = self.reads.saturating_add(1);
+        let mut line: &[u8] = match self.reads {
+            1 => b"first\n",
+            2 => b"last\n",
+            _ => b"",
+        };
+        if self.reads == 2 {
+            self.harm()?;
+        }
+        line.read(buf)
     }
 }
 
 #[test]
-fn each_line_is_put_at_its_moment(rt: HostRuntime) {
-    let alloc = rt.alloc();
-    let mut log = hourly(&rt, MemoryFolder::new(alloc));
-    let mut input = b"a\nb\nc".as_slice();
-    assert!(rt; write_lines(alloc, &mut input, &mut log).is_ok());
-    let (folder, _) = log.into_parts();
-    expect_file(&rt, &folder, "app.2020-02-01-10", "a\n");
-    expect_file(&rt, &folder, "app.2020-02-01-11", "b\nc\n");
-}
-
-#[test]
-fn a_line_cut_short_is_told(rt: HostRuntime) -> Result<(), Fail> {
-    let alloc = rt.alloc();
-    let mut folder = MemoryFolder::new(alloc);
-    folder.short_append(2, 1)?;
-    let mut log = hourly(&rt, folder);
-    let mut input = b"ab\nc\n".as_slice();
-    assert!(rt; matches!(write_lines(alloc, &mut input, &mut log), Err(Fault::Cut)));
-    let (folder, _) = log.into_parts();
-    expect_file(&rt, &folder, "app.2020-02-01-10", "a");
-    Ok(())
-}
-
-#[test]
-fn a_write_that_fails_is_told(rt: HostRuntime) -> Result<(), Fail> {
-    let alloc = rt.alloc();
-    let mut folder = MemoryFolder::new(alloc);
-    folder.fail_call(2)?;
-    let mut log = hourly(&rt, folder);
-    let mut input = b"ab\n".as_slice();
-    assert!(rt;
-        matches!(
-            write_lines(alloc, &mut input, &mut log),
-            Err(Fault::Write(_))
-        )
-    );
+fn tells_a_log_that_is_gone(rt: HostRuntime) -> Result<(), Fail> {
+    for harm in [Harm::Removed, Harm::Renamed, Harm::Replaced] {
+        let arguments = Vec::from_array(rt.alloc(), [fresh(&rt, "gone")?])?;
+        let directory = arguments[0].as_str();
+        let input = Harming::new(rt, directory, harm)?;
+        check(&rt, arguments.as_slice(), input, 1, "log files gone: 1\n");
+        clear(&rt, directory);
+    }
     Ok(())
 }

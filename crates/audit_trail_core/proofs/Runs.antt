@@ -1,17 +1,27 @@
 -- What the answers about a run have in common.
-use Rattle.std.proofs.Common.{◌≡◌, ℕ, ◌==◌, List, [], Option, None, Some, Result, Ok, Err, IfOk, if◌then◌else◌, subst, sym, ◌∙◌, ap}
+use Rattle.std.proofs.Common.{◌≡◌, ℕ, ◌==◌, List, [], Option, None, Some, Result, Ok, Err, IfOk, OnOk, if◌then◌else◌, subst, sym, ◌∙◌, ap}
 use Rattle.std.specs.Io.KnownBytes.{prepend_known}
 use Rattle.std.specs.Io.Buffered.{reader_buffer, reader_capacity, reader_inner, reader_remaining}
 use Rattle.std.specs.declared.io.buffered.BufReader.{BufReader}
 use Rattle.appender_store.specs.declared.store.Folder.{Ghosts}
 use Rattle.appender_rolling.specs.declared.rolling.clock.Clock.{Ghosts as Readings}
-use Rattle.appender_rolling.specs.Appender.{Appending, OpensSome}
+use Rattle.appender_rolling.specs.Appender.{Appending, OpensNow, OpensSome}
 use Rattle.appender_rolling.specs.Config.{Config}
 
--- one configuration in place of another that equals it
-pub opens_with : {S F C E : Type 0} (kind : Ghosts S F) (time : Readings C) (result : Result (Appending S F C) E) {a b : Config} → a ≡ b
-    → IfOk result (OpensSome kind time a) → IfOk result (OpensSome kind time b)
-opens_with kind time result same = subst (λ config. IfOk result (OpensSome kind time config)) same
+-- a log was opened with one configuration in place of another that equals it
+pub opens_with : {S F C : Type 0} {kind : Ghosts S F} {time : Readings C} {a b : Config} (folder : S) (clock : C) (new : Appending S F C) → a ≡ b
+    → OpensNow kind time a folder clock new → OpensSome kind time b new
+opens_with {kind = kind} {time = time} folder clock new same opens = (folder, clock, subst (λ config. OpensNow kind time config folder clock new) same opens)
+
+-- an equal log was opened
+pub opens_same : {S F C : Type 0} {kind : Ghosts S F} {time : Readings C} {config : Config} {new same : Appending S F C} → same ≡ new
+    → OpensSome kind time config new → OpensSome kind time config same
+opens_same {kind = kind} {time = time} {config = config} is = subst (OpensSome kind time config) (sym is)
+
+-- what follows from it holds where it does
+pub on_ok_by : {T E P Q : Type 0} (result : Result T E) → (P → Q) → OnOk result P → OnOk result Q
+on_ok_by (Ok value) step p = step p
+on_ok_by (Err error) step p = tt
 
 -- what follows from it holds where it does
 pub if_ok_by : {T E : Type 0} {P Q : T → Type 0} (result : Result T E) → ((value : T) → P value → Q value) → IfOk result P → IfOk result Q

@@ -1,37 +1,99 @@
 -- What becomes of a line, and of a run. `kind` has what folders of one kind tell, and `time` what clocks do.
-use Rattle.std.specs.Prelude.{◌≡◌, ◌≢◌, ℕ, zero, suc, List, [], length, Ok, codes}
-use Rattle.std.specs.Io.BufRead.{take_through, drop_through}
+use Rattle.std.specs.Prelude.{◌≡◌, ◌≢◌, ◌⊎◌, ℕ, ◌+◌, ◌≤◌, zero, suc, Bool, true, false, not, List, [], ◌∷◌, Ok, Err, Result, IsTrue, codes}
+use Rattle.std.specs.Io.BufRead.{take_through, drop_through, ends_with_byte}
+use Rattle.std.specs.declared.io.Error.{Error}
 use Rattle.appender_names.specs.declared.rotation.RotationKind.TheVariants.{Daily}
 use Rattle.appender_names.specs.Rotation.{rotation_of}
+use Rattle.appender_store.specs.Content.{body_at}
 use Rattle.appender_store.specs.declared.store.Folder.{Ghosts}
 use Rattle.appender_rolling.specs.declared.rolling.Switch.{Switch}
+use Rattle.appender_rolling.specs.declared.rolling.Switch.TheVariants.{None as Stayed}
 use Rattle.appender_rolling.specs.declared.rolling.clock.Clock.{Ghosts as Readings}
-use Rattle.appender_rolling.specs.Appender.{Appending, FlushesNow, OpensSome, PutsNow}
+use Rattle.appender_rolling.specs.Appender.{Appending, FlushesNow, OpensSome, SeesNow}
 use Rattle.appender_rolling.specs.Config.{Config}
+use Rattle.appender_rolling.specs.Roller.{WritesSoFar}
 use Rattle.program_input.specs.Line.{ended}
 
--- the line was put, whole, at the moment that the clock told
-pub record PutsLine {S F C : Type 0} (kind : Ghosts S F) (time : Readings C) (line : List ℕ) (old new : Appending S F C) : Type 0 where
+-- the log of a trail: a log, and whether its open file may end with a part of a line
+pub record Trailing (S F C : Type 0) : Type 0 where
+  pub log : Appending S F C
+  pub cut : Bool
+
+-- ---- the end of the open file
+
+-- there is nothing, or a newline at the end
+abbrev pub EndsLine : List ℕ → Type 0
+EndsLine bytes = (bytes ≡ []) ⊎ (ends_with_byte 10 bytes ≡ true)
+
+-- the open file is empty or ends with a newline, if folders of this kind tell their content
+abbrev pub EndsWhole : {S F C : Type 0} → Ghosts S F → Appending S F C → Type 0
+EndsWhole kind log = IsTrue kind.tells → EndsLine (body_at (kind.content log.roller.folder) (kind.body log.roller.file))
+
+-- ---- a line
+
+-- how many of the appends with these answers took nothing for a fault
+abbrev pub interruptions : List (Result ℕ Error) → ℕ
+interruptions [] = 0
+interruptions (Ok n ∷ answers) = interruptions answers
+interruptions (Err e ∷ answers) = suc (interruptions answers)
+
+-- Appends to one file with these answers, the newest first, each of what those before it left of the bytes. This rest is left. The
+-- clock was not read between them, and all but the newest took some bytes or were interrupted.
+pub record Adds {S F C : Type 0} (kind : Ghosts S F) (answers : List (Result ℕ Error)) (bytes rest : List ℕ) (old new : Appending S F C) : Type 0 where
+  pub so_far : WritesSoFar kind answers bytes rest old.roller new.roller
+  pub clock : new.clock ≡ old.clock
+
+-- The clock was looked at. If that began no file, all is as it was. Else it was looked how the open file ends: another run may have
+-- left a part of a line there.
+pub record LooksAtClock {S F C : Type 0} (kind : Ghosts S F) (time : Readings C) (old new : Trailing S F C) : Type 0 where
   pub switch : Switch
-  pub puts : PutsNow kind time line switch (Ok (length line)) old new
+  pub sees : SeesNow kind time switch old.log new.log
+  pub same : switch ≡ Stayed → new.cut ≡ old.cut
+  pub seen : new.cut ≡ false → EndsWhole kind new.log
+
+-- a newline was added where the open file might have ended with a part of a line, and else nothing
+abbrev pub EndsPart : {S F C : Type 0} → Ghosts S F → Bool → List (Result ℕ Error) → Appending S F C → Appending S F C → Type 0
+EndsPart kind true answers old new = Adds kind answers (10 ∷ []) [] old new
+EndsPart kind false answers old new = (answers ≡ []) × (new ≡ old)
+
+-- A line was put: after one look at the clock, all of it was added to one file, where it begins a line. At most 100 appends were
+-- interrupted.
+pub record PutsLine {S F C : Type 0} (kind : Ghosts S F) (time : Readings C) (line : List ℕ) (old new : Trailing S F C) : Type 0 where
+  pub looked : Trailing S F C
+  pub looks : LooksAtClock kind time old looked
+  pub ending : List (Result ℕ Error)
+  pub begun : Appending S F C
+  pub ends : EndsPart kind looked.cut ending looked.log begun
+  pub begins : EndsWhole kind begun
+  pub answers : List (Result ℕ Error)
+  pub adds : Adds kind answers line [] begun new.log
+  pub few : interruptions ending + interruptions answers ≤ 100
+  pub cut : new.cut ≡ not (ends_with_byte 10 line)
 
 -- So many lines of a text were put, each whole and one after another, each through its newline, which a last line without one is
 -- given, and this rest of the text is left. Where nothing is left there is no line.
-abbrev pub PutsLines : {S F C : Type 0} → Ghosts S F → Readings C → ℕ → List ℕ → Appending S F C → List ℕ → Appending S F C → Type 0
+abbrev pub PutsLines : {S F C : Type 0} → Ghosts S F → Readings C → ℕ → List ℕ → Trailing S F C → List ℕ → Trailing S F C → Type 0
 PutsLines kind time zero text start rest now = (rest ≡ text) × (now ≡ start)
 PutsLines {S} {F} {C} kind time (suc count) text start rest now =
-    (left : List ℕ) × (last : Appending S F C) × PutsLines kind time count text start left last × (left ≢ [])
+    (left : List ℕ) × (last : Trailing S F C) × PutsLines kind time count text start left last × (left ≢ [])
     × PutsLine kind time (ended (take_through 10 left)) last now × (rest ≡ drop_through 10 left)
+
+-- ---- a run
 
 -- the trail's log: a file a day, `audit.yyyy-MM-dd.log`, of which 366 are kept, and a link to the newest
 abbrev pub trail_config : Config
 trail_config = record { rotation = rotation_of Daily; prefix = codes "audit"; suffix = codes "log"; link = codes "latest.log"; max_files = 366; max_bytes = 0 }
 
--- The log was opened, all lines of the text were put into it, and it was flushed: so it is this log now.
-pub record KeepsLines {S F C : Type 0} (kind : Ghosts S F) (time : Readings C) (text : List ℕ) (kept : Appending S F C) : Type 0 where
-  pub begun : Appending S F C
-  pub opens : OpensSome kind time trail_config begun
+-- all lines of the text were put, and then the log was flushed
+pub record FlushesLines {S F C : Type 0} (kind : Ghosts S F) (time : Readings C) (text : List ℕ) (begun now : Trailing S F C) : Type 0 where
   pub count : ℕ
-  pub written : Appending S F C
+  pub written : Trailing S F C
   pub puts : PutsLines kind time count text begun [] written
-  pub flushes : FlushesNow kind (Ok tt) written kept
+  pub flushes : FlushesNow kind (Ok tt) written.log now.log
+
+-- The log was opened, all lines of the text were put into it, and it was flushed: so it is this log now.
+pub record KeepsLines {S F C : Type 0} (kind : Ghosts S F) (time : Readings C) (text : List ℕ) (kept : Trailing S F C) : Type 0 where
+  pub begun : Trailing S F C
+  pub opens : OpensSome kind time trail_config begun.log
+  pub seen : begun.cut ≡ false → EndsWhole kind begun.log
+  pub lines : FlushesLines kind time text begun kept

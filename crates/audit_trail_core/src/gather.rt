@@ -1,7 +1,9 @@
 //! The lines of several sources in one log, and the account of them.
-ghost use Rattle.std.specs.Prelude.{◌≡◌, ◌+◌, ◌≤◌, IfOk, vec_len};
+ghost use Rattle.std.specs.Prelude.{◌≡◌, ◌⊎◌, ◌+◌, ◌≤◌, IfOk, vec_len};
+ghost use Rattle.appender_non_blocking.specs.Account.{IsBlankOf};
+ghost use Rattle.audit_trail_core.specs.Fault.{status_of, TellsStatus};
 
-use crate::trail::{Fault, open_log, tell};
+use crate::trail::{Fault, TrailLog, open_trail, tell, zero};
 use program_input::{Host, ShortLines, end_line, read_line};
 use std::alloc::{AllocError, Global};
 use std::fs::File;
@@ -13,49 +15,59 @@ use std::sync::ledger::{Blank, Ledger};
 use std::sync::{Arc, Wait};
 use std::thread::JoinHandle;
 use std::{io, thread};
-use tracing_appender::folder::DirFolder;
-use tracing_appender::non_blocking::{Account, CountedGuard, CountedSender, NonBlockingBuilder};
-use tracing_appender::rolling::{InitError, RollingFile, SystemClock};
+use tracing_appender::non_blocking::{Account, CountedSender, NonBlockingBuilder, Settled};
+use tracing_appender::rolling::InitError;
+use tracing_appender::worker::CountingWriter;
 
 /// How many lines may wait to be written; behind them the sources wait.
 const WAITING_LINES: usize = 1024;
 
 /// Opens the trail and its sources: those of the file system, or a test's own.
 pub trait Trails {
-    /// A log that a thread can take over.
+    /// A log that a thread can take over. Each of its writes is of a line, or of what it left of one.
     type Log: Write + Send + Drop + 'static;
 
     /// What lines are read from, by a thread.
     type Source: Read + Send + Drop + 'static;
 
-    /// The log of the day in a folder, which is made where it isn't there.
-    fn open_trail(&self, directory: &str) -> Result<Self::Log, InitError>;
+    /// The log of the day in a folder, which is made where it isn't there. It counts the log files that
+    /// are gone by `gone`.
+    fn open_trail(
+        &self,
+        directory: &str,
+        gone: Arc<AtomicU64, Global>,
+    ) -> Result<Self::Log, InitError>;
 
-    /// The source of this path.
-    fn open_source(&self, path: &str) -> io::Result<Self::Source>;
+    /// The source of this path. `Fault::Own` if it is a file of the log's folder.
+    fn open_source(&self, log: &Self::Log, path: &str) -> Result<Self::Source, Fault>;
 }
 
 impl Trails for HostRuntime {
-    type Log = RollingFile<DirFolder, SystemClock>;
+    type Log = TrailLog<HostRuntime>;
 
     type Source = File;
 
     fn open_trail(
         &self,
         directory: &str,
-    ) -> Result<RollingFile<DirFolder, SystemClock>, InitError> {
-        open_log(self, directory)
+        gone: Arc<AtomicU64, Global>,
+    ) -> Result<TrailLog<HostRuntime>, InitError> {
+        open_trail(self, directory, gone)
     }
 
-    fn open_source(&self, path: &str) -> io::Result<File> {
-        File::open(self, path)
+    fn open_source(&self, log: &TrailLog<HostRuntime>, path: &str) -> Result<File, Fault> {
+        let source = File::open(self, path)?;
+        if log.watch().owns(log.log().open_file(), &source, path)? {
+            return Err(Fault::Own);
+        }
+        Ok(source)
     }
 }
 
 /// Writes the lines of each source, which is a file, to the log of the day in a folder, and the account
 /// of all lines to `output`. A source that can't be read to its end keeps no other from it, and is told
-/// on `errors` with its path; so is how many lines the log didn't take whole, if it didn't take all. The
-/// answer is the status of the process, as of `trail::keep`: the greatest of those of all faults.
+/// on `errors` with its path. So is how many lines the log didn't take whole, and how many log files are
+/// gone. The answer is the status of the process, as of `trail::keep`: the greatest of those of all faults.
 pub fn keep_all<R: Host, T: Trails, O: Write, E: Write>(
     rt: R,
     trails: &T,
@@ -64,64 +76,76 @@ pub fn keep_all<R: Host, T: Trails, O: Write, E: Write>(
     output: &mut O,
     errors: &mut E,
 ) -> u8
-    ensures { result ≤ 3 }
+    ensures { TellsStatus result (E.contents errors.old) (E.contents errors.new) }
 {
-    match gather_files(rt, trails, directory, paths, output, errors) {
-        Ok(status) => status,
+    match open_watched(rt, trails, directory) {
+        Ok((log, gone)) => {
+            let (sources, unopened) = open_sources(rt.alloc(), trails, &log, paths, errors);
+            let ended = keep_sources(rt, log, sources, &gone, output, errors);
+            greater(unopened, ended)
+        }
         Err(fault) => tell(&fault, errors),
     }
 }
 
-fn gather_files<R: Host, T: Trails, O: Write, E: Write>(
+// Opens the log, and returns it with the count of its files that are gone.
+fn open_watched<R: Host, T: Trails>(
     rt: R,
     trails: &T,
     directory: &str,
-    paths: &[String],
-    output: &mut O,
-    errors: &mut E,
-) -> Result<u8, Fault>
-    ensures { IfOk result (λ status. status ≤ 3) }
+) -> Result<(T::Log, Arc<AtomicU64, Global>), Fault> {
+    let gone = zero(rt.alloc())?;
+    let log = trails.open_trail(directory, gone.clone()?)?;
+    Ok((log, gone))
+}
+
+// Writes the lines of the sources that were opened, and the account of them, and tells the faults. The
+// answer is the greatest status of these.
+fn keep_sources<
+    R: Host,
+    L: Write + Send + Drop + 'static,
+    I: Read + Send + Drop + 'static,
+    O: Write,
+    E: Write,
+>(rt: R, log: L, sources: Sources<'_, I>, gone: &AtomicU64, output: &mut O, errors: &mut E) -> u8
+    ensures { TellsStatus result (E.contents errors.old) (E.contents errors.new) }
 {
-    let written = Arc::new(rt.alloc(), AtomicU64::new(0)).map_err(AllocError::from)?;
-    let log = Counting {
-        log: trails.open_trail(directory)?,
-        written: written.clone()?,
-    };
-    let (mut sources, mut opened) = (Vec::new(rt.alloc()), Vec::new(rt.alloc()));
-    let unopened = open_sources(trails, paths, &mut sources, &mut opened, errors)?;
-    let (account, sent) = gather(rt, log, sources)?;
-    let ended = tell_ends(opened, sent, errors);
-    let lost = account.handed.saturating_sub(written.load(SeqCst));
-    let wrote = tell_lost(lost, errors);
-    write_account(account, output)?;
-    Ok(unopened.max(ended).max(wrote))
-}
-
-// A log, and how many lines it took whole. The worker gives it what is left of a line until it takes
-// that, or gives the line up; no line of a source is empty.
-#[derive(Drop)]
-struct Counting<L: Write> {
-    log: L,
-    written: Arc<AtomicU64, Global>,
-}
-
-impl<L: Write> Write for Counting<L> {
-    fn write(&mut self, rest: &[u8]) -> io::Result<usize> {
-        let taken = self.log.write(rest)?;
-        if taken == rest.len() {
-            self.written.fetch_add(1, SeqCst);
+    let Sources { paths, inputs } = sources;
+    match gather_counting(rt, log, inputs) {
+        Ok((account, lost, sent)) => {
+            let ended = tell_ends(paths, sent, errors);
+            let lost = tell_lost(lost, errors);
+            let gone = tell_gone(gone.load(SeqCst), errors);
+            let told = tell_account(account, output, errors);
+            greater(greater(greater(ended, lost), gone), told)
         }
-        Ok(taken)
+        Err(fault) => tell(&fault, errors),
     }
+}
 
-    fn flush(&mut self) -> io::Result<()> {
-        self.log.flush()
-    }
+fn greater(one: u8, other: u8) -> u8
+    ensures either { (result ≡ one) ⊎ (result ≡ other) }
+    ensures first { one ≤ result }
+    ensures second { other ≤ result }
+{
+    if one < other { other } else { one }
+}
+
+// Gathers the lines of the sources, and returns beside their account how many the log did not take whole.
+fn gather_counting<L: Write + Send + Drop + 'static, I: Read + Send + Drop + 'static, R: Host>(
+    rt: R,
+    log: L,
+    sources: Vec<I>,
+) -> Result<(Account, u64, Vec<Result<(), Fault>>), Fault> {
+    let (log, counts) = CountingWriter::new(rt.alloc(), log)?;
+    let (account, sent) = gather(rt, log, sources)?;
+    Ok((account, counts.lost(), sent))
 }
 
 // Tells of so many lines that were not written whole, if there are any, and answers the status of that.
 fn tell_lost<E: Write>(lost: u64, errors: &mut E) -> u8
-    ensures { result ≤ 3 }
+    ensures told { TellsStatus result (E.contents errors.old) (E.contents errors.new) }
+    ensures none { result ≡ 0 → lost ≡ 0 }
 {
     if lost == 0 {
         return 0;
@@ -129,60 +153,121 @@ fn tell_lost<E: Write>(lost: u64, errors: &mut E) -> u8
     tell(&Fault::Lost(lost), errors)
 }
 
-// The sources that can be opened, each with its path. The others are told, and the answer is the
-// greatest status of these.
-fn open_sources<'a, T: Trails, E: Write>(
-    trails: &T,
-    paths: &'a [String],
-    sources: &mut Vec<T::Source>,
-    opened: &mut Vec<&'a str>,
-    errors: &mut E,
-) -> Result<u8, AllocError>
-    ensures { IfOk result (λ status. status ≤ 3) }
+// Tells of so many log files that are gone, if there are any, and answers the status of that.
+fn tell_gone<E: Write>(gone: u64, errors: &mut E) -> u8
+    ensures told { TellsStatus result (E.contents errors.old) (E.contents errors.new) }
+    ensures none { result ≡ 0 → gone ≡ 0 }
 {
+    if gone == 0 {
+        return 0;
+    }
+    tell(&Fault::Gone(gone), errors)
+}
+
+// The sources that were opened, and the path of each.
+#[derive(Drop)]
+struct Sources<'a, I: Drop> {
+    paths: Vec<&'a str>,
+    inputs: Vec<I>,
+}
+
+impl<'a, I: Drop> Sources<'a, I> {
+    // One source more. The error leaves them as they were.
+    fn push(&mut self, path: &'a str, input: I) -> Result<(), AllocError> {
+        self.paths.push(path)?;
+        if let Err(refused) = self.inputs.push(input) {
+            let _ = self.paths.pop();
+            return Err(AllocError::from(refused));
+        }
+        Ok(())
+    }
+}
+
+// The sources that can be opened. The others are told, and the answer is the greatest status of these.
+fn open_sources<'a, T: Trails, E: Write>(
+    alloc: Global,
+    trails: &T,
+    log: &T::Log,
+    paths: &'a [String],
+    errors: &mut E,
+) -> (Sources<'a, T::Source>, u8)
+    ensures { TellsStatus result.1 (E.contents errors.old) (E.contents errors.new) }
+{
+    let mut sources = Sources {
+        paths: Vec::new(alloc),
+        inputs: Vec::new(alloc),
+    };
     let mut status = 0;
     for path in paths {
-        match trails.open_source(path.as_str()) {
-            Ok(source) => {
-                sources.push(source)?;
-                opened.push(path.as_str())?;
-            }
-            Err(fault) => status = tell_of(path.as_str(), &Fault::from(fault), errors).max(status),
-        }
+        let told = open_or_tell(trails, log, path.as_str(), &mut sources, errors);
+        status = greater(status, told);
     }
-    Ok(status)
+    (sources, status)
+}
+
+// Opens one source more, and answers 0, or tells why not, and answers the status of that.
+fn open_or_tell<'a, T: Trails, E: Write>(
+    trails: &T,
+    log: &T::Log,
+    path: &'a str,
+    sources: &mut Sources<'a, T::Source>,
+    errors: &mut E,
+) -> u8
+    ensures { TellsStatus result (E.contents errors.old) (E.contents errors.new) }
+{
+    match open_one(trails, log, path, sources) {
+        Ok(()) => 0,
+        Err(fault) => tell_of(path, &fault, errors),
+    }
+}
+
+fn open_one<'a, T: Trails>(
+    trails: &T,
+    log: &T::Log,
+    path: &'a str,
+    sources: &mut Sources<'a, T::Source>,
+) -> Result<(), Fault> {
+    let source = trails.open_source(log, path)?;
+    sources.push(path, source)?;
+    Ok(())
 }
 
 // Tells of each source that was not sent to its end, and answers the greatest status of these.
-fn tell_ends<E: Write>(opened: Vec<&str>, sent: Vec<Result<(), Fault>>, errors: &mut E) -> u8
-    ensures { result ≤ 3 }
+fn tell_ends<E: Write>(paths: Vec<&str>, sent: Vec<Result<(), Fault>>, errors: &mut E) -> u8
+    ensures { TellsStatus result (E.contents errors.old) (E.contents errors.new) }
 {
     let mut status = 0;
-    for (path, sent) in opened.into_iter().zip(sent) {
+    for (path, sent) in paths.into_iter().zip(sent) {
         if let Err(fault) = sent {
-            status = tell_of(path, &fault, errors).max(status);
+            let told = tell_of(path, &fault, errors);
+            status = greater(status, told);
         }
     }
     status
 }
 
-fn write_account<O: Write>(account: Account, output: &mut O) -> Result<(), Fault> {
+// Writes the account, and answers the status of that. A fault is told.
+fn tell_account<O: Write, E: Write>(account: Account, output: &mut O, errors: &mut E) -> u8
+    ensures { TellsStatus result (E.contents errors.old) (E.contents errors.new) }
+{
     let Account {
         accepted,
         handed,
         left,
         dropped,
     } = account;
-    writeln!(
+    match writeln!(
         output,
         "accepted {accepted} handed {handed} left {left} dropped {dropped}"
-    )
-    .map_err(Fault::of_write)
+    ) {
+        Ok(()) => 0,
+        Err(fault) => tell(&Fault::of_account(fault), errors),
+    }
 }
 
 // Tells the fault of a source on `errors`, and answers its status.
 fn tell_of<E: Write>(path: &str, fault: &Fault, errors: &mut E) -> u8
-    ensures { result ≤ 3 }
+    ensures { result ≡ status_of fault.now }
 {
     let _ = write!(errors, "{path}: ");
     tell(fault, errors)
@@ -199,7 +284,7 @@ pub fn gather<L: Write + Send + Drop + 'static, I: Read + Send + Drop + 'static,
     ensures left { IfOk result (λ told. told.0.left ≡ 0) }
 {
     let parts = sources.len() as u64 + 1;
-    gather_by::<Brand, Brand, Brand, Brand, L, I, R>(
+    let (settled, sent) = gather_by::<Brand, Brand, Brand, Brand, L, I, R>(
         rt,
         log,
         sources,
@@ -207,10 +292,12 @@ pub fn gather<L: Write + Send + Drop + 'static, I: Read + Send + Drop + 'static,
         Blank::new(1),
         Blank::new(1),
         Blank::new(1),
-    )
+    )?;
+    Ok((settled.account, sent))
 }
 
-// The same by these books: of accepted lines, of handed ones, of shutdowns and of closings.
+// The same by these books: of accepted lines, of handed ones, of shutdowns and of closings. The account comes
+// with the worker's share of the book of handed lines, which has all parts.
 fn gather_by<
     A: Ledger + Send + Sync + 'static,
     H: Ledger + Send + Sync + 'static,
@@ -227,13 +314,15 @@ fn gather_by<
     handed: Blank,
     shutdowns: Blank,
     closings: Blank,
-) -> Result<(Account, Vec<Result<(), Fault>>), Fault>
-    requires accepted { (accepted.name ≡ A.name) × (accepted.parts ≡ A.parts) × (accepted.parts ≡ vec_len sources + 1) }
-    requires handed { (handed.name ≡ H.name) × (handed.parts ≡ H.parts) × (handed.parts ≡ 1) }
-    requires shutdowns { (shutdowns.name ≡ S.name) × (shutdowns.parts ≡ S.parts) × (shutdowns.parts ≡ 1) }
-    requires closings { (closings.name ≡ C.name) × (closings.parts ≡ C.parts) × (closings.parts ≡ 1) }
-    ensures handed { IfOk result (λ told. told.0.handed ≡ told.0.accepted) }
-    ensures left { IfOk result (λ told. told.0.left ≡ 0) }
+) -> Result<(Settled<H>, Vec<Result<(), Fault>>), Fault>
+    requires accepted { IsBlankOf A.Ledger (vec_len sources + 1) accepted }
+    requires handed { IsBlankOf H.Ledger 1 handed }
+    requires shutdowns { IsBlankOf S.Ledger 1 shutdowns }
+    requires closings { IsBlankOf C.Ledger 1 closings }
+    ensures handed { IfOk result (λ told. told.0.account.handed ≡ told.0.account.accepted) }
+    ensures left { IfOk result (λ told. told.0.account.left ≡ 0) }
+    ensures book { IfOk result (λ told. (told.0.handed.parts ≡ H.parts)
+        × (told.0.account.handed ≡ told.0.handed.amount)) }
 {
     let (senders, guard) = NonBlockingBuilder::default()
         .lossy(false)
@@ -250,8 +339,8 @@ fn gather_by<
         )
         .map_err(|fault| Fault::Thread.unless_memory(fault.kind()))?;
     let (back, sent) = send_all(rt, senders, sources)?;
-    match guard.settle(back) {
-        Ok(account) => Ok((account, sent)),
+    match guard.settle_with_share(back) {
+        Ok(settled) => Ok((settled, sent)),
         Err(_) => Err(Fault::Unsettled),
     }
 }

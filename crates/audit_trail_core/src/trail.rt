@@ -1,15 +1,21 @@
 //! An audit trail of lines.
-ghost use Rattle.std.specs.Prelude.{◌≡◌, ◌≢◌, ◌≤◌, ℕ, List, [], length, Some, Err, OnOk, IfOk, IfErr};
-ghost use Rattle.audit_trail_core.specs.Fault.{opening_fault, status_of, unless_memory};
-ghost use Rattle.audit_trail_core.specs.Trail.{PutsLine, PutsLines, KeepsLines, trail_config};
-ghost use Rattle.appender_rolling.specs.Appender.{OpensSome};
+ghost use Rattle.std.specs.Prelude.{◌≡◌, ◌≢◌, ◌≤◌, ℕ, List, [], length, false, Some, Ok, Err, OnOk, IfOk, IfErr, IfSome, IsOk};
+ghost use Rattle.std.specs.Io.KnownBytes.{Keeps};
+ghost use Rattle.audit_trail_core.specs.Fault.{line_fault, opening_fault, status_of, unless_memory, words_of, Tells};
+ghost use Rattle.audit_trail_core.specs.Trail.{EndsWhole, PutsLine, PutsLines, FlushesLines, KeepsLines, trail_config};
+ghost use Rattle.appender_rolling.specs.Appender.{FlushesNow, OpensSome};
 ghost use Rattle.std.specs.IoError.{error_kind};
-ghost use Rattle.audit_trail_core.specs.declared.trail.Fault.TheVariants.{Read, Write};
+ghost use Rattle.audit_trail_core.specs.declared.trail.Fault.TheVariants.{Account, Read, Write};
 
+use crate::lines::{LineFault, LineLog};
+use crate::watch::{DirWatch, Watch};
+use program_input::report::report;
 use program_input::{ShortLines, end_line, read_line};
 use std::alloc::{AllocError, Global};
 use std::io::{BufRead, BufReader, ErrorKind, Read, Write};
 use std::rt::Runtime;
+use std::sync::Arc;
+use std::sync::atomic::AtomicU64;
 use std::{fs, io};
 use thiserror::Error;
 use tracing_appender::folder::DirFolder;
@@ -38,11 +44,20 @@ pub enum Fault {
     #[error("write failed: {0}")]
     Write(io::Error),
     /// The beginning of a line was written, and the rest was not.
-    #[error("line cut short")]
-    Cut,
+    #[error("line cut short: {0}")]
+    Cut(io::Error),
     /// So many lines of sources came to the log, which didn't take the whole of them.
     #[error("lines not written whole: {0}")]
     Lost(u64),
+    /// So many log files were removed, renamed or replaced while they were written to.
+    #[error("log files gone: {0}")]
+    Gone(u64),
+    /// A source is a file of the log's folder.
+    #[error("source in the log directory")]
+    Own,
+    /// The account was not written.
+    #[error("account not written: {0}")]
+    Account(io::Error),
     /// The thread that writes was not made.
     #[error("no thread")]
     Thread,
@@ -50,7 +65,7 @@ pub enum Fault {
     #[error("no account")]
     Unsettled,
     /// Memory was refused.
-    #[error("out of memory")]
+    #[error("no memory")]
     Memory,
 }
 
@@ -63,6 +78,21 @@ impl Fault {
             Fault::Usage | Fault::Argument => 2,
             Fault::Memory => 3,
             _ => 1,
+        }
+    }
+
+    // What is reported of it, on a line, if that is the same for all faults of its kind; else nothing.
+    fn words(&self) -> &'static [u8]
+        ensures { IfSome (words_of self.now) (λ words. result.now ≡ words) }
+    {
+        match self {
+            Fault::Usage => b"usage: audit_trail DIRECTORY [SOURCE..]\n",
+            Fault::Argument => b"an argument is not UTF-8\n",
+            Fault::Own => b"source in the log directory\n",
+            Fault::Thread => b"no thread\n",
+            Fault::Unsettled => b"no account\n",
+            Fault::Memory => b"no memory\n",
+            _ => b"",
         }
     }
 
@@ -83,6 +113,27 @@ impl Fault {
         let kind = error.kind();
         Fault::Write(error).unless_memory(kind)
     }
+
+    /// A fault of writing the account.
+    pub(crate) fn of_account(error: io::Error) -> Fault
+        ensures { result ≡ unless_memory (error_kind error) (Account error) }
+    {
+        let kind = error.kind();
+        Fault::Account(error).unless_memory(kind)
+    }
+
+    // A fault of writing a line.
+    fn of_line(fault: LineFault) -> Fault
+        ensures { result ≡ line_fault fault.taken fault.error }
+    {
+        let kind = fault.error.kind();
+        let told = if fault.taken == 0 {
+            Fault::Write(fault.error)
+        } else {
+            Fault::Cut(fault.error)
+        };
+        told.unless_memory(kind)
+    }
 }
 
 impl From<AllocError> for Fault {
@@ -96,10 +147,14 @@ impl From<InitError> for Fault {
     ghost from_gives = { λ error fault. fault ≡ opening_fault error };
 
     fn from(error: InitError) -> Fault {
-        match error {
-            InitError::Memory => Fault::Memory,
-            _ => Fault::Open(error),
-        }
+        let kind = match &error {
+            InitError::Memory => ErrorKind::OutOfMemory,
+            InitError::Directory(cause) | InitError::File(cause) | InitError::Symlink(cause) => {
+                cause.kind()
+            }
+            _ => ErrorKind::Other,
+        };
+        Fault::Open(error).unless_memory(kind)
     }
 }
 
@@ -114,12 +169,12 @@ impl From<io::Error> for Fault {
 }
 
 /// The log of a trail.
-pub type TrailLog<R> = RollingFile<DirFolder<R>, SystemClock<R>>;
+pub type TrailLog<R> = LineLog<DirFolder<R>, SystemClock<R>, DirWatch<R>>;
 
 /// Writes each line of `input` to the log of its day, in the folder that the one argument names, and
-/// returns the log, flushed. What stands in the way goes to `errors`, whose own faults are ignored. The
-/// error is the status of the process: 1 if the log was not opened, the input not read or a line not
-/// written whole; 2 if there isn't one argument; 3 if memory was refused.
+/// returns the log, flushed and synced. The first fault goes to `errors`, whose own faults are ignored. The
+/// error is the status of the process: 1 if the log was not opened, the input not read, a line not written
+/// whole or a log file gone; 2 if there isn't one argument; 3 if memory was refused.
 pub fn keep<R: Runtime + AllocGlobal, I: Read, E: Write>(
     rt: &R,
     arguments: &[String],
@@ -128,6 +183,9 @@ pub fn keep<R: Runtime + AllocGlobal, I: Read, E: Write>(
 ) -> Result<TrailLog<R>, u8>
     ensures status { IfErr result (λ status. (1 ≤ status) × (status ≤ 3)) }
     ensures usage { length arguments.now ≢ 1 → result ≡ Err 2 }
+    ensures silent { IsOk result → Keeps (E.contents errors.old) (E.contents errors.new) }
+    ensures told { IfErr result (λ status. (fault : Fault) ×
+        Tells fault status (E.contents errors.old) (E.contents errors.new)) }
     ensures lines { IfOk result (λ log. (text : List ℕ) → I.remaining input.old ≡ Some text →
         KeepsLines ⟦<DirFolder<R> as Folder>⟧ ⟦<SystemClock<R> as Clock>⟧ text log) }
 {
@@ -139,9 +197,14 @@ pub fn keep<R: Runtime + AllocGlobal, I: Read, E: Write>(
 
 /// Tells a fault on `errors`, and answers its status.
 pub fn tell<E: Write>(fault: &Fault, errors: &mut E) -> u8
-    ensures { result ≡ status_of fault.now }
+    ensures { Tells fault.now result (E.contents errors.old) (E.contents errors.new) }
 {
-    let _ = writeln!(errors, "{fault}");
+    let words = fault.words();
+    let _ = if words.is_empty() {
+        writeln!(errors, "{fault}")
+    } else {
+        report(errors, words)
+    };
     fault.status()
 }
 
@@ -170,21 +233,78 @@ fn log_lines<R: Runtime + AllocGlobal, I: BufRead>(
     ensures { IfOk result (λ log. (text : List ℕ) → I.remaining input.old ≡ Some text →
         KeepsLines ⟦<DirFolder<R> as Folder>⟧ ⟦<SystemClock<R> as Clock>⟧ text log) }
 {
-    let mut log = open_log(rt, directory)?;
-    write_lines(rt.alloc(), input, &mut log)?;
+    let gone = zero(rt.alloc())?;
+    let mut log = open_trail(rt, directory, gone)?;
+    write_and_flush(rt.alloc(), input, &mut log)?;
+    match log.watch().gone() {
+        0 => Ok(log),
+        gone => Err(Fault::Gone(gone)),
+    }
+}
+
+// A count that threads can share.
+pub(crate) fn zero(alloc: Global) -> Result<Arc<AtomicU64, Global>, AllocError> {
+    Ok(Arc::new(alloc, AtomicU64::new(0))?)
+}
+
+// Writes each line of `input`, and flushes what was written, also after a fault.
+fn write_and_flush<I: BufRead, S: Folder, C: Clock, W: Watch<S>>(
+    alloc: Global,
+    input: &mut I,
+    log: &mut LineLog<S, C, W>,
+) -> Result<(), Fault>
+    ensures { OnOk result ((text : List ℕ) → I.remaining input.old ≡ Some text →
+        FlushesLines S.Folder C.Clock text log.old log.new) }
+{
+    match write_lines(alloc, input, log) {
+        Ok(()) => flush(log),
+        Err(fault) => {
+            let _ = log.flush();
+            Err(fault)
+        }
+    }
+}
+
+fn flush<S: Folder, C: Clock, W: Watch<S>>(log: &mut LineLog<S, C, W>) -> Result<(), Fault>
+    ensures { OnOk result (FlushesNow S.Folder (Ok tt) log.old.log log.new.log) }
+{
     match log.flush() {
-        Ok(()) => Ok(log),
+        Ok(()) => Ok(()),
         Err(fault) => Err(Fault::of_write(fault)),
     }
 }
 
-/// Opens the log of the day in a folder, which is made where it isn't there.
-pub fn open_log<R: Runtime + AllocGlobal>(rt: &R, directory: &str) -> Result<TrailLog<R>, InitError>
+/// Opens the trail in a folder, which is made where it isn't there. Log files that are gone are counted
+/// by `gone`.
+pub fn open_trail<R: Runtime + AllocGlobal>(
+    rt: &R,
+    directory: &str,
+    gone: Arc<AtomicU64, Global>,
+) -> Result<TrailLog<R>, InitError>
+    ensures opens { IfOk result (λ trail. OpensSome ⟦<DirFolder<R> as Folder>⟧ ⟦<SystemClock<R> as Clock>⟧
+        trail_config trail.log) }
+    ensures seen { IfOk result (λ trail. trail.cut ≡ false → EndsWhole ⟦<DirFolder<R> as Folder>⟧ trail.log) }
+{
+    let watch = DirWatch::new(rt.clone()?, directory, gone)?;
+    Ok(LineLog::new(open_log(rt, directory)?, watch))
+}
+
+/// Opens the log of the day in a folder, which is made where it isn't there. Each flush syncs its file.
+pub fn open_log<R: Runtime + AllocGlobal>(
+    rt: &R,
+    directory: &str,
+) -> Result<RollingFile<DirFolder<R>, SystemClock<R>>, InitError>
     ensures { IfOk result (OpensSome ⟦<DirFolder<R> as Folder>⟧ ⟦<SystemClock<R> as Clock>⟧
         trail_config) }
 {
     fs::create_dir_all(rt, directory).map_err(InitError::Directory)?;
-    settings(rt.alloc())?.open(rt.clone()?, directory)
+    let settings = settings(rt.alloc())?;
+    let clock = SystemClock::new(rt.clone()?);
+    let folder = DirFolder::new(rt.clone()?, directory)?.synced();
+    match settings.open_in(rt.alloc(), folder, clock) {
+        Ok(log) => Ok(log),
+        Err((error, _, _)) => Err(error),
+    }
 }
 
 fn settings(alloc: Global) -> Result<Builder, AllocError>
@@ -199,10 +319,10 @@ fn settings(alloc: Global) -> Result<Builder, AllocError>
 }
 
 /// Writes each line of `input` with its newline, which a last line without one is given.
-pub fn write_lines<I: BufRead, S: Folder, C: Clock>(
+pub fn write_lines<I: BufRead, S: Folder, C: Clock, W: Watch<S>>(
     alloc: Global,
     input: &mut I,
-    log: &mut RollingFile<S, C>,
+    log: &mut LineLog<S, C, W>,
 ) -> Result<(), Fault>
     ensures { OnOk result ((text : List ℕ) → I.remaining input.old ≡ Some text →
         (count : ℕ) × PutsLines S.Folder C.Clock count text log.old [] log.new) }
@@ -218,13 +338,14 @@ pub fn write_lines<I: BufRead, S: Folder, C: Clock>(
     Err(Fault::Read(io::Error::other("too many lines")))
 }
 
-/// Writes a line whole, by one put, to the file of the moment that the clock tells.
-fn write_line<S: Folder, C: Clock>(line: &[u8], log: &mut RollingFile<S, C>) -> Result<(), Fault>
+fn write_line<S: Folder, C: Clock, W: Watch<S>>(
+    line: &[u8],
+    log: &mut LineLog<S, C, W>,
+) -> Result<(), Fault>
     ensures { OnOk result (PutsLine S.Folder C.Clock line.now log.old log.new) }
 {
-    match log.put(line).1 {
-        Ok(taken) if taken < line.len() => Err(Fault::Cut),
-        Ok(_) => Ok(()),
-        Err(fault) => Err(Fault::of_write(fault)),
+    match log.write_line(line) {
+        Ok(()) => Ok(()),
+        Err(fault) => Err(Fault::of_line(fault)),
     }
 }

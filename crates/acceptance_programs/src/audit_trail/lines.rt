@@ -1,0 +1,330 @@
+// Lines over folders in memory.
+use crate::expect::{expect_eq, expect_eq_of};
+use audit_trail_core::lines::LineLog;
+use audit_trail_core::trail::{Fault, write_lines};
+use audit_trail_core::watch::Watch;
+use std::alloc::Global;
+use std::cell::Cell;
+use std::io;
+use std::io::{ErrorKind, Write};
+use std::process::Abort;
+use std::test::Fail;
+use tracing_appender::rolling::{Builder, Clock, InitError, Rotation};
+use tracing_appender::store::{Folder, Listed, MemoryFile, MemoryFolder, Notice};
+
+// A clock that goes on by so many seconds at each reading.
+#[derive(Drop)]
+pub(super) struct Ticking {
+    now: Cell<i64>,
+    step: i64,
+}
+
+impl Clock for Ticking {
+    ghost now_gives = { λ clock m. Unit {0} };
+
+    fn now(&self) -> i64 {
+        let moment = self.now.get();
+        self.now.set(moment.saturating_add(self.step));
+        moment
+    }
+}
+
+// A folder in memory. An append that fails was interrupted, if `interrupts`.
+#[derive(Drop)]
+pub(super) struct Disturbed {
+    pub(super) folder: MemoryFolder,
+    pub(super) interrupts: bool,
+}
+
+impl Folder for Disturbed {
+    ghost use Rattle.std.specs.Prelude.{true};
+
+    type File = MemoryFile;
+
+    ghost tells = { true };
+
+    ghost content = { λ f. ⟦<MemoryFolder as Folder>⟧.content f.folder };
+
+    ghost body = { λ file. ⟦<MemoryFolder as Folder>⟧.body file };
+
+    ghost failures = { λ f. ⟦<MemoryFolder as Folder>⟧.failures f.folder };
+
+    ghost noted = { λ f. ⟦<MemoryFolder as Folder>⟧.noted f.folder };
+
+    ghost list_gives = { λ old r new. Unit {0} };
+
+    ghost remove_gives = { λ old name r new. Unit {0} };
+
+    ghost open_gives = { λ old name r new. Unit {0} };
+
+    ghost make_folder_gives = { λ old r new. Unit {0} };
+
+    ghost remove_link_gives = { λ old name r new. Unit {0} };
+
+    ghost make_link_gives = { λ old name target r new. Unit {0} };
+
+    ghost append_gives = { λ old file bytes r new after. Unit {0} };
+
+    ghost flush_gives = { λ old file r new after. Unit {0} };
+
+    ghost note_gives = { λ old said new. Unit {0} };
+
+    ghost failures_fit = { λ f. ⟦<MemoryFolder as Folder>⟧.failures_fit f.folder };
+
+    ghost noted_fit = { λ f. ⟦<MemoryFolder as Folder>⟧.noted_fit f.folder };
+
+    ghost sound = { λ f told. ⟦<MemoryFolder as Folder>⟧.sound f.folder told };
+
+    fn list(&mut self) -> io::Result<Vec<Listed>> {
+        self.folder.list()
+    }
+
+    fn remove(&mut self, name: &str) -> io::Result<()> {
+        self.folder.remove(name)
+    }
+
+    fn open(&mut self, name: &str) -> io::Result<MemoryFile> {
+        self.folder.open(name)
+    }
+
+    fn make_folder(&mut self) -> io::Result<()> {
+        self.folder.make_folder()
+    }
+
+    fn remove_link(&mut self, name: &str) -> io::Result<()> {
+        self.folder.remove_link(name)
+    }
+
+    fn make_link(&mut self, name: &str, target: &str) -> io::Result<()> {
+        self.folder.make_link(name, target)
+    }
+
+    fn append(&mut self, file: &mut MemoryFile, bytes: &[u8]) -> io::Result<usize> {
+        match self.folder.append(file, bytes) {
+            Err(fault) if self.interrupts && fault.kind() == ErrorKind::Other => {
+                Err(io::Error::from(ErrorKind::Interrupted))
+            }
+            answer => answer,
+        }
+    }
+
+    fn flush(&mut self, file: &mut MemoryFile) -> io::Result<()> {
+        self.folder.flush(file)
+    }
+
+    fn note(&mut self, notice: Notice<'_>) {
+        self.folder.note(notice);
+    }
+
+    fn failures(&self) -> u64 {
+        self.folder.failures()
+    }
+}
+
+// Looks at a folder of two files at most. One name is said to lead nowhere, and it is counted how often.
+#[derive(Drop)]
+pub(super) struct Looking {
+    lost: &'static str,
+    told: Cell<u32>,
+}
+
+impl Watch<Disturbed> for Looking {
+    fn ends_line(&self, folder: &Disturbed, _file: &MemoryFile, _name: &str) -> bool {
+        let folder = &folder.folder;
+        ends_line(folder.body(0)) && ends_line(folder.body(1)) && folder.body(2).is_none()
+    }
+
+    fn finds(&self, folder: &Disturbed, _file: &MemoryFile, name: &str) -> bool {
+        let found = name != self.lost && folder.folder.bytes(name).is_some();
+        if !found {
+            self.told.set(self.told.get().saturating_add(1));
+        }
+        found
+    }
+}
+
+// Whether what a body holds, if it is there, is nothing or ends with a newline.
+fn ends_line(body: Option<&[u8]>) -> bool {
+    match body {
+        Some(bytes) => bytes.is_empty() || bytes[bytes.len() - 1] == b'\n',
+        None => true,
+    }
+}
+
+// A folder in memory whose calls of these numbers fail, and whose appends of these take one byte. Opening
+// a log is the first call.
+fn failing_folder(
+    rt: &(impl AllocGlobal + Abort),
+    failing: impl Iterator<Item = u64>,
+    short: &[u64],
+) -> MemoryFolder {
+    let mut folder = MemoryFolder::new(rt.alloc());
+    for number in failing {
+        folder.fail_call(number).expect(rt, "memory");
+    }
+    for number in short {
+        folder.short_append(*number, 1).expect(rt, "memory");
+    }
+    folder
+}
+
+pub(super) type TestLog = LineLog<Disturbed, Ticking, Looking>;
+
+// A log over a folder in memory, opened at 2020-02-01 10:01:00, whose clock goes on by `step` seconds.
+fn hourly(rt: &(impl AllocGlobal + Abort), folder: MemoryFolder, step: i64) -> TestLog {
+    open(rt, folder, step, "", true)
+}
+
+fn open(
+    rt: &(impl AllocGlobal + Abort),
+    folder: MemoryFolder,
+    step: i64,
+    lost: &'static str,
+    interrupts: bool,
+) -> TestLog {
+    let folder = Disturbed { folder, interrupts };
+    match try_open(rt.alloc(), folder, step, lost) {
+        Ok(log) => log,
+        Err(error) => rt.panic(error),
+    }
+}
+
+pub(super) fn try_open(
+    alloc: Global,
+    folder: Disturbed,
+    step: i64,
+    lost: &'static str,
+) -> Result<TestLog, InitError> {
+    let builder = Builder::new()
+        .rotation(Rotation::HOURLY)
+        .filename_prefix(alloc, "app")?;
+    let (now, told) = (Cell::new(1_580_551_260), Cell::new(0));
+    match builder.open_in(alloc, folder, Ticking { now, step }) {
+        Ok(log) => Ok(LineLog::new(log, Looking { lost, told })),
+        Err((error, _, _)) => Err(error),
+    }
+}
+
+// Checks what a file of a folder in memory holds.
+fn expect_file(rt: &impl Abort, folder: &Disturbed, name: &str, text: &str) {
+    match folder.folder.bytes(name) {
+        Some(bytes) => expect_eq_of(rt, name, bytes, text.as_bytes()),
+        None => assert!(rt; false, "no {name}"),
+    }
+}
+
+const TEN: &str = "app.2020-02-01-10";
+
+const ELEVEN: &str = "app.2020-02-01-11";
+
+fn write(alloc: Global, log: &mut TestLog, text: &str) -> Result<(), Fault> {
+    let mut input = text.as_bytes();
+    write_lines(alloc, &mut input, log)
+}
+
+#[test]
+fn each_line_is_put_at_its_moment(rt: HostRuntime) {
+    let mut log = hourly(&rt, MemoryFolder::new(rt.alloc()), 1800);
+    assert!(rt; write(rt.alloc(), &mut log, "a\nb\nc").is_ok());
+    let (folder, _) = log.into_parts();
+    expect_file(&rt, &folder, TEN, "a\n");
+    expect_file(&rt, &folder, ELEVEN, "b\nc\n");
+}
+
+// The clock is read once for a line, however many appends it takes.
+#[test]
+fn a_line_in_pieces_is_in_one_file(rt: HostRuntime) {
+    let mut log = hourly(&rt, failing_folder(&rt, [3].into_iter(), &[2, 4]), 1800);
+    assert!(rt; write(rt.alloc(), &mut log, "abc\nd\n").is_ok());
+    let (folder, _) = log.into_parts();
+    expect_file(&rt, &folder, TEN, "abc\n");
+    expect_file(&rt, &folder, ELEVEN, "d\n");
+}
+
+#[test]
+fn a_line_is_interrupted_a_hundred_times(rt: HostRuntime) {
+    let mut log = hourly(&rt, failing_folder(&rt, 2..102, &[]), 60);
+    assert!(rt; write(rt.alloc(), &mut log, "ab\n").is_ok());
+    let (folder, _) = log.into_parts();
+    expect_file(&rt, &folder, TEN, "ab\n");
+}
+
+#[test]
+fn a_line_is_given_up_after_a_hundred_interruptions(rt: HostRuntime) {
+    let mut log = hourly(&rt, failing_folder(&rt, 3..104, &[2]), 60);
+    match log.write(b"ab\n") {
+        Err(fault) => expect_eq(&rt, fault.kind(), ErrorKind::Other),
+        Ok(taken) => assert!(rt; false, "took {taken}"),
+    }
+    assert!(rt; write(rt.alloc(), &mut log, "c\n").is_ok());
+    let (folder, _) = log.into_parts();
+    expect_file(&rt, &folder, TEN, "a\nc\n");
+}
+
+#[test]
+fn a_line_cut_short_is_told_and_ended(rt: HostRuntime) {
+    let mut log = open(&rt, failing_folder(&rt, [3].into_iter(), &[2]), 60, "", false);
+    assert!(rt; matches!(write(rt.alloc(), &mut log, "ab\nc\n"), Err(Fault::Cut(_))));
+    assert!(rt; matches!(log.write(b"d\n"), Ok(2)));
+    let (folder, _) = log.into_parts();
+    expect_file(&rt, &folder, TEN, "a\nd\n");
+}
+
+// The next file has no part of a line.
+#[test]
+fn a_line_cut_short_is_left_at_a_switch(rt: HostRuntime) {
+    let mut log = open(&rt, failing_folder(&rt, [3].into_iter(), &[2]), 1800, "", false);
+    assert!(rt; log.write(b"ab\n").is_err());
+    assert!(rt; matches!(log.write(b"c\n"), Ok(2)));
+    let (folder, _) = log.into_parts();
+    expect_file(&rt, &folder, TEN, "a");
+}
+
+#[test]
+fn a_write_that_fails_is_told(rt: HostRuntime) {
+    let mut log = open(&rt, failing_folder(&rt, [2].into_iter(), &[]), 60, "", false);
+    assert!(rt; matches!(write(rt.alloc(), &mut log, "ab\n"), Err(Fault::Write(_))));
+    assert!(rt; matches!(log.write(b"c\n"), Ok(2)));
+    let (folder, _) = log.into_parts();
+    expect_file(&rt, &folder, TEN, "c\n");
+}
+
+#[test]
+fn a_part_of_a_line_is_ended_at_the_opening(rt: HostRuntime) -> Result<(), Fail> {
+    let mut folder = MemoryFolder::new(rt.alloc());
+    assert!(rt; folder.put_file(TEN, b"old\npar").is_ok());
+    let mut log = hourly(&rt, folder, 60);
+    assert!(rt; write(rt.alloc(), &mut log, "a\nb\n").is_ok());
+    let (folder, _) = log.into_parts();
+    expect_file(&rt, &folder, TEN, "old\npar\na\nb\n");
+    Ok(())
+}
+
+#[test]
+fn a_part_of_a_line_is_ended_at_a_switch(rt: HostRuntime) -> Result<(), Fail> {
+    let mut folder = MemoryFolder::new(rt.alloc());
+    assert!(rt; folder.put_file(ELEVEN, b"par").is_ok());
+    assert!(rt; folder.put_file(TEN, b"old\n").is_ok());
+    let mut log = hourly(&rt, folder, 1800);
+    assert!(rt; write(rt.alloc(), &mut log, "a\nb\nc\n").is_ok());
+    let (folder, _) = log.into_parts();
+    expect_file(&rt, &folder, ELEVEN, "par\nb\nc\n");
+    Ok(())
+}
+
+// A file that is gone is told before the switch from it, or at a flush, and once.
+static LOST: [(&str, u32, u32); 3] = [(TEN, 1, 1), (ELEVEN, 0, 1), ("", 0, 0)];
+
+#[test]
+fn a_file_that_is_gone_is_told_once(rt: HostRuntime) {
+    for (lost, before, after) in &LOST {
+        let folder = MemoryFolder::new(rt.alloc());
+        let mut log = open(&rt, folder, 1800, *lost, false);
+        assert!(rt; write(rt.alloc(), &mut log, "a\nb\nc\n").is_ok());
+        expect_eq(&rt, log.watch().told.get(), *before);
+        for _ in 0..2 {
+            assert!(rt; log.flush().is_ok());
+            expect_eq(&rt, log.watch().told.get(), *after);
+        }
+    }
+}

@@ -1,0 +1,65 @@
+-- How files end after an append.
+use Rattle.std.proofs.Common.{◌≡◌, ◌∙◌, inl, inr, refl, sym, ap, subst, arith, ℕ, zero, suc, ◌+◌, ◌-◌, ◌<◌, Bool, not, true, false, List, [], ◌∷◌, ◌++◌, length, Result, get_or, set, length-append}
+use Rattle.std.proofs.lemmas.List.{get_or-append-add, nil_from_length, append-nil}
+use Rattle.std.proofs.lemmas.Bool.Decides.{nat_tests}
+use Rattle.std.specs.Io.BufRead.{ends_with_byte}
+use Rattle.std.specs.declared.io.Error.{Error}
+use Rattle.appender_store.specs.Content.{Content, body_at, after_append}
+use Rattle.appender_store.specs.declared.store.Folder.{Ghosts}
+use Rattle.appender_store.proofs.Appends.{after_append_nothing}
+use Rattle.appender_rolling.specs.Appender.{Appending}
+use Rattle.audit_trail_core.specs.Trail.{Adds, EndsLine, EndsWhole}
+
+-- what ends with a newline does so after other bytes
+pub ends_after : (xs bytes : List ℕ) → ends_with_byte 10 bytes ≡ true → ends_with_byte 10 (xs ++ bytes) ≡ true
+ends_after xs [] ends = absurd (let never : false ≡ true = ends in cc)
+ends_after xs (y ∷ ys) ends =
+    let place : length (xs ++ y ∷ ys) - 1 ≡ length xs + (length (y ∷ ys) - 1) = omega (arith, length-append xs (y ∷ ys)) in
+    let same : get_or (xs ++ y ∷ ys) (length (xs ++ y ∷ ys) - 1) 0 ≡ get_or (y ∷ ys) (length (y ∷ ys) - 1) 0
+    = ap (λ k. get_or (xs ++ y ∷ ys) k 0) place ∙ get_or-append-add xs (y ∷ ys) (length (y ∷ ys) - 1) 0 in
+    let some : 0 < length (xs ++ y ∷ ys) = omega (arith, length-append xs (y ∷ ys)) in
+    grind (arith, nat_tests)
+
+ends_set : (bodies : List (List ℕ)) (b : ℕ) (bytes : List ℕ) → ends_with_byte 10 bytes ≡ true
+    → EndsLine (get_or (set bodies b (get_or bodies b [] ++ bytes)) b [])
+ends_set [] zero bytes ends = inl refl
+ends_set [] (suc b) bytes ends = inl refl
+ends_set (x ∷ xs) zero bytes ends = inr (ends_after x bytes ends)
+ends_set (x ∷ xs) (suc b) bytes ends = ends_set xs b bytes ends
+
+-- a body to which bytes with a newline at their end were added
+pub ends_appended : (c : Content) (b : ℕ) (bytes : List ℕ) → ends_with_byte 10 bytes ≡ true → EndsLine (body_at (after_append c b bytes) b)
+ends_appended c b bytes ends = ends_set c.bodies b bytes ends
+
+module _ {S F C : Type 0} (kind : Ghosts S F) where
+  -- what changes neither the content nor the open file
+  pub whole_same : (old new : Appending S F C) → kind.content new.roller.folder ≡ kind.content old.roller.folder
+      → kind.body new.roller.file ≡ kind.body old.roller.file → EndsWhole kind old → EndsWhole kind new
+  whole_same old new content file whole tells =
+      subst (λ c. EndsLine (body_at c (kind.body new.roller.file))) (sym content)
+      (subst (λ b. EndsLine (body_at (kind.content old.roller.folder) b)) (sym file) (whole tells))
+
+  -- bytes with a newline at their end were added
+  pub whole_after : (answers : List (Result ℕ Error)) (bytes : List ℕ) (old new : Appending S F C)
+      → Adds kind answers bytes [] old new → ends_with_byte 10 bytes ≡ true → EndsWhole kind new
+  whole_after answers bytes old new adds ends tells =
+      let taken = adds.so_far.taken in
+      let same : taken ≡ bytes = sym (append-nil taken) ∙ sym adds.so_far.split in
+      subst (λ c. EndsLine (body_at c (kind.body new.roller.file))) (sym (adds.so_far.content tells))
+      (subst (λ b. EndsLine (body_at (after_append (kind.content old.roller.folder) (kind.body old.roller.file) taken) b)) (sym adds.so_far.stays.file)
+      (ends_appended (kind.content old.roller.folder) (kind.body old.roller.file) taken (subst (λ xs. ends_with_byte 10 xs ≡ true) (sym same) ends)))
+
+  -- none of the bytes were added
+  pub whole_after_none : (answers : List (Result ℕ Error)) (bytes rest : List ℕ) (old new : Appending S F C)
+      → (adds : Adds kind answers bytes rest old new) → length adds.so_far.taken ≡ 0 → EndsWhole kind old → EndsWhole kind new
+  whole_after_none answers bytes rest old new adds none whole tells =
+      let nothing = nil_from_length adds.so_far.taken none in
+      let content = adds.so_far.content tells
+      ∙ ap (λ xs. after_append (kind.content old.roller.folder) (kind.body old.roller.file) xs) nothing
+      ∙ after_append_nothing (kind.content old.roller.folder) (kind.body old.roller.file) in
+      whole_same old new content adds.so_far.stays.file whole tells
+
+-- if it isn't so that it is not so
+pub is_so : (b : Bool) → not b ≡ false → b ≡ true
+is_so true e = refl
+is_so false e = sym e

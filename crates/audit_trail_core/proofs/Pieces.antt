@@ -1,0 +1,100 @@
+-- A line that is added in pieces.
+use Rattle.std.proofs.Common.{◌≡◌, ◌≢◌, ◌∙◌, ◌==◌, true, false, refl, sym, ap, subst, arith, ℕ, suc, ◌+◌, ◌-◌, ◌≤◌, List, [], ◌∷◌, length, take, drop, Result, Ok, Err, length-append, length-drop}
+use Rattle.std.proofs.Math.Seq.{take-length}
+use Rattle.std.specs.IoError.{error_kind}
+use Rattle.std.specs.declared.io.Error.{Error}
+use Rattle.std.specs.declared.io.ErrorKind.TheVariants.{Interrupted}
+use Rattle.appender_store.proofs.Appends.{after_append_nothing}
+use Rattle.appender_store.specs.declared.store.Folder.{Ghosts}
+use Rattle.appender_rolling.proofs.Pieces.{one_more_piece}
+use Rattle.appender_rolling.specs.Appender.{Appending, AppendsNow}
+use Rattle.appender_rolling.specs.Roller.{AllGoOn, count_of}
+use Rattle.audit_trail_core.specs.Inside.Pieces.{AddsPart}
+use Rattle.audit_trail_core.specs.Trail.{Adds, interruptions}
+
+module _ {S F C : Type 0} (kind : Ghosts S F) where
+  -- What was added so far: appends that all go on, of which so many were interrupted, and before them others.
+  pub record SoFar (bytes rest : List ℕ) (before after : ℕ) (old now : Appending S F C) : Type 0 where
+    pub answers : List (Result ℕ Error)
+    pub adds : Adds kind answers bytes rest old now
+    pub go_on : AllGoOn answers
+    pub counts : after ≡ before + interruptions answers
+    pub few : after ≤ 100
+
+  pub none_added : (bytes : List ℕ) (before : ℕ) (log : Appending S F C) → before ≤ 100 → SoFar bytes bytes before before log log
+  none_added bytes before log few = record {
+    answers = [];
+    adds = record {
+      so_far = record {
+        pieces = (refl, refl);
+        taken = [];
+        split = refl;
+        content = λ tells. sym (after_append_nothing (kind.content log.roller.folder) (kind.body log.roller.file));
+        stays = record { config_is = refl; opened = refl; last = refl; boundary = refl; file = refl; noted = refl };
+        room = omega arith;
+      };
+      clock = refl;
+    };
+    go_on = tt;
+    counts = omega arith;
+    few = few;
+  }
+
+  -- one append more
+  pub one_more : {bytes left : List ℕ} {before after : ℕ} {old last now : Appending S F C} (answer : Result ℕ Error)
+      → (so : SoFar bytes left before after old last) → left ≢ [] → AppendsNow kind left answer last now
+      → Adds kind (answer ∷ so.answers) bytes (drop (count_of answer) left) old now
+  one_more {bytes = bytes} {left = left} {old = old} {last = last} {now = now} answer so some appends = record {
+    so_far = one_more_piece kind so.answers bytes left old.roller last.roller now.roller answer so.adds.so_far so.go_on some appends.writes;
+    clock = appends.clock ∙ so.adds.clock;
+  }
+
+  -- it took some bytes
+  pub took_some : {bytes left : List ℕ} {before after : ℕ} {old last now : Appending S F C} (n : ℕ) (rest : List ℕ)
+      → SoFar bytes left before after old last → left ≢ [] → n ≢ 0 → AppendsNow kind left (Ok n) last now → rest ≡ drop n left
+      → SoFar bytes rest before after old now
+  took_some {bytes = bytes} {old = old} {now = now} n rest so some more appends is = record {
+    answers = Ok n ∷ so.answers;
+    adds = subst (λ rest. Adds kind (Ok n ∷ so.answers) bytes rest old now) (sym is) (one_more (Ok n) so some appends);
+    go_on = (more, so.go_on);
+    counts = so.counts;
+    few = so.few;
+  }
+
+  -- it was interrupted
+  pub was_interrupted : {bytes left : List ℕ} {before after : ℕ} {old last now : Appending S F C} (e : Error)
+      → SoFar bytes left before after old last → left ≢ [] → error_kind e ≡ Interrupted → suc after ≤ 100 → AppendsNow kind left (Err e) last now
+      → SoFar bytes left before (after + 1) old now
+  was_interrupted e so some is few appends = record {
+    answers = Err e ∷ so.answers;
+    adds = one_more (Err e) so some appends;
+    go_on = (is, so.go_on);
+    counts = omega (arith, so.counts);
+    few = omega (arith, few);
+  }
+
+  -- it failed
+  pub failed : {bytes left : List ℕ} {before after : ℕ} {old last now : Appending S F C} (answer : Result ℕ Error)
+      → SoFar bytes left before after old last → left ≢ [] → count_of answer ≡ 0 → AppendsNow kind left answer last now
+      → AddsPart kind bytes (length bytes - length left) old now
+  failed {bytes = bytes} {left = left} answer so some none appends =
+      let adds = one_more answer so some appends in
+      let rest_is : drop (count_of answer) left ≡ left = ap (λ n. drop n left) none in
+      let all : length bytes ≡ length adds.so_far.taken + length (drop (count_of answer) left)
+      = ap length adds.so_far.split ∙ length-append adds.so_far.taken (drop (count_of answer) left) in
+      let same : length (drop (count_of answer) left) ≡ length left = ap length rest_is in
+      record {
+        answers = answer ∷ so.answers;
+        rest = drop (count_of answer) left;
+        adds = adds;
+        taken_is = omega (arith, all, same);
+        some = subst (λ rest. rest ≢ []) (sym rest_is) some;
+      }
+
+-- a slice to the end is all that is left
+pub whole_rest : (n : ℕ) (xs : List ℕ) → take (length xs - n) (drop n xs) ≡ drop n xs
+whole_rest n xs = ap (λ k. take k (drop n xs)) (sym (length-drop n xs)) ∙ take-length (drop n xs)
+
+-- some are left
+pub some_left : (xs : List ℕ) → (length xs == 0) ≡ false → xs ≢ []
+some_left xs some is = let both : true ≡ false = sym (ap (λ ys. length ys == 0) is) ∙ some in absurd (let both : true ≡ false = both in cc)

@@ -1,0 +1,34 @@
+use Rattle.std.proofs.Common.{◌≡◌, ◌∙◌, sym, ap, subst, arith, ◌≤◌, ◌<◌, length, not, false, nat_lt, nltb→le}
+use Rattle.std.proofs.lemmas.Bool.Decides.{nat_tests}
+use Rattle.audit_trail_core.specs.Trail.{Trailing, EndsPart, EndsWhole}
+use Rattle.audit_trail_core.proofs.Ends.{whole_after, whole_after_none, is_so}
+use Rattle.audit_trail_core.proofs.lines.LineLog.write_line.Goals as goal
+
+pub invariant_of-self : goal.invariant_of-self
+invariant_of-self g c = λ ends.
+    let whole = c.in-Ok.ensures.ok in
+    whole_after g.S.Folder whole.answers c.args.line.now _ _ whole.adds (sym c.ends_line.ensures ∙ is_so c.ends_line.result ends)
+
+pub invariant_of-self-in-Err : goal.invariant_of-self-in-Err
+invariant_of-self-in-Err g c = λ none.
+    let part = c.in-Err.ensures.err in
+    let nothing : c.in-Err.fault.taken ≡ 0 = grind (arith, nat_tests) in
+    let begun = c.self.invariant (ap (λ (l : Trailing _ _ _). l.cut) c.self.view_is ∙ c.in_ok-repeats.ensures.whole) in
+    whole_after_none g.S.Folder part.answers c.args.line.now part.rest _ _ part.adds (sym part.taken_is ∙ nothing) begun
+
+pub returns-in-Ok-clause-ok : goal.returns-in-Ok-clause-ok
+returns-in-Ok-clause-ok g c =
+    let ended = c.in_ok-repeats.ensures.ok in
+    let whole = c.in-Ok.ensures.ok in
+    record {
+      looked = c.look.new.self;
+      looks = c.look.ensures;
+      ending = ended.ending;
+      begun = c.self.inside.log;
+      ends = subst (λ log. EndsPart g.S.Folder c.look.new.self.cut ended.ending c.look.new.self.log log) (sym (ap (λ (l : Trailing _ _ _). l.log) c.self.view_is)) ended.ends;
+      begins = c.self.invariant (ap (λ (l : Trailing _ _ _). l.cut) c.self.view_is ∙ c.in_ok-repeats.ensures.whole);
+      answers = whole.answers;
+      adds = whole.adds;
+      few = omega (arith, ended.counts, whole.counts, whole.few);
+      cut = ap not c.ends_line.ensures;
+    }

@@ -1,0 +1,10 @@
+use Rattle.std.proofs.Common.{◌+◌, ◌-◌, length}
+use Rattle.audit_trail_core.proofs.Pieces.{SoFar}
+use Rattle.audit_trail_core.proofs.lines.add_all.Given as goal
+
+-- what is left was not added yet, and all before it was
+abbrev pub invariant-loop-rest : goal.invariant-loop-rest
+invariant-loop-rest g l = SoFar g.S.Folder l.fn.bytes l.rest l.fn.repeats l.repeats l.fn.log l.log
+
+abbrev pub decreases-loop-rest : goal.decreases-loop-rest
+decreases-loop-rest g l = length l.rest + (100 - l.repeats)

@@ -1,0 +1,262 @@
+//! A log that takes lines whole: each is a line of one file, or the answer is why it is not.
+ghost use Rattle.std.specs.Prelude.{◌≡◌, ◌≢◌, ◌≤◌, IfOk, IfErr, Ok, OnOk, true, false, length};
+ghost use Rattle.std.specs.Io.BufRead.{ends_with_byte};
+ghost use Rattle.std.specs.IoError.{error_kind};
+ghost use Rattle.std.specs.declared.io.ErrorKind.TheVariants.{Interrupted};
+ghost use Rattle.audit_trail_core.specs.Trail.{EndsWhole};
+ghost use Rattle.audit_trail_core.specs.Inside.Pieces.{AddsPart, AddsWhole, AppendsOnce, EndsPartWith};
+
+use crate::watch::Watch;
+use std::io;
+use std::io::{ErrorKind, Write};
+use std::marker::Model;
+use tracing_appender::rolling::{Clock, RollingFile, Switch};
+use tracing_appender::store::Folder;
+
+/// How often the appends of one line may be interrupted and made again.
+const MOST_REPEATS: u32 = 100;
+
+/// A log that takes lines whole. A line that is cut short is ended by a newline before the next line.
+#[derive(Drop)]
+pub struct LineLog<S: Folder, C: Clock, W: Watch<S>> {
+    log: RollingFile<S, C>,
+    watch: W,
+    // Whether the open file may end with a part of a line.
+    cut: bool,
+    // Whether it was reported that the open file's name no longer leads to it.
+    gone: bool,
+}
+
+impl<S: Folder, C: Clock, W: Watch<S>> Model for LineLog<S, C, W> {
+    ghost use Rattle.std.specs.Prelude.{◌≡◌, false};
+    ghost use Rattle.audit_trail_core.specs.Trail.{EndsWhole, Trailing};
+
+    ghost Value = { Trailing S S.File C };
+
+    ghost view = { λ l. record { log = l.log; cut = l.cut } };
+
+    ghost invariant = { λ l. l.cut ≡ false → EndsWhole S.Folder l.log };
+}
+
+/// Why a line is not whole.
+#[derive(Debug, Drop)]
+pub struct LineFault {
+    /// How many of its first bytes were taken.
+    pub taken: usize,
+    /// The last append's fault, which is of another kind than `Interrupted`; of kind `WriteZero` if it
+    /// took nothing.
+    pub error: io::Error,
+}
+
+impl<S: Folder, C: Clock, W: Watch<S>> LineLog<S, C, W> {
+    ghost use Rattle.audit_trail_core.specs.Trail.{LooksAtClock, PutsLine};
+
+    /// A log that goes on after what is in the open file.
+    pub fn new(log: RollingFile<S, C>, watch: W) -> LineLog<S, C, W>
+        ensures { result.log ≡ log }
+    {
+        let cut = !ends_whole(&watch, &log);
+        LineLog {
+            log,
+            watch,
+            cut,
+            gone: false,
+        }
+    }
+
+    /// Looks at the clock once, and then adds all of a line to the open file, where it begins a line. An
+    /// append that was interrupted is made again, at most 100 times for a line.
+    pub fn write_line(&mut self, line: &[u8]) -> Result<(), LineFault>
+        ensures ok { OnOk result (PutsLine S.Folder C.Clock line.now self.old self.new) }
+        ensures err { IfErr result (λ fault. error_kind fault.error ≢ Interrupted) }
+    {
+        self.look();
+        let repeats = self.end_part()?;
+        self.cut = true;
+        match add_all(&mut self.log, line, repeats) {
+            Ok(_) => {
+                self.cut = !ends_line(line);
+                Ok(())
+            }
+            Err(fault) => {
+                self.cut = fault.taken > 0;
+                Err(fault)
+            }
+        }
+    }
+
+    // Looks at the clock, and how the file ends that then begins.
+    fn look(&mut self)
+        ensures { LooksAtClock S.Folder C.Clock self.old self.new }
+    {
+        let moment = self.log.moment();
+        self.compare_before(moment);
+        match self.log.see(moment) {
+            Switch::None => {}
+            Switch::Opened => {
+                self.gone = false;
+                self.cut = !ends_whole(&self.watch, &self.log);
+            }
+            Switch::Failed => self.cut = !ends_whole(&self.watch, &self.log),
+        }
+    }
+
+    // Compares the open file with what its name leads to, if this moment begins another file.
+    fn compare_before(&mut self, moment: i64)
+        ensures { self.new ≡ self.old }
+    {
+        if self.log.due(moment) {
+            self.compare();
+        }
+    }
+
+    // Adds a newline if the open file may end with a part of a line. Returns how many appends were
+    // interrupted.
+    fn end_part(&mut self) -> Result<u32, LineFault>
+        ensures ok { IfOk result (λ repeats. EndsPartWith S.Folder self.old.cut repeats self.old.log self.new.log) }
+        ensures whole { OnOk result (self.new.cut ≡ false) }
+        ensures err { IfErr result (λ fault. error_kind fault.error ≢ Interrupted) }
+    {
+        if !self.cut {
+            return Ok(0);
+        }
+        match add_all(&mut self.log, b"\n", 0) {
+            Ok(repeats) => {
+                self.cut = false;
+                Ok(repeats)
+            }
+            Err(fault) => Err(LineFault { taken: 0, ..fault }),
+        }
+    }
+
+    // Compares what the open file's name leads to with it, until a difference is reported.
+    fn compare(&mut self)
+        ensures { self.new ≡ self.old }
+    {
+        if !self.gone {
+            let found = self.watch.finds(
+                self.log.folder(),
+                self.log.open_file(),
+                self.log.open_name(),
+            );
+            self.gone = !found;
+        }
+    }
+
+    /// The log.
+    pub fn log(&self) -> &RollingFile<S, C>
+        ensures { result.now ≡ self.now.log }
+    {
+        &self.log
+    }
+
+    /// What watches its open file.
+    pub fn watch(&self) -> &W {
+        &self.watch
+    }
+
+    /// The folder and the clock, with the open file let go.
+    pub fn into_parts(self) -> (S, C)
+        ensures folder { result.0 ≡ self.log.roller.folder }
+        ensures clock { result.1 ≡ self.log.clock }
+    {
+        self.log.into_parts()
+    }
+}
+
+impl<S: Folder, C: Clock, W: Watch<S>> Write for LineLog<S, C, W> {
+    ghost use Rattle.std.specs.Prelude.{[], None};
+    ghost use Rattle.std.specs.Io.{WritesAtMost};
+    ghost use Rattle.std.specs.Io.KnownBytes.{WriteAppends};
+    ghost use Rattle.appender_rolling.specs.Appender.{FlushesNow};
+    ghost use Rattle.audit_trail_core.specs.Trail.{PutsLine};
+
+    /// Writes one line, whole: the answer is its length, or an error of another kind than `Interrupted`.
+    fn write(&mut self, line: &[u8]) -> io::Result<usize>
+        ensures bound { WritesAtMost result line.now }
+        ensures bytes { WriteAppends None None result line.now }
+        ensures whole { IfOk result (λ taken. taken ≡ length line.now) }
+        ensures line { OnOk result (line.now ≢ [] → PutsLine S.Folder C.Clock line.now self.old self.new) }
+        ensures err { IfErr result (λ fault. error_kind fault ≢ Interrupted) }
+    {
+        if line.is_empty() {
+            return Ok(0);
+        }
+        match self.write_line(line) {
+            Ok(()) => Ok(line.len()),
+            Err(fault) => Err(fault.error),
+        }
+    }
+
+    /// Flushes the open file, and compares it with what its name leads to.
+    fn flush(&mut self) -> io::Result<()>
+        ensures flush { FlushesNow S.Folder result self.old.log self.new.log }
+        ensures cut { self.new.cut ≡ self.old.cut }
+    {
+        let flushed = self.log.flush();
+        self.compare();
+        flushed
+    }
+}
+
+// Adds bytes to the open file by one append after another, each of what those before it left. So many of
+// the line were interrupted before; the answer is how many were with these.
+fn add_all<S: Folder, C: Clock>(
+    log: &mut RollingFile<S, C>,
+    bytes: &[u8],
+    repeats: u32,
+) -> Result<u32, LineFault>
+    requires { repeats ≤ 100 }
+    ensures ok { IfOk result (λ after. AddsWhole S.Folder bytes.now repeats after log.old log.new) }
+    ensures err { IfErr result (λ fault. AddsPart S.Folder bytes.now fault.taken log.old log.new) }
+    ensures kind { IfErr result (λ fault. error_kind fault.error ≢ Interrupted) }
+{
+    let (mut rest, mut repeats) = (bytes, repeats);
+    while !rest.is_empty() {
+        match append_once(log, rest, repeats) {
+            Step::Took(taken) => rest = &rest[taken..],
+            Step::Again => repeats += 1,
+            Step::Failed(error) => {
+                let taken = bytes.len() - rest.len();
+                return Err(LineFault { taken, error });
+            }
+        }
+    }
+    Ok(repeats)
+}
+
+// What one append of the rest of a line comes to.
+#[derive(Drop)]
+enum Step {
+    Took(usize),
+    Again,
+    Failed(io::Error),
+}
+
+// Appends once, where so many appends of the line were interrupted before.
+fn append_once<S: Folder, C: Clock>(log: &mut RollingFile<S, C>, rest: &[u8], repeats: u32) -> Step
+    ensures { AppendsOnce S.Folder rest.now repeats result log.old log.new }
+{
+    match log.append(rest) {
+        Ok(0) => Step::Failed(io::Error::from(ErrorKind::WriteZero)),
+        Ok(taken) => Step::Took(taken),
+        Err(error) if error.kind() != ErrorKind::Interrupted => Step::Failed(error),
+        Err(_) if repeats < MOST_REPEATS => Step::Again,
+        Err(_) => Step::Failed(io::Error::other("interrupted too often")),
+    }
+}
+
+// Whether the open file is seen to be empty or to end with a newline.
+fn ends_whole<S: Folder, C: Clock, W: Watch<S>>(watch: &W, log: &RollingFile<S, C>) -> bool
+    ensures { result ≡ true → EndsWhole S.Folder log.now }
+{
+    watch.ends_line(log.folder(), log.open_file(), log.open_name())
+}
+
+// Whether there is a newline at the end.
+fn ends_line(bytes: &[u8]) -> bool
+    ensures { result ≡ ends_with_byte 10 bytes.now }
+{
+    let length = bytes.len();
+    length > 0 && bytes[length - 1] == b'\n'
+}
