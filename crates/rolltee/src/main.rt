@@ -26,8 +26,9 @@ static HELP: &str = concat!(
     "a line not written whole; 2 if the arguments are wrong; 3 if memory was refused.\n",
     "\n",
     "It ends at the end of its input. It catches no signal: INT or TERM ends it at once,\n",
-    "and up to 1,024 lines that wait to be written are lost. So end the program whose\n",
-    "output it reads, or let it ignore both signals:\n",
+    "and up to 1,024 lines that wait to be written are lost, with up to 8 KiB of input\n",
+    "that it read after them. So end the program whose output it reads, or let it ignore\n",
+    "both signals:\n",
     "\n",
     "  (trap '' INT TERM; exec rolltee ROTATION DIR PREFIX)\n",
 );
