@@ -1,4 +1,4 @@
-use Rattle.std.proofs.Common.{rules, ◌≡◌, ℕ, ◌+◌, List, ◌++◌, Bool, true, false, None, Some, cond, nat_lt, length, take, drop, position, ap, sym, ◌∙◌, inr}
+use Rattle.std.proofs.Common.{rules, ◌≡◌, ℕ, ◌+◌, List, ◌++◌, Bool, true, false, Option, None, Some, cond, nat_lt, length, take, drop, position, ap, sym, ◌∙◌, inr}
 use Rattle.std.specs.List.{position_or_len, before_first, after_first}
 use Rattle.program_input.proofs.options.request_of.Goals as goal
 
