@@ -13,6 +13,8 @@ mod hundred_hours;
 #[cfg(test)]
 mod limited;
 #[cfg(test)]
+mod log_sink;
+#[cfg(test)]
 mod looks;
 #[cfg(test)]
 mod scene;

@@ -19,6 +19,8 @@ mod gate;
 #[cfg(test)]
 mod lines;
 #[cfg(test)]
+mod log_sink;
+#[cfg(test)]
 mod plain_ends;
 #[cfg(test)]
 mod scene;
