@@ -37,9 +37,12 @@ fn log_in_threads<C: Clock + Sync, R: Host + Threads + Wait + Sync>(
     appender: &RollingFileAppender<MemoryFolder, C, R>,
 ) {
     let sink = LogSink::new(rt.alloc(), appender);
-    thread::map_indices(&rt, rt.alloc(), LINES.len(), &|row| {
-        log_row(rt, &sink, row)
-    })
+    thread::map_indices(
+        &rt,
+        rt.alloc(),
+        LINES.len(),
+        &|row| { log_row(rt, &sink, row) },
+    )
     .expect(&rt, "memory");
     expect_eq(&rt, sink.lost(), 0);
 }

@@ -1,8 +1,8 @@
 -- A record of which nothing was written.
-use Rattle.std.proofs.Common.{◌≡◌, ℕ, ◌<◌, List, [], ◌++◌, Option, None, Some, length, refl, sym, arith, append-nil, length-append}
+use Rattle.std.proofs.Common.{ℕ, ◌<◌, List, [], ◌++◌, Option, None, Some, length, refl, sym, arith, append-nil, length-append}
 use Rattle.std.specs.Prelude.{codes, Result, Ok, Err, OnErr}
 use Rattle.std.specs.Io.KnownBytes.{Appends}
-use Rattle.appender_log.specs.Written.{IsLine, AppendsLess}
+use Rattle.appender_log.specs.Written.{AppendsLess}
 
 appends_nothing : (known : Option (List ℕ)) → Appends known known []
 appends_nothing None = tt

@@ -5,6 +5,8 @@ use std::alloc::{AllocError, Global};
 use std::cell::{Cell, RefCell};
 use std::io::{ErrorKind, Write};
 use std::process::Abort;
+use std::sync::atomic::AtomicUsize;
+use std::sync::atomic::Ordering::SeqCst;
 use std::test::Fail;
 use std::{io, thread};
 
@@ -74,9 +76,10 @@ impl Write for PageWriter<'_> {
 }
 
 // Ends the test if the page has another text.
-fn expect_page(rt: &(impl AllocGlobal + Abort), page: Page, wanted: &str) {
-    let Page { text, next: _ } = page;
-    let text = text.into_inner();
+fn expect_page(rt: &impl Abort, page: &Page, wanted: &str) {
+    let Ok(text) = page.text.try_borrow() else {
+        rt.panic("the text is borrowed");
+    };
     let text = text.as_slice();
     let wanted = wanted.as_bytes();
     assert!(rt; text == wanted, "{text:?} instead of {wanted:?}");
@@ -94,7 +97,7 @@ fn a_record_is_one_write(rt: HostRuntime) {
     warn!(logger; target: "db", by = "a", rows = 3; "two\nlines");
     expect_page(
         &rt,
-        page,
+        &page,
         "[INFO  appender_log::tests] \n|\
         [INFO ] request{id=7}: started\n|\
         [DEBUG db] request{id=7}: read 512 bytes rows=3\n|\
@@ -123,7 +126,7 @@ fn each_lost_record_is_counted(rt: HostRuntime) {
     expect_lost(rt, &sink, Next::TakesFirst(23), 5);
     expect_page(
         &rt,
-        page,
+        &page,
         "[INFO  db] read rows=3\n|[INFO||[INFO  db] read rows=3|[INFO  db] read rows=3\n|",
     );
 }
@@ -136,7 +139,7 @@ fn the_logger_decides_by_level(rt: HostRuntime) {
     let logger = Logged::new(rt, Level::Warn, &sink);
     info!(logger; "left out");
     assert!(rt; sink.lost() == 0);
-    expect_page(&rt, page, "");
+    expect_page(&rt, &page, "");
 }
 
 #[test]
@@ -147,34 +150,46 @@ fn a_flush_reaches_a_writer(rt: HostRuntime) {
     page.next.set(Next::CannotBeMade);
     sink.flush();
     assert!(rt; sink.lost() == 0);
-    expect_page(&rt, page, ",");
+    expect_page(&rt, &page, ",");
 }
 
-// Makes no writer.
+// Makes no writer. Of two threads that ask, the first waits for the other, for a bounded number of turns.
 #[derive(Drop)]
-struct NoWriters;
+struct NoWriters {
+    calls: AtomicUsize,
+}
 
 impl<'a> MakeWriter<'a> for NoWriters {
     type Writer = PageWriter<'a>;
 
     fn make_writer(&'a self) -> Result<PageWriter<'a>, AllocError> {
+        let call = self.calls.fetch_add(1, SeqCst);
+        for _ in 0..1000u32 {
+            if self.calls.load(SeqCst) > (call | 1) {
+                break;
+            }
+            thread::yield_now();
+        }
         Err(AllocError)
     }
 }
 
-// Logs a hundred records, all of which are lost.
+// Logs a thousand records, all of which are lost.
 fn lose_records<R: Copy>(rt: R, sink: &LogSink<'_, NoWriters>) {
     let logger = Logged::new(rt, Level::Info, sink);
-    for _ in 0..100u32 {
+    for _ in 0..1000u32 {
         info!(logger; "lost");
     }
 }
 
 #[test]
-fn threads_share_a_sink(rt: HostRuntime) -> Result<(), Fail> {
-    let sink = LogSink::new(rt.alloc(), &NoWriters);
-    thread::map_indices(&rt, rt.alloc(), 4, &|_| lose_records(rt, &sink))?;
-    assert!(rt; sink.lost() == 400);
+fn two_threads_share_a_sink(rt: HostRuntime) -> Result<(), Fail> {
+    let writers = NoWriters {
+        calls: AtomicUsize::new(0),
+    };
+    let sink = LogSink::new(rt.alloc(), &writers);
+    thread::map_indices(&rt, rt.alloc(), 2, &|_| lose_records(rt, &sink))?;
+    assert!(rt; sink.lost() == 2000);
     let shown = format!(in rt.alloc(); "{sink:?}")?;
     assert!(rt; shown.as_str() == "LogSink { .. }");
     Ok(())
