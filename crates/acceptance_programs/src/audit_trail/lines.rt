@@ -263,7 +263,13 @@ fn a_line_is_given_up_after_a_hundred_interruptions(rt: HostRuntime) {
 
 #[test]
 fn a_line_cut_short_is_told_and_ended(rt: HostRuntime) {
-    let mut log = open(&rt, failing_folder(&rt, [3].into_iter(), &[2]), 60, "", false);
+    let mut log = open(
+        &rt,
+        failing_folder(&rt, [3].into_iter(), &[2]),
+        60,
+        "",
+        false,
+    );
     assert!(rt; matches!(write(rt.alloc(), &mut log, "ab\nc\n"), Err(Fault::Cut(_))));
     assert!(rt; matches!(log.write(b"d\n"), Ok(2)));
     let (folder, _) = log.into_parts();
@@ -273,7 +279,13 @@ fn a_line_cut_short_is_told_and_ended(rt: HostRuntime) {
 // The next file has no part of a line.
 #[test]
 fn a_line_cut_short_is_left_at_a_switch(rt: HostRuntime) {
-    let mut log = open(&rt, failing_folder(&rt, [3].into_iter(), &[2]), 1800, "", false);
+    let mut log = open(
+        &rt,
+        failing_folder(&rt, [3].into_iter(), &[2]),
+        1800,
+        "",
+        false,
+    );
     assert!(rt; log.write(b"ab\n").is_err());
     assert!(rt; matches!(log.write(b"c\n"), Ok(2)));
     let (folder, _) = log.into_parts();
@@ -282,7 +294,13 @@ fn a_line_cut_short_is_left_at_a_switch(rt: HostRuntime) {
 
 #[test]
 fn a_write_that_fails_is_told(rt: HostRuntime) {
-    let mut log = open(&rt, failing_folder(&rt, [2].into_iter(), &[]), 60, "", false);
+    let mut log = open(
+        &rt,
+        failing_folder(&rt, [2].into_iter(), &[]),
+        60,
+        "",
+        false,
+    );
     assert!(rt; matches!(write(rt.alloc(), &mut log, "ab\n"), Err(Fault::Write(_))));
     assert!(rt; matches!(log.write(b"c\n"), Ok(2)));
     let (folder, _) = log.into_parts();

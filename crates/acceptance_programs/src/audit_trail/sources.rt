@@ -3,7 +3,7 @@ use super::lines::{Disturbed, TestLog, try_open};
 use super::{Given, Harm, Harming, clear, fresh, latest, newest_text};
 use crate::expect::expect_eq;
 use audit_trail_core::gather::{Trails, keep_all};
-use audit_trail_core::trail::{Fault, TrailLog, open_trail};
+use audit_trail_core::trail::{Fault, open_trail};
 use program_input::Host;
 use std::alloc::{AllocError, Global};
 use std::io::{Read, Write};
@@ -172,15 +172,16 @@ fn account_of(alloc: Global, lines: u64) -> Result<String, AllocError> {
     format!(in alloc; "accepted {lines} handed {lines} left 0 dropped 0\n")
 }
 
-// The trail itself, over sources that harm its log file.
+// Trails whose sources harm the log file.
 #[derive(Drop)]
-struct Harmed {
+struct Harmed<T: Drop> {
     rt: HostRuntime,
+    trails: T,
     directory: String,
 }
 
-impl Trails for Harmed {
-    type Log = TrailLog<HostRuntime>;
+impl<T: Trails + Drop> Trails for Harmed<T> {
+    type Log = T::Log;
 
     type Source = Harming;
 
@@ -188,11 +189,11 @@ impl Trails for Harmed {
         &self,
         directory: &str,
         gone: Arc<AtomicU64, Global>,
-    ) -> Result<TrailLog<HostRuntime>, InitError> {
-        self.rt.open_trail(directory, gone)
+    ) -> Result<T::Log, InitError> {
+        self.trails.open_trail(directory, gone)
     }
 
-    fn open_source(&self, _log: &TrailLog<HostRuntime>, _path: &str) -> Result<Harming, Fault> {
+    fn open_source(&self, _log: &T::Log, _path: &str) -> Result<Harming, Fault> {
         Ok(Harming::new(self.rt, self.directory.as_str(), Harm::Removed)?)
     }
 }
@@ -203,11 +204,19 @@ fn tells_a_log_that_is_gone(rt: HostRuntime) -> Result<(), Fail> {
     let directory = fresh(&rt, "harmed")?;
     let trails = Harmed {
         rt,
+        trails: rt,
         directory: directory.clone()?,
     };
     let (account, faults) = (account_of(alloc, 2)?, "log files gone: 1\n");
     let paths = [String::from_str(alloc, "any")?];
-    check_account(rt, &trails, directory.as_str(), &paths, account.as_str(), faults);
+    check_account(
+        rt,
+        &trails,
+        directory.as_str(),
+        &paths,
+        account.as_str(),
+        faults,
+    );
     clear(&rt, directory.as_str());
     Ok(())
 }
@@ -223,16 +232,23 @@ fn ends_a_part_of_a_line_that_another_run_left(rt: HostRuntime) -> Result<(), Fa
         open_trail(&rt, directory.as_str(), Arc::new(alloc, AtomicU64::new(0))?)?;
         fs::write(&rt, latest(&rt, directory.as_str()), left)?;
         let account = account_of(alloc, 1)?;
-        check_account(rt, &rt, directory.as_str(), &paths, account.as_str(), faults.as_str());
+        check_account(
+            rt,
+            &rt,
+            directory.as_str(),
+            &paths,
+            account.as_str(),
+            faults.as_str(),
+        );
         expect_eq(&rt, newest_text(&rt, directory.as_str()).as_str(), wanted);
     }
     clear(&rt, directory.as_str());
     Ok(())
 }
 
-// Sources that are in the log's folder: the newest log by its link, by a link to that, another file, and
-// that by a link to the folder. The links are told too.
-fn own_sources(rt: &HostRuntime, directory: &str) -> io::Result<([String; 4], [String; 2])> {
+// Sources that are in the log's folder: the newest log by its link, and by a link to that; another file, and
+// that by a link to the folder. Behind them stand both links.
+fn own_sources(rt: &HostRuntime, directory: &str) -> io::Result<[String; 6]> {
     let alloc = rt.alloc();
     let newest = format!(in alloc; "{directory}/latest.log")?;
     let other = format!(in alloc; "{directory}/other")?;
@@ -241,8 +257,7 @@ fn own_sources(rt: &HostRuntime, directory: &str) -> io::Result<([String; 4], [S
     symlink(rt, newest.as_str(), link.as_str())?;
     symlink(rt, directory, folder.as_str())?;
     let through = format!(in alloc; "{folder}/other")?;
-    let links = [link.clone()?, folder];
-    Ok(([newest, link, other, through], links))
+    Ok([newest, link.clone()?, other, through, link, folder])
 }
 
 // A path of this test's own, where no link stands.
@@ -257,19 +272,45 @@ fn refuses_sources_in_the_folder_of_the_log(rt: HostRuntime) -> Result<(), Fail>
     let alloc = rt.alloc();
     let directory = fresh(&rt, "own")?;
     open_trail(&rt, directory.as_str(), Arc::new(alloc, AtomicU64::new(0))?)?;
-    let ([newest, link, other, through], links) = own_sources(&rt, directory.as_str())?;
-    let told = "source in the log directory";
-    let faults = format!(in alloc;
-        "{newest}: {told}\n{link}: {told}\n{other}: {told}\n{through}: {told}\n"
-    )?;
-    let good = source(&rt, "good", "a\nb\n")?;
-    let paths = [newest, link, good, other, through];
-    let account = account_of(alloc, 2)?;
-    check_account(rt, &rt, directory.as_str(), &paths, account.as_str(), faults.as_str());
-    expect_eq(&rt, newest_text(&rt, directory.as_str()).as_str(), "a\nb\n");
-    for link in links {
-        fs::remove_file(&rt, link)?;
+    let own = own_sources(&rt, directory.as_str())?;
+    let (mut paths, mut faults) = (Vec::new(alloc), String::new(alloc));
+    for path in &own.as_slice()[..4] {
+        let told = format!(in alloc; "{path}: source in the log directory\n")?;
+        faults.push_str(told.as_str())?;
+        paths.push(path.clone()?)?;
     }
+    paths.push(source(&rt, "good", "a\nb\n")?)?;
+    let account = account_of(alloc, 2)?;
+    check_account(
+        rt,
+        &rt,
+        directory.as_str(),
+        paths.as_slice(),
+        account.as_str(),
+        faults.as_str(),
+    );
+    expect_eq(&rt, newest_text(&rt, directory.as_str()).as_str(), "a\nb\n");
+    for link in &own.as_slice()[4..] {
+        fs::remove_file(&rt, link.as_str())?;
+    }
+    clear(&rt, directory.as_str());
+    Ok(())
+}
+
+// The log's own file is known by any name.
+#[test]
+fn knows_the_file_of_the_log(rt: HostRuntime) -> Result<(), Fail> {
+    let alloc = rt.alloc();
+    let (directory, hard) = (fresh(&rt, "known")?, fresh_link(&rt, "hard")?);
+    let trail = open_trail(&rt, directory.as_str(), Arc::new(alloc, AtomicU64::new(0))?)?;
+    let named = format!(in alloc; "{directory}/{}", trail.log().open_name())?;
+    fs::hard_link(&rt, named, hard.as_str())?;
+    for (path, wanted) in [(hard.as_str(), true), ("/dev/null", false)] {
+        let file = fs::File::open(&rt, path)?;
+        let owns = trail.watch().owns(trail.log().open_file(), &file, path)?;
+        expect_eq(&rt, owns, wanted);
+    }
+    fs::remove_file(&rt, hard)?;
     clear(&rt, directory.as_str());
     Ok(())
 }
