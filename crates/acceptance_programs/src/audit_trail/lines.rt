@@ -1,4 +1,7 @@
 // Lines over folders in memory.
+ghost use Rattle.std.specs.Prelude.{◌≡◌, true, IfSome};
+ghost use Rattle.audit_trail_core.specs.Trail.{EndsLine};
+
 use crate::expect::{expect_eq, expect_eq_of};
 use audit_trail_core::lines::LineLog;
 use audit_trail_core::trail::{Fault, write_lines};
@@ -7,6 +10,7 @@ use std::alloc::Global;
 use std::cell::Cell;
 use std::io;
 use std::io::{ErrorKind, Write};
+use std::ops::Range;
 use std::process::Abort;
 use std::test::Fail;
 use tracing_appender::rolling::{Builder, Clock, InitError, Rotation};
@@ -69,11 +73,18 @@ impl Folder for Disturbed {
 
     ghost note_gives = { λ old said new. Unit {0} };
 
-    ghost failures_fit = { λ f. ⟦<MemoryFolder as Folder>⟧.failures_fit f.folder };
+    ghost use Rattle.std.proofs.Common.{arith};
 
-    ghost noted_fit = { λ f. ⟦<MemoryFolder as Folder>⟧.noted_fit f.folder };
+    ghost failures_fit = { λ f. Prim.omega arith };
 
-    ghost sound = { λ f told. ⟦<MemoryFolder as Folder>⟧.sound f.folder told };
+    ghost noted_fit = { λ f. record {
+      lists = Prim.omega arith;
+      removes = Prim.omega arith;
+      flushes = Prim.omega arith;
+      opens = Prim.omega arith;
+    } };
+
+    ghost sound = { λ f told. f.folder.sound };
 
     fn list(&mut self) -> io::Result<Vec<Listed>> {
         self.folder.list()
@@ -131,7 +142,10 @@ pub(super) struct Looking {
 impl Watch<Disturbed> for Looking {
     fn ends_line(&self, folder: &Disturbed, _file: &MemoryFile, _name: &str) -> bool {
         let folder = &folder.folder;
-        ends_line(folder.body(0)) && ends_line(folder.body(1)) && folder.body(2).is_none()
+        if folder.body(2).is_some() {
+            return false;
+        }
+        ends_line(folder.body(0)) && ends_line(folder.body(1))
     }
 
     fn finds(&self, folder: &Disturbed, _file: &MemoryFile, name: &str) -> bool {
@@ -144,7 +158,9 @@ impl Watch<Disturbed> for Looking {
 }
 
 // Whether what a body holds, if it is there, is nothing or ends with a newline.
-fn ends_line(body: Option<&[u8]>) -> bool {
+fn ends_line(body: Option<&[u8]>) -> bool
+    ensures { result ≡ true → IfSome body.entry (λ bytes. EndsLine bytes.now) }
+{
     match body {
         Some(bytes) => bytes.is_empty() || bytes[bytes.len() - 1] == b'\n',
         None => true,
@@ -155,7 +171,7 @@ fn ends_line(body: Option<&[u8]>) -> bool {
 // a log is the first call.
 fn failing_folder(
     rt: &(impl AllocGlobal + Abort),
-    failing: impl Iterator<Item = u64>,
+    failing: Range<u64>,
     short: &[u64],
 ) -> MemoryFolder {
     let mut folder = MemoryFolder::new(rt.alloc());
@@ -234,7 +250,7 @@ fn each_line_is_put_at_its_moment(rt: HostRuntime) {
 // The clock is read once for a line, however many appends it takes.
 #[test]
 fn a_line_in_pieces_is_in_one_file(rt: HostRuntime) {
-    let mut log = hourly(&rt, failing_folder(&rt, [3].into_iter(), &[2, 4]), 1800);
+    let mut log = hourly(&rt, failing_folder(&rt, 3..4, &[2, 4]), 1800);
     assert!(rt; write(rt.alloc(), &mut log, "abc\nd\n").is_ok());
     let (folder, _) = log.into_parts();
     expect_file(&rt, &folder, TEN, "abc\n");
@@ -263,13 +279,7 @@ fn a_line_is_given_up_after_a_hundred_interruptions(rt: HostRuntime) {
 
 #[test]
 fn a_line_cut_short_is_told_and_ended(rt: HostRuntime) {
-    let mut log = open(
-        &rt,
-        failing_folder(&rt, [3].into_iter(), &[2]),
-        60,
-        "",
-        false,
-    );
+    let mut log = open(&rt, failing_folder(&rt, 3..4, &[2]), 60, "", false);
     assert!(rt; matches!(write(rt.alloc(), &mut log, "ab\nc\n"), Err(Fault::Cut(_))));
     assert!(rt; matches!(log.write(b"d\n"), Ok(2)));
     let (folder, _) = log.into_parts();
@@ -279,13 +289,7 @@ fn a_line_cut_short_is_told_and_ended(rt: HostRuntime) {
 // The next file has no part of a line.
 #[test]
 fn a_line_cut_short_is_left_at_a_switch(rt: HostRuntime) {
-    let mut log = open(
-        &rt,
-        failing_folder(&rt, [3].into_iter(), &[2]),
-        1800,
-        "",
-        false,
-    );
+    let mut log = open(&rt, failing_folder(&rt, 3..4, &[2]), 1800, "", false);
     assert!(rt; log.write(b"ab\n").is_err());
     assert!(rt; matches!(log.write(b"c\n"), Ok(2)));
     let (folder, _) = log.into_parts();
@@ -294,13 +298,7 @@ fn a_line_cut_short_is_left_at_a_switch(rt: HostRuntime) {
 
 #[test]
 fn a_write_that_fails_is_told(rt: HostRuntime) {
-    let mut log = open(
-        &rt,
-        failing_folder(&rt, [2].into_iter(), &[]),
-        60,
-        "",
-        false,
-    );
+    let mut log = open(&rt, failing_folder(&rt, 2..3, &[]), 60, "", false);
     assert!(rt; matches!(write(rt.alloc(), &mut log, "ab\n"), Err(Fault::Write(_))));
     assert!(rt; matches!(log.write(b"c\n"), Ok(2)));
     let (folder, _) = log.into_parts();
