@@ -15,7 +15,7 @@ use std::sync::ledger::{Blank, Ledger};
 use std::sync::{Arc, Wait};
 use std::thread::JoinHandle;
 use std::{io, thread};
-use tracing_appender::non_blocking::{Account, CountedSender, NonBlockingBuilder, Settled};
+use tracing_appender::non_blocking::{Account, CountedSender, NonBlockingBuilder};
 use tracing_appender::rolling::InitError;
 use tracing_appender::worker::CountingWriter;
 
@@ -284,7 +284,7 @@ pub fn gather<L: Write + Send + Drop + 'static, I: Read + Send + Drop + 'static,
     ensures left { IfOk result (λ told. told.0.left ≡ 0) }
 {
     let parts = sources.len() as u64 + 1;
-    let (settled, sent) = gather_by::<Brand, Brand, Brand, Brand, L, I, R>(
+    gather_by::<Brand, Brand, Brand, Brand, L, I, R>(
         rt,
         log,
         sources,
@@ -292,12 +292,10 @@ pub fn gather<L: Write + Send + Drop + 'static, I: Read + Send + Drop + 'static,
         Blank::new(1),
         Blank::new(1),
         Blank::new(1),
-    )?;
-    Ok((settled.account, sent))
+    )
 }
 
-// The same by these books: of accepted lines, of handed ones, of shutdowns and of closings. The account comes
-// with the worker's share of the book of handed lines, which has all parts.
+// The same by these books: of accepted lines, of handed ones, of shutdowns and of closings.
 fn gather_by<
     A: Ledger + Send + Sync + 'static,
     H: Ledger + Send + Sync + 'static,
@@ -314,15 +312,13 @@ fn gather_by<
     handed: Blank,
     shutdowns: Blank,
     closings: Blank,
-) -> Result<(Settled<H>, Vec<Result<(), Fault>>), Fault>
+) -> Result<(Account, Vec<Result<(), Fault>>), Fault>
     requires accepted { IsBlankOf A.Ledger (vec_len sources + 1) accepted }
     requires handed { IsBlankOf H.Ledger 1 handed }
     requires shutdowns { IsBlankOf S.Ledger 1 shutdowns }
     requires closings { IsBlankOf C.Ledger 1 closings }
-    ensures handed { IfOk result (λ told. told.0.account.handed ≡ told.0.account.accepted) }
-    ensures left { IfOk result (λ told. told.0.account.left ≡ 0) }
-    ensures book { IfOk result (λ told. (told.0.handed.parts ≡ H.parts)
-        × (told.0.account.handed ≡ told.0.handed.amount)) }
+    ensures handed { IfOk result (λ told. told.0.handed ≡ told.0.accepted) }
+    ensures left { IfOk result (λ told. told.0.left ≡ 0) }
 {
     let (senders, guard) = NonBlockingBuilder::default()
         .lossy(false)
@@ -339,8 +335,8 @@ fn gather_by<
         )
         .map_err(|fault| Fault::Thread.unless_memory(fault.kind()))?;
     let (back, sent) = send_all(rt, senders, sources)?;
-    match guard.settle_with_share(back) {
-        Ok(settled) => Ok((settled, sent)),
+    match guard.settle(back) {
+        Ok(account) => Ok((account, sent)),
         Err(_) => Err(Fault::Unsettled),
     }
 }
