@@ -10,9 +10,9 @@ use appender_rolling::rolling::{Builder, Clock, RollingFile, Rotation, Switch};
 use appender_store::store::Folder;
 use std::io::ErrorKind;
 use std::process::Abort;
+use std::sync::Wait;
 use std::sync::atomic::AtomicU64;
 use std::sync::atomic::Ordering::SeqCst;
-use std::sync::{Arc, Wait};
 use std::thread::Threads;
 use std::{fs, thread};
 
@@ -24,18 +24,23 @@ const START: i64 = 1_580_551_260;
 
 // A clock that goes on by a minute at each reading, once the other log's clock is as far, for which it
 // waits a bounded number of turns.
-#[derive(Drop)]
-struct InStep {
-    own: Arc<AtomicU64>,
-    other: Arc<AtomicU64>,
+struct InStep<'a> {
+    own: &'a AtomicU64,
+    other: &'a AtomicU64,
 }
 
-impl Clock for InStep {
+impl Drop for InStep<'_> {
+    fn drop(self) {
+        let InStep { own: _, other: _ } = self;
+    }
+}
+
+impl Clock for InStep<'_> {
     ghost now_gives = { λ clock m. Unit {0} };
 
     fn now(&self) -> i64 {
         let read = self.own.fetch_add(1, SeqCst);
-        for _ in 0..1_000_000u32 {
+        for _ in 0..20_000u32 {
             if self.other.load(SeqCst) > read {
                 break;
             }
@@ -43,6 +48,21 @@ impl Clock for InStep {
         }
         let minutes = i64::try_from(read).unwrap_or(0);
         START.saturating_add(minutes.saturating_mul(60))
+    }
+}
+
+// The clock of the first log or of the second.
+fn clock_of(reads: &(AtomicU64, AtomicU64), number: usize) -> InStep<'_> {
+    let (first, second) = (&reads.0, &reads.1);
+    match number {
+        0 => InStep {
+            own: first,
+            other: second,
+        },
+        _ => InStep {
+            own: second,
+            other: first,
+        },
     }
 }
 
@@ -75,41 +95,28 @@ fn write_lines<S: Folder, C: Clock>(rt: &impl Abort, log: &mut RollingFile<S, C>
     opened
 }
 
-fn counter(rt: &impl Host) -> Arc<AtomicU64> {
-    Arc::new(rt.alloc(), AtomicU64::new(0)).expect(rt, "memory")
-}
-
 // Opens a log and writes its lines.
 fn run_log<R: Host, C: Clock>(rt: R, directory: &str, clock: C) -> u64 {
     write_lines(&rt, &mut open_log(rt, directory, clock))
 }
 
-// The same by two threads, each with a log of its own; answers how many files each began.
-fn run_both<R: Host + Threads + Wait + Send + Sync + 'static>(
-    rt: R,
-    directory: &str,
-) -> (u64, u64) {
-    let (first, second) = (counter(&rt), counter(&rt));
-    let clock = InStep {
-        own: first.clone().expect(&rt, "memory"),
-        other: second.clone().expect(&rt, "memory"),
-    };
-    let other = InStep {
-        own: second,
-        other: first,
-    };
-    thread::join(
+// The same by two threads, each with a log of its own. Answers how many files each began.
+fn run_both<R: Host + Threads + Wait + Sync>(rt: R, directory: &str) -> Vec<u64> {
+    let reads = (AtomicU64::new(0), AtomicU64::new(0));
+    let begun = thread::map_indices(
         &rt,
-        || run_log(rt, directory, clock),
-        || run_log(rt, directory, other),
-    )
+        rt.alloc(),
+        2,
+        &|number| { run_log(rt, directory, clock_of(&reads, number)) },
+    );
+    begun.expect(&rt, "memory")
 }
 
 #[test]
 fn two_logs_in_one_folder_begin_each_file_together(rt: HostRuntime) {
     let directory = fresh(&rt, place_of(rt, "two-logs"));
     let begun = run_both(rt, directory.as_str());
-    expect_eq(&rt, begun, (BOUNDARIES, BOUNDARIES));
+    expect_eq(&rt, begun.as_slice(), [BOUNDARIES, BOUNDARIES].as_slice());
     // The files, of which the first has no line, and the link.
     expect_count(&rt, directory.as_str(), 302);
     expect_text(&rt, directory.as_str(), "app.2020-02-01-10-01", "");
