@@ -17,6 +17,8 @@ mod log_sink;
 #[cfg(test)]
 mod looks;
 #[cfg(test)]
+mod other_processes;
+#[cfg(test)]
 mod scene;
 #[cfg(test)]
 mod shared;
@@ -24,5 +26,3 @@ mod shared;
 mod swapping;
 #[cfg(test)]
 mod threads;
-#[cfg(test)]
-mod two_logs;
