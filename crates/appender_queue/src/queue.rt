@@ -226,7 +226,10 @@ impl<S: Store> Rules<S> {
     fn take(&mut self, waits: bool) -> Taken
         ensures { Takes self.old waits result self.new }
     {
-        self.worker_waits = false;
+        // A write would take the cache line from the senders, which read it.
+        if self.worker_waits {
+            self.worker_waits = false;
+        }
         if self.closed {
             return Taken::Gone;
         }

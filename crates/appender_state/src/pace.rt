@@ -13,10 +13,10 @@ pub const LOOKS: u32 = 16;
 pub const EMPTY_REST: u32 = 128;
 
 /// How long a sender rests between two looks.
-pub const FULL_REST: u32 = 256;
+pub const FULL_REST: u32 = 1024;
 
 /// How long a sender rests where the worker is far behind.
-pub const BEHIND_REST: u32 = 512;
+pub const BEHIND_REST: u32 = 2048;
 
 /// How many buffers of written lines are kept for other lines.
 pub const MOST_SPARES: usize = 4096;
@@ -30,9 +30,9 @@ const BEHIND: u64 = 511;
 
 // While more lines than this wait, the sender of each line whose ticket has none of the bits of
 // `OFTEN` rests, so that the kept buffers are enough for all senders.
-const FAR_BEHIND: u64 = 4096;
+const FAR_BEHIND: u64 = 1024;
 
-const OFTEN: u64 = 63;
+const OFTEN: u64 = 15;
 
 /// How a sender goes on once its line is queued.
 #[derive(Clone, Copy)]

@@ -77,8 +77,8 @@ pub struct State<B: Books> {
     called: bool,
     // How many threads wait for room.
     waiting: u32,
-    spares: Vec<Vec<u8>>,
     queue: LineQueue,
+    spares: Vec<Vec<u8>>,
     books: B,
 }
 

@@ -26,12 +26,13 @@ use std::time::{Clock, Duration};
 use std::{env, io, thread};
 
 const USAGE: &str = "\
-usage: bench waiting ROUNDS LINES SENDERS BYTES LIMIT
-       bench lossy ROUNDS LINES SENDERS BYTES LIMIT
+usage: bench waiting|lossy ROUNDS LINES SENDERS BYTES LIMIT
+       bench each-waiting|each-lossy ROUNDS LINES SENDERS BYTES LIMIT
        bench write ROUNDS LINES BYTES
        bench direct ROUNDS LINES THREADS BYTES [LIMIT]
        bench idle SECONDS
 waiting, lossy: the time of a line through a queue of LIMIT lines, where each of SENDERS threads sends LINES lines
+each-waiting, each-lossy: the same, where each line is sent by a new clone of the thread's sender
 write: the time of one lossy write at 100,000 a second, and of one straight to a file: half and 99 % take no longer
 direct: the time of a line of THREADS threads, or with 0 of one alone, to the log of this hour in the current folder,
         and with LIMIT also to one whose files take so many bytes
@@ -116,12 +117,17 @@ fn run<R: Files + Threads + Wait + Clock + Print + Eprint + Copy + Send + 'stati
             println!(rt; "{HEADER}")?;
             latency::compare(rt, alloc, case, *rounds)
         }
-        ("waiting" | "lossy", [rounds, lines, senders, bytes, limit]) => {
+        (
+            "waiting" | "lossy" | "each-waiting" | "each-lossy",
+            [rounds, lines, senders, bytes, limit],
+        ) => {
             let case = throughput::Case {
+                mode,
                 limit: Limit {
                     lines: *limit as usize,
-                    lossy: mode == "lossy",
+                    lossy: mode.ends_with("lossy"),
                 },
+                clones: mode.starts_with("each"),
                 bytes: *bytes as usize,
                 senders: *senders,
                 each: *lines,

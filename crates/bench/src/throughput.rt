@@ -14,8 +14,12 @@ use std::{io, thread};
 
 /// So many lines of so many bytes from each of so many threads.
 #[derive(Clone, Copy)]
-pub(crate) struct Case {
+pub(crate) struct Case<'a> {
+    /// The word for it in a row.
+    pub(crate) mode: &'a str,
     pub(crate) limit: Limit,
+    /// Whether each line is sent by a clone of its own.
+    pub(crate) clones: bool,
     pub(crate) bytes: usize,
     pub(crate) senders: u32,
     pub(crate) each: u32,
@@ -25,7 +29,7 @@ pub(crate) struct Case {
 pub(crate) fn compare<R: Threads + Wait + Clock + Print + Eprint + Copy + Send + 'static>(
     rt: R,
     alloc: Global,
-    case: Case,
+    case: Case<'_>,
     rounds: u32,
 ) -> io::Result<()> {
     for round in 0..rounds {
@@ -47,7 +51,7 @@ fn measure<
     S: LineSender + Clone + Send + Drop + 'static,
     E: Ending + Drop,
     R: Threads + Wait + Clock + Print + Copy + Send + 'static,
->(rt: R, alloc: Global, queue: Queue<S, E>, case: Case, round: u32) -> io::Result<()> {
+>(rt: R, alloc: Global, queue: Queue<S, E>, case: Case<'_>, round: u32) -> io::Result<()> {
     let Queue {
         name,
         sender,
@@ -58,7 +62,9 @@ fn measure<
     let dropped = ending.end(&rt);
     let nanos = start.elapsed(&rt)?.as_nanos();
     let Case {
+        mode,
         limit,
+        clones: _,
         bytes,
         senders,
         each,
@@ -70,7 +76,7 @@ fn measure<
     }
     let row = Row {
         variant: name,
-        mode: if limit.lossy { "lossy" } else { "waiting" },
+        mode,
         limit: limit.lines,
         bytes,
         senders,
@@ -86,7 +92,7 @@ fn measure<
 fn send_all<
     S: LineSender + Clone + Send + Drop + 'static,
     R: Threads + Wait + Clock + Copy + Send + 'static,
->(rt: R, alloc: Global, sender: S, case: Case) -> io::Result<Instant> {
+>(rt: R, alloc: Global, sender: S, case: Case<'_>) -> io::Result<Instant> {
     let threads = (case.senders as usize).saturating_add(1);
     let gate = Arc::new(alloc, Barrier::new(threads))?;
     let mut running = Vec::new(alloc);
@@ -104,19 +110,24 @@ fn send_all<
 
 // A thread that sends its lines once all have come to the gate.
 fn start_one<
-    S: LineSender + Send + Drop + 'static,
+    S: LineSender + Clone + Send + Drop + 'static,
     R: Threads + Wait + Clock + Copy + Send + 'static,
 >(
     rt: R,
     alloc: Global,
     sender: S,
     gate: Arc<Barrier, Global>,
-    case: Case,
+    case: Case<'_>,
 ) -> io::Result<JoinHandle<()>> {
     let line = vec![in alloc; b'x'; case.bytes]?;
+    let Case { clones, each, .. } = case;
     let started = thread::spawn(&rt, move || {
         gate.wait(&rt);
-        send_some(&rt, sender, line.as_slice(), case.each);
+        if clones {
+            send_by_clones(&rt, sender, line.as_slice(), each);
+        } else {
+            send_some(&rt, sender, line.as_slice(), each);
+        }
     })?;
     Ok(started)
 }
@@ -131,5 +142,19 @@ fn send_some<S: LineSender + Drop, R: Wait>(rt: &R, sender: S, line: &[u8], coun
     let mut sender = sender;
     for _ in 0..count {
         sender.send(rt, line);
+    }
+}
+
+// Each line by a clone. One that can't be made loses its line, so that the count of lines fails.
+fn send_by_clones<S: LineSender + Clone + Drop, R: Wait>(
+    rt: &R,
+    sender: S,
+    line: &[u8],
+    count: u32,
+) {
+    for _ in 0..count {
+        if let Ok(mut clone) = sender.clone() {
+            clone.send(rt, line);
+        }
     }
 }

@@ -98,8 +98,9 @@ impl NonBlockingBuilder {
         Ok(NonBlockingBuilder { limit, lossy, name })
     }
 
-    /// Starts the worker, and makes its first sender and its guard. An error is `OutOfMemory`, or that
-    /// of the thread; then no thread was left, and the writer is dropped.
+    /// Starts the worker, and makes its first sender and its guard. The error is `OutOfMemory`, or that of
+    /// the thread, which is `WouldBlock` if the C library found no memory for it. Then no thread is left, and
+    /// the writer is dropped.
     pub fn finish<
         W: Write + Send + Drop + 'static,
         R: Threads + Wait + Clock + Print + Eprint + Copy + Send + 'static,
@@ -112,7 +113,7 @@ impl NonBlockingBuilder {
         let guarded = Arc::try_clone(&shared)?;
         let served = Arc::try_clone(&shared)?;
         // A worker that finds no sender ends.
-        let sender = NonBlocking::counted(rt, alloc, shared, lossy);
+        let sender = NonBlocking::first(rt, alloc, shared, lossy)?;
         start(rt, name, served, writer)?;
         Ok((sender, WorkerGuard::new(rt, guarded)))
     }

@@ -32,7 +32,7 @@ use std::io::{ErrorKind, Write};
 use std::marker::Model;
 use std::sync::atomic::Ordering::SeqCst;
 use std::sync::{Arc, Wait};
-use std::{fmt, io, mem};
+use std::{fmt, io, mem, thread};
 
 /// What became of a line.
 #[derive(Clone, Copy, PartialEq, Eq, Debug)]
@@ -53,16 +53,35 @@ pub(super) struct Local {
     patience: Patience,
 }
 
-/// Offers lines to a queue, which a worker empties. Each `write` is one line, and `flush` does
-/// nothing: the worker flushes its writer whenever it finds the queue empty. A clone is one more
-/// sender; once the last one and the guard are dropped, the worker writes what lies in the queue, and
-/// ends.
+/// Offers lines to a queue, which a worker empties. Each `write` is one line. `flush` does nothing: the
+/// worker flushes its writer whenever it finds the queue empty. Once all clones and the guard are
+/// dropped, the worker writes the lines that are still in the queue, and ends.
 pub struct NonBlocking<R: Wait + Drop> {
     rt: R,
     alloc: Global,
+    crew: Arc<Crew, Global>,
+    local: Local,
+}
+
+// What all clones of a writer share. The queue counts them as one sender, so that making and dropping a
+// clone takes no lock. It can't be dropped: the last clone takes it out of the `Arc`, and ends it.
+struct Crew {
     shared: Arc<Shared<NoBooks>, Global>,
     counted: Counted,
-    local: Local,
+}
+
+impl Crew {
+    // Joins the queue.
+    fn new(rt: &impl Wait, shared: Arc<Shared<NoBooks>, Global>) -> Crew {
+        let counted = shared.add_sender(rt);
+        Crew { shared, counted }
+    }
+
+    // Leaves the queue.
+    fn end(self, rt: &impl Wait) {
+        let Crew { shared, counted } = self;
+        shared.drop_sender(rt, counted);
+    }
 }
 
 impl<R: Wait + Drop> Model for NonBlocking<R> {
@@ -87,22 +106,26 @@ impl Local {
 }
 
 impl<R: Wait + Drop> NonBlocking<R> {
-    /// Returns one more sender.
-    pub(super) fn counted(
+    /// Returns the first writer of a queue, which all others are clones of.
+    pub(super) fn first(
         rt: R,
         alloc: Global,
         shared: Arc<Shared<NoBooks>, Global>,
         lossy: bool,
-    ) -> NonBlocking<R>
-        ensures { result.lossy ≡ lossy }
+    ) -> Result<NonBlocking<R>, AllocError>
+        ensures { IfOk result (λ made. made.lossy ≡ lossy) }
     {
-        let counted = shared.add_sender(&rt);
-        NonBlocking {
-            rt,
-            alloc,
-            shared,
-            counted,
-            local: Local::new(alloc, lossy),
+        match Arc::new(alloc, Crew::new(&rt, shared)) {
+            Ok(crew) => Ok(NonBlocking {
+                rt,
+                alloc,
+                crew,
+                local: Local::new(alloc, lossy),
+            }),
+            Err(refused) => {
+                refused.value.end(&rt);
+                Err(AllocError)
+            }
         }
     }
 
@@ -112,7 +135,7 @@ impl<R: Wait + Drop> NonBlocking<R> {
         ensures { IfOk result (λ counter. counter.lossy ≡ self.now.lossy) }
     {
         Ok(ErrorCounter {
-            shared: Arc::try_clone(&self.shared)?,
+            shared: Arc::try_clone(&self.crew.shared)?,
             lossy: self.local.lossy,
         })
     }
@@ -127,12 +150,11 @@ impl<R: Wait + Drop> NonBlocking<R> {
         let NonBlocking {
             rt,
             alloc,
-            shared,
+            crew,
             local,
-            ..
         } = self;
         let line = copy_of(*alloc, &mut local.spare, buf)?;
-        match send(rt, &**shared, local, line, &mut ()) {
+        match send(rt, &*crew.shared, local, line, &mut ()) {
             Some(_) => Ok(()),
             None => Err(ErrorKind::Other),
         }
@@ -264,7 +286,8 @@ fn send_later<B: Books, R: Wait>(
     let mut line = line;
     let mut came = None;
     let mut looks = 1u32;
-    rest(FULL_REST);
+    // If the worker has no processor of its own, this gives it one.
+    thread::yield_now();
     let mut state = shared.lock(rt, &mut local.patience);
     for _ in rt.forever() {
         let (reply, calls) = state.offer(line, came, &mut local.spare, mine);
@@ -312,16 +335,19 @@ impl<R: Wait + Clone> Clone for NonBlocking<R> {
     ghost is_clone = { λ x y. y.lossy ≡ x.lossy };
 
     fn clone(&self) -> Result<NonBlocking<R>, AllocError> {
-        let rt = self.rt.clone()?;
-        let shared = Arc::try_clone(&self.shared)?;
-        Ok(NonBlocking::counted(rt, self.alloc, shared, self.local.lossy))
+        Ok(NonBlocking {
+            rt: self.rt.clone()?,
+            alloc: self.alloc,
+            crew: Arc::try_clone(&self.crew)?,
+            local: Local::new(self.alloc, self.local.lossy),
+        })
     }
 }
 
 impl<'a, R: Wait + Clone> MakeWriter<'a> for NonBlocking<R> {
     type Writer = NonBlocking<R>;
 
-    /// One more sender.
+    /// Returns a clone.
     fn make_writer(&'a self) -> Result<NonBlocking<R>, AllocError>
         ensures { IfOk result (λ writer. writer.lossy ≡ self.now.lossy) }
     {
@@ -334,11 +360,12 @@ impl<R: Wait + Drop> Drop for NonBlocking<R> {
         let NonBlocking {
             rt,
             alloc: _,
-            shared,
-            counted,
+            crew,
             local: _,
         } = self;
-        shared.drop_sender(&rt, counted);
+        if let Some(crew) = Arc::into_inner(crew) {
+            crew.end(&rt);
+        }
     }
 }
 

@@ -10,9 +10,9 @@ use appender_state::pace::{EMPTY_REST, LOOKS};
 use appender_state::state::TakeRequest;
 use appender_sync::sync::{Patience, rest};
 use appender_worker::worker::{Want, WorkerCore};
-use std::io;
 use std::io::Write;
 use std::sync::Wait;
+use std::{io, thread};
 
 // One locked take. If nothing is there and the worker sleeps then, it sleeps until it is called.
 #[inline]
@@ -87,7 +87,11 @@ pub(super) fn serve<B: Books, W: Write, R: Wait + Eprint>(
                 if !matches!(&taken, Taken::Empty) || looks >= LOOKS {
                     looks = 0;
                 } else if waits {
-                    rest(EMPTY_REST);
+                    if looks == 0 {
+                        thread::yield_now();
+                    } else {
+                        rest(EMPTY_REST);
+                    }
                     looks += 1;
                 }
                 core.took(taken);
