@@ -5,7 +5,7 @@ ghost use Rattle.appender_non_blocking.specs.Account.{IsBlankOf, new_senders, ne
 use super::account::CountedGuard;
 use super::counted::{CountedSender, make_senders};
 use super::guard::WorkerGuard;
-use super::sender::NonBlocking;
+use super::sender::{Local, NonBlocking};
 use super::shared::Shared;
 use super::worker::serve;
 use appender_state::books::{Done, FourBooks, NoBooks, Pass};
@@ -113,7 +113,7 @@ impl NonBlockingBuilder {
         let guarded = Arc::try_clone(&shared)?;
         let served = Arc::try_clone(&shared)?;
         // A worker that finds no sender ends.
-        let sender = NonBlocking::first(rt, alloc, shared, lossy)?;
+        let sender = NonBlocking::first(rt, alloc, shared, Local::new(alloc, limit, lossy))?;
         start(rt, name, served, writer)?;
         Ok((sender, WorkerGuard::new(rt, guarded)))
     }
@@ -166,7 +166,8 @@ impl NonBlockingBuilder {
         };
         let shared = Shared::new(alloc, limit, lossy, senders, books)?;
         let served = Arc::try_clone(&shared)?;
-        let (made, part) = make_senders(rt, alloc, &shared, lossy, share, senders)?;
+        let local = Local::new(alloc, limit, lossy);
+        let (made, part) = make_senders(rt, alloc, &shared, &local, share, senders)?;
         let pass = Pass {
             handed: lines,
             closings: closed,

@@ -57,12 +57,12 @@ impl<A: Ledger, H: Ledger, S: Ledger, C: Ledger, R: Wait + Drop> CountedSender<A
         rt: R,
         alloc: Global,
         shared: Arc<Shared<FourBooks<A, H, S, C>>, Global>,
-        lossy: bool,
+        local: Local,
         mine: SenderShare<A>,
     ) -> CountedSender<A, H, S, C, R>
         requires share { (mine.share.parts ≡ 1) × (mine.share.amount ≡ 0) }
         requires place { mine.place + 1 < A.parts }
-        ensures { result ≡ new_sender lossy mine.place }
+        ensures { result ≡ new_sender local.lossy mine.place }
     {
         let counted = shared.add_sender(&rt);
         CountedSender {
@@ -70,7 +70,7 @@ impl<A: Ledger, H: Ledger, S: Ledger, C: Ledger, R: Wait + Drop> CountedSender<A
             alloc,
             shared,
             counted,
-            local: Local::new(alloc, lossy),
+            local,
             mine,
             queued: 0,
             dropped: 0,
@@ -190,12 +190,12 @@ pub(super) fn make_senders<A: Ledger, H: Ledger, S: Ledger, C: Ledger, R: Wait +
     rt: R,
     alloc: Global,
     shared: &Arc<Shared<FourBooks<A, H, S, C>>, Global>,
-    lossy: bool,
+    local: &Local,
     share: Share<A>,
     senders: usize,
 ) -> Result<(Vec<CountedSender<A, H, S, C, R>>, Share<A>), AllocError>
     requires { (A.parts ≡ senders + 1) × (share.parts ≡ senders + 1) × (share.amount ≡ 0) }
-    ensures senders { IfOk result (λ made. made.0.items ≡ new_senders lossy senders) }
+    ensures senders { IfOk result (λ made. made.0.items ≡ new_senders local.now.lossy senders) }
     ensures share { IfOk result (λ made. (made.1.parts ≡ 1) × (made.1.amount ≡ 0)) }
 {
     let mut share = share;
@@ -204,7 +204,7 @@ pub(super) fn make_senders<A: Ledger, H: Ledger, S: Ledger, C: Ledger, R: Wait +
         let share = share.split_off(1, 0);
         let shared = Arc::try_clone(shared)?;
         let mine = SenderShare { share, place };
-        made.push(CountedSender::new(rt, alloc, shared, lossy, mine))?;
+        made.push(CountedSender::new(rt, alloc, shared, local.another(alloc), mine))?;
     }
     Ok((made, share))
 }

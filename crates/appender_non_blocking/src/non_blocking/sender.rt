@@ -22,9 +22,9 @@ ghost use Rattle.appender_non_blocking.specs.Refusal.{IsRefusal};
 use super::shared::Shared;
 use appender_queue::queue::Refused;
 use appender_state::books::{Books, NoBooks};
-use appender_state::pace::{FULL_REST, LOOKS, MOST_BYTES};
+use appender_state::pace::{FullRest, LOOKS, MOST_BYTES};
 use appender_state::state::Counted;
-use appender_sync::sync::{Patience, rest};
+use appender_sync::sync::Patience;
 use appender_writers::MakeWriter;
 use std::alloc::{AllocError, Global};
 use std::fmt::{Debug, Formatter};
@@ -32,7 +32,7 @@ use std::io::{ErrorKind, Write};
 use std::marker::Model;
 use std::sync::atomic::Ordering::SeqCst;
 use std::sync::{Arc, Wait};
-use std::{fmt, io, mem, thread};
+use std::{fmt, io, mem};
 
 /// What became of a line.
 #[derive(Clone, Copy, PartialEq, Eq, Debug)]
@@ -51,6 +51,7 @@ pub(super) struct Local {
     /// The buffer for the next line.
     pub(super) spare: Vec<u8>,
     patience: Patience,
+    full_rest: FullRest,
 }
 
 /// Offers lines to a queue, which a worker empties. Each `write` is one line. `flush` does nothing: the
@@ -93,14 +94,27 @@ impl<R: Wait + Drop> Model for NonBlocking<R> {
 }
 
 impl Local {
-    /// Returns that of a new sender.
-    pub(super) fn new(alloc: Global, lossy: bool) -> Local
+    /// Returns that of the first sender of a queue with this limit.
+    pub(super) fn new(alloc: Global, limit: usize, lossy: bool) -> Local
         ensures { result.lossy ≡ lossy }
     {
         Local {
             lossy,
             spare: Vec::new(alloc),
             patience: Patience::NEW,
+            full_rest: FullRest::new(limit),
+        }
+    }
+
+    /// Returns that of one more sender.
+    pub(super) fn another(&self, alloc: Global) -> Local
+        ensures { result.lossy ≡ self.now.lossy }
+    {
+        Local {
+            lossy: self.lossy,
+            spare: Vec::new(alloc),
+            patience: Patience::NEW,
+            full_rest: self.full_rest,
         }
     }
 }
@@ -111,16 +125,16 @@ impl<R: Wait + Drop> NonBlocking<R> {
         rt: R,
         alloc: Global,
         shared: Arc<Shared<NoBooks>, Global>,
-        lossy: bool,
+        local: Local,
     ) -> Result<NonBlocking<R>, AllocError>
-        ensures { IfOk result (λ made. made.lossy ≡ lossy) }
+        ensures { IfOk result (λ made. made.lossy ≡ local.lossy) }
     {
         match Arc::new(alloc, Crew::new(&rt, shared)) {
             Ok(crew) => Ok(NonBlocking {
                 rt,
                 alloc,
                 crew,
-                local: Local::new(alloc, lossy),
+                local,
             }),
             Err(refused) => {
                 refused.value.end(&rt);
@@ -243,6 +257,7 @@ pub(super) fn send<B: Books, R: Wait>(
         Ok((ticket, pace)) => {
             drop(state);
             shared.wake(calls);
+            local.full_rest.line();
             pace.keep();
             Some(Sent::Queued(ticket))
         }
@@ -286,8 +301,7 @@ fn send_later<B: Books, R: Wait>(
     let mut line = line;
     let mut came = None;
     let mut looks = 1u32;
-    // If the worker has no processor of its own, this gives it one.
-    thread::yield_now();
+    local.full_rest.first();
     let mut state = shared.lock(rt, &mut local.patience);
     for _ in rt.forever() {
         let (reply, calls) = state.offer(line, came, &mut local.spare, mine);
@@ -307,7 +321,7 @@ fn send_later<B: Books, R: Wait>(
                 shared.wake(calls);
                 if looks < LOOKS {
                     drop(state);
-                    rest(FULL_REST);
+                    local.full_rest.again();
                     looks += 1;
                     state = shared.lock(rt, &mut local.patience);
                     came = None;
@@ -339,7 +353,7 @@ impl<R: Wait + Clone> Clone for NonBlocking<R> {
             rt: self.rt.clone()?,
             alloc: self.alloc,
             crew: Arc::try_clone(&self.crew)?,
-            local: Local::new(self.alloc, self.local.lossy),
+            local: self.local.another(self.alloc),
         })
     }
 }

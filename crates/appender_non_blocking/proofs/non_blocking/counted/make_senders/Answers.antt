@@ -8,10 +8,10 @@ pub loop-place-preserved : goal.loop-place-preserved
 loop-place-preserved g c =
     let place = c.loop-place.place in
     let last : 0 + place ≡ place = omega arith in
-    let more = map-range_with_len_more (new_sender c.args.lossy) 0 place place last in
+    let more = map-range_with_len_more (new_sender c.args.local.now.lossy) 0 place place last in
     search (rules, more)
 
 pub returns-clause-senders : goal.returns-clause-senders
 returns-clause-senders g c =
     let all : c.loop-place.place ≡ c.args.senders = omega (arith, c.loop-place-test.false, c.loop-place.auto.place-end) in
-    subst (λ n. c.loop-place.made.items ≡ new_senders c.args.lossy n) all c.loop-place.invariant.made
+    subst (λ n. c.loop-place.made.items ≡ new_senders c.args.local.now.lossy n) all c.loop-place.invariant.made
