@@ -270,11 +270,12 @@ impl Read for Harming {
 
 #[test]
 fn tells_a_log_that_is_gone(rt: HostRuntime) -> Result<(), Fail> {
+    let faults = "log files not found again: 1\n";
     for harm in [Harm::Removed, Harm::Renamed, Harm::Replaced] {
         let arguments = Vec::from_array(rt.alloc(), [fresh(&rt, "gone")?])?;
         let directory = arguments[0].as_str();
         let input = Harming::new(rt, directory, harm)?;
-        check(&rt, arguments.as_slice(), input, 1, "log files gone: 1\n");
+        check(&rt, arguments.as_slice(), input, 1, faults);
         clear(&rt, directory);
     }
     Ok(())

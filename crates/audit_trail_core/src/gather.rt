@@ -27,8 +27,8 @@ pub trait Trails {
     /// What lines are read from, by a thread.
     type Source: Read + Send + Drop + 'static;
 
-    /// The log of the day in a folder, which is made where it isn't there. It counts the log files that
-    /// are gone by `gone`.
+    /// The log of the day in a folder, which is made where it isn't there. By `gone` it counts the log
+    /// files that are not found again.
     fn open_trail(
         &self,
         directory: &str,
@@ -63,8 +63,9 @@ impl Trails for HostRuntime {
 
 /// Writes the lines of each source, which is a file, to the log of the day in a folder, and the account
 /// of all lines to `output`. A source that can't be read to its end keeps no other from it, and is told
-/// on `errors` with its path. So is how many lines the log didn't take whole, and how many log files are
-/// gone. The answer is the status of the process, as of `trail::keep`: the greatest of those of all faults.
+/// on `errors` with its path. So is how many lines the log didn't take whole, and how many log files were
+/// not found again. The answer is the status of the process, as of `trail::keep`: the greatest of those of
+/// all faults.
 pub fn keep_all<R: Host, T: Trails, O: Write, E: Write>(
     rt: R,
     trails: &T,
@@ -85,7 +86,7 @@ pub fn keep_all<R: Host, T: Trails, O: Write, E: Write>(
     }
 }
 
-// Opens the log, and returns it with the count of its files that are gone.
+// Opens the log, and returns it with the count of its files that are not found again.
 fn open_watched<R: Host, T: Trails>(
     rt: R,
     trails: &T,
@@ -150,7 +151,7 @@ fn tell_lost<E: Write>(lost: u64, errors: &mut E) -> u8
     tell(&Fault::Lost(lost), errors)
 }
 
-// Tells of so many log files that are gone, if there are any, and answers the status of that.
+// Tells of so many log files that were not found again, if there are any, and answers the status of that.
 fn tell_gone<E: Write>(gone: u64, errors: &mut E) -> u8
     ensures told { TellsStatus result (E.contents errors.old) (E.contents errors.new) }
     ensures none { result ≡ 0 → gone ≡ 0 }

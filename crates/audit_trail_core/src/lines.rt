@@ -23,7 +23,7 @@ pub struct LineLog<S: Folder, C: Clock, W: Watch<S>> {
     watch: W,
     // Whether the open file may end with a part of a line.
     cut: bool,
-    // Whether it was reported that the open file's name no longer leads to it.
+    // Whether it was reported that the open file was not found again.
     gone: bool,
 }
 

@@ -49,8 +49,9 @@ pub enum Fault {
     /// So many lines of sources came to the log, which didn't take the whole of them.
     #[error("lines not written whole: {0}")]
     Lost(u64),
-    /// So many log files were removed, renamed or replaced while they were written to.
-    #[error("log files gone: {0}")]
+    /// So many log files were removed, renamed or replaced while they were written to, or couldn't be
+    /// compared with what their names lead to.
+    #[error("log files not found again: {0}")]
     Gone(u64),
     /// A source is a file of the log's folder.
     #[error("source in the log directory")]
@@ -174,7 +175,7 @@ pub type TrailLog<R> = LineLog<DirFolder<R>, SystemClock<R>, DirWatch<R>>;
 /// Writes each line of `input` to the log of its day, in the folder that the one argument names, and
 /// returns the log, flushed and synced. The first fault goes to `errors`, whose own faults are ignored. The
 /// error is the status of the process: 1 if the log was not opened, the input not read, a line not written
-/// whole or a log file gone; 2 if there isn't one argument; 3 if memory was refused.
+/// whole or a log file not found again; 2 if there isn't one argument; 3 if memory was refused.
 pub fn keep<R: Runtime + AllocGlobal, I: Read, E: Write>(
     rt: &R,
     arguments: &[String],
@@ -274,8 +275,8 @@ fn flush<S: Folder, C: Clock, W: Watch<S>>(log: &mut LineLog<S, C, W>) -> Result
     }
 }
 
-/// Opens the trail in a folder, which is made where it isn't there. Log files that are gone are counted
-/// by `gone`.
+/// Opens the trail in a folder, which is made where it isn't there. Log files that are not found again are
+/// counted by `gone`.
 pub fn open_trail<R: Runtime + AllocGlobal>(
     rt: &R,
     directory: &str,

@@ -25,12 +25,12 @@ pub trait Watch<S: Folder>: Drop {
         ensures { result ≡ true → IsTrue S.tells →
             EndsLine (body_at (S.content folder.now) (S.body file.now)) };
 
-    /// Returns whether this name leads to the open file. If not, reports it.
+    /// Returns whether this name leads to the open file. If not, or if that can't be seen, reports it.
     fn finds(&self, folder: &S, file: &S::File, name: &str) -> bool;
 }
 
-/// Looks at the open file of a log in a folder of the file system. A file whose name leads elsewhere is
-/// reported on standard error, and counted.
+/// Looks at the open file of a log in a folder of the file system. A file whose name leads elsewhere, or
+/// that couldn't be compared with what its name leads to, is reported on standard error, and counted.
 #[derive(Drop)]
 pub struct DirWatch<R> {
     rt: R,
@@ -56,7 +56,7 @@ impl<R: Files + AllocGlobal + Eprint + Clone + Drop> DirWatch<R> {
         })
     }
 
-    /// Returns how many files were reported as gone.
+    /// Returns how many files were not found again.
     pub fn gone(&self) -> u64 {
         self.gone.load(SeqCst)
     }
@@ -91,7 +91,7 @@ impl<R: Files + AllocGlobal + Eprint + Clone + Drop> DirWatch<R> {
         Ok(byte[0])
     }
 
-    // Counts a file that is gone, and reports it on standard error, whose own faults are ignored.
+    // Counts a file that is not found again, and reports why on standard error, whose own faults are ignored.
     fn report(&self, name: &str, found: io::Result<bool>) {
         self.gone.fetch_add(1, SeqCst);
         let (rt, path) = (&self.rt, &self.path);

@@ -207,7 +207,7 @@ fn tells_a_log_that_is_gone(rt: HostRuntime) -> Result<(), Fail> {
         trails: rt,
         directory: directory.clone()?,
     };
-    let (account, faults) = (account_of(alloc, 2)?, "log files gone: 1\n");
+    let (account, faults) = (account_of(alloc, 2)?, "log files not found again: 1\n");
     let paths = [String::from_str(alloc, "any")?];
     check_account(
         rt,
