@@ -231,6 +231,57 @@ else
   skip 'rolltee, a full disk' "$(head -1 "$err")"
 fi
 
+# ---- a run that is killed
+
+# Prints up to 2000 lines, with a pause after each, until nothing reads them.
+slow_lines() {
+  local number
+  for ((number = 0; number < 2000; number++)); do
+    echo "killed $number" || return
+    sleep 0.002
+  done 2> /dev/null
+}
+
+# How many lines a file has, if there is one.
+line_count() {
+  if [ -f "$1" ]; then wc -l < "$1"; else echo 0; fi
+}
+
+trail=$work/killed
+log=$trail/latest.log
+wanted=$work/wanted
+
+# All runs are to write to the log of one day.
+left=$((86400 - $(date +%s) % 86400))
+[ "$left" -gt 4 ] || sleep "$left"
+
+slow_lines | "$audit_trail" "$trail" > "$out" 2> "$err" &
+killed=$!
+for ((turn = 0; turn < 200; turn++)); do
+  [ "$(line_count "$log")" -lt 20 ] || break
+  sleep 0.01
+done
+kill -9 "$killed"
+{ wait "$killed"; } 2> /dev/null
+status=$?
+wait
+check 'audit_trail, killed' '137||' "$(told)"
+check 'audit_trail, killed: 20 lines were written' yes "$([ "$(line_count "$log")" -ge 20 ] && echo yes || echo no)"
+check 'audit_trail, killed: the log begins with the lines' same \
+  "$(printf 'killed %d\n' {0..1999} | cmp -s -n "$(stat -Lc %s "$log")" "$log" - && echo same || echo other)"
+
+# The next run changes nothing before, and begins a line. A kill within a write leaves a part of a line, as is added here.
+for part in '' 'part of a line'; do
+  printf '%s' "$part" >> "$log"
+  cp "$log" "$wanted"
+  [ -z "$(tail -c 1 "$wanted")" ] || echo >> "$wanted"
+  cat "$lines" >> "$wanted"
+  run "$audit_trail" "$trail" < "$lines"
+  name="audit_trail after a kill${part:+ within a line}"
+  check "$name" '0||' "$(told)"
+  check "$name: the log" '' "$(diff "$wanted" "$log" 2>&1 | head -8)"
+done
+
 # ---- what a guard and a worker print
 
 run "$top/crates/dropped_guard/out/dropped_guard" < /dev/null
