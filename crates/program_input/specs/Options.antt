@@ -1,5 +1,5 @@
 -- What the arguments of a program ask for.
-use Rattle.std.specs.Prelude.{◌≡◌, ◌≢◌, ◌==◌, ◌⊎◌, ℕ, Bool, false, List, [], ◌∷◌, ◌++◌, Option, None, Some, String, string_bytes, codes, slice_index_or}
+use Rattle.std.specs.Prelude.{◌≡◌, ◌≢◌, ◌==◌, ◌⊎◌, ℕ, Bool, false, List, [], ◌∷◌, ◌++◌, None, Some, String, string_bytes, codes, slice_index_or}
 use Rattle.std.specs.List.{position, before_first, after_first}
 use Rattle.std.specs.declared.alloc.Global.{Global}
 use Rattle.program_input.specs.declared.options.Request.{Request}

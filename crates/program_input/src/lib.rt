@@ -1,5 +1,5 @@
 //! What programs are given: a runtime, arguments, and an input of lines, which may go to a writer. What they report of
-//! a fault is in `report`, what its arguments ask for in `options`, and `streams` fills standard streams that are closed.
+//! a fault is in `report`. What their arguments ask for is in `options`. `streams` fills standard streams that are closed.
 #![tactic(auto)]
 
 ghost use Rattle.std.specs.Prelude.{◌≡◌, ◌≢◌, ℕ, List, [], Some, Ok, OnOk, OnErr, true, false};
