@@ -26,3 +26,5 @@ mod shared;
 mod swapping;
 #[cfg(test)]
 mod threads;
+#[cfg(test)]
+mod two_logs;
