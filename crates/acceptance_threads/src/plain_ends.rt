@@ -1,10 +1,11 @@
 // When the worker of plain senders ends, and how many lines its queue takes.
 use crate::expect::expect_eq;
 use crate::gate::{Gate, Host, new_gate};
-use appender_non_blocking::non_blocking::{Closing, NonBlockingBuilder};
-use std::io;
+use appender_non_blocking::non_blocking::{Closing, NonBlocking, NonBlockingBuilder};
 use std::io::Write;
+use std::sync::Wait;
 use std::test::Fail;
+use std::{io, thread};
 
 // Writes one line more when it is dropped, which the worker's end does.
 struct Ending<R: Host> {
@@ -47,6 +48,42 @@ fn the_worker_ends_after_its_last_sender(rt: HostRuntime) -> Result<(), Fail> {
     seen.opens();
     assert!(rt; seen.come(rt, 3));
     assert!(rt; seen.has_at(&rt, 2, b"end"));
+    Ok(())
+}
+
+// Writes so many lines, each by a clone that is dropped at once.
+fn write_by_clones<R: Wait + Clone>(sender: NonBlocking<R>, lines: usize) {
+    for _ in 0..lines {
+        if let Ok(mut clone) = sender.clone() {
+            let _ = clone.write(b"b").is_ok();
+        }
+    }
+}
+
+// Clones that threads make and drop at the same time count as one sender, until the last of them is gone.
+#[test]
+fn the_worker_ends_after_the_last_clone(rt: HostRuntime) -> Result<(), Fail> {
+    let (gate, seen) = new_gate(rt, b"held")?;
+    let (mut sender, guard) = NonBlockingBuilder::default()
+        .lossy(false)
+        .buffered_lines_limit(1)
+        .finish(rt, rt.alloc(), Ending { gate })?;
+    sender.write_all(b"held")?;
+    assert!(rt; seen.is_held(rt));
+    sender.write_all(b"a")?;
+    expect_eq(&rt, guard.close(), Closing::Full);
+    let mut running = Vec::new(rt.alloc());
+    for _ in 0..8u32 {
+        let mine = sender.clone()?;
+        running.push(thread::spawn(&rt, move || write_by_clones(mine, 100))?)?;
+    }
+    drop(sender);
+    seen.opens();
+    for thread in running {
+        thread.join(&rt);
+    }
+    assert!(rt; seen.come(rt, 803));
+    assert!(rt; seen.has_at(&rt, 802, b"end"));
     Ok(())
 }
 
