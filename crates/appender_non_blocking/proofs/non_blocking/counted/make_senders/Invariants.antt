@@ -7,5 +7,5 @@ abbrev pub invariant-loop-place : goal.invariant-loop-place
 invariant-loop-place g l = record {
   parts : l.share.parts + l.place ≡ l.fn.senders + 1;
   amount : l.share.amount ≡ 0;
-  made : l.made.items ≡ new_senders l.fn.local.now.lossy l.place;
+  made : l.made.items ≡ new_senders l.fn.local.lossy l.place;
 }
