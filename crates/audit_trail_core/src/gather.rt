@@ -1,5 +1,6 @@
 //! The lines of several sources in one log, and the account of them.
-ghost use Rattle.std.specs.Prelude.{◌≡◌, ◌⊎◌, ◌≤◌, IfOk};
+ghost use Rattle.std.specs.Prelude.{◌≡◌, ◌⊎◌, ◌+◌, ◌≤◌, IfOk, vec_len};
+ghost use Rattle.appender_non_blocking.specs.Account.{IsBlankOf};
 ghost use Rattle.audit_trail_core.specs.Fault.{status_of, TellsStatus};
 
 use crate::trail::{Fault, TrailLog, open_trail, tell, zero};
@@ -7,12 +8,14 @@ use program_input::{Host, ShortLines, end_line, read_line};
 use std::alloc::{AllocError, Global};
 use std::fs::File;
 use std::io::{BufRead, BufReader, Read, Write};
-use std::sync::Arc;
+use std::marker::Brand;
 use std::sync::atomic::AtomicU64;
 use std::sync::atomic::Ordering::SeqCst;
+use std::sync::ledger::{Blank, Ledger};
+use std::sync::{Arc, Wait};
 use std::thread::JoinHandle;
 use std::{io, thread};
-use tracing_appender::non_blocking::{Account, CountedWork, LineSender, NonBlockingBuilder};
+use tracing_appender::non_blocking::{Account, CountedSender, NonBlockingBuilder};
 use tracing_appender::rolling::InitError;
 use tracing_appender::worker::CountingWriter;
 
@@ -281,40 +284,75 @@ pub fn gather<L: Write + Send + Drop + 'static, I: Read + Send + Drop + 'static,
     ensures handed { IfOk result (λ told. told.0.handed ≡ told.0.accepted) }
     ensures left { IfOk result (λ told. told.0.left ≡ 0) }
 {
-    let count = sources.len();
-    let (account, sent) = NonBlockingBuilder::default()
+    let parts = sources.len() as u64 + 1;
+    gather_by::<Brand, Brand, Brand, Brand, L, I, R>(
+        rt,
+        log,
+        sources,
+        Blank::new(parts),
+        Blank::new(1),
+        Blank::new(1),
+        Blank::new(1),
+    )
+}
+
+// The same by these books: of accepted lines, of handed ones, of shutdowns and of closings.
+fn gather_by<
+    A: Ledger + Send + Sync + 'static,
+    H: Ledger + Send + Sync + 'static,
+    S: Ledger + Send + Sync + 'static,
+    C: Ledger + Send + Sync + 'static,
+    L: Write + Send + Drop + 'static,
+    I: Read + Send + Drop + 'static,
+    R: Host,
+>(
+    rt: R,
+    log: L,
+    sources: Vec<I>,
+    accepted: Blank,
+    handed: Blank,
+    shutdowns: Blank,
+    closings: Blank,
+) -> Result<(Account, Vec<Result<(), Fault>>), Fault>
+    requires accepted { IsBlankOf A.Ledger (vec_len sources + 1) accepted }
+    requires handed { IsBlankOf H.Ledger 1 handed }
+    requires shutdowns { IsBlankOf S.Ledger 1 shutdowns }
+    requires closings { IsBlankOf C.Ledger 1 closings }
+    ensures handed { IfOk result (λ told. told.0.handed ≡ told.0.accepted) }
+    ensures left { IfOk result (λ told. told.0.left ≡ 0) }
+{
+    let (senders, guard) = NonBlockingBuilder::default()
         .lossy(false)
         .buffered_lines_limit(WAITING_LINES)
-        .run_counted(rt, rt.alloc(), log, count, SendAll { rt, sources })
+        .finish_counted::<A, H, S, C, L, R>(
+            rt,
+            rt.alloc(),
+            log,
+            sources.len(),
+            accepted,
+            handed,
+            shutdowns,
+            closings,
+        )
         .map_err(|fault| Fault::Thread.unless_memory(fault.kind()))?;
-    let sent = sent?;
-    match account {
-        Some(account) => Ok((account, sent)),
-        None => Err(Fault::Unsettled),
+    let (back, sent) = send_all(rt, senders, sources)?;
+    match guard.settle(back) {
+        Ok(account) => Ok((account, sent)),
+        Err(_) => Err(Fault::Unsettled),
     }
 }
 
-// Sends the lines of each source by a sender of its own, and returns how that ended.
-#[derive(Drop)]
-struct SendAll<I: Read + Send + Drop + 'static, R: Host> {
-    rt: R,
-    sources: Vec<I>,
+// What a thread sends the lines of its source by. It spares the functions below the names of the books.
+trait LineSender {
+    // Waits until the line is queued.
+    fn send(&mut self, line: &[u8]) -> io::Result<()>;
 }
 
-impl<I: Read + Send + Drop + 'static, R: Host> CountedWork for SendAll<I, R> {
-    type Output = Result<Vec<Result<(), Fault>>, Fault>;
-
-    ghost does = { λ _ _ _ _. Unit {0} };
-
-    fn run<S: LineSender + Send + Drop + 'static>(
-        self,
-        senders: Vec<S>,
-    ) -> (Vec<S>, Result<Vec<Result<(), Fault>>, Fault>) {
-        let SendAll { rt, sources } = self;
-        match send_all(rt, senders, sources) {
-            Ok((back, sent)) => (back, Ok(sent)),
-            Err(fault) => (Vec::new(rt.alloc()), Err(fault)),
-        }
+impl<A: Ledger, H: Ledger, S: Ledger, C: Ledger, R: Wait + Drop> LineSender
+    for CountedSender<A, H, S, C, R> {
+    fn send(&mut self, line: &[u8]) -> io::Result<()> {
+        self.write_line(line)?;
+        Ok(())
     }
 }
 
@@ -418,7 +456,7 @@ fn send_lines<S: LineSender, I: BufRead>(
             return Ok(());
         }
         end_line(&mut line)?;
-        sender.write_line(line.as_slice()).map_err(Fault::of_write)?;
+        sender.send(line.as_slice()).map_err(Fault::of_write)?;
     }
     Err(Fault::Read(io::Error::other("too many lines")))
 }
