@@ -1,0 +1,35 @@
+-- A service whose requests are logged.
+use Rattle.std.specs.Prelude.{◌≡◌, ◌≤◌, ◌==◌, ℕ, Bool, if◌then◌else◌, List, ◌++◌, Option, length, take, codes, decimal}
+use Rattle.std.specs.Io.KnownBytes.{Appends}
+use Rattle.http.specs.declared.request.Request.{Request}
+use Rattle.http.specs.Request.{head_of}
+use Rattle.http.specs.Uri.{uri_text}
+use Rattle.http_server.specs.declared.response.Response.{Response}
+use Rattle.tracing_appender.specs.Counting.{one_more}
+
+-- the service, its log, and how many lines that did not take whole
+pub record Logged (S W : Type 0) : Type 0 where
+  pub service : S
+  pub log : W
+  pub lost : ℕ
+
+-- no line was written yet
+abbrev pub logged_none : {S W : Type 0} → S → W → Logged S W
+logged_none service log = record { service = service; log = log; lost = 0 }
+
+-- the line of a request and the status of its answer
+abbrev pub line_of : Request (List ℕ) → Response → List ℕ
+line_of request response =
+    let head = head_of request in
+    head.method ++ (codes " " ++ (uri_text head.uri ++ (codes " " ++ (decimal response.status ++ codes "\n"))))
+
+-- known bytes grow by a beginning of the line, and it is whole exactly if all of the line was written
+abbrev pub IsWritten : {W : Type 0} → (W → Option (List ℕ)) → List ℕ → W → W → Bool → Type 0
+IsWritten contents line old new whole =
+    (n : ℕ) × (n ≤ length line) × (whole ≡ (n == length line)) × Appends (contents old) (contents new) (take n line)
+
+-- The line was written, or a beginning of it. It is counted exactly if it is not whole.
+pub record Writes {S W : Type 0} (contents : W → Option (List ℕ)) (line : List ℕ) (old new : Logged S W) : Type 0 where
+  pub whole : Bool
+  pub written : IsWritten contents line old.log new.log whole
+  pub lost : new.lost ≡ (if whole then old.lost else one_more old.lost)

@@ -1,0 +1,2 @@
+pub mod AccessLog
+pub mod Supervisor

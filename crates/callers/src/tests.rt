@@ -1,0 +1,201 @@
+// Each caller over a log in a folder of the disk, and over one that takes no line of two bytes and more.
+use crate::access_log::AccessLog;
+use crate::audit_sink::audit;
+use crate::logger::{Ended, LoggerError, log_reads, open_log};
+use crate::supervisor::{Captured, Copied, capture, copy};
+use bytes::{BufMut, Bytes};
+use http::Request;
+use http_server::{Config, Connection, Response, Service, serve};
+use std::alloc::AllocError;
+use std::fs::Files;
+use std::hash::RandomState;
+use std::io::Write;
+use std::process::Abort;
+use std::test::Fail;
+use std::{fs, io};
+use tracing_appender::non_blocking::{Account, Closing, NonBlockingBuilder};
+use tracing_appender::rolling::{FileAppender, never};
+
+const DONE: Closing = Closing::Done { left: 0 };
+
+// Takes one byte, and fails at the next write.
+#[derive(Drop)]
+struct Full {
+    is_next: bool,
+}
+
+impl Full {
+    fn new() -> Full {
+        Full { is_next: false }
+    }
+}
+
+impl Write for Full {
+    fn write(&mut self, buf: &[u8]) -> io::Result<usize> {
+        let fails = self.is_next;
+        self.is_next = !fails && buf.len() > 1;
+        if fails {
+            return Err(io::Error::other("full"));
+        }
+        Ok(buf.len().min(1))
+    }
+
+    fn flush(&mut self) -> io::Result<()> {
+        Ok(())
+    }
+}
+
+// A log in the folder `logs`.
+fn open(rt: HostRuntime, name: &str) -> io::Result<FileAppender> {
+    match never(rt, "logs", name) {
+        Ok(log) => Ok(log),
+        Err(_) => Err(io::Error::other("no log")),
+    }
+}
+
+// Ends the test unless the log of that name has this text.
+fn expect_log<R: Files + AllocGlobal + Abort>(rt: &R, name: &str, wanted: &str) {
+    let path = format!(in rt.alloc(); "logs/{name}").expect(rt, "memory");
+    let text = fs::read_to_string(rt, path.as_str()).expect(rt, "a file");
+    assert!(rt; text.as_str() == wanted, "{text} instead of {wanted}");
+}
+
+// The text of all files of a folder, in the order of their names.
+fn text_in(rt: &HostRuntime, directory: &str) -> io::Result<String> {
+    let mut paths = Vec::new(rt.alloc());
+    for entry in fs::read_dir(rt, directory)? {
+        let entry = entry?;
+        let name = entry.file_name();
+        paths.push(format!(in rt.alloc(); "{directory}/{name}")?)?;
+    }
+    paths.sort_unstable();
+    let mut text = String::new(rt.alloc());
+    for path in &paths {
+        let part = fs::read_to_string(rt, path.as_str())?;
+        text.push_str(part.as_str())?;
+    }
+    Ok(text)
+}
+
+#[test]
+fn the_logger_writes_each_record(rt: HostRuntime) -> Result<(), Fail> {
+    let Ok(log) = open_log(rt, "service") else {
+        return Err(Fail::from(io::Error::other("no log")));
+    };
+    let Ok(ended) = log_reads(rt, log, &[3, 512]) else {
+        return Err(Fail::from(io::Error::other("records were lost")));
+    };
+    assert_eq!(rt;
+        ended,
+        Ended {
+            lost: 0,
+            closing: DONE
+        }
+    );
+    let text = text_in(&rt, "service")?;
+    assert_eq!(rt;
+        text.as_str(),
+        "[INFO  db] read rows=3\n[INFO  db] read rows=512\n"
+    );
+    let ended = match log_reads(rt, Full::new(), &[3, 512]) {
+        Err(LoggerError::Lost(ended)) => ended,
+        _ => return Err(Fail::from(io::Error::other("no record was lost"))),
+    };
+    assert_eq!(rt;
+        ended,
+        Ended {
+            lost: 2,
+            closing: DONE
+        }
+    );
+    Ok(())
+}
+
+// Answers with a letter.
+#[derive(Drop)]
+struct Letter;
+
+impl Service for Letter {
+    ghost answers = { λ _ _ _ _. Unit {0} };
+
+    fn call(
+        &mut self,
+        _request: &Request<Bytes>,
+        response: &mut Response,
+    ) -> Result<(), AllocError> {
+        response.body.put_u8(b'h')?;
+        Ok(())
+    }
+}
+
+static REQUESTS: &[u8] =
+    b"GET /a?b HTTP/1.1\r\nhost: x\r\n\r\nPUT / HTTP/1.1\r\nhost: x\r\nconnection: close\r\n\r\n";
+
+// Serves two requests, and returns how many bytes were answered.
+fn serve_two<S: Service>(rt: HostRuntime, service: &mut S) -> io::Result<usize> {
+    let mut connection = Connection::new(rt.alloc(), RandomState::new(&rt)?, Config::default());
+    let mut input = REQUESTS;
+    let mut output = Vec::new(rt.alloc());
+    serve(&mut connection, service, &mut input, &mut output)?;
+    Ok(output.len())
+}
+
+#[test]
+fn the_access_log_has_a_line_for_each_request(rt: HostRuntime) -> Result<(), Fail> {
+    let plain = serve_two(rt, &mut Letter)?;
+    let (lines, guard) = NonBlockingBuilder::default().finish(rt, rt.alloc(), open(rt, "access")?)?;
+    let mut logged = AccessLog::new(rt.alloc(), Letter, lines);
+    assert_eq!(rt; serve_two(rt, &mut logged)?, plain);
+    assert_eq!(rt; logged.lost(), 0);
+    assert_eq!(rt; guard.close(), DONE);
+    expect_log(&rt, "access", "GET /a?b 200\nPUT / 200\n");
+    let mut unlogged = AccessLog::new(rt.alloc(), Letter, Full::new());
+    assert_eq!(rt; serve_two(rt, &mut unlogged)?, plain);
+    assert_eq!(rt; unlogged.lost(), 2);
+    Ok(())
+}
+
+#[test]
+fn the_supervisor_says_what_was_lost(rt: HostRuntime) -> Result<(), Fail> {
+    let mut output = b"a\n\nbc".as_slice();
+    let whole = capture(rt, &mut output, open(rt, "child")?)?;
+    assert!(rt; whole.is_whole());
+    assert_eq!(rt; whole.copied, Copied { lines: 3, cut: 0 });
+    expect_log(&rt, "child", "a\n\nbc");
+    let mut output = b"a\n\nbc".as_slice();
+    let cut = capture(rt, &mut output, Full::new())?;
+    assert!(rt; !cut.is_whole());
+    let copied = Copied { lines: 3, cut: 0 };
+    let wanted = Captured {
+        copied,
+        dropped: 0,
+        taken: 1,
+        lost: 2,
+        closing: DONE,
+    };
+    assert_eq!(rt; cut, wanted);
+    let mut output = b"a\n\nbc".as_slice();
+    assert_eq!(rt;
+        copy(rt.alloc(), &mut output, &mut Full::new())?,
+        Copied { lines: 3, cut: 2 }
+    );
+    Ok(())
+}
+
+#[test]
+fn the_audit_has_an_account(rt: HostRuntime) -> Result<(), Fail> {
+    let account = audit(rt, open(rt, "audit")?, &[b"a\n", b"bc\n"])?;
+    assert_eq!(rt;
+        account,
+        Account {
+            accepted: 2,
+            handed: 2,
+            left: 0,
+            dropped: 0
+        }
+    );
+    expect_log(&rt, "audit", "a\nbc\n");
+    assert!(rt; audit(rt, Full::new(), &[b"a\n", b"bc\n"]).is_err());
+    assert!(rt; audit(rt, Full::new(), &[b"a", b"b"]).is_ok());
+    Ok(())
+}
