@@ -5,7 +5,7 @@ use crate::gate::{Host, Seen, new_gate};
 use appender_non_blocking::non_blocking::{
     Closing, ErrorCounter, NonBlocking, NonBlockingBuilder, WorkerGuard,
 };
-use appender_writers::MakeWriter;
+use appender_base::make_writer::MakeWriter;
 use std::alloc::{AllocError, Global};
 use std::io::{ErrorKind, Write};
 use std::process::Abort;

@@ -22,5 +22,5 @@ pub record CallsEntry {T : Type 0} (name : List ℕ) (old new : ℕ) (result : R
   pub entry : OnOk result (IsEntry name)
 
 -- no content is told
-abbrev pub untold : Content
-untold = record { there = false; bodies = []; names = map.empty }
+abbrev pub unknown : Content
+unknown = record { there = false; bodies = []; names = map.empty }

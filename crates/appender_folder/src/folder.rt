@@ -142,13 +142,13 @@ impl<R: Files + AllocGlobal + Eprint + Clone + Drop> Folder for DirFolder<R> {
     ghost use Rattle.std.specs.Io.KnownBytes.{Keeps, WriteAppends};
     ghost use Rattle.appender_store.specs.Folder.{after_note, kind_of};
     ghost use Rattle.appender_store.specs.NoticeCounts.{counts_of};
-    ghost use Rattle.appender_folder.specs.Calls.{CountsFailure, CallsEntry, untold};
+    ghost use Rattle.appender_folder.specs.Calls.{CountsFailure, CallsEntry, unknown};
 
     type File = R::File;
 
-    ghost tells = { false };
+    ghost is_known = { false };
 
-    ghost content = { λ _. untold };
+    ghost content = { λ _. unknown };
 
     ghost body = { λ _. 0 };
 
@@ -190,7 +190,7 @@ impl<R: Files + AllocGlobal + Eprint + Clone + Drop> Folder for DirFolder<R> {
       opens = Prim.omega arith;
     } };
 
-    ghost sound = { λ f told. Prim.search rules };
+    ghost sound = { λ f known. Prim.search rules };
 
     fn list(&mut self) -> io::Result<Vec<Listed>> {
         let answer = list_entries(&self.rt, self.path.as_str());

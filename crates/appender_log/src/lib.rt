@@ -21,7 +21,7 @@ ghost use Rattle.std.specs.Io.KnownBytes.{Appends, Keeps};
 ghost use Rattle.log.specs.Line.{record_line};
 ghost use Rattle.appender_log.specs.Written.{IsLine, AppendsLine, AppendsLess};
 
-use appender_writers::MakeWriter;
+use appender_base::make_writer::MakeWriter;
 use log::kv::Source;
 use log::span::Spans;
 use log::{Line, Log, Metadata, Record};
@@ -117,10 +117,7 @@ fn lost_by(written: &io::Result<()>) -> u64
     }
 }
 
-impl<'a, M: MakeWriter<'a>> LogSink<'a, M>
-where
-    M::Writer: Drop,
-{
+impl<'a, M: MakeWriter<'a>> LogSink<'a, M> {
     // Writes a record by a writer of its own.
     fn write<D: Display, K: Source, S: Spans>(
         &self,
@@ -131,10 +128,7 @@ where
     }
 }
 
-impl<'a, M: MakeWriter<'a>> Log for LogSink<'a, M>
-where
-    M::Writer: Drop,
-{
+impl<'a, M: MakeWriter<'a>> Log for LogSink<'a, M> {
     ghost use Rattle.std.specs.Prelude.{true, Some, []};
 
     ghost enables = { λ _ _ _. Some true };

@@ -1,5 +1,5 @@
 use crate::LogSink;
-use appender_writers::MakeWriter;
+use appender_base::make_writer::MakeWriter;
 use log::{Level, Log, Logged, info, warn};
 use std::alloc::{AllocError, Global};
 use std::cell::{Cell, RefCell};

@@ -1,4 +1,4 @@
--- What counted senders, their guard and the account of both say.
+-- What counted senders, their guard and their account show.
 use Rattle.std.specs.Prelude.{◌≡◌, ℕ, ◌+◌, ◌-◌, ◌^◌, Bool, false, min, List, map, sum_by}
 use Rattle.std.specs.List.{range_with_len}
 use Rattle.std.specs.declared.sync.ledger.Blank.{Blank}

@@ -1,4 +1,4 @@
 pub mod Account
+pub mod Counted
 pub mod Mode
 pub mod Refusal
-pub mod Told

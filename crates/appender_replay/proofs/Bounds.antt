@@ -216,25 +216,25 @@ module _ (c : Config) (first : Stamp) (limited : is_limited c ≡ true) where
 
   next : (attempts : List Attempt) (e : Event) (h : List Event) → ((some : List Attempt) → map time_of some ≡ times c first h → Known some h) → map time_of attempts ≡ times c first (e ∷ h)
       → is_switch e.switch ≡ is_some (stamp_at c first (times c first h) e h) → e.switch ≢ SwitchFailed → length e.piece ≤ e.offered → (e.read ≡ None → e.piece ≡ []) → Known attempts (e ∷ h)
-  next [] e h known is told fine fits blind = tt
-  next (a ∷ rest) e h known is told fine fits blind = by (stamp_at c first (times c first h) e h) refl
+  next [] e h known is past fine fits blind = tt
+  next (a ∷ rest) e h known is past fine fits blind = by (stamp_at c first (times c first h) e h) refl
     where
       by : (o : Option Stamp) → stamp_at c first (times c first h) e h ≡ o → IsBounded a rest (e ∷ h)
       by None none = stays a rest e h (known (a ∷ rest) (is ∙ ap (λ o. with_time o (suc (length h)) (is_opened e.switch) (times c first h)) none)) none fits blind
       by (Some s) some =
           let list : time_of a ∷ map time_of rest ≡ (suc (length h), s, is_opened e.switch) ∷ times c first h = is ∙ ap (λ o. with_time o (suc (length h)) (is_opened e.switch) (times c first h)) some in
           let t : time_of a ≡ (suc (length h), s, is_opened e.switch) = same_first (time_of a) (suc (length h), s, is_opened e.switch) (map time_of rest) (times c first h) list in
-          let switched : is_opened e.switch ≡ true = opened_switch e.switch (told ∙ ap is_some some) fine in
+          let switched : is_opened e.switch ≡ true = opened_switch e.switch (past ∙ ap is_some some) fine in
           begins a rest e h s (known rest (same_rest (time_of a) (suc (length h), s, is_opened e.switch) (map time_of rest) (times c first h) list)) some
           (ap (λ (t : Time). t.0) t) (ap (λ (t : Time). t.1) t) (ap (λ (t : Time). t.2) t ∙ switched)
 
   known_of : (h : List Event) → SwitchesAtAttempts c first h → PiecesFit h → NoneFailed h → EachWriteReadsClock h → (attempts : List Attempt) → map time_of attempts ≡ times c first h → Known attempts h
-  known_of [] told fit fine blind attempts is = first_attempt attempts is
-  known_of (e ∷ h) told fit fine blind attempts is =
-      next attempts e h (λ some same. known_of h told.1 fit.1 fine.1 blind.1 some same) is told.0 fine.0 fit.0 blind.0
+  known_of [] past fit fine blind attempts is = first_attempt attempts is
+  known_of (e ∷ h) past fit fine blind attempts is =
+      next attempts e h (λ some same. known_of h past.1 fit.1 fine.1 blind.1 some same) is past.0 fine.0 fit.0 blind.0
 
 -- what the attempts of a history carry keeps to the limit
 pub keeps_to_limit : (c : Config) (first : Stamp) (h : List Event) (attempts : List Attempt) → map time_of attempts ≡ times c first h → SwitchesAtAttempts c first h → PiecesFit h
     → is_limited c ≡ true → NoneFailed h → EachWriteReadsClock h → EachOf (KeepsToLimit c attempts h) attempts
-keeps_to_limit c first h [] is told fit limited fine blind = tt
-keeps_to_limit c first h (a ∷ rest) is told fit limited fine blind = (known_of c first limited h told fit fine blind (a ∷ rest) is).each
+keeps_to_limit c first h [] is past fit limited fine blind = tt
+keeps_to_limit c first h (a ∷ rest) is past fit limited fine blind = (known_of c first limited h past fit fine blind (a ∷ rest) is).each

@@ -266,11 +266,11 @@ module _ {S F : Type 0} (c : Config) (first : Stamp) (laws : Laws c.rotation) wh
   clock_goes_on e h old new same so (Stays none agrees stays) d =
       let t = turn c.rotation first.moment e h laws so.in_range in
       let last : new.last ≡ old.last = d.last ∙ ap (λ s. unwrap_or s old.last) agrees in
-      let told : is_some (stamp_by old e.read e.offered) ≡ is_some (stamp_at c first (times c first h) e h) = ap is_some (agrees ∙ sym none) in
+      let past : is_some (stamp_by old e.read e.offered) ≡ is_some (stamp_at c first (times c first h) e h) = ap is_some (agrees ∙ sym none) in
       let room : new.room ≡ old.room - length e.piece = d.room ∙ ap (λ s. room_at old.config.max_bytes s old.room - length e.piece) agrees in
       let count = count_stays c first e h none in
       record {
-        switches = (d.switches ∙ told, so.switches);
+        switches = (d.switches ∙ past, so.switches);
         boundary_is = d.boundary ∙ ap (λ s. boundary_at old.config.rotation s old.boundary) agrees ∙ so.boundary_is ∙ same_next c.rotation (latest_moment first.moment h) (latest_moment first.moment (e ∷ h)) stays;
         in_range = t.in_range;
         last_is = last ∙ so.last_is ∙ ap (λ s. last_stamp first (with_time s (suc (length h)) (is_opened e.switch) (times c first h))) (sym none);
@@ -281,11 +281,11 @@ module _ {S F : Type 0} (c : Config) (first : Stamp) (laws : Laws c.rotation) wh
   clock_goes_on e h old new same so (Goes s some agrees is_stamp period later) d =
       let t = turn c.rotation first.moment e h laws so.in_range in
       let last : new.last ≡ s = d.last ∙ ap (λ s. unwrap_or s old.last) agrees in
-      let told : is_some (stamp_by old e.read e.offered) ≡ is_some (stamp_at c first (times c first h) e h) = ap is_some (agrees ∙ sym some) in
+      let past : is_some (stamp_by old e.read e.offered) ≡ is_some (stamp_at c first (times c first h) e h) = ap is_some (agrees ∙ sym some) in
       let room : new.room ≡ c.max_bytes - length e.piece = d.room ∙ ap (λ s. room_at old.config.max_bytes s old.room - length e.piece) agrees ∙ ap (λ (k : Config). k.max_bytes - length e.piece) same in
       let count = count_begins c first e h s some in
       record {
-        switches = (d.switches ∙ told, so.switches);
+        switches = (d.switches ∙ past, so.switches);
         boundary_is = d.boundary ∙ ap (λ s. boundary_at old.config.rotation s old.boundary) agrees ∙ ap (λ (k : Config). next_of k.rotation s.moment) same ∙ sym (same_next c.rotation (latest_moment first.moment (e ∷ h)) s.moment period);
         in_range = t.in_range;
         last_is = last ∙ ap (λ o. last_stamp first (with_time o (suc (length h)) (is_opened e.switch) (times c first h))) (sym some);

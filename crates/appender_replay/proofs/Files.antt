@@ -61,23 +61,23 @@ newest (a ∷ rest) = a.step
 
 -- What is known after the switches of some events were told and the pieces of some were written: the two are the same but
 -- within a step, between its attempt and its piece.
-pub record FilesSoFar (c : Config) (start : Stamp) (seen : ℕ → Seen) (told h : List Event) (first now : Content) (noted_first noted_now : Counts) (opened : Stamp) (b : ℕ) : Type 0 where
+pub record FilesSoFar (c : Config) (start : Stamp) (seen : ℕ → Seen) (past h : List Event) (first now : Content) (noted_first noted_now : Counts) (opened : Stamp) (b : ℕ) : Type 0 where
   pub attempts : List Attempt
-  pub are_times : map time_of attempts ≡ times c start told
+  pub are_times : map time_of attempts ≡ times c start past
   pub are_seen : EachOf (IsSeenAtItsStep first noted_first seen) attempts
   pub leads : Leads c attempts h first now
   pub names : NamesLead attempts first.names now.names
   pub notes : NotesLead attempts noted_first noted_now
   pub bodies : (x : ℕ) → body_at now x ≡ body_at first x ++ bytes_to_body x attempts h
   pub file : Attempt
-  pub carries : (i : ℕ) → length told ≤ i → carrier attempts i ≡ Some file
+  pub carries : (i : ℕ) → length past ≤ i → carrier attempts i ≡ Some file
   pub stamp_is : file.stamp ≡ opened
   pub body : file.body ≡ Some b
   pub holds : body_at now b ≡ body_at file.before b ++ bytes_of_attempt file.step attempts h
   pub open_is : open_body attempts ≡ Some b
-  pub at_step : newest attempts ≤ length told
+  pub at_step : newest attempts ≤ length past
   pub there : b < length now.bodies
-  pub owners : AreOwners c start told h attempts now file b
+  pub owners : AreOwners c start past h attempts now file b
 
 -- What is known of an attempt that succeeded.
 pub record Succeeds (c : Config) (a : Attempt) (b : ℕ) : Type 0 where

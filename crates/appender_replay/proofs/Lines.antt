@@ -235,22 +235,22 @@ lines_handed lines handed (s, r) earlier so = so
 -- ---- all steps
 
 -- What is known after these steps.
-pub record LinesSoFar (told : List Answered) : Type 0 where
-  pub done : DoneBy (worker_after told) (written_lines told)
-  pub begun : All IsBegun (written_lines told)
-  pub text : text_of_events (events told) ≡ text_of_lines (written_lines told)
-  pub lines : whole_lines (written_lines told) ≡ map (λ (o : Offered). o.1) (handed_lines told)
+pub record LinesSoFar (past : List Answered) : Type 0 where
+  pub done : DoneBy (worker_after past) (written_lines past)
+  pub begun : All IsBegun (written_lines past)
+  pub text : text_of_events (events past) ≡ text_of_lines (written_lines past)
+  pub lines : whole_lines (written_lines past) ≡ map (λ (o : Offered). o.1) (handed_lines past)
 
-pub lines_so_far : (limit : ℕ) (lossy : Bool) (told : List Answered) → Answers limit lossy told → LinesSoFar told
+pub lines_so_far : (limit : ℕ) (lossy : Bool) (past : List Answered) → Answers limit lossy past → LinesSoFar past
 lines_so_far limit lossy [] a = record { done = All-nil IsDone; begun = All-nil IsBegun; text = refl; lines = refl }
-lines_so_far limit lossy (t ∷ told) a =
-    let so = lines_so_far limit lossy told a.0 in
-    let step = line_steps (queue_after limit lossy told) (worker_after told) (accepted_lines told) t (written_lines told) a.1 so.done so.begun in
+lines_so_far limit lossy (t ∷ past) a =
+    let so = lines_so_far limit lossy past a.0 in
+    let step = line_steps (queue_after limit lossy past) (worker_after past) (accepted_lines past) t (written_lines past) a.1 so.done so.begun in
     record {
       done = step.leaves.done;
       begun = step.leaves.begun;
-      text = ap (λ text. text ++ (file_event (worker_after told) t).piece) so.text ∙ step.text;
-      lines = lines_handed (accepted_lines told) (handed_lines told) t (written_lines told) so.lines;
+      text = ap (λ text. text ++ (file_event (worker_after past) t).piece) so.text ∙ step.text;
+      lines = lines_handed (accepted_lines past) (handed_lines past) t (written_lines past) so.lines;
     }
 
 -- each is done, but the newest where it is in hand

@@ -13,9 +13,9 @@ use Rattle.appender_replay.specs.declared.replay.whole.Reply.{Reply}
 use Rattle.appender_replay.specs.declared.replay.whole.Reply.TheVariants.{Accepted, Took, TookShutdown, TookGone, TookEmpty}
 
 -- the handed lines are the first of the accepted ones
-pub record InOrder (told : List Answered) : Type 0 where
-  pub most : length (handed_lines told) ≤ length (accepted_lines told)
-  pub first : handed_lines told ≡ take (length (handed_lines told)) (accepted_lines told)
+pub record InOrder (past : List Answered) : Type 0 where
+  pub most : length (handed_lines past) ≤ length (accepted_lines past)
+  pub first : handed_lines past ≡ take (length (handed_lines past)) (accepted_lines past)
 
 -- What the reply that a line was taken says of the queue before it.
 pub record TakesNext (q : Queue) (core : Core) (k : ℕ) : Type 0 where
@@ -44,52 +44,52 @@ takes_next q Over k a = absurd (let no = a in cc)
 is_less : (a b : ℕ) (c : Bool) → (nat_lt a b && c) ≡ true → a < b
 is_less a b c e = grind arith
 
-pub in_order : (limit : ℕ) (lossy : Bool) (told : List Answered) → Answers limit lossy told → InOrder told
+pub in_order : (limit : ℕ) (lossy : Bool) (past : List Answered) → Answers limit lossy past → InOrder past
 in_order limit lossy [] a = record { most = omega arith; first = refl }
-in_order limit lossy ((Offer label line, Accepted k) ∷ told) a =
-    let so = in_order limit lossy told a.0 in
+in_order limit lossy ((Offer label line, Accepted k) ∷ past) a =
+    let so = in_order limit lossy past a.0 in
     let o : Offered = (label, line.items) in
-    let h : ℕ = length (handed_lines told) in
-    let count : length (accepted_lines told ++ o ∷ []) ≡ length (accepted_lines told) + 1 = length-append (accepted_lines told) (o ∷ []) in
+    let h : ℕ = length (handed_lines past) in
+    let count : length (accepted_lines past ++ o ∷ []) ≡ length (accepted_lines past) + 1 = length-append (accepted_lines past) (o ∷ []) in
     record {
       most = rw count (let few = so.most in omega arith);
-      first = so.first ∙ sym (take-append-le h (accepted_lines told) (o ∷ []) so.most);
+      first = so.first ∙ sym (take-append-le h (accepted_lines past) (o ∷ []) so.most);
     }
-in_order limit lossy ((Work m, Took k) ∷ told) a =
-    let so = in_order limit lossy told a.0 in
-    let h : ℕ = length (handed_lines told) in
-    let next = takes_next (queue_after limit lossy told) (worker_after told) k a.1 in
-    let less : h < length (accepted_lines told) = is_less h (length (accepted_lines told)) (is_before (shutdown_place told) h) next.line in
-    let o : Offered = with_ticket k (accepted_lines told) in
-    let count : length (handed_lines told ++ o ∷ []) ≡ h + 1 = length-append (handed_lines told) (o ∷ []) in
+in_order limit lossy ((Work m, Took k) ∷ past) a =
+    let so = in_order limit lossy past a.0 in
+    let h : ℕ = length (handed_lines past) in
+    let next = takes_next (queue_after limit lossy past) (worker_after past) k a.1 in
+    let less : h < length (accepted_lines past) = is_less h (length (accepted_lines past)) (is_before (shutdown_place past) h) next.line in
+    let o : Offered = with_ticket k (accepted_lines past) in
+    let count : length (handed_lines past ++ o ∷ []) ≡ h + 1 = length-append (handed_lines past) (o ∷ []) in
     let place : h ≡ k - 1 = let t : k ≡ h + 1 = next.ticket in omega arith in
-    let longer : take (h + 1) (accepted_lines told) ≡ take h (accepted_lines told) ++ get_or (accepted_lines told) h (0, []) ∷ [] = take_more (accepted_lines told) h (0, []) less in
+    let longer : take (h + 1) (accepted_lines past) ≡ take h (accepted_lines past) ++ get_or (accepted_lines past) h (0, []) ∷ [] = take_more (accepted_lines past) h (0, []) less in
     record {
       most = rw count (omega arith);
-      first = rw count (ap (λ xs. xs ++ o ∷ []) so.first ∙ ap (λ (n : ℕ). take h (accepted_lines told) ++ get_or (accepted_lines told) n (0, []) ∷ []) (sym place) ∙ sym longer);
+      first = rw count (ap (λ xs. xs ++ o ∷ []) so.first ∙ ap (λ (n : ℕ). take h (accepted_lines past) ++ get_or (accepted_lines past) n (0, []) ∷ []) (sym place) ∙ sym longer);
     }
-in_order limit lossy ((s, r) ∷ told) a = let so = in_order limit lossy told a.0 in record { most = so.most; first = so.first }
+in_order limit lossy ((s, r) ∷ past) a = let so = in_order limit lossy past a.0 in record { most = so.most; first = so.first }
 
-pub hands : (limit : ℕ) (lossy : Bool) (told : List Answered) (q : Queue) → InOrder told → q ≡ queue_after limit lossy told → HandsInOrder told q
-hands limit lossy told q so is =
-    let h : ℕ = length (handed_lines told) in
+pub hands : (limit : ℕ) (lossy : Bool) (past : List Answered) (q : Queue) → InOrder past → q ≡ queue_after limit lossy past → HandsInOrder past q
+hands limit lossy past q so is =
+    let h : ℕ = length (handed_lines past) in
     record {
-      rest = drop h (accepted_lines told);
-      first = sym (take-append-drop h (accepted_lines told)) ∙ ap (λ xs. xs ++ drop h (accepted_lines told)) (sym so.first);
+      rest = drop h (accepted_lines past);
+      first = sym (take-append-drop h (accepted_lines past)) ∙ ap (λ xs. xs ++ drop h (accepted_lines past)) (sym so.first);
       queued = λ unclosed.
-          let c : is_closed told ≡ false = sym (ap (λ (q : Queue). q.closed) is) ∙ unclosed in
-          let lines : (queue_after limit lossy told).lines ≡ map (λ (o : Offered). o.1) (drop h (accepted_lines told)) = rw c (drop-map (λ (o : Offered). o.1) h (accepted_lines told)) in
+          let c : is_closed past ≡ false = sym (ap (λ (q : Queue). q.closed) is) ∙ unclosed in
+          let lines : (queue_after limit lossy past).lines ≡ map (λ (o : Offered). o.1) (drop h (accepted_lines past)) = rw c (drop-map (λ (o : Offered). o.1) h (accepted_lines past)) in
           ap (λ (q : Queue). q.lines) is ∙ lines;
       left = λ closed.
-          let c : is_closed told ≡ true = sym (ap (λ (q : Queue). q.closed) is) ∙ closed in
-          let left : left_of (queue_after limit lossy told) ≡ length (drop h (accepted_lines told)) = rw c (sym (length-drop h (accepted_lines told))) in
+          let c : is_closed past ≡ true = sym (ap (λ (q : Queue). q.closed) is) ∙ closed in
+          let left : left_of (queue_after limit lossy past) ≡ length (drop h (accepted_lines past)) = rw c (sym (length-drop h (accepted_lines past))) in
           ap left_of is ∙ left;
     }
 
-pub labels : (limit : ℕ) (lossy : Bool) (told : List Answered) (q : Queue) (label : ℕ) → HandsInOrder told q → HandsLabelInOrder told label
-labels limit lossy told q label so = record {
+pub labels : (limit : ℕ) (lossy : Bool) (past : List Answered) (q : Queue) (label : ℕ) → HandsInOrder past q → HandsLabelInOrder past label
+labels limit lossy past q label so = record {
   rest = labelled label so.rest;
   first = ap (labelled label) so.first
-      ∙ ap (map (λ (o : Offered). o.1)) (filter-append (λ (o : Offered). o.0 == label) (handed_lines told) so.rest)
-      ∙ map-append (λ (o : Offered). o.1) (filter (λ (o : Offered). o.0 == label) (handed_lines told)) (filter (λ (o : Offered). o.0 == label) so.rest);
+      ∙ ap (map (λ (o : Offered). o.1)) (filter-append (λ (o : Offered). o.0 == label) (handed_lines past) so.rest)
+      ∙ map-append (λ (o : Offered). o.1) (filter (λ (o : Offered). o.0 == label) (handed_lines past)) (filter (λ (o : Offered). o.0 == label) so.rest);
 }

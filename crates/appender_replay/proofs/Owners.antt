@@ -87,28 +87,28 @@ module _ (c : Config) (start : Stamp) where
   -- what it opened is there, has no other name than the attempt's, is what stands under that name if a file does, is the open
   -- body exactly if the attempt is the carrier, and holds its own; and, unless a switch failed, that it is the carrier exactly
   -- in its period.
-  pub record IsOwner (told h : List Event) (attempts : List Attempt) (now : Content) (file : Attempt) (b : ℕ) (a : Attempt) : Type 0 where
+  pub record IsOwner (past h : List Event) (attempts : List Attempt) (now : Content) (file : Attempt) (b : ℕ) (a : Attempt) : Type 0 where
     pub in_range : IsStamp c a.stamp
-    pub not_after : IsNotAfter (key_of c a.stamp) (key_at c start told)
-    pub at_step : a.step ≤ length told
+    pub not_after : IsNotAfter (key_of c a.stamp) (key_at c start past)
+    pub at_step : a.step ≤ length past
     pub there : (x : ℕ) → a.body ≡ Some x → x < length now.bodies
     pub own : HasItsName c now a
     pub stands : NamesItsBody c now a
     pub mine : (x : ℕ) → a.body ≡ Some x → (file.step == a.step) ≡ (b == x)
     pub holds : HoldsItsOwn attempts h now a
-    pub in_time : NoneFailed told → (x : ℕ) → a.body ≡ Some x → (file.step == a.step) ≡ is_same_key (key_at c start told) (key_of c a.stamp)
-    pub in_its_number : NoneFailed told → CarriesItsNumber c start attempts h a
+    pub in_time : NoneFailed past → (x : ℕ) → a.body ≡ Some x → (file.step == a.step) ≡ is_same_key (key_at c start past) (key_of c a.stamp)
+    pub in_its_number : NoneFailed past → CarriesItsNumber c start attempts h a
 
   -- What is known of all attempts.
-  pub record AreOwners (told h : List Event) (attempts : List Attempt) (now : Content) (file : Attempt) (b : ℕ) : Type 0 where
+  pub record AreOwners (past h : List Event) (attempts : List Attempt) (now : Content) (file : Attempt) (b : ℕ) : Type 0 where
     pub apart : AreApart attempts
-    pub owners : EachOf (IsOwner told h attempts now file b) attempts
+    pub owners : EachOf (IsOwner past h attempts now file b) attempts
 
   -- ---- what follows for each
 
-  module _ (told h : List Event) (attempts : List Attempt) (now : Content) (file : Attempt) (b : ℕ) (so : AreOwners told h attempts now file b) where
+  module _ (past h : List Event) (attempts : List Attempt) (now : Content) (file : Attempt) (b : ℕ) (so : AreOwners past h attempts now file b) where
     abbrev Owner : Attempt → Type 0
-    Owner = IsOwner told h attempts now file b
+    Owner = IsOwner past h attempts now file b
 
     pub each_holds : EachOf (HoldsItsOwn attempts h now) attempts
     each_holds = each_map Owner (HoldsItsOwn attempts h now) attempts (λ a o. o.holds) so.owners
@@ -122,21 +122,21 @@ module _ (c : Config) (start : Stamp) where
     pub each_stands : EachOf (NamesItsBody c now) attempts
     each_stands = each_map Owner (NamesItsBody c now) attempts (λ a o. o.stands) so.owners
 
-    pub each_in_its_number : NoneFailed told → EachOf (CarriesItsNumber c start attempts h) attempts
+    pub each_in_its_number : NoneFailed past → EachOf (CarriesItsNumber c start attempts h) attempts
     each_in_its_number fine = each_map Owner (CarriesItsNumber c start attempts h) attempts (λ a o. o.in_its_number fine) so.owners
 
     -- what stands under its name is what the attempt opened, and holds what the attempt carries
-    pub each_holds_its_number : NoneFailed told → EachOf (HoldsItsNumber c start h now) attempts
+    pub each_holds_its_number : NoneFailed past → EachOf (HoldsItsNumber c start h now) attempts
     each_holds_its_number fine = each_map Owner (HoldsItsNumber c start h now) attempts
         (λ a o x is y t at.
         let it : y ≡ x = o.stands x is y t at in
         rw it (o.holds x is ∙ ap (λ w. body_at a.before x ++ w) (o.in_its_number fine x is))) so.owners
 
     -- unless a switch failed, the open file is that of the latest moment's period
-    pub open_in_its_number : (i : ℕ) → carrier attempts i ≡ Some file → file.body ≡ Some b → NoneFailed told → key_of c file.stamp ≡ key_at c start told
+    pub open_in_its_number : (i : ℕ) → carrier attempts i ≡ Some file → file.body ≡ Some b → NoneFailed past → key_of c file.stamp ≡ key_at c start past
     open_in_its_number i here is fine =
         let o = each_carrier Owner attempts i file so.owners here in
-        same_by_is_same_key (key_at c start told) (key_of c file.stamp) (sym (o.in_time fine b is) ∙ equal file.step file.step refl)
+        same_by_is_same_key (key_at c start past) (key_of c file.stamp) (sym (o.in_time fine b is) ∙ equal file.step file.step refl)
 
   -- ---- no attempt more
 
@@ -161,10 +161,10 @@ module _ (c : Config) (start : Stamp) where
     }
 
     -- a change that keeps every body and its name
-    pub owners_kept : (told h : List Event) (old new : Content) → Keeps old new → ((a : Attempt) → IsOwner told h attempts old file b a → FileStays (file_name_of c a.stamp) old new) → AreOwners told h attempts old file b → AreOwners told h attempts new file b
-    owners_kept told h old new keeps stay so = record {
+    pub owners_kept : (past h : List Event) (old new : Content) → Keeps old new → ((a : Attempt) → IsOwner past h attempts old file b a → FileStays (file_name_of c a.stamp) old new) → AreOwners past h attempts old file b → AreOwners past h attempts new file b
+    owners_kept past h old new keeps stay so = record {
       apart = so.apart;
-      owners = each_map (IsOwner told h attempts old file b) (IsOwner told h attempts new file b) attempts
+      owners = each_map (IsOwner past h attempts old file b) (IsOwner past h attempts new file b) attempts
           (λ a o. record {
             in_range = o.in_range;
             not_after = o.not_after;
@@ -254,8 +254,8 @@ module _ (c : Config) (start : Stamp) where
     names_its_body y ay z t k = same_file z x t to.0 (sym k ∙ to.1) ∙ it y ay
 
     -- it owns what it opened
-    owner : (told h : List Event) (attempts : List Attempt) → key_of c a.stamp ≡ key_at c start told → a.step ≤ length told → bytes_of_attempt a.step attempts h ≡ [] → bytes_under c start (key_at c start told) h ≡ [] → IsOwner told h attempts new a x a
-    owner told h attempts here at none none_in = record {
+    owner : (past h : List Event) (attempts : List Attempt) → key_of c a.stamp ≡ key_at c start past → a.step ≤ length past → bytes_of_attempt a.step attempts h ≡ [] → bytes_under c start (key_at c start past) h ≡ [] → IsOwner past h attempts new a x a
+    owner past h attempts here at none none_in = record {
       in_range = in_range;
       not_after = inl here;
       at_step = at;
@@ -264,7 +264,7 @@ module _ (c : Config) (start : Stamp) where
       stands = names_its_body;
       mine = λ y ay. equal a.step a.step refl ∙ sym (equal x y (it y ay));
       holds = λ y ay. rw none (keeps.keeps.bytes y ∙ was y ∙ sym (append-nil (body_at a.before y)));
-      in_time = λ fine y ay. equal a.step a.step refl ∙ sym (ap (λ (k : Key). is_same_key (key_at c start told) k) here ∙ same_key_is_same (key_at c start told));
+      in_time = λ fine y ay. equal a.step a.step refl ∙ sym (ap (λ (k : Key). is_same_key (key_at c start past) k) here ∙ same_key_is_same (key_at c start past));
       in_its_number = λ fine y ay. none ∙ sym (ap (λ (k : Key). bytes_under c start k h) here ∙ none_in);
     }
 

@@ -22,13 +22,15 @@ use Rattle.appender_rolling.specs.Roller.{Rolling, OpensRoller}
 use Rattle.appender_rolling.specs.declared.rolling.Switch.{Switch}
 use Rattle.appender_rolling.specs.declared.rolling.Switch.TheVariants.{None as Stayed, Opened as Switched, Failed as SwitchFailed}
 use Rattle.appender_replay.specs.Run.{Event, Attempt, period_at, stamp_at, last_stamp, last_opened, times, key_of, key_at, Seen, NotedAtAttempts, PiecesFit}
-use Rattle.appender_replay.specs.Replay.{Told, LeadsTo, RunsFrom, RollDoes, roll_event, events_by, told_onto, seen_of, seen_after, seen_in}
+use Rattle.appender_replay.specs.Replay.{RollAnswered, RollerFollows, LeadsTo, RunsFrom, RollDoes, roll_event, events_by, with_replies_onto, seen_of, seen_after, seen_in}
 use Rattle.appender_replay.proofs.Periods.{Laws, IsLater, IsLaterKey}
 use Rattle.appender_replay.proofs.Turns.{LooksBy, Turns, step_turns}
 use Rattle.appender_replay.proofs.Clocks.{ClockSoFar, Comes, Stays, Goes, comes, stamp_by, clock_begins, clock_goes_on, turn_decides, turn_keeps}
 use Rattle.appender_replay.proofs.Owners.{OtherNames}
 use Rattle.appender_replay.proofs.NamesLeft.{names_after, nothing_survives}
-use Rattle.appender_replay.proofs.Files.{FilesSoFar, Succeeds, no_attempt, a_failure, a_success, a_piece, files_begin}
+use Rattle.appender_replay.proofs.Files.{FilesSoFar, Succeeds, no_attempt, a_failure, a_success, a_piece, files_begin, law_so_far, periods_so_far}
+use Rattle.appender_replay.proofs.Bounds.{keeps_to_limit}
+use Rattle.appender_replay.proofs.Unlimited.{switch_at_arrivals}
 
 same_moment : (a b : ℤ) → ◌≡◌ {A = Option ℤ} (Some a) (Some b) → a ≡ b
 same_moment a b e = cc
@@ -39,7 +41,7 @@ pub record Grounds {S F : Type 0} (kind : Ghosts S F) (config : Config) : Type 0
   pub others : OtherNames config
   pub maps : NameLaws
   pub parts : PartsKeep
-  pub sound : (folder : S) → IsTrue kind.tells → IsSound (kind.content folder)
+  pub sound : (folder : S) → IsTrue kind.is_known → IsSound (kind.content folder)
 
 -- the events of any kind of step, one after another
 abbrev pub TurnsFrom : {S F : Type 0} → Ghosts S F → List Event → Rolling S F → Rolling S F → Type 0
@@ -47,42 +49,42 @@ TurnsFrom kind = LeadsTo (λ earlier. Turns kind)
 
 -- what leads from roller to roller step by step does so turn by turn
 abbrev turns_from : {S F T : Type 0} (kind : Ghosts S F) (does : List T → T → Rolling S F → Rolling S F → Type 0) (event : List T → T → Event) → ((earlier : List T) (t : T) (old new : Rolling S F) → does earlier t old new → Turns kind (event earlier t) old new)
-    → (told : List T) (old new : Rolling S F) → LeadsTo does told old new → TurnsFrom kind (events_by event told) old new
+    → (past : List T) (old new : Rolling S F) → LeadsTo does past old new → TurnsFrom kind (events_by event past) old new
 turns_from kind does event turn [] old new runs = runs
-turns_from kind does event turn (t ∷ told) old new (between, earlier, is) = (between, turns_from kind does event turn told old between earlier, turn told t between new is)
+turns_from kind does event turn (t ∷ past) old new (between, earlier, is) = (between, turns_from kind does event turn past old between earlier, turn past t between new is)
 
 -- what is seen after each step of a run of turns
 abbrev IsSeen : {S F : Type 0} → (kind : Ghosts S F) → (ℕ → Seen) → (h : List Event) (old new : Rolling S F) → TurnsFrom kind h old new → Type 0
 IsSeen kind seen [] old new runs = seen 0 ≡ seen_of kind [] old
 IsSeen kind seen (e ∷ h) old new (between, runs, is) = (seen (suc (length h)) ≡ seen_of kind e.piece new) × IsSeen kind seen h old between runs
 
-length-events : {T : Type 0} (event : List T → T → Event) (told : List T) → length (events_by event told) ≡ length told
+length-events : {T : Type 0} (event : List T → T → Event) (past : List T) → length (events_by event past) ≡ length past
 length-events event [] = refl
-length-events event (t ∷ told) = ap suc (length-events event told)
+length-events event (t ∷ past) = ap suc (length-events event past)
 
 -- so it is of what was seen of the steps
 is_seen : {S F T : Type 0} (kind : Ghosts S F) (does : List T → T → Rolling S F → Rolling S F → Type 0) (event : List T → T → Event) (turn : (earlier : List T) (t : T) (old new : Rolling S F) → does earlier t old new → Turns kind (event earlier t) old new)
-    → (seen : ℕ → Seen) (told : List T) (old new : Rolling S F) (runs : LeadsTo does told old new) → ((n : ℕ) → n ≤ length told → seen n ≡ seen_after kind event does told old new runs n)
-    → IsSeen kind seen (events_by event told) old new (turns_from kind does event turn told old new runs)
+    → (seen : ℕ → Seen) (past : List T) (old new : Rolling S F) (runs : LeadsTo does past old new) → ((n : ℕ) → n ≤ length past → seen n ≡ seen_after kind event does past old new runs n)
+    → IsSeen kind seen (events_by event past) old new (turns_from kind does event turn past old new runs)
 is_seen kind does event turn seen [] old new runs agree = agree 0 (omega arith)
-is_seen kind does event turn seen (t ∷ told) old new (between, runs, is) agree =
-    let yes : nat_le (suc (length told)) (suc (length told)) ≡ true = grind arith in (
-      ap (λ n. seen (suc n)) (length-events event told) ∙ agree (suc (length told)) (omega arith) ∙ rw yes refl,
-      is_seen kind does event turn seen told old between runs (λ n le. agree n (omega arith) ∙ (let no : nat_le (suc (length told)) n ≡ false = grind arith in rw no refl)),
+is_seen kind does event turn seen (t ∷ past) old new (between, runs, is) agree =
+    let yes : nat_le (suc (length past)) (suc (length past)) ≡ true = grind arith in (
+      ap (λ n. seen (suc n)) (length-events event past) ∙ agree (suc (length past)) (omega arith) ∙ rw yes refl,
+      is_seen kind does event turn seen past old between runs (λ n le. agree n (omega arith) ∙ (let no : nat_le (suc (length past)) n ≡ false = grind arith in rw no refl)),
     )
 
 module _ {S F : Type 0} (kind : Ghosts S F) (config : Config) (start : Stamp) (first : S) (begin : Counts) (seen : ℕ → Seen) where
   -- the law of the files for a roller
   abbrev pub Holds : List Event → List Event → Rolling S F → Type 0
-  Holds told h now =
-      FilesSoFar config start seen told h (kind.content first) (kind.content now.folder) begin (kind.noted now.folder) now.opened (kind.body now.file)
+  Holds past h now =
+      FilesSoFar config start seen past h (kind.content first) (kind.content now.folder) begin (kind.noted now.folder) now.opened (kind.body now.file)
 
   -- What is known after a run.
   pub record RunSoFar (h : List Event) (now : Rolling S F) : Type 0 where
     pub config_is : now.config ≡ config
     pub is_stamp : IsStamp config start
     pub clock : ClockSoFar config start h now
-    pub files : IsTrue kind.tells → Holds h h now
+    pub files : IsTrue kind.is_known → Holds h h now
     pub opened_is : now.opened ≡ last_opened start (times config start h)
     pub noted : NotedAtAttempts config start seen h
     pub seen_content : (seen (length h)).content ≡ kind.content now.folder
@@ -103,10 +105,10 @@ module _ {S F : Type 0} (kind : Ghosts S F) (config : Config) (start : Stamp) (f
     }
 
     -- and what it did
-    succeeds : (step : ℕ) (m : Stamp) (old ready new : S) (file : F) → IsTrue kind.tells → OpensFile kind config (file_name_of config m) old file ready → kind.content new ≡ kind.content ready → (IsQuiet (kind.noted old) (kind.noted new) → IsQuiet (kind.noted old) (kind.noted ready)) → Succeeds config (attempted step m old new file) (kind.body file)
-    succeeds step m old ready new file tells o same quieter =
-        let only_old = o.prunes.only_old tells in
-        let survivors = λ (quiet : IsQuiet (kind.noted old) (kind.noted new)). o.prunes.survivors (subst (λ (n : Counts). IsQuiet (kind.noted old) n) o.noted (quieter quiet)) tells in
+    succeeds : (step : ℕ) (m : Stamp) (old ready new : S) (file : F) → IsTrue kind.is_known → OpensFile kind config (file_name_of config m) old file ready → kind.content new ≡ kind.content ready → (IsQuiet (kind.noted old) (kind.noted new) → IsQuiet (kind.noted old) (kind.noted ready)) → Succeeds config (attempted step m old new file) (kind.body file)
+    succeeds step m old ready new file is_known o same quieter =
+        let only_old = o.prunes.only_old is_known in
+        let survivors = λ (quiet : IsQuiet (kind.noted old) (kind.noted new)). o.prunes.survivors (subst (λ (n : Counts). IsQuiet (kind.noted old) n) o.noted (quieter quiet)) is_known in
         record {
           did = record {
             pruned = kind.content o.pruned;
@@ -116,15 +118,15 @@ module _ {S F : Type 0} (kind : Ghosts S F) (config : Config) (start : Stamp) (f
             names = names_after grounds.maps config (attempted step m old new file) (kind.body file) (kind.content o.pruned) (kind.content o.unlinked) only_old
                 (λ quiet. elim quiet [
                   | inl q ↦ survivors q
-                  | inr gone ↦ nothing_survives (naming_of config) config.max_files (kind.content old) (kind.content o.pruned) (grounds.sound old tells) gone only_old
-                ]) (o.gets.opens tells) (rw same (o.linked tells));
-            opens = o.gets.opens tells;
-            links = rw same (o.linked tells);
-            at_most = λ quiet some. rw same (o.at_most (quieter quiet) tells some);
+                  | inr gone ↦ nothing_survives (naming_of config) config.max_files (kind.content old) (kind.content o.pruned) (grounds.sound old is_known) gone only_old
+                ]) (o.gets.opens is_known) (rw same (o.linked is_known));
+            opens = o.gets.opens is_known;
+            links = rw same (o.linked is_known);
+            at_most = λ quiet some. rw same (o.at_most (quieter quiet) is_known some);
           };
-          sound = grounds.sound o.unlinked tells;
-          unlinked_there = o.gets.body_is_there tells;
-          there = rw same (o.body_is_there tells);
+          sound = grounds.sound o.unlinked is_known;
+          unlinked_there = o.gets.body_is_there is_known;
+          there = rw same (o.body_is_there is_known);
         }
 
     run_begins : (now : Rolling S F) → (o : OpensRoller kind config start.moment first now) → o.number ≡ start.number → kind.noted o.listed ≡ begin → seen 0 ≡ seen_of kind [] now → RunSoFar [] now
@@ -136,8 +138,8 @@ module _ {S F : Type 0} (kind : Ghosts S F) (config : Config) (start : Stamp) (f
           config_is = o.config_is;
           is_stamp = is_stamp;
           clock = clock_begins config start grounds.laws now is_stamp (o.last ∙ same) o.boundary o.room;
-          files = λ tells. subst (λ (x : Stamp). FilesSoFar config start seen [] [] (kind.content first) (kind.content now.folder) begin (kind.noted now.folder) x (kind.body now.file)) (sym (o.opened ∙ same))
-              (rw (← o.finds.content, ← counts) (files_begin config start seen grounds.parts grounds.maps (attempted 0 start o.listed now.folder now.file) (kind.body now.file) refl refl refl is_stamp (succeeds 0 start o.listed now.folder now.folder now.file tells opens refl (λ quiet. quiet))
+          files = λ is_known. subst (λ (x : Stamp). FilesSoFar config start seen [] [] (kind.content first) (kind.content now.folder) begin (kind.noted now.folder) x (kind.body now.file)) (sym (o.opened ∙ same))
+              (rw (← o.finds.content, ← counts) (files_begin config start seen grounds.parts grounds.maps (attempted 0 start o.listed now.folder now.file) (kind.body now.file) refl refl refl is_stamp (succeeds 0 start o.listed now.folder now.folder now.file is_known opens refl (λ quiet. quiet))
               (record { before = refl; noted_before = refl; after = rw is_seen_now (sym (after_append_nothing (kind.content now.folder) (kind.body now.file))); noted_after = sym (ap (λ (s : Seen). s.noted) is_seen_now) })));
           opened_is = o.opened ∙ same;
           noted = tt;
@@ -169,8 +171,8 @@ module _ {S F : Type 0} (kind : Ghosts S F) (config : Config) (start : Stamp) (f
         noted_after : kind.noted now.folder ≡ (seen (suc (length h))).noted
 
       -- after the look at the clock of a step, and before its piece
-      looked : (e : Event) (h : List Event) (old now : Rolling S F) → AtStep e h old now → IsTrue kind.tells → old.config ≡ config → Comes config start grounds.laws e h old → Holds h h old → (switch : Switch) → e.switch ≡ switch → LooksBy kind e.read e.offered switch old now → Holds (e ∷ h) h now
-      looked e h old now at_step tells same come so switch is looks = by e.read refl switch is come looks
+      looked : (e : Event) (h : List Event) (old now : Rolling S F) → AtStep e h old now → IsTrue kind.is_known → old.config ≡ config → Comes config start grounds.laws e h old → Holds h h old → (switch : Switch) → e.switch ≡ switch → LooksBy kind e.read e.offered switch old now → Holds (e ∷ h) h now
+      looked e h old now at_step is_known same come so switch is looks = by e.read refl switch is come looks
         where
           by : (read : Option ℤ) → e.read ≡ read → (switch : Switch) → e.switch ≡ switch → Comes config start grounds.laws e h old → LooksBy kind read e.offered switch old now → Holds (e ∷ h) h now
           by None read switch is (Stays none agrees stays) looks =
@@ -183,23 +185,23 @@ module _ {S F : Type 0} (kind : Ghosts S F) (config : Config) (start : Stamp) (f
           by (Some m) read Switched is (Goes s some agrees is_stamp period later) looks =
               let it : looks.at_stamp ≡ s = same_stamp looks.at_stamp s (sym looks.cause ∙ (rw read at agrees)) in
               let opens : OpensFile kind config (file_name_of config s) old.folder now.file looks.ready = rw (← same, ← it) looks.opens in
-              let did = succeeds (suc (length h)) s old.folder looks.ready now.folder now.file tells opens looks.content looks.quiet in
+              let did = succeeds (suc (length h)) s old.folder looks.ready now.folder now.file is_known opens looks.content looks.quiet in
               subst (λ (x : Stamp). FilesSoFar config start seen (e ∷ h) h (kind.content first) (kind.content now.folder) begin (kind.noted now.folder) x (kind.body now.file)) (sym (looks.opened ∙ it))
               (a_success config start seen grounds.parts grounds.maps grounds.laws grounds.others starts e h (kind.content first) begin old.opened (kind.body old.file) s some is_stamp (key s e h some period) (later_key s e h some later)
               (attempted (suc (length h)) s old.folder now.folder now.file) (kind.body now.file) is refl refl refl did (record { before = at_step.before; noted_before = at_step.noted_before; after = at_step.after; noted_after = at_step.noted_after }) so)
           by (Some m) read SwitchFailed is (Stays none agrees stays) looks = absurd (let both : ◌≡◌ {A = Option Stamp} None (Some looks.at_stamp) = sym (rw read at agrees) ∙ looks.cause in cc)
           by (Some m) read SwitchFailed is (Goes s some agrees is_stamp period later) looks =
               let it : looks.at_stamp ≡ s = same_stamp looks.at_stamp s (sym looks.cause ∙ (rw read at agrees)) in
-              let little : LeavesLittle config (file_name_of config s) (kind.content old.folder) (kind.content now.folder) = rw (← it, ← same) (looks.content tells) in
+              let little : LeavesLittle config (file_name_of config s) (kind.content old.folder) (kind.content now.folder) = rw (← it, ← same) (looks.content is_known) in
               rw (looks.opened, looks.file)
               (a_failure config start seen grounds.parts grounds.maps grounds.laws grounds.others starts e h (kind.content first) begin old.opened (kind.body old.file) s some is_stamp (key s e h some period) (later_key s e h some later)
               (kind.content old.folder) (kind.content now.folder) (kind.noted old.folder) (kind.noted now.folder) is little (record { before = at_step.before; noted_before = at_step.noted_before; after = at_step.after; noted_after = at_step.noted_after }) so)
 
       -- after its piece
-      turned : (e : Event) (h : List Event) (old new : Rolling S F) → IsTrue kind.tells → Comes config start grounds.laws e h old → old.config ≡ config → Holds h h old → (t : Turns kind e old new) → AtStep e h old t.between → Holds (e ∷ h) (e ∷ h) new
-      turned e h old new tells come same so t at_step =
-          let between = looked e h old t.between at_step tells same come so e.switch refl t.looks in
-          rw (t.content tells, t.stays.opened, t.stays.file, t.stays.noted)
+      turned : (e : Event) (h : List Event) (old new : Rolling S F) → IsTrue kind.is_known → Comes config start grounds.laws e h old → old.config ≡ config → Holds h h old → (t : Turns kind e old new) → AtStep e h old t.between → Holds (e ∷ h) (e ∷ h) new
+      turned e h old new is_known come same so t at_step =
+          let between = looked e h old t.between at_step is_known same come so e.switch refl t.looks in
+          rw (t.content is_known, t.stays.opened, t.stays.file, t.stays.noted)
           (a_piece config start seen e h (kind.content first) (kind.content t.between.folder) begin (kind.noted t.between.folder) t.between.opened (kind.body t.between.file) between)
 
       opened_by : (e : Event) (h : List Event) (old now : Rolling S F) (read : Option ℤ) → e.read ≡ read → (switch : Switch) → e.switch ≡ switch → Comes config start grounds.laws e h old → LooksBy kind read e.offered switch old now
@@ -232,10 +234,10 @@ module _ {S F : Type 0} (kind : Ghosts S F) (config : Config) (start : Stamp) (f
             config_is = turn_keeps kind e old new turns ∙ so.config_is;
             is_stamp = so.is_stamp;
             clock = clock_goes_on config start grounds.laws e h old new so.config_is so.clock come (turn_decides kind e old new turns);
-            files = λ tells. turned e h old new tells come so.config_is (so.files tells) turns (record {
+            files = λ is_known. turned e h old new is_known come so.config_is (so.files is_known) turns (record {
               before = sym so.seen_content;
               noted_before = sym so.seen_noted;
-              after = rw (is_seen_now, turns.stays.file) (turns.content tells);
+              after = rw (is_seen_now, turns.stays.file) (turns.content is_known);
               noted_after = sym (ap (λ (s : Seen). s.noted) is_seen_now ∙ turns.stays.noted);
             });
             seen_content = ap (λ (s : Seen). s.content) is_seen_now;
@@ -254,21 +256,38 @@ module _ {S F : Type 0} (kind : Ghosts S F) (config : Config) (start : Stamp) (f
     turns_law (e ∷ h) opened now o number counts (between, earlier, turns) is = turn_goes_on o.in_range e h between now (turns_law h opened between o number counts earlier is.1) turns is.0
 
 -- any run whose steps are turns of a roller does
-pub run_law : {S F T : Type 0} (kind : Ghosts S F) (does : List T → T → Rolling S F → Rolling S F → Type 0) (event : List T → T → Event) (config : Config) (start : ℤ) (number : ℕ) (folder : S) (told : List T) (last : Rolling S F) → ((earlier : List T) (t : T) (old new : Rolling S F) → does earlier t old new → Turns kind (event earlier t) old new) → Grounds kind config → (run : RunsFrom kind does config start number folder told last) → RunSoFar kind config (stamp start number) folder (kind.noted run.opens.listed) (seen_in event run) (events_by event told) last
-run_law kind does event config start number folder told last turn grounds run =
-    turns_law kind config (stamp start number) folder (kind.noted run.opens.listed) (seen_in event run) grounds (events_by event told) run.first last run.opens run.number_is refl (turns_from kind does event turn told run.first last run.runs)
-    (is_seen kind does event turn (seen_in event run) told run.first last run.runs (λ n le. refl))
+pub run_law : {S F T : Type 0} (kind : Ghosts S F) (does : List T → T → Rolling S F → Rolling S F → Type 0) (event : List T → T → Event) (config : Config) (start : ℤ) (number : ℕ) (folder : S) (past : List T) (last : Rolling S F) → ((earlier : List T) (t : T) (old new : Rolling S F) → does earlier t old new → Turns kind (event earlier t) old new) → Grounds kind config → (run : RunsFrom kind does config start number folder past last) → RunSoFar kind config (stamp start number) folder (kind.noted run.opens.listed) (seen_in event run) (events_by event past) last
+run_law kind does event config start number folder past last turn grounds run =
+    turns_law kind config (stamp start number) folder (kind.noted run.opens.listed) (seen_in event run) grounds (events_by event past) run.first last run.opens run.number_is refl (turns_from kind does event turn past run.first last run.runs)
+    (is_seen kind does event turn (seen_in event run) past run.first last run.runs (λ n le. refl))
 
 -- and so does a run of a roller's own steps
-pub roll_law : {S F : Type 0} (kind : Ghosts S F) (config : Config) (start : ℤ) (number : ℕ) (folder : S) (told : List Told) (last : Rolling S F) → Grounds kind config → (run : RunsFrom kind (RollDoes kind) config start number folder told last) → RunSoFar kind config (stamp start number) folder (kind.noted run.opens.listed) (seen_in roll_event run) (events_by roll_event told) last
-roll_law kind config start number folder told last = run_law kind (RollDoes kind) roll_event config start number folder told last (λ earlier. step_turns kind)
+pub roll_law : {S F : Type 0} (kind : Ghosts S F) (config : Config) (start : ℤ) (number : ℕ) (folder : S) (past : List RollAnswered) (last : Rolling S F) → Grounds kind config → (run : RunsFrom kind (RollDoes kind) config start number folder past last) → RunSoFar kind config (stamp start number) folder (kind.noted run.opens.listed) (seen_in roll_event run) (events_by roll_event past) last
+roll_law kind config start number folder past last = run_law kind (RollDoes kind) roll_event config start number folder past last (λ earlier. step_turns kind)
+
+-- what a run that keeps to the laws says of its roller
+pub follows : {S F T : Type 0} (kind : Ghosts S F) (does : List T → T → Rolling S F → Rolling S F → Type 0) (event : List T → T → Event) (config : Config) (start : ℤ) (number : ℕ) (folder : S) (past : List T) (last : Rolling S F)
+    → ((run : RunsFrom kind does config start number folder past last) → RunSoFar kind config (stamp start number) folder (kind.noted run.opens.listed) (seen_in event run) (events_by event past) last)
+    → RunsFrom kind does config start number folder past last → RollerFollows kind does event config start number folder past last
+follows kind does event config start number folder past last law run =
+    let so = law run in
+    record {
+      config_is = so.config_is;
+      switches = so.clock.switches;
+      arrivals = λ unlimited. switch_at_arrivals config _ unlimited _ so.clock.switches;
+      boundary_is = so.clock.boundary_is;
+      opened_is = so.opened_is;
+      files = λ known run. law_so_far _ _ _ _ _ _ _ _ _ _ ((law run).files known) (law run).is_stamp (keeps_to_limit config _ _ _ ((law run).files known).are_times (law run).clock.switches (law run).fit);
+      standing_files = λ known run. periods_so_far _ _ _ _ _ _ _ _ _ _ ((law run).files known) (law run).is_stamp;
+      notices = λ run. (law run).noted;
+    }
 
 -- one more step
-pub told_more : {S R : Type 0} (told : List (S × R)) (steps : List S) (replies : List R) (s : S) (r : R) → length steps ≡ length replies → told_onto told (steps ++ s ∷ []) (replies ++ r ∷ []) ≡ (s, r) ∷ told_onto told steps replies
-told_more told [] [] s r e = refl
-told_more told [] (q ∷ replies) s r e = absurd (omega arith)
-told_more told (p ∷ steps) [] s r e = absurd (omega arith)
-told_more told (p ∷ steps) (q ∷ replies) s r e = told_more ((p, q) ∷ told) steps replies s r (omega arith)
+pub one_reply_more : {S R : Type 0} (past : List (S × R)) (steps : List S) (replies : List R) (s : S) (r : R) → length steps ≡ length replies → with_replies_onto past (steps ++ s ∷ []) (replies ++ r ∷ []) ≡ (s, r) ∷ with_replies_onto past steps replies
+one_reply_more past [] [] s r e = refl
+one_reply_more past [] (q ∷ replies) s r e = absurd (omega arith)
+one_reply_more past (p ∷ steps) [] s r e = absurd (omega arith)
+one_reply_more past (p ∷ steps) (q ∷ replies) s r e = one_reply_more ((p, q) ∷ past) steps replies s r (omega arith)
 
 -- names of later periods are others, and in one period those of greater numbers, by the law on names
 never_is : (k : RotationKind) (m : ℤ) → period_of_kind k m ≡ None → k ≡ Never

@@ -70,9 +70,9 @@ step_in_turn q core lines (DropSender, reply) a = tt
 step_in_turn q core lines (Work m, reply) a = work_in_turn q core lines m reply a
 
 -- What is known of the events of these steps.
-record Tells (told : List Answered) : Type 0 where
-  ends_are : ends (Taking true) (worker_events told) ≡ worker_after told
-  in_turns : runs (Taking true) (worker_events told) ≡ true
+record Tells (past : List Answered) : Type 0 where
+  ends_are : ends (Taking true) (worker_events past) ≡ worker_after past
+  in_turns : runs (Taking true) (worker_events past) ≡ true
 
 ends_at_end : (es : List Event) (core : Core) (o : Option Event) → ends (Taking true) es ≡ core → ends (Taking true) (at_end es o) ≡ after_event core o
 ends_at_end es core None so = so
@@ -82,15 +82,15 @@ runs_at_end : (es : List Event) (core : Core) (o : Option Event) → ends (Takin
 runs_at_end es core None so r t = r
 runs_at_end es core (Some e) so r t = runs_more (Taking true) es e r (ap (λ c. in_turn c e) so ∙ t)
 
-tells : (limit : ℕ) (lossy : Bool) (told : List Answered) → Answers limit lossy told → Tells told
-tells limit lossy [] a = record { ends_are = refl; in_turns = refl }
-tells limit lossy (t ∷ told) a =
-    let so = tells limit lossy told a.0 in
-    let es : List Event = worker_events told in
-    let o : Option Event = worker_event (accepted_lines told) t in
+is_known : (limit : ℕ) (lossy : Bool) (past : List Answered) → Answers limit lossy past → Tells past
+is_known limit lossy [] a = record { ends_are = refl; in_turns = refl }
+is_known limit lossy (t ∷ past) a =
+    let so = is_known limit lossy past a.0 in
+    let es : List Event = worker_events past in
+    let o : Option Event = worker_event (accepted_lines past) t in
     record {
-      ends_are = ends_at_end es (worker_after told) o so.ends_are;
-      in_turns = runs_at_end es (worker_after told) o so.ends_are so.in_turns (step_in_turn (queue_after limit lossy told) (worker_after told) (accepted_lines told) t a.1);
+      ends_are = ends_at_end es (worker_after past) o so.ends_are;
+      in_turns = runs_at_end es (worker_after past) o so.ends_are so.in_turns (step_in_turn (queue_after limit lossy past) (worker_after past) (accepted_lines past) t a.1);
     }
 
 -- the laws of a worker's run that are used, as the crate below states them
@@ -99,17 +99,17 @@ pub record WorkerLaws : Type 0 where
   pub flushes : (es : List Event) → runs (Taking true) es ≡ true → FlushesFollow (passes_of (Taking true) es)
   pub ends_for_good : (es fs : List Event) → runs (Taking true) (es ++ DidTake Last ∷ fs) ≡ true → IsEnd fs (ends (Taking true) (es ++ DidTake Last ∷ fs))
 
-pub text_law : (limit : ℕ) (lossy : Bool) (told : List Answered) → WorkerLaws → Answers limit lossy told → TextLaw told
-text_law limit lossy told laws a =
-    let so = tells limit lossy told a in
-    let written = lines_so_far limit lossy told a in
+pub text_law : (limit : ℕ) (lossy : Bool) (past : List Answered) → WorkerLaws → Answers limit lossy past → TextLaw past
+text_law limit lossy past laws a =
+    let so = is_known limit lossy past a in
+    let written = lines_so_far limit lossy past a in
     record {
       lines = written.lines;
       text = written.text;
       begun = written.begun;
-      done = are_done (worker_after told) (written_lines told) written.done;
-      waits = laws.waits (worker_events told) so.in_turns;
-      flushes = laws.flushes (worker_events told) so.in_turns;
+      done = are_done (worker_after past) (written_lines past) written.done;
+      waits = laws.waits (worker_events past) so.in_turns;
+      flushes = laws.flushes (worker_events past) so.in_turns;
       ends = λ before fs is.
           let r : runs (Taking true) (before ++ DidTake Last ∷ fs) ≡ true = ap (runs (Taking true)) (sym is) ∙ so.in_turns in
           subst (λ (c : Core). IsEnd fs c) (ap (ends (Taking true)) (sym is) ∙ so.ends_are) (laws.ends_for_good before fs r);

@@ -8,7 +8,7 @@ use Rattle.appender_store.specs.declared.store.Folder.{Ghosts}
 use Rattle.appender_store.proofs.Appends.{after_append_nothing}
 use Rattle.appender_rolling.specs.Roller.{Rolling, Looks, Writes, StaysOpen, count_of}
 use Rattle.appender_replay.specs.Run.{Event}
-use Rattle.appender_replay.specs.Replay.{Told, StepDoes, kind_told, event_of}
+use Rattle.appender_replay.specs.Replay.{RollAnswered, StepDoes, by_kind, event_of}
 use Rattle.appender_rolling.specs.declared.rolling.Switch.{Switch}
 use Rattle.appender_rolling.specs.declared.rolling.Switch.TheVariants.{None as Stayed}
 use Rattle.appender_replay.specs.declared.replay.RollStep.TheVariants.{See, Put, Write, Flush}
@@ -23,7 +23,7 @@ LooksBy kind (Some m) len switch old new = Looks kind m len switch old new
 pub record Turns {S F : Type 0} (kind : Ghosts S F) (e : Event) (old new : Rolling S F) : Type 0 where
   pub between : Rolling S F
   pub looks : LooksBy kind e.read e.offered e.switch old between
-  pub content : IsTrue kind.tells → kind.content new.folder ≡ after_append (kind.content between.folder) (kind.body between.file) e.piece
+  pub content : IsTrue kind.is_known → kind.content new.folder ≡ after_append (kind.content between.folder) (kind.body between.file) e.piece
   pub stays : StaysOpen kind between new
   pub room : new.room ≡ between.room - length e.piece
   pub fits : length e.piece ≤ e.offered
@@ -31,56 +31,56 @@ pub record Turns {S F : Type 0} (kind : Ghosts S F) (e : Event) (old new : Rolli
 pub stays_same : {S F : Type 0} (kind : Ghosts S F) (r : Rolling S F) → StaysOpen kind r r
 stays_same kind r = record { config_is = refl; opened = refl; last = refl; boundary = refl; file = refl; noted = refl }
 
-pub count_told : (answer : Result ℕ Error) (told : Result ℕ ErrorKind) → told ≡ kind_told answer → count_of told ≡ count_of answer
-count_told (Ok n) told e = ap count_of e
-count_told (Err fault) told e = ap count_of e
+pub count_by_kind : (answer : Result ℕ Error) (shown : Result ℕ ErrorKind) → shown ≡ by_kind answer → count_of shown ≡ count_of answer
+count_by_kind (Ok n) shown e = ap count_of e
+count_by_kind (Err fault) shown e = ap count_of e
 
 -- a write adds its piece
-pub written_piece : {S F : Type 0} (kind : Ghosts S F) (bytes : List ℕ) (answer : Result ℕ Error) (told : Result ℕ ErrorKind) (old new : Rolling S F) → told ≡ kind_told answer → Writes kind bytes answer old new → IsTrue kind.tells → kind.content new.folder ≡ after_append (kind.content old.folder) (kind.body old.file) (take (count_of told) bytes)
-written_piece kind bytes answer told old new e w tells =
-    w.content tells ∙ ap (λ (n : ℕ). after_append (kind.content old.folder) (kind.body old.file) (take n bytes)) (sym (count_told answer told e))
+pub written_piece : {S F : Type 0} (kind : Ghosts S F) (bytes : List ℕ) (answer : Result ℕ Error) (shown : Result ℕ ErrorKind) (old new : Rolling S F) → shown ≡ by_kind answer → Writes kind bytes answer old new → IsTrue kind.is_known → kind.content new.folder ≡ after_append (kind.content old.folder) (kind.body old.file) (take (count_of shown) bytes)
+written_piece kind bytes answer shown old new e w is_known =
+    w.content is_known ∙ ap (λ (n : ℕ). after_append (kind.content old.folder) (kind.body old.file) (take n bytes)) (sym (count_by_kind answer shown e))
 
-pub written_room : (bytes : List ℕ) (answer : Result ℕ Error) (told : Result ℕ ErrorKind) (old new : ℕ) → told ≡ kind_told answer → count_of answer ≤ length bytes → new ≡ old - count_of answer → new ≡ old - length (take (count_of told) bytes)
-written_room bytes answer told old new e bound is =
-    let count = count_told answer told e in
-    let taken : length (take (count_of told) bytes) ≡ count_of told = length-take-le (count_of told) bytes (rw count bound) in
+pub written_room : (bytes : List ℕ) (answer : Result ℕ Error) (shown : Result ℕ ErrorKind) (old new : ℕ) → shown ≡ by_kind answer → count_of answer ≤ length bytes → new ≡ old - count_of answer → new ≡ old - length (take (count_of shown) bytes)
+written_room bytes answer shown old new e bound is =
+    let count = count_by_kind answer shown e in
+    let taken : length (take (count_of shown) bytes) ≡ count_of shown = length-take-le (count_of shown) bytes (rw count bound) in
     rw (taken, count) is
 
-pub written_fits : (bytes : List ℕ) (answer : Result ℕ Error) (told : Result ℕ ErrorKind) → told ≡ kind_told answer → count_of answer ≤ length bytes → length (take (count_of told) bytes) ≤ length bytes
-written_fits bytes answer told e bound =
-    let count = count_told answer told e in
-    let taken : length (take (count_of told) bytes) ≡ count_of told = length-take-le (count_of told) bytes (rw count bound) in
+pub written_fits : (bytes : List ℕ) (answer : Result ℕ Error) (shown : Result ℕ ErrorKind) → shown ≡ by_kind answer → count_of answer ≤ length bytes → length (take (count_of shown) bytes) ≤ length bytes
+written_fits bytes answer shown e bound =
+    let count = count_by_kind answer shown e in
+    let taken : length (take (count_of shown) bytes) ≡ count_of shown = length-take-le (count_of shown) bytes (rw count bound) in
     omega (arith, taken, count, bound)
 
-pub step_turns : {S F : Type 0} (kind : Ghosts S F) (t : Told) (old new : Rolling S F) → StepDoes kind t old new → Turns kind (event_of t) old new
+pub step_turns : {S F : Type 0} (kind : Ghosts S F) (t : RollAnswered) (old new : Rolling S F) → StepDoes kind t old new → Turns kind (event_of t) old new
 step_turns kind (See m, Saw switch) old new does = record {
   between = new;
   looks = does;
-  content = λ tells. sym (after_append_nothing (kind.content new.folder) (kind.body new.file));
+  content = λ is_known. sym (after_append_nothing (kind.content new.folder) (kind.body new.file));
   stays = stays_same kind new;
   room = omega arith;
   fits = omega arith;
 }
-step_turns kind (Put m bytes, DidPut switch told) old new does = record {
+step_turns kind (Put m bytes, DidPut switch shown) old new does = record {
   between = does.2.between;
   looks = does.2.looks;
-  content = written_piece kind bytes.items does.0 told does.2.between new does.1 does.2.writes;
+  content = written_piece kind bytes.items does.0 shown does.2.between new does.1 does.2.writes;
   stays = does.2.writes.stays;
-  room = written_room bytes.items does.0 told does.2.between.room new.room does.1 does.2.writes.bound does.2.writes.room;
-  fits = written_fits bytes.items does.0 told does.1 does.2.writes.bound;
+  room = written_room bytes.items does.0 shown does.2.between.room new.room does.1 does.2.writes.bound does.2.writes.room;
+  fits = written_fits bytes.items does.0 shown does.1 does.2.writes.bound;
 }
-step_turns kind (Write bytes, Wrote told) old new does = record {
+step_turns kind (Write bytes, Wrote shown) old new does = record {
   between = old;
   looks = (refl, refl);
-  content = written_piece kind bytes.items does.0 told old new does.1 does.2;
+  content = written_piece kind bytes.items does.0 shown old new does.1 does.2;
   stays = does.2.stays;
-  room = written_room bytes.items does.0 told old.room new.room does.1 does.2.bound does.2.room;
-  fits = written_fits bytes.items does.0 told does.1 does.2.bound;
+  room = written_room bytes.items does.0 shown old.room new.room does.1 does.2.bound does.2.room;
+  fits = written_fits bytes.items does.0 shown does.1 does.2.bound;
 }
-step_turns kind (Flush, Flushed told) old new does = record {
+step_turns kind (Flush, Flushed shown) old new does = record {
   between = old;
   looks = (refl, refl);
-  content = λ tells. does.2.content ∙ sym (after_append_nothing (kind.content old.folder) (kind.body old.file));
+  content = λ is_known. does.2.content ∙ sym (after_append_nothing (kind.content old.folder) (kind.body old.file));
   stays = does.2.stays;
   room = omega (arith, does.2.room);
   fits = omega arith;

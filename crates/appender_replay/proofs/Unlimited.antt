@@ -69,8 +69,8 @@ module _ (c : Config) (start : Stamp) (unlimited : is_limited c ≡ false) where
 
   -- and switches are told at arrivals alone
   pub switch_at_arrivals : (h : List Event) → SwitchesAtAttempts c start h → SwitchesAtArrivals c.rotation start.moment h
-  switch_at_arrivals [] told = tt
-  switch_at_arrivals (e ∷ h) told = (told.0 ∙ by (arrives c.rotation start.moment e h) (is_full c start (times c start h) e h) (never_full (times c start h) e h), switch_at_arrivals h told.1)
+  switch_at_arrivals [] past = tt
+  switch_at_arrivals (e ∷ h) past = (past.0 ∙ by (arrives c.rotation start.moment e h) (is_full c start (times c start h) e h) (never_full (times c start h) e h), switch_at_arrivals h past.1)
     where
       by : (came full : Bool) → full ≡ false → is_some (if came then Some (stamp (latest_moment start.moment (e ∷ h)) 0) else if full then Some (stamp (last_stamp start (times c start h)).moment ((last_stamp start (times c start h)).number + 1)) else None) ≡ came
       by true full is = refl

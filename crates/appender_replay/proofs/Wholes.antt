@@ -16,7 +16,7 @@ use Rattle.appender_replay.specs.Inside.Steps.{Parts, StepDoes, WorkDoes}
 use Rattle.appender_replay.specs.declared.replay.whole.Step.TheVariants.{Offer, Shut, AddSender, DropSender, Work}
 use Rattle.appender_replay.specs.declared.replay.whole.Reply.{Reply}
 use Rattle.appender_replay.specs.declared.replay.whole.Reply.TheVariants.{Took, TookShutdown, TookGone, TookEmpty, Wrote, Flushed}
-use Rattle.appender_replay.proofs.Turns.{Turns, stays_same, count_told, written_piece, written_room, written_fits}
+use Rattle.appender_replay.proofs.Turns.{Turns, stays_same, count_by_kind, written_piece, written_room, written_fits}
 use Rattle.appender_replay.proofs.Runs.{Grounds, RunSoFar, run_law}
 use Rattle.appender_rolling.specs.Config.{stamp}
 use Rattle.appender_rolling.specs.declared.rolling.setup.Stamp.{Stamp}
@@ -24,10 +24,10 @@ use Rattle.appender_replay.proofs.Records.{Stands, stands_on}
 use Rattle.appender_replay.proofs.Orders.{in_order}
 
 -- What is known after these steps.
-pub record GoesFrom {S F : Type 0} (kind : Ghosts S F) (config : Config) (limit : ℕ) (lossy : Bool) (start : ℤ) (number : ℕ) (folder : S) (told : List Answered) (q : Queue) (core : Core) (roller : Rolling S F) : Type 0 where
-  pub stands : Stands limit lossy told q core
-  pub answers : Answers limit lossy told
-  pub runs : RunsFrom kind (WorkerDoes kind) config start number folder told roller
+pub record GoesFrom {S F : Type 0} (kind : Ghosts S F) (config : Config) (limit : ℕ) (lossy : Bool) (start : ℤ) (number : ℕ) (folder : S) (past : List Answered) (q : Queue) (core : Core) (roller : Rolling S F) : Type 0 where
+  pub stands : Stands limit lossy past q core
+  pub answers : Answers limit lossy past
+  pub runs : RunsFrom kind (WorkerDoes kind) config start number folder past roller
 
 -- ---- as a run of files
 
@@ -40,7 +40,7 @@ unfolding quiet
 quiet_turn kind old new same = record {
   between = old;
   looks = (refl, refl);
-  content = λ tells. ap (λ (r : Rolling _ _). kind.content r.folder) same ∙ sym (after_append_nothing (kind.content old.folder) (kind.body old.file));
+  content = λ is_known. ap (λ (r : Rolling _ _). kind.content r.folder) same ∙ sym (after_append_nothing (kind.content old.folder) (kind.body old.file));
   stays = subst (λ (r : Rolling _ _). StaysOpen kind old r) (sym same) (stays_same kind old);
   room = omega (arith, ap (λ (r : Rolling _ _). r.room) same);
   fits = omega arith;
@@ -49,18 +49,18 @@ quiet_turn kind old new same = record {
 -- each step is a look at the clock, or none, and a piece
 roller_turns : {S F : Type 0} (kind : Ghosts S F) (core : Core) (t : Answered) (old new : Rolling S F) → RollerDoes kind core t old new → Turns kind (file_event core t) old new
 unfolding quiet
-roller_turns kind core (Work m, Wrote switch told) old new does = record {
+roller_turns kind core (Work m, Wrote switch shown) old new does = record {
   between = does.2.between;
   looks = does.2.looks;
-  content = written_piece kind (rest_of core) does.0 told does.2.between new does.1 does.2.writes;
+  content = written_piece kind (rest_of core) does.0 shown does.2.between new does.1 does.2.writes;
   stays = does.2.writes.stays;
-  room = written_room (rest_of core) does.0 told does.2.between.room new.room does.1 does.2.writes.bound does.2.writes.room;
-  fits = written_fits (rest_of core) does.0 told does.1 does.2.writes.bound;
+  room = written_room (rest_of core) does.0 shown does.2.between.room new.room does.1 does.2.writes.bound does.2.writes.room;
+  fits = written_fits (rest_of core) does.0 shown does.1 does.2.writes.bound;
 }
-roller_turns kind core (Work m, Flushed told) old new does = record {
+roller_turns kind core (Work m, Flushed shown) old new does = record {
   between = old;
   looks = (refl, refl);
-  content = λ tells. does.2.content ∙ sym (after_append_nothing (kind.content old.folder) (kind.body old.file));
+  content = λ is_known. does.2.content ∙ sym (after_append_nothing (kind.content old.folder) (kind.body old.file));
   stays = does.2.stays;
   room = omega (arith, does.2.room);
   fits = omega arith;
@@ -69,17 +69,17 @@ roller_turns kind core (s, r) old new does = quiet_turn kind old new does
 
 -- a step that writes reads the clock
 event_reads : (core : Core) (t : Answered) → (file_event core t).read ≡ None → (file_event core t).piece ≡ []
-event_reads core (Work m, Wrote switch told) none = absurd (let both : ◌≡◌ {A = Option ℤ} (Some m) None = none in cc)
+event_reads core (Work m, Wrote switch shown) none = absurd (let both : ◌≡◌ {A = Option ℤ} (Some m) None = none in cc)
 event_reads core (s, r) none = refl
 
-pub each_write_reads : (told : List Answered) → EachWriteReadsClock (events told)
+pub each_write_reads : (past : List Answered) → EachWriteReadsClock (events past)
 each_write_reads [] = tt
-each_write_reads (t ∷ told) = (event_reads (worker_after told) t, each_write_reads told)
+each_write_reads (t ∷ past) = (event_reads (worker_after past) t, each_write_reads past)
 
 -- a run keeps to the laws of the clock and of the files
-pub whole_law : {S F : Type 0} (kind : Ghosts S F) (config : Config) (start : ℤ) (number : ℕ) (folder : S) (told : List Answered) (last : Rolling S F) → Grounds kind config → (run : RunsFrom kind (WorkerDoes kind) config start number folder told last) → RunSoFar kind config (stamp start number) folder (kind.noted run.opens.listed) (seen_in worker_event run) (events told) last
-whole_law kind config start number folder told last =
-    run_law kind (WorkerDoes kind) worker_event config start number folder told last (λ earlier. roller_turns kind (worker_after earlier))
+pub whole_law : {S F : Type 0} (kind : Ghosts S F) (config : Config) (start : ℤ) (number : ℕ) (folder : S) (past : List Answered) (last : Rolling S F) → Grounds kind config → (run : RunsFrom kind (WorkerDoes kind) config start number folder past last) → RunSoFar kind config (stamp start number) folder (kind.noted run.opens.listed) (seen_in worker_event run) (events past) last
+whole_law kind config start number folder past last =
+    run_law kind (WorkerDoes kind) worker_event config start number folder past last (λ earlier. roller_turns kind (worker_after earlier))
 
 -- ---- what a step does to the roller
 
@@ -96,13 +96,13 @@ work_rolls kind (Taking waits) m reply old new does =
     let q : Queue = old.queue in
     subst (λ (r : Reply). RollerDoes kind (Taking waits) (Work m, r) old.roller new.roller) (sym does.0)
     (take_rolls kind q.closed (has_line q) (is_sent q.shutdown) (q.senders == 0) (Taking waits) m (q.handed + 1) old.roller new.roller does.3)
-work_rolls kind (Writing rest repeats) m (Wrote switch told) old new does = (does.0.0, does.0.1, does.0.2)
+work_rolls kind (Writing rest repeats) m (Wrote switch shown) old new does = (does.0.0, does.0.1, does.0.2)
 work_rolls kind (Writing rest repeats) m _ old new does = absurd does.0
 work_rolls kind Over m reply old new does =
     subst (λ (r : Reply). RollerDoes kind Over (Work m, r) old.roller new.roller) (sym does.0) does.3
-work_rolls kind Flushing m (Flushed told) old new does = does.0
+work_rolls kind Flushing m (Flushed shown) old new does = does.0
 work_rolls kind Flushing m _ old new does = absurd does.0
-work_rolls kind (Ending n) m (Flushed told) old new does = does.0
+work_rolls kind (Ending n) m (Flushed shown) old new does = does.0
 work_rolls kind (Ending n) m _ old new does = absurd does.0
 
 step_rolls : {S F : Type 0} (kind : Ghosts S F) (t : Answered) (old new : Parts S F) → StepDoes kind t old new → RollerDoes kind old.worker t old.roller new.roller
@@ -116,13 +116,13 @@ step_rolls kind (Work m, reply) old new does = work_rolls kind old.worker m repl
 
 work_answers : {S F : Type 0} (kind : Ghosts S F) (core : Core) (m : ℤ) (reply : Reply) (old new : Parts S F) → WorkDoes kind core m reply old new → WorkAnswers old.queue core reply
 work_answers kind (Taking waits) m reply old new does = does.0
-work_answers kind (Writing rest repeats) m (Wrote switch told) old new does =
-    subst (λ (n : ℕ). n ≤ length rest) (sym (count_told does.0.0 told does.0.1)) does.0.2.writes.bound
+work_answers kind (Writing rest repeats) m (Wrote switch shown) old new does =
+    subst (λ (n : ℕ). n ≤ length rest) (sym (count_by_kind does.0.0 shown does.0.1)) does.0.2.writes.bound
 work_answers kind (Writing rest repeats) m _ old new does = absurd does.0
 work_answers kind Over m reply old new does = does.0
-work_answers kind Flushing m (Flushed told) old new does = tt
+work_answers kind Flushing m (Flushed shown) old new does = tt
 work_answers kind Flushing m _ old new does = absurd does.0
-work_answers kind (Ending n) m (Flushed told) old new does = tt
+work_answers kind (Ending n) m (Flushed shown) old new does = tt
 work_answers kind (Ending n) m _ old new does = absurd does.0
 
 step_answers : {S F : Type 0} (kind : Ghosts S F) (t : Answered) (old new : Parts S F) → StepDoes kind t old new → StepAnswers old.queue old.worker t
@@ -146,17 +146,17 @@ goes_begins kind config limit lossy start number folder q core roller empty begi
     fresh_is true = refl
     fresh_is false = refl
 
-pub goes_on : {S F : Type 0} (kind : Ghosts S F) (config : Config) (limit : ℕ) (lossy : Bool) (start : ℤ) (number : ℕ) (folder : S) (told : List Answered) (t : Answered) (old new : Parts S F)
-    → GoesFrom kind config limit lossy start number folder told old.queue old.worker old.roller → StepDoes kind t old new
-    → GoesFrom kind config limit lossy start number folder (t ∷ told) new.queue new.worker new.roller
-goes_on kind config limit lossy start number folder told t old new so does =
-    let order = in_order limit lossy told so.answers in
-    let does_roll : RollerDoes kind (worker_after told) t old.roller new.roller =
+pub goes_on : {S F : Type 0} (kind : Ghosts S F) (config : Config) (limit : ℕ) (lossy : Bool) (start : ℤ) (number : ℕ) (folder : S) (past : List Answered) (t : Answered) (old new : Parts S F)
+    → GoesFrom kind config limit lossy start number folder past old.queue old.worker old.roller → StepDoes kind t old new
+    → GoesFrom kind config limit lossy start number folder (t ∷ past) new.queue new.worker new.roller
+goes_on kind config limit lossy start number folder past t old new so does =
+    let order = in_order limit lossy past so.answers in
+    let does_roll : RollerDoes kind (worker_after past) t old.roller new.roller =
     subst (λ (c : Core). RollerDoes kind c t old.roller new.roller) so.stands.worker (step_rolls kind t old new does) in
-    let by_queue : StepAnswers (queue_after limit lossy told) old.worker t =
+    let by_queue : StepAnswers (queue_after limit lossy past) old.worker t =
     subst (λ (q : Queue). StepAnswers q old.worker t) so.stands.queue (step_answers kind t old new does) in
     record {
-      stands = stands_on limit lossy told kind t old new order.most so.stands does;
-      answers = (so.answers, subst (λ (c : Core). StepAnswers (queue_after limit lossy told) c t) so.stands.worker by_queue);
+      stands = stands_on limit lossy past kind t old new order.most so.stands does;
+      answers = (so.answers, subst (λ (c : Core). StepAnswers (queue_after limit lossy past) c t) so.stands.worker by_queue);
       runs = record { first = so.runs.first; opens = so.runs.opens; number_is = so.runs.number_is; runs = (old.roller, so.runs.runs, does_roll) };
     }

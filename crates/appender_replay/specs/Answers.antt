@@ -8,7 +8,7 @@ use Rattle.appender_queue.specs.Queue.{Queue, is_open, has_room, is_sent, has_li
 use Rattle.appender_queue.specs.QueueReplies.{shut_reply}
 use Rattle.appender_store.specs.declared.store.Folder.{Ghosts}
 use Rattle.appender_replay.specs.Record.{Answered, queue_after, worker_after}
-use Rattle.appender_replay.specs.Replay.{kind_told, events_by}
+use Rattle.appender_replay.specs.Replay.{by_kind, events_by}
 use Rattle.appender_rolling.specs.Roller.{Rolling, Puts, Flushes, count_of}
 use Rattle.appender_replay.specs.Run.{Event}
 use Rattle.appender_rolling.specs.declared.rolling.Switch.{Switch}
@@ -74,11 +74,11 @@ rest_of core = []
 -- What a step does to the roller: a write of the worker looks at the clock and puts the rest of the line in hand, a flush of
 -- it flushes, and no other step touches the roller. Replies show the kinds of faults alone.
 abbrev pub RollerDoes : {S F : Type 0} → Ghosts S F → Core → Answered → Rolling S F → Rolling S F → Type 0
-RollerDoes kind core (Work m, Wrote switch told) old new =
-    (answer : Result ℕ Error) × (told ≡ kind_told answer) × Puts kind m (rest_of core) switch answer old new
-RollerDoes kind core (Work m, Flushed told) old new =
-    (answer : Result (Unit {0}) Error) × (told ≡ kind_told answer) × Flushes kind answer old new
-RollerDoes kind core told old new = new ≡ old
+RollerDoes kind core (Work m, Wrote switch shown) old new =
+    (answer : Result ℕ Error) × (shown ≡ by_kind answer) × Puts kind m (rest_of core) switch answer old new
+RollerDoes kind core (Work m, Flushed shown) old new =
+    (answer : Result (Unit {0}) Error) × (shown ≡ by_kind answer) × Flushes kind answer old new
+RollerDoes kind core past old new = new ≡ old
 
 -- what a step after these does to the roller
 abbrev pub WorkerDoes : {S F : Type 0} → Ghosts S F → List Answered → Answered → Rolling S F → Rolling S F → Type 0
@@ -90,7 +90,7 @@ WorkerDoes kind earlier = RollerDoes kind (worker_after earlier)
 -- clock, switches or writes.
 abbrev pub file_event : Core → Answered → Event
 file_event core (Work m, Wrote switch answer) = record { read = Some m; offered = length (rest_of core); switch = switch; piece = take (count_of answer) (rest_of core) }
-file_event core told = record { read = None; offered = 0; switch = Stayed; piece = [] }
+file_event core past = record { read = None; offered = 0; switch = Stayed; piece = [] }
 
 abbrev pub worker_event : List Answered → Answered → Event
 worker_event earlier = file_event (worker_after earlier)

@@ -30,7 +30,7 @@ Offered = ℕ × List ℕ
 
 abbrev pub accepted_by : Answered → Option Offered
 accepted_by (Offer label line, Accepted ticket) = Some (label, line.items)
-accepted_by told = None
+accepted_by past = None
 
 -- all lines that were accepted, in order: this list only grows
 abbrev pub accepted_lines : List Answered → List Offered
@@ -43,7 +43,7 @@ with_ticket ticket lines = get_or lines (ticket - 1) (0, [])
 
 abbrev pub handed_by : List Offered → Answered → Option Offered
 handed_by lines (Work m, Took ticket) = Some (with_ticket ticket lines)
-handed_by lines told = None
+handed_by lines past = None
 
 -- the lines that the worker took, in the order in which it took them
 abbrev pub handed_lines : List Answered → List Offered
@@ -54,7 +54,7 @@ handed_lines (t ∷ earlier) = at_end (handed_lines earlier) (handed_by (accepte
 
 abbrev pub sends_shutdown : Answered → Bool
 sends_shutdown (Shut, DidShut Sent) = true
-sends_shutdown told = false
+sends_shutdown past = false
 
 -- how many lines had been accepted when the shutdown was sent, if it was
 abbrev pub shutdown_place : List Answered → Option ℕ
@@ -64,7 +64,7 @@ shutdown_place (t ∷ earlier) = if sends_shutdown t then Some (length (accepted
 abbrev pub closes : Answered → Bool
 closes (Work m, TookShutdown) = true
 closes (Work m, TookGone) = true
-closes told = false
+closes past = false
 
 -- whether the worker has taken the shutdown, or has found that all senders are gone
 abbrev pub is_closed : List Answered → Bool
@@ -86,7 +86,7 @@ senders_after ((step, reply) ∷ earlier) = senders_by step (senders_after earli
 abbrev pub is_refusal : Answered → Bool
 is_refusal (Offer label line, Full) = true
 is_refusal (Offer label line, Closed) = true
-is_refusal told = false
+is_refusal past = false
 
 -- how many offers found no place or a closed queue
 abbrev pub refusals : List Answered → ℕ
@@ -95,9 +95,9 @@ refusals (t ∷ earlier) = if is_refusal t then refusals earlier + 1 else refusa
 
 -- ---- the worker
 
-abbrev pub answer_told : Result ℕ ErrorKind → Answer
-answer_told (Ok n) = DidWrite n
-answer_told (Err kind) = if is_interruption kind then Interrupted else Failed
+abbrev pub written_answer : Result ℕ ErrorKind → Answer
+written_answer (Ok n) = DidWrite n
+written_answer (Err kind) = if is_interruption kind then Interrupted else Failed
 
 -- what a step tells the worker, if it is one of the worker's: what a take found, what a write answered, or that a flush did
 abbrev pub worker_event : List Offered → Answered → Option Event
@@ -105,9 +105,9 @@ worker_event lines (Work m, Took ticket) = Some (DidTake (Line ((with_ticket tic
 worker_event lines (Work m, TookShutdown) = Some (DidTake Last)
 worker_event lines (Work m, TookGone) = Some (DidTake Last)
 worker_event lines (Work m, TookEmpty) = Some (DidTake Nothing)
-worker_event lines (Work m, Wrote switch answer) = Some (Write (answer_told answer))
+worker_event lines (Work m, Wrote switch answer) = Some (Write (written_answer answer))
 worker_event lines (Work m, Flushed answer) = Some DidFlush
-worker_event lines told = None
+worker_event lines past = None
 
 abbrev pub after_event : Core → Option Event → Core
 after_event core None = core
@@ -128,11 +128,11 @@ takes (Work m, Took ticket) = true
 takes (Work m, TookShutdown) = true
 takes (Work m, TookGone) = true
 takes (Work m, TookEmpty) = true
-takes told = false
+takes past = false
 
 abbrev pub finds_nothing : Answered → Bool
 finds_nothing (Work m, TookEmpty) = true
-finds_nothing told = false
+finds_nothing past = false
 
 -- whether the last take was a waiting one that found nothing
 abbrev pub waits_in_vain : List Answered → Bool
@@ -169,7 +169,7 @@ with_write answer (w ∷ earlier) = after_write w answer ∷ earlier
 abbrev pub written_by : List Offered → Answered → List WrittenLine → List WrittenLine
 written_by lines (Work m, Took ticket) earlier = taken_line (with_ticket ticket lines).1 ∷ earlier
 written_by lines (Work m, Wrote switch answer) earlier = with_write answer earlier
-written_by lines told earlier = earlier
+written_by lines past earlier = earlier
 
 -- all lines that the worker took, the newest first
 abbrev pub written_lines : List Answered → List WrittenLine
@@ -190,19 +190,19 @@ whole_lines (w ∷ earlier) = whole_lines earlier ++ w.line ∷ []
 
 -- the accepted lines that were not handed yet
 abbrev pub lines_left : List Answered → List (List ℕ)
-lines_left told = drop (length (handed_lines told)) (map (λ (o : Offered). o.1) (accepted_lines told))
+lines_left past = drop (length (handed_lines past)) (map (λ (o : Offered). o.1) (accepted_lines past))
 
 -- the queue of a run after these steps
 abbrev pub queue_after : ℕ → Bool → List Answered → Queue
-queue_after limit lossy told = record {
-  lines = if is_closed told then [] else lines_left told;
-  accepted = length (accepted_lines told);
-  handed = length (handed_lines told);
-  shutdown = shutdown_place told;
-  closed = is_closed told;
-  senders = senders_after told;
-  worker_waits = waits_in_vain told;
-  dropped = if lossy then min (refusals told) (2 ^ 64 - 1) else 0;
+queue_after limit lossy past = record {
+  lines = if is_closed past then [] else lines_left past;
+  accepted = length (accepted_lines past);
+  handed = length (handed_lines past);
+  shutdown = shutdown_place past;
+  closed = is_closed past;
+  senders = senders_after past;
+  worker_waits = waits_in_vain past;
+  dropped = if lossy then min (refusals past) (2 ^ 64 - 1) else 0;
   limit = limit;
   lossy = lossy;
   last_tickets = [];

@@ -1,12 +1,13 @@
 -- What a replay of steps over a roller answers, and how it reads as a run.
-use Rattle.std.specs.Prelude.{◌≡◌, ◌<◌, nat_le, suc, if◌then◌else◌, ℕ, ℤ, List, [], ◌∷◌, length, take, Option, None, Some, Result, Ok, Err}
+use Rattle.std.specs.Prelude.{◌≡◌, ◌<◌, nat_le, suc, if◌then◌else◌, ℕ, ℤ, false, IsTrue, List, [], ◌∷◌, length, take, Option, None, Some, Result, Ok, Err}
 use Rattle.std.specs.IoError.{error_kind}
 use Rattle.std.specs.declared.io.Error.{Error}
 use Rattle.std.specs.declared.io.ErrorKind.{ErrorKind}
 use Rattle.appender_store.specs.declared.store.Folder.{Ghosts}
-use Rattle.appender_rolling.specs.Config.{Config, stamp}
+use Rattle.appender_names.specs.Rotation.{next_of}
+use Rattle.appender_rolling.specs.Config.{Config, stamp, is_limited}
 use Rattle.appender_rolling.specs.Roller.{Rolling, OpensRoller, OpensNoRoller, Sees, Writes, Puts, Flushes, count_of}
-use Rattle.appender_replay.specs.Run.{Event, Seen, FileLaw, FilesHoldTheirPeriods, NotedAtAttempts}
+use Rattle.appender_replay.specs.Run.{Event, Seen, FileLaw, FilesHoldTheirPeriods, NotedAtAttempts, SwitchesAtAttempts, SwitchesAtArrivals, latest_moment, last_opened, times}
 use Rattle.appender_rolling.specs.declared.rolling.Switch.{Switch}
 use Rattle.appender_rolling.specs.declared.rolling.Switch.TheVariants.{None as Stayed}
 use Rattle.appender_replay.specs.declared.replay.RollStep.{RollStep}
@@ -17,9 +18,9 @@ use Rattle.appender_replay.specs.declared.replay.ReplayError.TheVariants.{Memory
 use Rattle.appender_replay.specs.declared.replay.RollReply.TheVariants.{Saw, Put as DidPut, Wrote, Flushed}
 
 -- an answer with its fault's kind alone
-abbrev pub kind_told : {T : Type 0} → Result T Error → Result T ErrorKind
-kind_told (Ok x) = Ok x
-kind_told (Err fault) = Err (error_kind fault)
+abbrev pub by_kind : {T : Type 0} → Result T Error → Result T ErrorKind
+by_kind (Ok x) = Ok x
+by_kind (Err fault) = Err (error_kind fault)
 
 -- ---- replies
 
@@ -40,27 +41,27 @@ IsFlushed (Flushed answer) P = P answer
 IsFlushed _ P = ⊥
 
 -- a step with its reply
-abbrev pub Told : Type 0
-Told = RollStep × RollReply
+abbrev pub RollAnswered : Type 0
+RollAnswered = RollStep × RollReply
 
 -- What one step does to a roller, and its reply, whose faults show their kinds alone.
-abbrev pub StepDoes : {S F : Type 0} → Ghosts S F → Told → Rolling S F → Rolling S F → Type 0
+abbrev pub StepDoes : {S F : Type 0} → Ghosts S F → RollAnswered → Rolling S F → Rolling S F → Type 0
 StepDoes kind (See m, reply) old new = IsSaw reply (λ switch. Sees kind m switch old new)
 StepDoes kind (Put m bytes, reply) old new =
-    IsPut reply (λ switch told. (answer : Result ℕ Error) × (told ≡ kind_told answer) × Puts kind m bytes.items switch answer old new)
+    IsPut reply (λ switch shown. (answer : Result ℕ Error) × (shown ≡ by_kind answer) × Puts kind m bytes.items switch answer old new)
 StepDoes kind (Write bytes, reply) old new =
-    IsWrote reply (λ told. (answer : Result ℕ Error) × (told ≡ kind_told answer) × Writes kind bytes.items answer old new)
+    IsWrote reply (λ shown. (answer : Result ℕ Error) × (shown ≡ by_kind answer) × Writes kind bytes.items answer old new)
 StepDoes kind (Flush, reply) old new =
-    IsFlushed reply (λ told. (answer : Result (Unit {0}) Error) × (told ≡ kind_told answer) × Flushes kind answer old new)
+    IsFlushed reply (λ shown. (answer : Result (Unit {0}) Error) × (shown ≡ by_kind answer) × Flushes kind answer old new)
 
 -- the steps of a run with their replies, the newest first
-abbrev pub told_onto : {S R : Type 0} → List (S × R) → List S → List R → List (S × R)
-told_onto told [] replies = told
-told_onto told (s ∷ steps) [] = told
-told_onto told (s ∷ steps) (r ∷ replies) = told_onto ((s, r) ∷ told) steps replies
+abbrev pub with_replies_onto : {S R : Type 0} → List (S × R) → List S → List R → List (S × R)
+with_replies_onto past [] replies = past
+with_replies_onto past (s ∷ steps) [] = past
+with_replies_onto past (s ∷ steps) (r ∷ replies) = with_replies_onto ((s, r) ∷ past) steps replies
 
-abbrev pub told_of : {S R : Type 0} → List S → List R → List (S × R)
-told_of = told_onto []
+abbrev pub with_replies : {S R : Type 0} → List S → List R → List (S × R)
+with_replies = with_replies_onto []
 
 -- one step after another leads from the old roller to the new, where a step may depend on those before it
 abbrev pub LeadsTo : {S F T : Type 0} → (List T → T → Rolling S F → Rolling S F → Type 0) → List T → Rolling S F → Rolling S F → Type 0
@@ -73,44 +74,55 @@ events_by event [] = []
 events_by event (t ∷ earlier) = event earlier t ∷ events_by event earlier
 
 -- a roller was opened over the folder, for its first file with this number, and the steps lead from it to this one
-pub record RunsFrom {S F T : Type 0} (kind : Ghosts S F) (does : List T → T → Rolling S F → Rolling S F → Type 0) (config : Config) (start : ℤ) (number : ℕ) (folder : S) (told : List T) (last : Rolling S F) : Type 0 where
+pub record RunsFrom {S F T : Type 0} (kind : Ghosts S F) (does : List T → T → Rolling S F → Rolling S F → Type 0) (config : Config) (start : ℤ) (number : ℕ) (folder : S) (past : List T) (last : Rolling S F) : Type 0 where
   pub first : Rolling S F
   pub opens : OpensRoller kind config start folder first
   pub number_is : opens.number ≡ number
-  pub runs : LeadsTo does told first last
+  pub runs : LeadsTo does past first last
 
 -- what is seen of a roller after a step with this piece
 abbrev pub seen_of : {S F : Type 0} → Ghosts S F → List ℕ → Rolling S F → Seen
 seen_of kind piece r = record { content = kind.content r.folder; noted = kind.noted r.folder; body = kind.body r.file; piece = piece }
 
 -- and of the rollers between the steps that lead from the old to the new: what was seen after step n, and at 0 of the old
-abbrev pub seen_after : {S F T : Type 0} → Ghosts S F → (List T → T → Event) → (does : List T → T → Rolling S F → Rolling S F → Type 0) → (told : List T) (old new : Rolling S F) → LeadsTo does told old new → ℕ → Seen
+abbrev pub seen_after : {S F T : Type 0} → Ghosts S F → (List T → T → Event) → (does : List T → T → Rolling S F → Rolling S F → Type 0) → (past : List T) (old new : Rolling S F) → LeadsTo does past old new → ℕ → Seen
 seen_after kind event does [] old new runs n = seen_of kind [] old
-seen_after kind event does (t ∷ told) old new (between, runs, is) n =
-    if nat_le (suc (length told)) n then seen_of kind (event told t).piece new else seen_after kind event does told old between runs n
+seen_after kind event does (t ∷ past) old new (between, runs, is) n =
+    if nat_le (suc (length past)) n then seen_of kind (event past t).piece new else seen_after kind event does past old between runs n
 
 -- what was seen of a run
-abbrev pub seen_in : {S F T : Type 0} {kind : Ghosts S F} {does : List T → T → Rolling S F → Rolling S F → Type 0} {config : Config} {start : ℤ} {number : ℕ} {folder : S} {told : List T} {last : Rolling S F} → (List T → T → Event) → RunsFrom kind does config start number folder told last → ℕ → Seen
-seen_in {S} {F} {T} {kind} {does} {config} {start} {number} {folder} {told} {last} event run = seen_after kind event does told run.first last run.runs
+abbrev pub seen_in : {S F T : Type 0} {kind : Ghosts S F} {does : List T → T → Rolling S F → Rolling S F → Type 0} {config : Config} {start : ℤ} {number : ℕ} {folder : S} {past : List T} {last : Rolling S F} → (List T → T → Event) → RunsFrom kind does config start number folder past last → ℕ → Seen
+seen_in {S} {F} {T} {kind} {does} {config} {start} {number} {folder} {past} {last} event run = seen_after kind event does past run.first last run.runs
 
--- The laws of a run, of whatever rollers its steps lead through: of the files, of those that stand, and of notices, which begin behind
--- the listing that finds the first number.
-module _ {S F T : Type 0} (kind : Ghosts S F) (does : List T → T → Rolling S F → Rolling S F → Type 0) (event : List T → T → Event) (config : Config) (start : ℤ) (number : ℕ) (folder : S) (told : List T) (last : Rolling S F) where
+-- The laws of a run, of whatever rollers its steps lead through. Notices are counted from the listing that finds the first number.
+module _ {S F T : Type 0} (kind : Ghosts S F) (does : List T → T → Rolling S F → Rolling S F → Type 0) (event : List T → T → Event) (config : Config) (start : ℤ) (number : ℕ) (folder : S) (past : List T) (last : Rolling S F) where
   abbrev pub FilesFollow : Type 0
-  FilesFollow = (run : RunsFrom kind does config start number folder told last)
-      → FileLaw config (stamp start number) (events_by event told) (kind.content folder) (kind.content last.folder) (kind.noted run.opens.listed) (kind.noted last.folder)
+  FilesFollow = (run : RunsFrom kind does config start number folder past last)
+      → FileLaw config (stamp start number) (events_by event past) (kind.content folder) (kind.content last.folder) (kind.noted run.opens.listed) (kind.noted last.folder)
       (seen_in event run) last.opened (kind.body last.file)
 
   abbrev pub StandingFilesFollow : Type 0
-  StandingFilesFollow = (run : RunsFrom kind does config start number folder told last)
-      → FilesHoldTheirPeriods config (stamp start number) (events_by event told) (kind.content folder) (kind.content last.folder) (kind.noted run.opens.listed) (seen_in event run)
+  StandingFilesFollow = (run : RunsFrom kind does config start number folder past last)
+      → FilesHoldTheirPeriods config (stamp start number) (events_by event past) (kind.content folder) (kind.content last.folder) (kind.noted run.opens.listed) (seen_in event run)
 
   abbrev pub NoticesFollow : Type 0
-  NoticesFollow = (run : RunsFrom kind does config start number folder told last)
-      → NotedAtAttempts config (stamp start number) (seen_in event run) (events_by event told)
+  NoticesFollow = (run : RunsFrom kind does config start number folder past last)
+      → NotedAtAttempts config (stamp start number) (seen_in event run) (events_by event past)
+
+  -- What the events of a run say of its roller: its configuration, when it switched, its boundary, the file that is open, and the
+  -- laws of files and notices. Files follow if the folder's content is known.
+  pub record RollerFollows : Type 0 where
+    pub config_is : last.config ≡ config
+    pub switches : SwitchesAtAttempts config (stamp start number) (events_by event past)
+    pub arrivals : is_limited config ≡ false → SwitchesAtArrivals config.rotation start (events_by event past)
+    pub boundary_is : last.boundary ≡ next_of config.rotation (latest_moment start (events_by event past))
+    pub opened_is : last.opened ≡ last_opened (stamp start number) (times config (stamp start number) (events_by event past))
+    pub files : IsTrue kind.is_known → FilesFollow
+    pub standing_files : IsTrue kind.is_known → StandingFilesFollow
+    pub notices : NoticesFollow
 
 -- what a step of a roller alone does, whatever came before it
-abbrev pub RollDoes : {S F : Type 0} → Ghosts S F → List Told → Told → Rolling S F → Rolling S F → Type 0
+abbrev pub RollDoes : {S F : Type 0} → Ghosts S F → List RollAnswered → RollAnswered → Rolling S F → Rolling S F → Type 0
 RollDoes kind earlier t old new = StepDoes kind t old new
 
 -- No step was run: without memory for the replies the folder was not touched, else no roller was opened over it.
@@ -152,12 +164,12 @@ count_in (DidPut switch answer) = count_of answer
 count_in (Wrote answer) = count_of answer
 count_in (Flushed answer) = 0
 
-abbrev pub event_of : Told → Event
+abbrev pub event_of : RollAnswered → Event
 event_of (step, reply) = record { read = read_by step; offered = length (offered_by step); switch = switch_in reply; piece = take (count_in reply) (offered_by step) }
 
-abbrev pub roll_event : List Told → Told → Event
+abbrev pub roll_event : List RollAnswered → RollAnswered → Event
 roll_event earlier = event_of
 
 -- the run's history, the newest step first
 abbrev pub history : List RollStep → List RollReply → List Event
-history steps replies = events_by roll_event (told_of steps replies)
+history steps replies = events_by roll_event (with_replies steps replies)

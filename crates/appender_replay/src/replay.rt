@@ -1,10 +1,7 @@
 //! Runs of an appender that are given as lists of steps, for tests and scripts.
-ghost use Rattle.std.specs.Prelude.{◌≡◌, ◌<◌, ◌≤◌, false, [], ◌∷◌, ◌++◌, length, IsTrue, IfOk, IfErr, vec_len, vec_capacity};
-ghost use Rattle.appender_names.specs.Rotation.{next_of};
-ghost use Rattle.appender_replay.specs.Run.{SwitchesAtAttempts, SwitchesAtArrivals, latest_moment, last_opened, times};
-ghost use Rattle.appender_rolling.specs.Config.{stamp, is_limited};
+ghost use Rattle.std.specs.Prelude.{◌≡◌, length, IfOk, IfErr};
 ghost use Rattle.appender_replay.specs.Retention.{QuietAttemptsPrune, QuietRunsHaveQuietAttempts};
-ghost use Rattle.appender_replay.specs.Replay.{kind_told, told_of, history, roll_event, FilesFollow, StandingFilesFollow, NoticesFollow, StepDoes, RollDoes, RunsFrom, IsNotRun, HasSteps};
+ghost use Rattle.appender_replay.specs.Replay.{by_kind, with_replies, roll_event, StepDoes, RollDoes, RunsFrom, RollerFollows, IsNotRun, HasSteps};
 
 mod whole;
 
@@ -61,9 +58,9 @@ pub enum ReplayError<S: Drop> {
     Init(InitError, S),
 }
 
-// An answer with its fault's kind alone.
-fn tell<T: Copy>(answer: &io::Result<T>) -> Result<T, io::ErrorKind>
-    ensures { result ≡ kind_told answer.now }
+// Returns the answer, an error by its kind alone.
+fn by_kind<T: Copy>(answer: &io::Result<T>) -> Result<T, io::ErrorKind>
+    ensures { result ≡ by_kind answer.now }
 {
     match answer {
         Ok(value) => Ok(*value),
@@ -79,20 +76,11 @@ fn run_step<S: Folder>(roller: &mut Roller<S>, step: &RollStep) -> RollReply
         RollStep::See(moment) => RollReply::Saw(roller.see(*moment)),
         RollStep::Put(moment, bytes) => {
             let (switch, answer) = roller.put(*moment, bytes);
-            RollReply::Put(switch, tell(&answer))
+            RollReply::Put(switch, by_kind(&answer))
         }
-        RollStep::Write(bytes) => RollReply::Wrote(tell(&roller.write(bytes))),
-        RollStep::Flush => RollReply::Flushed(tell(&roller.flush())),
+        RollStep::Write(bytes) => RollReply::Wrote(by_kind(&roller.write(bytes))),
+        RollStep::Flush => RollReply::Flushed(by_kind(&roller.flush())),
     }
-}
-
-// Adds a reply, for which room has been taken.
-fn push_reply<R: Drop>(replies: &mut Vec<R>, reply: R)
-    requires { vec_len replies.old < vec_capacity replies.old }
-    ensures items { replies.new.items ≡ replies.old.items ++ reply ∷ [] }
-    ensures capacity { vec_capacity replies.old ≤ vec_capacity replies.new }
-{
-    let _ = replies.push(reply);
 }
 
 // What the law of the files refuses: an attempt that noted nothing and left a log file that doesn't survive, and, in a run that noted
@@ -113,22 +101,9 @@ pub fn replay_rolling<S: Folder>(
 ) -> Result<RollRun<S>, ReplayError<S>>
     ensures one_each { IfOk result (λ run. length run.replies.items ≡ length steps.now) }
     ensures runs { IfOk result (λ run. RunsFrom S.Folder (RollDoes S.Folder) builder.now start run.number folder
-        (told_of steps.now run.replies.items) run.roller) }
-    ensures config { IfOk result (λ run. run.roller.config ≡ builder.now) }
-    ensures switches { IfOk result (λ run. SwitchesAtAttempts builder.now (stamp start run.number)
-        (history steps.now run.replies.items)) }
-    ensures arrivals { IfOk result (λ run. is_limited builder.now ≡ false →
-        SwitchesAtArrivals builder.now.rotation start (history steps.now run.replies.items)) }
-    ensures boundary { IfOk result (λ run. run.roller.boundary ≡ next_of builder.now.rotation
-        (latest_moment start (history steps.now run.replies.items))) }
-    ensures files { IfOk result (λ run. IsTrue S.tells → FilesFollow S.Folder (RollDoes S.Folder) roll_event
-        builder.now start run.number folder (told_of steps.now run.replies.items) run.roller) }
-    ensures opened { IfOk result (λ run. run.roller.opened ≡ last_opened (stamp start run.number)
-        (times builder.now (stamp start run.number) (history steps.now run.replies.items))) }
-    ensures standing_files { IfOk result (λ run. IsTrue S.tells → StandingFilesFollow S.Folder (RollDoes S.Folder)
-        roll_event builder.now start run.number folder (told_of steps.now run.replies.items) run.roller) }
-    ensures notices { IfOk result (λ run. NoticesFollow S.Folder (RollDoes S.Folder) roll_event
-        builder.now start run.number folder (told_of steps.now run.replies.items) run.roller) }
+        (with_replies steps.now run.replies.items) run.roller) }
+    ensures roller { IfOk result (λ run. RollerFollows S.Folder (RollDoes S.Folder) roll_event builder.now start
+        run.number folder (with_replies steps.now run.replies.items) run.roller) }
     ensures err { IfErr result (λ error. IsNotRun S.Folder builder.now start folder error) }
     ensures memory { IfErr result (HasSteps (length steps.now)) }
 {
@@ -147,7 +122,7 @@ pub fn replay_rolling<S: Folder>(
     let number = roller.number();
     for step in steps {
         let reply = run_step(&mut roller, step);
-        push_reply(&mut replies, reply);
+        replies.push_reserved(reply);
     }
     Ok(RollRun {
         replies,

@@ -92,25 +92,25 @@ module _ (n : Naming) (max : ℕ) (old : Content) (rows : List Row) (gone : List
 
 module _ (maps : NameLaws) {S F : Type 0} (kind : Ghosts S F) (fit : (s : S) → AreCounts (kind.noted s)) where
   -- where a listing was had and its plan removed
-  pub prunes : (n : Naming) (max : ℕ) (old listed new : S) (rows : List Row) (gone : List ℕ) → max ≢ 0 → length gone < 2 ^ 64 → (IsTrue kind.tells → IsListing (kind.content old).names rows) → (IsTrue kind.tells → (kind.content old).there ≡ true) → IsPlan n max rows gone → kind.content listed ≡ kind.content old → kind.noted listed ≡ kind.noted old → RemovesEach kind (filter_map (name_at rows) gone) listed new → PrunesListed kind n max old new → Prunes kind n max old new
+  pub prunes : (n : Naming) (max : ℕ) (old listed new : S) (rows : List Row) (gone : List ℕ) → max ≢ 0 → length gone < 2 ^ 64 → (IsTrue kind.is_known → IsListing (kind.content old).names rows) → (IsTrue kind.is_known → (kind.content old).there ≡ true) → IsPlan n max rows gone → kind.content listed ≡ kind.content old → kind.noted listed ≡ kind.noted old → RemovesEach kind (filter_map (name_at rows) gone) listed new → PrunesListed kind n max old new → Prunes kind n max old new
   prunes n max old listed new rows gone some short all there plan content noted each calls = record {
     none = λ zero. absurd (some zero);
     calls = λ more. calls;
     only_old = takes;
     survivors = left;
-    fewer = λ quiet tells positive. fewer_stand n (kind.content old) (kind.content new) max positive (left quiet tells);
-    absent = λ more tells away. absurd (let both : true ≡ false = sym (there tells) ∙ away in cc);
+    fewer = λ quiet is_known positive. fewer_stand n (kind.content old) (kind.content new) max positive (left quiet is_known);
+    absent = λ more is_known away. absurd (let both : true ≡ false = sym (there is_known) ∙ away in cc);
     nothing_else = record { flushes = ap (λ (c : Counts). c.flushes) effect.noted ∙ ap (λ (c : Counts). c.flushes) noted; opens = ap (λ (c : Counts). c.opens) effect.noted ∙ ap (λ (c : Counts). c.opens) noted };
   }
     where
       effect : Removed kind (filter_map (name_at rows) gone) listed new
       effect = removed maps kind fit (filter_map (name_at rows) gone) listed new each
 
-      takes : IsTrue kind.tells → TakesOnlyOld n max (kind.content old) (kind.content new)
-      takes tells = takes_only_old n max (kind.content old) rows gone (all tells) plan (kind.content new) (rw content at (effect.among tells))
+      takes : IsTrue kind.is_known → TakesOnlyOld n max (kind.content old) (kind.content new)
+      takes is_known = takes_only_old n max (kind.content old) rows gone (all is_known) plan (kind.content new) (rw content at (effect.among is_known))
 
-      left : IsQuiet (kind.noted old) (kind.noted new) → IsTrue kind.tells → LeavesSurvivors n max (kind.content old) (kind.content new)
-      left quiet tells =
+      left : IsQuiet (kind.noted old) (kind.noted new) → IsTrue kind.is_known → LeavesSurvivors n max (kind.content old) (kind.content new)
+      left quiet is_known =
           let start : (kind.noted listed).removes ≡ (kind.noted old).removes = ap (λ (c : Counts). c.removes) noted in
           let none : effect.faults ≡ 0 = omega (arith, quiet.removes, start, effect.some, ap (λ (c : Counts). c.removes) effect.noted, length_filter_map (name_at rows) gone, (fit old).removes) in
-          leaves_survivors n max (kind.content old) rows gone (all tells) plan (kind.content new) (takes tells) (effect.all none tells)
+          leaves_survivors n max (kind.content old) rows gone (all is_known) plan (kind.content new) (takes is_known) (effect.all none is_known)

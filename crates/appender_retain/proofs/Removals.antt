@@ -80,7 +80,7 @@ among_more name rest old new last first second = record {
 -- the file was removed and nothing noted, or it stands and that was noted
 abbrev pub FileEffect : {S F : Type 0} → Ghosts S F → List ℕ → S → S → Type 0
 FileEffect kind name old new =
-    ((kind.noted new ≡ kind.noted old) × (IsTrue kind.tells → Removes name (kind.content old) (kind.content new)))
+    ((kind.noted new ≡ kind.noted old) × (IsTrue kind.is_known → Removes name (kind.content old) (kind.content new)))
     ⊎ ((kind.noted new ≡ after_note OfRemove (kind.noted old)) × (kind.content new ≡ kind.content old))
 
 module _ {S F : Type 0} (kind : Ghosts S F) where
@@ -88,8 +88,8 @@ module _ {S F : Type 0} (kind : Ghosts S F) where
   pub file_effect : (name : List ℕ) (old new : S) → RemovesFile kind name old new → FileEffect kind name old new
   file_effect name old new r = by r.answer r.ok r.err r.notes
     where
-      by : (answer : Result (Unit {0}) Error) → OnOk answer (IsTrue kind.tells → Removes name (kind.content old) (kind.content r.after)) → OnErr answer (kind.content r.after ≡ kind.content old) → MatchResult answer (λ _. new ≡ r.after) (λ fault. Notes kind r.after (NotedRemove name fault) new) → FileEffect kind name old new
-      by (Ok u) ok err is = inl (ap (λ (s : S). kind.noted s) is ∙ r.noted, λ tells. rw is (ok tells))
+      by : (answer : Result (Unit {0}) Error) → OnOk answer (IsTrue kind.is_known → Removes name (kind.content old) (kind.content r.after)) → OnErr answer (kind.content r.after ≡ kind.content old) → MatchResult answer (λ _. new ≡ r.after) (λ fault. Notes kind r.after (NotedRemove name fault) new) → FileEffect kind name old new
+      by (Ok u) ok err is = inl (ap (λ (s : S). kind.noted s) is ∙ r.noted, λ is_known. rw is (ok is_known))
       by (Err fault) ok err notes = inr (notes.noted ∙ ap (after_note OfRemove) r.noted, notes.content ∙ err)
 
   -- one removal more
@@ -102,7 +102,7 @@ module _ {S F : Type 0} (kind : Ghosts S F) where
 -- So far, at the first i of some places, the names were removed, and what is to come are files.
 pub record Progress {S F : Type 0} (kind : Ghosts S F) (names : ℕ → Option (List ℕ)) (places : List ℕ) (i : ℕ) (old now : S) : Type 0 where
   pub done : RemovesEach kind (filter_map names (take i places)) old now
-  pub rest : IsTrue kind.tells → AreFiles (kind.content now).names (filter_map names (drop i places))
+  pub rest : IsTrue kind.is_known → AreFiles (kind.content now).names (filter_map names (drop i places))
 
 -- so many failed removals noted
 abbrev pub with_faults : ℕ → Counts → Counts
@@ -119,20 +119,20 @@ pub record Removed {S F : Type 0} (kind : Ghosts S F) (gone : List (List ℕ)) (
   pub faults : ℕ
   pub some : faults ≤ length gone
   pub noted : kind.noted new ≡ with_faults faults (kind.noted old)
-  pub among : IsTrue kind.tells → RemovesAmong gone (kind.content old) (kind.content new)
-  pub all : faults ≡ 0 → IsTrue kind.tells → AllRemoved gone (kind.content new)
+  pub among : IsTrue kind.is_known → RemovesAmong gone (kind.content old) (kind.content new)
+  pub all : faults ≡ 0 → IsTrue kind.is_known → AllRemoved gone (kind.content new)
 
 module _ (maps : NameLaws) {S F : Type 0} (kind : Ghosts S F) where
   -- the other files stand
-  files_after : (name : List ℕ) (rest : List (List ℕ)) (old new : S) → IsTrue kind.tells → FileEffect kind name old new → AreFiles (kind.content old).names (name ∷ rest) → AreFiles (kind.content new).names rest
-  files_after name rest old new tells effect all = record {
+  files_after : (name : List ℕ) (rest : List (List ℕ)) (old new : S) → IsTrue kind.is_known → FileEffect kind name old new → AreFiles (kind.content old).names (name ∷ rest) → AreFiles (kind.content new).names rest
+  files_after name rest old new is_known effect all = record {
     files = λ other there. stands other there effect (all.files other (Contains_later name rest other there));
     apart = λ i j d before short. all.apart (suc i) (suc j) d (omega arith) (omega arith);
   }
     where
       stands : (other : List ℕ) → Contains rest other → FileEffect kind name old new → IsFile (fin.get (kind.content old).names other) → IsFile (fin.get (kind.content new).names other)
       stands other (k, l, is) (inl (noted, removes)) file =
-          elim (own_or_same maps name (kind.content old) (kind.content new) (removes tells) other) [
+          elim (own_or_same maps name (kind.content old) (kind.content new) (removes is_known) other) [
             | inl w ↦ absurd (all.apart 0 (suc k) other (omega arith) (omega arith) (sym w.0 ∙ sym is))
             | inr w ↦ rw w.1 file
           ]
@@ -143,14 +143,14 @@ module _ (maps : NameLaws) {S F : Type 0} (kind : Ghosts S F) where
     pub one_removed : (name : List ℕ) (new : S) → Some name ≡ names (get_or places i 0) → RemovesFile kind name now new → Progress kind names places (i + 1) old new
     one_removed name new is file = record {
       done = rw (filter_map_take names places i 0, ← is) (each_more kind (filter_map names (take i places)) name old now new before.done file);
-      rest = λ tells. files_after name (filter_map names (drop (i + 1) places)) now new tells (file_effect kind name now new file) (rw (filter_map_drop names places i 0, ← is) at (before.rest tells));
+      rest = λ is_known. files_after name (filter_map names (drop (i + 1) places)) now new is_known (file_effect kind name now new file) (rw (filter_map_drop names places i 0, ← is) at (before.rest is_known));
     }
 
     -- one place more without a name
     pub none_removed : None ≡ names (get_or places i 0) → Progress kind names places (i + 1) old now
     none_removed is = record {
       done = rw (filter_map_take names places i 0, ← is, append-nil) before.done;
-      rest = λ tells. rw (filter_map_drop names places i 0, ← is) at (before.rest tells);
+      rest = λ is_known. rw (filter_map_drop names places i 0, ← is) at (before.rest is_known);
     }
 
   -- removals leave just that
@@ -161,8 +161,8 @@ module _ (maps : NameLaws) {S F : Type 0} (kind : Ghosts S F) where
         faults = 0;
         some = omega arith;
         noted = ap (λ (s : S). kind.noted s) same ∙ ap (λ (n : ℕ). record (kind.noted old) { removes = n }) none;
-        among = λ tells. among_none [] (kind.content old) (kind.content new) (ap (λ (s : S). kind.content s) same);
-        all = λ z tells name there. absurd (omega arith);
+        among = λ is_known. among_none [] (kind.content old) (kind.content new) (ap (λ (s : S). kind.content s) same);
+        all = λ z is_known name there. absurd (omega arith);
       }
   removed fit (name ∷ rest) old new (between, file, each) =
       by (file_effect kind name old between file) (removed fit rest between new each)
@@ -175,13 +175,13 @@ module _ (maps : NameLaws) {S F : Type 0} (kind : Ghosts S F) where
         faults = later.faults;
         some = omega (arith, later.some);
         noted = later.noted ∙ ap (with_faults later.faults) counts;
-        among = λ tells. more (among_one maps name (kind.content old) (kind.content between) (removes tells)) (later.among tells);
-        all = λ z tells. all_removed maps name (kind.content old) (kind.content between) (removes tells) rest (kind.content new) (later.among tells) (later.all z tells);
+        among = λ is_known. more (among_one maps name (kind.content old) (kind.content between) (removes is_known)) (later.among is_known);
+        all = λ z is_known. all_removed maps name (kind.content old) (kind.content between) (removes is_known) rest (kind.content new) (later.among is_known) (later.all z is_known);
       }
       by (inr (counts, same)) later = record {
         faults = suc later.faults;
         some = omega (arith, later.some);
         noted = later.noted ∙ ap (with_faults later.faults) counts ∙ one_fault_more later.faults (kind.noted old);
-        among = λ tells. more (among_none (name ∷ []) (kind.content old) (kind.content between) same) (later.among tells);
-        all = λ z tells. absurd (omega arith);
+        among = λ is_known. more (among_none (name ∷ []) (kind.content old) (kind.content between) same) (later.among is_known);
+        all = λ z is_known. absurd (omega arith);
       }

@@ -22,8 +22,8 @@ pub record RemovesFile {S F : Type 0} (kind : Ghosts S F) (name : List ℕ) (old
   pub answer : Result (Unit {0}) Error
   pub after : S
   pub call : kind.remove_gives old name answer after
-  pub cause : HasCause kind.tells ⊥ (kind.failures old) (kind.failures after) answer
-  pub ok : OnOk answer (IsTrue kind.tells → Removes name (kind.content old) (kind.content after))
+  pub cause : HasCause kind.is_known ⊥ (kind.failures old) (kind.failures after) answer
+  pub ok : OnOk answer (IsTrue kind.is_known → Removes name (kind.content old) (kind.content after))
   pub err : OnErr answer (kind.content after ≡ kind.content old)
   pub noted : kind.noted after ≡ kind.noted old
   pub notes : MatchResult answer (λ _. new ≡ after) (λ fault. Notes kind after (NotedRemove name fault) new)
@@ -44,9 +44,9 @@ pub record PrunesListed {S F : Type 0} (kind : Ghosts S F) (n : Naming) (max : �
   pub answer : Result (Vec Listed Global) Error
   pub listed : S
   pub call : kind.list_gives old answer listed
-  pub cause : HasCause kind.tells (ForbidsList (kind.content old)) (kind.failures old) (kind.failures listed) answer
-  pub lists : IfOk answer (λ all. IsTrue kind.tells → Lists (kind.content old) all.items)
-  pub there : OnOk answer (IsTrue kind.tells → (kind.content old).there ≡ true)
+  pub cause : HasCause kind.is_known (ForbidsList (kind.content old)) (kind.failures old) (kind.failures listed) answer
+  pub lists : IfOk answer (λ all. IsTrue kind.is_known → Lists (kind.content old) all.items)
+  pub there : OnOk answer (IsTrue kind.is_known → (kind.content old).there ≡ true)
   pub content : kind.content listed ≡ kind.content old
   pub noted : kind.noted listed ≡ kind.noted old
   pub goes_on : MatchResult answer (λ all. RemovesPlanned kind n max (map listed_row all.items) listed new)
@@ -68,8 +68,8 @@ pub record NotesNothingElse (old new : Counts) : Type 0 where
 pub record Prunes {S F : Type 0} (kind : Ghosts S F) (n : Naming) (max : ℕ) (old new : S) : Type 0 where
   pub none : max ≡ 0 → new ≡ old
   pub calls : max ≢ 0 → PrunesListed kind n max old new
-  pub only_old : IsTrue kind.tells → TakesOnlyOld n max (kind.content old) (kind.content new)
-  pub survivors : IsQuiet (kind.noted old) (kind.noted new) → IsTrue kind.tells → LeavesSurvivors n max (kind.content old) (kind.content new)
-  pub fewer : IsQuiet (kind.noted old) (kind.noted new) → IsTrue kind.tells → 0 < max → candidates_in n (kind.content new) < max
-  pub absent : 0 < max → IsTrue kind.tells → (kind.content old).there ≡ false → (kind.noted new).lists ≡ wrapping_next (kind.noted old).lists
+  pub only_old : IsTrue kind.is_known → TakesOnlyOld n max (kind.content old) (kind.content new)
+  pub survivors : IsQuiet (kind.noted old) (kind.noted new) → IsTrue kind.is_known → LeavesSurvivors n max (kind.content old) (kind.content new)
+  pub fewer : IsQuiet (kind.noted old) (kind.noted new) → IsTrue kind.is_known → 0 < max → candidates_in n (kind.content new) < max
+  pub absent : 0 < max → IsTrue kind.is_known → (kind.content old).there ≡ false → (kind.noted new).lists ≡ wrapping_next (kind.noted old).lists
   pub nothing_else : NotesNothingElse (kind.noted old) (kind.noted new)

@@ -37,9 +37,9 @@ module _ (s : Scheduled) (room : ℕ) (m : ℤ) (len : ℕ) where
 module _ {S F C : Type 0} (kind : Ghosts S F) (time : Readings C) where
   -- a writer is made where none was to begin
   pub looks_now : (clock : C) (m : ℤ) (s : Scheduled) → time.now_gives clock m → AsksSome kind s m false → LooksNow kind time clock s
-  looks_now clock m s told asks = record {
+  looks_now clock m s reading asks = record {
     moment = m;
-    told = told;
+    reading = reading;
     in_its_period = by (is_limited s.config) refl;
     has_room = λ limited. let (found, is) = asks.limited limited in (found, (none_begins s found.room m 0 (sym is)).1);
   }

@@ -31,10 +31,10 @@ module _ (maps : NameLaws) where
   ]
 
   module _ {S F : Type 0} (kind : Ghosts S F) (c : Config) where
-    fails : (T P : Type 0) (tells : Bool) (old : ℕ) (fault : Error) (new : ℕ) → HasCause {T = T} tells P old new (Err fault) → FailsByItself old fault new ⊎ (IsTrue tells × P)
-    fails T P tells old fault new (inl risen) = inl (inl risen)
-    fails T P tells old fault new (inr (same, inl memory)) = inl (inr memory)
-    fails T P tells old fault new (inr (same, inr forbidden)) = inr forbidden
+    fails : (T P : Type 0) (is_known : Bool) (old : ℕ) (fault : Error) (new : ℕ) → HasCause {T = T} is_known P old new (Err fault) → FailsByItself old fault new ⊎ (IsTrue is_known × P)
+    fails T P is_known old fault new (inl risen) = inl (inl risen)
+    fails T P is_known old fault new (inr (same, inl memory)) = inl (inr memory)
+    fails T P is_known old fault new (inr (same, inr forbidden)) = inr forbidden
 
     link_has_reason : (link name : List ℕ) (old pruned unlinked : S) (file : F) (fault : Error) (new : S) → c.link ≡ link → Prunes kind (naming_of c) c.max_files old pruned → GetsFile kind name pruned file unlinked → LinksNot kind link name unlinked fault new → HasReason kind c name old (Symlink fault) new
     link_has_reason [] name old pruned unlinked file fault new is prunes gets never = absurd never
@@ -47,19 +47,19 @@ module _ (maps : NameLaws) where
       gets,
       subst (λ (l : List ℕ). TriesRemoveLink kind l unlinked links_not.freed) (sym is) links_not.removes,
       subst (λ (l : List ℕ). kind.make_link_gives links_not.freed l name (Err fault) new) (sym is) links_not.call,
-      elim (fails (Unit {0}) (LeavesNoPlace kind (b ∷ bs) unlinked links_not.freed) kind.tells (kind.failures links_not.freed) fault (kind.failures new) links_not.cause) [
+      elim (fails (Unit {0}) (LeavesNoPlace kind (b ∷ bs) unlinked links_not.freed) kind.is_known (kind.failures links_not.freed) fault (kind.failures new) links_not.cause) [
         | inl itself ↦ inl itself
-        | inr (tells, inl other) ↦ inr (tells, elim (before tells IsFileOrFolder (λ never. never) other) [ inl own ↦ inl own | inr there ↦ inr (inl there) ])
-        | inr (tells, inr (old_link, risen)) ↦ inr (tells, elim (before tells IsLink (λ never. never) old_link) [ inl own ↦ inl own | inr there ↦ inr (inr (there, risen)) ])
+        | inr (is_known, inl other) ↦ inr (is_known, elim (before is_known IsFileOrFolder (λ never. never) other) [ inl own ↦ inl own | inr there ↦ inr (inl there) ])
+        | inr (is_known, inr (old_link, risen)) ↦ inr (is_known, elim (before is_known IsLink (λ never. never) old_link) [ inl own ↦ inl own | inr there ↦ inr (inr (there, risen)) ])
       ],
     )
       where
         -- what has the link's name was there before, unless it is the file that was opened
-        before : IsTrue kind.tells → (P : Option Entry → Type 0) → ¬ P None → P (fin.get (kind.content unlinked).names (b ∷ bs)) → (c.link ≡ name) ⊎ P (fin.get (kind.content old).names c.link)
-        before tells P none there = elim (opened_else name (after_make_folder (kind.content pruned)) (kind.content unlinked) (kind.body file) (gets.opens tells) (b ∷ bs)) [
+        before : IsTrue kind.is_known → (P : Option Entry → Type 0) → ¬ P None → P (fin.get (kind.content unlinked).names (b ∷ bs)) → (c.link ≡ name) ⊎ P (fin.get (kind.content old).names c.link)
+        before is_known P none there = elim (opened_else name (after_make_folder (kind.content pruned)) (kind.content unlinked) (kind.body file) (gets.opens is_known) (b ∷ bs)) [
           | inl own ↦ inl (is ∙ own)
           | inr same ↦ inr (subst (λ (l : List ℕ). P (fin.get (kind.content old).names l)) (sym is)
-              (found P none c (kind.content old) (kind.content pruned) (prunes.only_old tells) (b ∷ bs) (subst P same there)))
+              (found P none c (kind.content old) (kind.content pruned) (prunes.only_old is_known) (b ∷ bs) (subst P same there)))
         ]
 
     pub refusal_has_reason : (name : List ℕ) (old : S) (error : InitError) (new : S) → RefusesFile kind c name old error new → HasReason kind c name old error new
@@ -67,7 +67,7 @@ module _ (maps : NameLaws) where
       none.refused,
       (pruned, none.first_fault, prunes, none.first),
       none.call,
-      elim (fails (Unit {0}) ⊥ kind.tells (kind.failures none.refused) fault (kind.failures new) none.cause) [
+      elim (fails (Unit {0}) ⊥ kind.is_known (kind.failures none.refused) fault (kind.failures new) none.cause) [
         | inl itself ↦ itself
         | inr forbidden ↦ absurd forbidden.1
       ],
@@ -78,7 +78,7 @@ module _ (maps : NameLaws) where
       (pruned, none.first_fault, prunes, none.first),
       none.makes,
       none.second.call,
-      elim (fails F (IsLinkOrFolder (fin.get (kind.content pruned).names name)) kind.tells (kind.failures none.ready) fault (kind.failures new) none.cause) [
+      elim (fails F (IsLinkOrFolder (fin.get (kind.content pruned).names name)) kind.is_known (kind.failures none.ready) fault (kind.failures new) none.cause) [
         | inl itself ↦ inl itself
         | inr forbidden ↦ inr (forbidden.0, found IsLinkOrFolder (λ never. never) c (kind.content old) (kind.content pruned) (prunes.only_old forbidden.0) name forbidden.1)
       ],

@@ -15,10 +15,10 @@ use Rattle.appender_store.specs.NameLaws.{NameLaws}
 use Rattle.appender_rolling.proofs.Kept.{removed_name, keeps_linked}
 
 -- what follows from a forbidden call follows from its cause
-weaker_cause : (tells : Bool) (P Q : Type 0) (old new : ℕ) (fault : Error) → (IsTrue tells → P → Q) → HasCause {T = Unit {0}} tells P old new (Err fault) → HasCause {T = Unit {0}} tells Q old new (Err fault)
-weaker_cause tells P Q old new fault f (inl risen) = inl risen
-weaker_cause tells P Q old new fault f (inr (same, inl memory)) = inr (same, inl memory)
-weaker_cause tells P Q old new fault f (inr (same, inr (t, p))) = inr (same, inr (t, f t p))
+weaker_cause : (is_known : Bool) (P Q : Type 0) (old new : ℕ) (fault : Error) → (IsTrue is_known → P → Q) → HasCause {T = Unit {0}} is_known P old new (Err fault) → HasCause {T = Unit {0}} is_known Q old new (Err fault)
+weaker_cause is_known P Q old new fault f (inl risen) = inl risen
+weaker_cause is_known P Q old new fault f (inr (same, inl memory)) = inr (same, inl memory)
+weaker_cause is_known P Q old new fault f (inr (same, inr (t, p))) = inr (same, inr (t, f t p))
 
 any_entry : (o : Option Entry) → IsSome o → IsFileOrFolder o ⊎ IsLink o
 any_entry None some = absurd (let both : false ≡ true = some in cc)
@@ -35,51 +35,51 @@ linked_candidates n (b ∷ bs) name old new law (freed, inr removes, makes) = om
 module _ {S F : Type 0} (kind : Ghosts S F) where
   -- ---- the link
 
-  may_remove : (link : List ℕ) (old freed : S) → IsTrue kind.tells → TriesRemoveLink kind link old freed → MayRemoveLink link (kind.content old) (kind.content freed)
-  may_remove link old freed tells removes = by removes.answer removes.ok removes.err
+  may_remove : (link : List ℕ) (old freed : S) → IsTrue kind.is_known → TriesRemoveLink kind link old freed → MayRemoveLink link (kind.content old) (kind.content freed)
+  may_remove link old freed is_known removes = by removes.answer removes.ok removes.err
     where
-      by : (answer : Result (Unit {0}) Error) → OnOk answer (IsTrue kind.tells → RemovesLink link (kind.content old) (kind.content freed)) → OnErr answer (kind.content freed ≡ kind.content old) → MayRemoveLink link (kind.content old) (kind.content freed)
-      by (Ok u) ok err = inr (ok tells)
+      by : (answer : Result (Unit {0}) Error) → OnOk answer (IsTrue kind.is_known → RemovesLink link (kind.content old) (kind.content freed)) → OnErr answer (kind.content freed ≡ kind.content old) → MayRemoveLink link (kind.content old) (kind.content freed)
+      by (Ok u) ok err = inr (ok is_known)
       by (Err e) ok err = inl err
 
-  module _ (maps : NameLaws) (link name : List ℕ) (old freed new : S) (there : IsTrue kind.tells → (kind.content old).there ≡ true) (removes : TriesRemoveLink kind link old freed) where
+  module _ (maps : NameLaws) (link name : List ℕ) (old freed new : S) (there : IsTrue kind.is_known → (kind.content old).there ≡ true) (removes : TriesRemoveLink kind link old freed) where
     abbrev Forbidden : Type 0
     Forbidden = LeavesNoPlace kind link old freed
 
     -- the cause of a link that isn't made
-    link_cause : (fault : Error) → HasCause {T = Unit {0}} kind.tells (ForbidsMakeLink link (kind.content freed)) (kind.failures freed) (kind.failures new) (Err fault)
-        → HasCause {T = Unit {0}} kind.tells Forbidden (kind.failures freed) (kind.failures new) (Err fault)
+    link_cause : (fault : Error) → HasCause {T = Unit {0}} kind.is_known (ForbidsMakeLink link (kind.content freed)) (kind.failures freed) (kind.failures new) (Err fault)
+        → HasCause {T = Unit {0}} kind.is_known Forbidden (kind.failures freed) (kind.failures new) (Err fault)
     link_cause fault cause = by removes.answer removes.ok removes.err removes.memory
       where
-        weaker : (IsTrue kind.tells → ForbidsMakeLink link (kind.content freed) → Forbidden) → HasCause {T = Unit {0}} kind.tells Forbidden (kind.failures freed) (kind.failures new) (Err fault)
-        weaker f = weaker_cause kind.tells (ForbidsMakeLink link (kind.content freed)) Forbidden (kind.failures freed) (kind.failures new) fault f cause
+        weaker : (IsTrue kind.is_known → ForbidsMakeLink link (kind.content freed) → Forbidden) → HasCause {T = Unit {0}} kind.is_known Forbidden (kind.failures freed) (kind.failures new) (Err fault)
+        weaker f = weaker_cause kind.is_known (ForbidsMakeLink link (kind.content freed)) Forbidden (kind.failures freed) (kind.failures new) fault f cause
 
-        by : (answer : Result (Unit {0}) Error) → OnOk answer (IsTrue kind.tells → RemovesLink link (kind.content old) (kind.content freed)) → OnErr answer (kind.content freed ≡ kind.content old) → OnErr answer (HasRisen (kind.failures old) (kind.failures freed) ⊎ (IsTrue kind.tells × ForbidsRemoveLink link (kind.content old)))
-            → HasCause {T = Unit {0}} kind.tells Forbidden (kind.failures freed) (kind.failures new) (Err fault)
+        by : (answer : Result (Unit {0}) Error) → OnOk answer (IsTrue kind.is_known → RemovesLink link (kind.content old) (kind.content freed)) → OnErr answer (kind.content freed ≡ kind.content old) → OnErr answer (HasRisen (kind.failures old) (kind.failures freed) ⊎ (IsTrue kind.is_known × ForbidsRemoveLink link (kind.content old)))
+            → HasCause {T = Unit {0}} kind.is_known Forbidden (kind.failures freed) (kind.failures new) (Err fault)
         by (Ok u) ok err memory = weaker free
           where
-            free : IsTrue kind.tells → ForbidsMakeLink link (kind.content freed) → Forbidden
-            free tells (inl absent) = absurd (let both : true ≡ false = sym (there tells) ∙ ap (λ (c : Content). c.there) (sym (ok tells).after) ∙ absent in cc)
-            free tells (inr some) = absurd (let gone : fin.get (kind.content freed).names link ≡ None = ap (λ (c : Content). fin.get c.names link) (ok tells).after ∙ removed_name maps (kind.content old).names link in let both : false ≡ true = rw gone at some in cc)
+            free : IsTrue kind.is_known → ForbidsMakeLink link (kind.content freed) → Forbidden
+            free is_known (inl absent) = absurd (let both : true ≡ false = sym (there is_known) ∙ ap (λ (c : Content). c.there) (sym (ok is_known).after) ∙ absent in cc)
+            free is_known (inr some) = absurd (let gone : fin.get (kind.content freed).names link ≡ None = ap (λ (c : Content). fin.get c.names link) (ok is_known).after ∙ removed_name maps (kind.content old).names link in let both : false ≡ true = rw gone at some in cc)
         by (Err e) ok err (inl risen) = weaker stayed
           where
-            stayed : IsTrue kind.tells → ForbidsMakeLink link (kind.content freed) → Forbidden
+            stayed : IsTrue kind.is_known → ForbidsMakeLink link (kind.content freed) → Forbidden
             stayed t (inl absent) = absurd (let both : true ≡ false = sym (there t) ∙ ap (λ (c : Content). c.there) (sym err) ∙ absent in cc)
             stayed t (inr some) = elim (any_entry (fin.get (kind.content old).names link) (subst (λ (c : Content). IsSome (fin.get c.names link)) err some)) [
               | inl other ↦ inl other
               | inr old_link ↦ inr (old_link, risen)
             ]
-        by (Err e) ok err (inr (tells, inl absent)) = absurd (let both : true ≡ false = sym (there tells) ∙ absent in cc)
-        by (Err e) ok err (inr (tells, inr none)) = weaker in_use
+        by (Err e) ok err (inr (is_known, inl absent)) = absurd (let both : true ≡ false = sym (there is_known) ∙ absent in cc)
+        by (Err e) ok err (inr (is_known, inr none)) = weaker in_use
           where
-            in_use : IsTrue kind.tells → ForbidsMakeLink link (kind.content freed) → Forbidden
+            in_use : IsTrue kind.is_known → ForbidsMakeLink link (kind.content freed) → Forbidden
             in_use t (inl absent) = absurd (let both : true ≡ false = sym (there t) ∙ ap (λ (c : Content). c.there) (sym err) ∙ absent in cc)
             in_use t (inr some) = elim (any_entry (fin.get (kind.content old).names link) (subst (λ (c : Content). IsSome (fin.get c.names link)) err some)) [
               | inl other ↦ inl other
               | inr old_link ↦ absurd (none old_link)
             ]
 
-    pub links_not : (answer : Result (Unit {0}) Error) → kind.make_link_gives freed link name answer new → OnErr answer (kind.content new ≡ kind.content freed) → HasCause kind.tells (ForbidsMakeLink link (kind.content freed)) (kind.failures freed) (kind.failures new) answer → kind.noted new ≡ kind.noted freed
+    pub links_not : (answer : Result (Unit {0}) Error) → kind.make_link_gives freed link name answer new → OnErr answer (kind.content new ≡ kind.content freed) → HasCause kind.is_known (ForbidsMakeLink link (kind.content freed)) (kind.failures freed) (kind.failures new) answer → kind.noted new ≡ kind.noted freed
         → IfErr answer (λ fault. RelinksNot kind link name old fault new)
     links_not (Ok u) call err cause noted = tt
     links_not (Err fault) call err cause noted = record {
@@ -87,7 +87,7 @@ module _ {S F : Type 0} (kind : Ghosts S F) where
       removes = removes;
       call = call;
       cause = link_cause fault cause;
-      content = λ tells. subst (λ (c : Content). MayRemoveLink link (kind.content old) c) (sym err) (may_remove link old freed tells removes);
+      content = λ is_known. subst (λ (c : Content). MayRemoveLink link (kind.content old) c) (sym err) (may_remove link old freed is_known removes);
       noted = noted ∙ removes.noted;
     }
 
@@ -101,9 +101,9 @@ module _ {S F : Type 0} (kind : Ghosts S F) where
   links_set [] name old new is_set relinks = absurd (is_set refl)
   links_set (b ∷ bs) name old new is_set relinks = relinks
 
-  linked : (link name : List ℕ) (old new : S) → IsTrue kind.tells → LinksTo kind link name old new → Linked link name (kind.content old) (kind.content new)
-  linked [] name old new tells same = ap kind.content same
-  linked (b ∷ bs) name old new tells relinks = let w = relinks.content tells in (kind.content relinks.freed, w.0, w.1)
+  linked : (link name : List ℕ) (old new : S) → IsTrue kind.is_known → LinksTo kind link name old new → Linked link name (kind.content old) (kind.content new)
+  linked [] name old new is_known same = ap kind.content same
+  linked (b ∷ bs) name old new is_known relinks = let w = relinks.content is_known in (kind.content relinks.freed, w.0, w.1)
 
   links_noted : (link name : List ℕ) (old new : S) → LinksTo kind link name old new → kind.noted new ≡ kind.noted old
   links_noted [] name old new same = ap kind.noted same
@@ -118,12 +118,12 @@ module _ {S F : Type 0} (kind : Ghosts S F) where
         prunes = prunes;
         gets = gets;
         links = links;
-        linked = λ tells. linked config.link name unlinked new tells links;
-        body_is_there = λ tells. (keeps_linked maps config.link name (kind.content unlinked) (kind.content new) (linked config.link name unlinked new tells links)).keeps.more (kind.body file) (gets.body_is_there tells);
+        linked = λ is_known. linked config.link name unlinked new is_known links;
+        body_is_there = λ is_known. (keeps_linked maps config.link name (kind.content unlinked) (kind.content new) (linked config.link name unlinked new is_known links)).keeps.more (kind.body file) (gets.body_is_there is_known);
         noted = noted;
-        at_most = λ quiet tells some.
-            let before = prunes.fewer (subst (λ (n : Counts). IsQuiet (kind.noted old) n) noted quiet) tells some in
-            let more = one name (after_make_folder (kind.content pruned)) (kind.content unlinked) (kind.body file) (gets.opens tells) in
-            let still = linked_candidates (naming_of config) config.link name (kind.content unlinked) (kind.content new) none (linked config.link name unlinked new tells links) in
+        at_most = λ quiet is_known some.
+            let before = prunes.fewer (subst (λ (n : Counts). IsQuiet (kind.noted old) n) noted quiet) is_known some in
+            let more = one name (after_make_folder (kind.content pruned)) (kind.content unlinked) (kind.body file) (gets.opens is_known) in
+            let still = linked_candidates (naming_of config) config.link name (kind.content unlinked) (kind.content new) none (linked config.link name unlinked new is_known links) in
             omega arith;
       }

@@ -28,8 +28,8 @@ one_more_piece kind answers bytes left start last now answer so goes some w = re
   taken = so.taken ++ take (count_of answer) left;
   split = so.split ∙ ap (λ xs. so.taken ++ xs) (sym (take-append-drop (count_of answer) left))
       ∙ sym (append_assoc so.taken (take (count_of answer) left) (drop (count_of answer) left));
-  content = λ tells. w.content tells
-      ∙ ap (λ c. after_append c (kind.body last.file) (take (count_of answer) left)) (so.content tells)
+  content = λ is_known. w.content is_known
+      ∙ ap (λ c. after_append c (kind.body last.file) (take (count_of answer) left)) (so.content is_known)
       ∙ ap (λ b. after_append (after_append (kind.content start.folder) (kind.body start.file) so.taken) b (take (count_of answer) left)) so.stays.file
       ∙ after_append_twice (kind.content start.folder) (kind.body start.file) so.taken (take (count_of answer) left);
   stays = stays_twice kind start last now so.stays w.stays;

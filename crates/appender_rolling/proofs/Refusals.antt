@@ -16,23 +16,23 @@ takes_nothing : (n : Naming) (max : ℕ) (c : Content) → TakesOnlyOld n max c 
 takes_nothing n max c = record { there = refl; bodies = refl; names = λ name. inl refl }
 
 module _ {S F : Type 0} (kind : Ghosts S F) (config : Config) where
-  may_remove : (link name : List ℕ) (old : S) (fault : Error) (new : S) → IsTrue kind.tells → LinksNot kind link name old fault new → MayRemoveLink link (kind.content old) (kind.content new)
-  may_remove [] name old fault new tells never = absurd never
-  may_remove (b ∷ bs) name old fault new tells links_not = links_not.content tells
+  may_remove : (link name : List ℕ) (old : S) (fault : Error) (new : S) → IsTrue kind.is_known → LinksNot kind link name old fault new → MayRemoveLink link (kind.content old) (kind.content new)
+  may_remove [] name old fault new is_known never = absurd never
+  may_remove (b ∷ bs) name old fault new is_known links_not = links_not.content is_known
 
   -- it changes little
-  pub refuses_little : (name : List ℕ) (old : S) (e : InitError) (new : S) → IsTrue kind.tells → RefusesFile kind config name old e new → LeavesLittle config name (kind.content old) (kind.content new)
-  refuses_little name old (Directory fault) new tells (pruned, prunes, none) = record { pruned = kind.content pruned; only_old = prunes.only_old tells; rest = inl none.content }
-  refuses_little name old (File fault) new tells (pruned, prunes, none) = record { pruned = kind.content pruned; only_old = prunes.only_old tells; rest = inr (inl (none.content tells)) }
-  refuses_little name old (Symlink fault) new tells (pruned, unlinked, file, prunes, gets, links_not) = record {
+  pub refuses_little : (name : List ℕ) (old : S) (e : InitError) (new : S) → IsTrue kind.is_known → RefusesFile kind config name old e new → LeavesLittle config name (kind.content old) (kind.content new)
+  refuses_little name old (Directory fault) new is_known (pruned, prunes, none) = record { pruned = kind.content pruned; only_old = prunes.only_old is_known; rest = inl none.content }
+  refuses_little name old (File fault) new is_known (pruned, prunes, none) = record { pruned = kind.content pruned; only_old = prunes.only_old is_known; rest = inr (inl (none.content is_known)) }
+  refuses_little name old (Symlink fault) new is_known (pruned, unlinked, file, prunes, gets, links_not) = record {
     pruned = kind.content pruned;
-    only_old = prunes.only_old tells;
-    rest = inr (inr (kind.content unlinked, kind.body file, gets.opens tells, may_remove config.link name unlinked fault new tells links_not));
+    only_old = prunes.only_old is_known;
+    rest = inr (inr (kind.content unlinked, kind.body file, gets.opens is_known, may_remove config.link name unlinked fault new is_known links_not));
   }
-  refuses_little name old Memory new tells same = record { pruned = kind.content old; only_old = takes_nothing (naming_of config) config.max_files (kind.content old); rest = inl (ap kind.content same) }
-  refuses_little name old Moment new tells (pruned, prunes, never) = absurd never
-  refuses_little name old Name new tells (pruned, prunes, never) = absurd never
-  refuses_little name old Limit new tells (pruned, prunes, never) = absurd never
+  refuses_little name old Memory new is_known same = record { pruned = kind.content old; only_old = takes_nothing (naming_of config) config.max_files (kind.content old); rest = inl (ap kind.content same) }
+  refuses_little name old Moment new is_known (pruned, prunes, never) = absurd never
+  refuses_little name old Name new is_known (pruned, prunes, never) = absurd never
+  refuses_little name old Limit new is_known (pruned, prunes, never) = absurd never
 
   -- and is that of a roller, whose checks were passed
   pub refuses_roller : (m : ℤ) (old listed : S) (number : ℕ) (e : InitError) (new : S) → NamesEntries config → MayLimit config → IsMoment m → ¬ LinkClashes config m → FindsNumber kind config m old number listed

@@ -23,7 +23,7 @@ pub record Appending (S F C : Type 0) : Type 0 where
 -- the clock was read, and the bytes were put at the moment that it told
 pub record PutsNow {S F C : Type 0} (kind : Ghosts S F) (time : Readings C) (bytes : List ℕ) (switch : Switch) (answer : Result ℕ Error) (old new : Appending S F C) : Type 0 where
   pub moment : ℤ
-  pub told : time.now_gives old.clock moment
+  pub reading : time.now_gives old.clock moment
   pub puts : Puts kind moment bytes switch answer old.roller new.roller
   pub clock : new.clock ≡ old.clock
 
@@ -34,7 +34,7 @@ WritesNow kind time bytes answer old new = (switch : Switch) × PutsNow kind tim
 -- the clock was read, and it was looked whether a file begins at the moment that it told
 pub record SeesNow {S F C : Type 0} (kind : Ghosts S F) (time : Readings C) (switch : Switch) (old new : Appending S F C) : Type 0 where
   pub moment : ℤ
-  pub told : time.now_gives old.clock moment
+  pub reading : time.now_gives old.clock moment
   pub sees : Sees kind moment switch old.roller new.roller
   pub clock : new.clock ≡ old.clock
 
@@ -51,7 +51,7 @@ pub record FlushesNow {S F C : Type 0} (kind : Ghosts S F) (answer : Result (Uni
 -- the clock was read, and a roller was opened at the moment that it told
 pub record OpensNow {S F C : Type 0} (kind : Ghosts S F) (time : Readings C) (config : Config) (folder : S) (clock : C) (new : Appending S F C) : Type 0 where
   pub moment : ℤ
-  pub told : time.now_gives clock moment
+  pub reading : time.now_gives clock moment
   pub opens : OpensRoller kind config moment folder new.roller
   pub clock_is : new.clock ≡ clock
 
@@ -62,7 +62,7 @@ OpensSome {S} {F} {C} kind time config new = (folder : S) × (clock : C) × Open
 -- it was read, and none was opened, for this reason
 pub record OpensNone {S F C : Type 0} (kind : Ghosts S F) (time : Readings C) (config : Config) (folder : S) (clock : C) (error : InitError) (left : S) (same : C) : Type 0 where
   pub moment : ℤ
-  pub told : time.now_gives clock moment
+  pub reading : time.now_gives clock moment
   pub refuses : OpensNoRoller kind config moment folder error left
   pub clock_is : same ≡ clock
 
@@ -116,7 +116,7 @@ pub record PutsSome {S F : Type 0} (kind : Ghosts S F) (m : ℤ) (bytes : List �
 -- file was found to have room.
 pub record LooksNow {S F C : Type 0} (kind : Ghosts S F) (time : Readings C) (clock : C) (s : Holding) : Type 0 where
   pub moment : ℤ
-  pub told : time.now_gives clock moment
+  pub reading : time.now_gives clock moment
   pub in_its_period : is_due s.boundary moment ≡ false
   pub has_room : is_limited s.config ≡ true → (found : Held S F) × (is_full (rolling_of s found) 0 ≡ false)
 
@@ -135,7 +135,7 @@ pub record WritesAllSome {S F : Type 0} (kind : Ghosts S F) (s : Scheduled) (byt
 -- the clock was read, and the bytes were put into a roller at the moment that it told
 pub record PutsAtClock {S F C : Type 0} (kind : Ghosts S F) (time : Readings C) (clock : C) (bytes : List ℕ) (answer : Result ℕ Error) : Type 0 where
   pub moment : ℤ
-  pub told : time.now_gives clock moment
+  pub reading : time.now_gives clock moment
   pub old : Scheduled
   pub new : Scheduled
   pub puts : PutsSome kind moment bytes answer old new

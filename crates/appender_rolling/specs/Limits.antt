@@ -41,13 +41,13 @@ HasReason kind c name old (Directory fault) new =
     × FailsByItself (kind.failures refused) fault (kind.failures new)
 HasReason kind c name old (NoFile fault) new =
     (refused : _) × (ready : _) × FirstRefused kind c name old refused × MakesFolder kind refused ready × kind.open_gives ready name (Err fault) new
-    × (FailsByItself (kind.failures ready) fault (kind.failures new) ⊎ (IsTrue kind.tells × IsLinkOrFolder (fin.get (kind.content old).names name)))
+    × (FailsByItself (kind.failures ready) fault (kind.failures new) ⊎ (IsTrue kind.is_known × IsLinkOrFolder (fin.get (kind.content old).names name)))
 HasReason {S} {F} kind c name old (Symlink fault) new =
     (pruned : S) × (file : F) × (unlinked : S) × (freed : S)
     × Prunes kind (naming_of c) c.max_files old pruned × GetsFile kind name pruned file unlinked × TriesRemoveLink kind c.link unlinked freed
     × kind.make_link_gives freed c.link name (Err fault) new
     × (FailsByItself (kind.failures freed) fault (kind.failures new)
-    ⊎ (IsTrue kind.tells × ((c.link ≡ name) ⊎ IsFileOrFolder (fin.get (kind.content old).names c.link)
+    ⊎ (IsTrue kind.is_known × ((c.link ≡ name) ⊎ IsFileOrFolder (fin.get (kind.content old).names c.link)
     ⊎ (IsLink (fin.get (kind.content old).names c.link) × HasRisen (kind.failures unlinked) (kind.failures freed)))))
 HasReason kind c name old Memory new = new ≡ old
 HasReason kind c name old error new = ⊥

@@ -79,12 +79,12 @@ pub record ListsNumbers {S F : Type 0} (kind : Ghosts S F) (n : Naming) (m : ℤ
   pub answer : Result (Vec Listed Global) Error
   pub listed : S
   pub call : kind.list_gives old answer listed
-  pub cause : HasCause kind.tells (ForbidsList (kind.content old)) (kind.failures old) (kind.failures listed) answer
+  pub cause : HasCause kind.is_known (ForbidsList (kind.content old)) (kind.failures old) (kind.failures listed) answer
   pub content : kind.content listed ≡ kind.content old
   pub noted : kind.noted listed ≡ kind.noted old
   pub number_is : MatchResult answer (λ all. IsFirstNumber n m (IsListed (map listed_row all.items)) number × (new ≡ listed))
       (λ fault. (number ≡ 0) × Notes kind listed (NotedList fault) new)
-  pub number_in : IsOk answer → IsTrue kind.tells → IsFirstNumber n m (HasEntry (kind.content old)) number
+  pub number_in : IsOk answer → IsTrue kind.is_known → IsFirstNumber n m (HasEntry (kind.content old)) number
 
 -- The number of the first file that is opened. Without a limit of bytes it is 0, and no call is made.
 pub record FindsNumber {S F : Type 0} (kind : Ghosts S F) (config : Config) (m : ℤ) (old : S) (number : ℕ) (new : S) : Type 0 where
@@ -98,8 +98,8 @@ pub record FindsNumber {S F : Type 0} (kind : Ghosts S F) (config : Config) (m :
 -- one call opened the file of this name
 pub record OpensAtOnce {S F : Type 0} (kind : Ghosts S F) (name : List ℕ) (old : S) (file : F) (new : S) : Type 0 where
   pub call : kind.open_gives old name (Ok file) new
-  pub opens : IsTrue kind.tells → Opens name (kind.content old) (kind.content new) (kind.body file)
-  pub body_is_there : IsTrue kind.tells → kind.body file < length (kind.content new).bodies
+  pub opens : IsTrue kind.is_known → Opens name (kind.content old) (kind.content new) (kind.body file)
+  pub body_is_there : IsTrue kind.is_known → kind.body file < length (kind.content new).bodies
   pub failures : kind.failures new ≡ kind.failures old
   pub noted : kind.noted new ≡ kind.noted old
 
@@ -107,13 +107,13 @@ pub record OpensAtOnce {S F : Type 0} (kind : Ghosts S F) (name : List ℕ) (old
 pub record RefusesAtOnce {S F : Type 0} (kind : Ghosts S F) (name : List ℕ) (old : S) (fault : Error) (new : S) : Type 0 where
   pub call : kind.open_gives old name (Err fault) new
   pub content : kind.content new ≡ kind.content old
-  pub cause : HasCause {T = F} kind.tells (ForbidsOpen name (kind.content old)) (kind.failures old) (kind.failures new) (Err fault)
+  pub cause : HasCause {T = F} kind.is_known (ForbidsOpen name (kind.content old)) (kind.failures old) (kind.failures new) (Err fault)
   pub noted : kind.noted new ≡ kind.noted old
 
 -- a call made the folder, if it wasn't there
 pub record MakesFolder {S F : Type 0} (kind : Ghosts S F) (old new : S) : Type 0 where
   pub call : kind.make_folder_gives old (Ok tt) new
-  pub content : IsTrue kind.tells → kind.content new ≡ after_make_folder (kind.content old)
+  pub content : IsTrue kind.is_known → kind.content new ≡ after_make_folder (kind.content old)
   pub failures : kind.failures new ≡ kind.failures old
   pub noted : kind.noted new ≡ kind.noted old
 
@@ -129,8 +129,8 @@ pub record OpensInMade {S F : Type 0} (kind : Ghosts S F) (name : List ℕ) (old
 -- The file of this name was opened: in the folder as it was, or in the folder made, which is the same where it was there.
 pub record GetsFile {S F : Type 0} (kind : Ghosts S F) (name : List ℕ) (old : S) (file : F) (new : S) : Type 0 where
   pub calls : OpensAtOnce kind name old file new ⊎ OpensInMade kind name old file new
-  pub opens : IsTrue kind.tells → Opens name (after_make_folder (kind.content old)) (kind.content new) (kind.body file)
-  pub body_is_there : IsTrue kind.tells → kind.body file < length (kind.content new).bodies
+  pub opens : IsTrue kind.is_known → Opens name (after_make_folder (kind.content old)) (kind.content new) (kind.body file)
+  pub body_is_there : IsTrue kind.is_known → kind.body file < length (kind.content new).bodies
   pub noted : kind.noted new ≡ kind.noted old
 
 -- The folder could not be made, and nothing changed: the call failed by itself, or memory was refused.
@@ -139,7 +139,7 @@ pub record GetsNoFolder {S F : Type 0} (kind : Ghosts S F) (name : List ℕ) (ol
   pub refused : S
   pub first : RefusesAtOnce kind name old first_fault refused
   pub call : kind.make_folder_gives refused (Err fault) new
-  pub cause : HasCause {T = Unit {0}} kind.tells ⊥ (kind.failures refused) (kind.failures new) (Err fault)
+  pub cause : HasCause {T = Unit {0}} kind.is_known ⊥ (kind.failures refused) (kind.failures new) (Err fault)
   pub content : kind.content new ≡ kind.content old
   pub noted : kind.noted new ≡ kind.noted old
 
@@ -152,8 +152,8 @@ pub record GetsNoFile {S F : Type 0} (kind : Ghosts S F) (name : List ℕ) (old 
   pub first : RefusesAtOnce kind name old first_fault refused
   pub makes : MakesFolder kind refused ready
   pub second : RefusesAtOnce kind name ready fault new
-  pub cause : HasCause {T = F} kind.tells (IsLinkOrFolder (fin.get (kind.content old).names name)) (kind.failures ready) (kind.failures new) (Err fault)
-  pub content : IsTrue kind.tells → kind.content new ≡ after_make_folder (kind.content old)
+  pub cause : HasCause {T = F} kind.is_known (IsLinkOrFolder (fin.get (kind.content old).names name)) (kind.failures ready) (kind.failures new) (Err fault)
+  pub content : IsTrue kind.is_known → kind.content new ≡ after_make_folder (kind.content old)
   pub noted : kind.noted new ≡ kind.noted old
 
 -- the file of this name was not opened, for this reason
@@ -172,10 +172,10 @@ MayRemoveLink link old new = (new ≡ old) ⊎ RemovesLink link old new
 pub record TriesRemoveLink {S F : Type 0} (kind : Ghosts S F) (link : List ℕ) (old new : S) : Type 0 where
   pub answer : Result (Unit {0}) Error
   pub call : kind.remove_link_gives old link answer new
-  pub ok : OnOk answer (IsTrue kind.tells → RemovesLink link (kind.content old) (kind.content new))
+  pub ok : OnOk answer (IsTrue kind.is_known → RemovesLink link (kind.content old) (kind.content new))
   pub err : OnErr answer (kind.content new ≡ kind.content old)
-  pub cause : HasCause kind.tells (ForbidsRemoveLink link (kind.content old)) (kind.failures old) (kind.failures new) answer
-  pub memory : OnErr answer (HasRisen (kind.failures old) (kind.failures new) ⊎ (IsTrue kind.tells × ForbidsRemoveLink link (kind.content old)))
+  pub cause : HasCause kind.is_known (ForbidsRemoveLink link (kind.content old)) (kind.failures old) (kind.failures new) answer
+  pub memory : OnErr answer (HasRisen (kind.failures old) (kind.failures new) ⊎ (IsTrue kind.is_known × ForbidsRemoveLink link (kind.content old)))
   pub noted : kind.noted new ≡ kind.noted old
 
 -- the name leads to a plain file or to a folder
@@ -191,7 +191,7 @@ pub record Relinks {S F : Type 0} (kind : Ghosts S F) (link name : List ℕ) (ol
   pub removes : TriesRemoveLink kind link old freed
   pub call : kind.make_link_gives freed link name (Ok tt) new
   pub failures : kind.failures new ≡ kind.failures freed
-  pub content : IsTrue kind.tells → MayRemoveLink link (kind.content old) (kind.content freed) × MakesLink link name (kind.content freed) (kind.content new)
+  pub content : IsTrue kind.is_known → MayRemoveLink link (kind.content old) (kind.content freed) × MakesLink link name (kind.content freed) (kind.content new)
   pub noted : kind.noted new ≡ kind.noted old
 
 -- what has the link's name leaves no place for it: a plain file or a folder, or the old link, whose removal failed by itself
@@ -206,8 +206,8 @@ pub record RelinksNot {S F : Type 0} (kind : Ghosts S F) (link name : List ℕ) 
   pub freed : S
   pub removes : TriesRemoveLink kind link old freed
   pub call : kind.make_link_gives freed link name (Err fault) new
-  pub cause : HasCause {T = Unit {0}} kind.tells (LeavesNoPlace kind link old freed) (kind.failures freed) (kind.failures new) (Err fault)
-  pub content : IsTrue kind.tells → MayRemoveLink link (kind.content old) (kind.content new)
+  pub cause : HasCause {T = Unit {0}} kind.is_known (LeavesNoPlace kind link old freed) (kind.failures freed) (kind.failures new) (Err fault)
+  pub content : IsTrue kind.is_known → MayRemoveLink link (kind.content old) (kind.content new)
   pub noted : kind.noted new ≡ kind.noted old
 
 -- where a link is set, it leads to this name now
@@ -225,7 +225,7 @@ LinksNot kind (b ∷ bs) name old fault new = RelinksNot kind (b ∷ bs) name ol
 -- where neither List nor Remove was noted, no more log files stand than the maximum, if one is set
 abbrev pub AtMost : {S F : Type 0} → Ghosts S F → Config → S → S → Type 0
 AtMost kind config old new =
-    IsQuiet (kind.noted old) (kind.noted new) → IsTrue kind.tells → 0 < config.max_files → candidates_in (naming_of config) (kind.content new) ≤ config.max_files
+    IsQuiet (kind.noted old) (kind.noted new) → IsTrue kind.is_known → 0 < config.max_files → candidates_in (naming_of config) (kind.content new) ≤ config.max_files
 
 -- what the link did to the content, where one is set
 abbrev pub Linked : List ℕ → List ℕ → Content → Content → Type 0
@@ -239,8 +239,8 @@ pub record OpensFile {S F : Type 0} (kind : Ghosts S F) (config : Config) (name 
   pub prunes : Prunes kind (naming_of config) config.max_files old pruned
   pub gets : GetsFile kind name pruned file unlinked
   pub links : LinksTo kind config.link name unlinked new
-  pub linked : IsTrue kind.tells → Linked config.link name (kind.content unlinked) (kind.content new)
-  pub body_is_there : IsTrue kind.tells → kind.body file < length (kind.content new).bodies
+  pub linked : IsTrue kind.is_known → Linked config.link name (kind.content unlinked) (kind.content new)
+  pub body_is_there : IsTrue kind.is_known → kind.body file < length (kind.content new).bodies
   pub noted : kind.noted new ≡ kind.noted pruned
   pub at_most : AtMost kind config old new
 

@@ -143,7 +143,7 @@ pub record ClosesLast {S F : Type 0} (kind : Ghosts S F) (old : S) (file : F) (n
   pub flushed : S
   pub closed : F
   pub call : kind.flush_gives old file answer flushed closed
-  pub cause : HasCause kind.tells ⊥ (kind.failures old) (kind.failures flushed) answer
+  pub cause : HasCause kind.is_known ⊥ (kind.failures old) (kind.failures flushed) answer
   pub content : kind.content new ≡ kind.content old
   pub noted : kind.noted flushed ≡ kind.noted old
   pub notes : MatchResult answer (λ _. new ≡ flushed) (λ fault. Notes kind flushed (NotedFlush fault) new)
@@ -182,7 +182,7 @@ pub record KeepsFile {S F : Type 0} (kind : Ghosts S F) (m : ℤ) (len : ℕ) (o
   pub refused : S
   pub refuses : RefusesFile kind old.config (file_name_of old.config at_stamp) old.folder reason refused
   pub notes : Notes kind refused (NotedOpen reason) new.folder
-  pub content : IsTrue kind.tells → LeavesLittle old.config (file_name_of old.config at_stamp) (kind.content old.folder) (kind.content new.folder)
+  pub content : IsTrue kind.is_known → LeavesLittle old.config (file_name_of old.config at_stamp) (kind.content old.folder) (kind.content new.folder)
 
 -- What a look at the clock at m does, with so many bytes to write: nothing at all unless a boundary has come or the file is full. So
 -- without a limit of bytes a moment that isn't later than the last opening switches nothing.
@@ -215,8 +215,8 @@ pub record StaysOpen {S F : Type 0} (kind : Ghosts S F) (old new : Rolling S F) 
 pub record Writes {S F : Type 0} (kind : Ghosts S F) (bytes : List ℕ) (answer : Result ℕ Error) (old new : Rolling S F) : Type 0 where
   pub call : kind.append_gives old.folder old.file bytes answer new.folder new.file
   pub bound : count_of answer ≤ length bytes
-  pub content : IsTrue kind.tells → kind.content new.folder ≡ after_append (kind.content old.folder) (kind.body old.file) (take (count_of answer) bytes)
-  pub cause : HasCause kind.tells ⊥ (kind.failures old.folder) (kind.failures new.folder) answer
+  pub content : IsTrue kind.is_known → kind.content new.folder ≡ after_append (kind.content old.folder) (kind.body old.file) (take (count_of answer) bytes)
+  pub cause : HasCause kind.is_known ⊥ (kind.failures old.folder) (kind.failures new.folder) answer
   pub stays : StaysOpen kind old new
   pub room : new.room ≡ old.room - count_of answer
 
@@ -250,7 +250,7 @@ pub record WritesSoFar {S F : Type 0} (kind : Ghosts S F) (answers : List (Resul
   pub pieces : WritesPieces kind answers bytes old rest new
   pub taken : List ℕ
   pub split : bytes ≡ taken ++ rest
-  pub content : IsTrue kind.tells → kind.content new.folder ≡ after_append (kind.content old.folder) (kind.body old.file) taken
+  pub content : IsTrue kind.is_known → kind.content new.folder ≡ after_append (kind.content old.folder) (kind.body old.file) taken
   pub stays : StaysOpen kind old new
   pub room : new.room ≡ old.room - length taken
 
@@ -272,7 +272,7 @@ pub record Puts {S F : Type 0} (kind : Ghosts S F) (m : ℤ) (bytes : List ℕ) 
 pub record Flushes {S F : Type 0} (kind : Ghosts S F) (answer : Result (Unit {0}) Error) (old new : Rolling S F) : Type 0 where
   pub call : kind.flush_gives old.folder old.file answer new.folder new.file
   pub content : kind.content new.folder ≡ kind.content old.folder
-  pub cause : HasCause kind.tells ⊥ (kind.failures old.folder) (kind.failures new.folder) answer
+  pub cause : HasCause kind.is_known ⊥ (kind.failures old.folder) (kind.failures new.folder) answer
   pub stays : StaysOpen kind old new
   pub room : new.room ≡ old.room
 

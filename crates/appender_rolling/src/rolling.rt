@@ -12,11 +12,11 @@ mod setup;
 mod writer;
 
 pub use appender::{FileAppender, RollingFileAppender, daily, hourly, minutely, never, weekly};
+pub use appender_base::make_writer::MakeWriter;
 pub use appender_names::error::InitError;
 use appender_names::names::Names;
 pub use appender_names::rotation::Rotation;
 use appender_store::store::Folder;
-pub use appender_writers::MakeWriter;
 pub use builder::Builder;
 pub use clock::{Clock, SystemClock};
 pub use file::RollingFile;

@@ -1,4 +1,4 @@
--- What holds if a worker is told a line, the end, or that nothing is there.
+-- What holds if a take returns a line, the end, or nothing.
 use Rattle.appender_queue.specs.declared.queue.Taken.{Taken}
 use Rattle.appender_queue.specs.declared.queue.Taken.TheVariants.{Line, Shutdown, Gone, Empty}
 
@@ -13,7 +13,7 @@ OnEnd Shutdown P = P
 OnEnd Gone P = P
 OnEnd taken P = Unit {0}
 
--- a fact, if nothing was there
+-- a fact, if nothing was taken
 abbrev pub OnEmpty : Taken → Type 0 → Type 0
 OnEmpty Empty P = P
 OnEmpty taken P = Unit {0}

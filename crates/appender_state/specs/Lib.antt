@@ -1,5 +1,5 @@
 pub mod Cases
 pub mod Held
+pub mod Offers
 pub mod Quiet
-pub mod Steps
 pub mod Tally

@@ -1,4 +1,4 @@
-//! What is counted of a queue beside it, and who may count.
+//! Counts of a queue that ledgers check, and who may count.
 ghost use Rattle.std.specs.Prelude.{◌≡◌, ℕ, ◌+◌, ◌^◌, ◌<◌, Option, Some, None, IfSome};
 ghost use Rattle.appender_state.specs.Tally.{
   Tally,
@@ -10,21 +10,21 @@ ghost use Rattle.appender_state.specs.Tally.{
 
 use std::sync::ledger::{Book, Ledger, Share};
 
-/// Books of a queue's counts, which lie under its lock, and the shares of them that senders, guard and
-/// worker have. Plain senders keep none: then each type here takes no bytes and each call does nothing.
+/// Books of a queue's counts, under its lock, and the shares of them that senders, guard and worker have.
+/// Uncounted senders keep none: then each type here takes no bytes, and each call does nothing.
 pub trait Books: Drop {
-    /// What a sender has.
+    /// A sender's share.
     type Mine: Drop;
-    /// What the guard has.
+    /// The guard's share.
     type Shutdowns: Drop;
-    /// What the worker has.
+    /// The worker's shares.
     type Pass: Drop;
 
-    /// What the worker hands back in the end.
+    /// What the worker returns at its end.
     type Done: Drop;
 
-    /// The books say this of a queue.
-    ghost say: { Self → Tally → Type 0 };
+    /// The books agree with these counts of the queue.
+    ghost agree: { Self → Tally → Type 0 };
     /// Who may count a line, a shutdown, what the worker takes.
     ghost may_accept: { Self.Mine → Type 0 };
 
@@ -39,40 +39,40 @@ pub trait Books: Drop {
     ghost counts_shutdown: { Self.Shutdowns → Self.Shutdowns → Type 0 };
 
     ghost counts_take: { Self.Pass → Self.Pass → Type 0 };
-    /// The worker knows that the queue is closed.
+    /// The worker has closed the queue.
     ghost has_ended: { Self.Pass → Type 0 };
 
     /// Returns the place from which a sender offers its lines, if it has one. The queue has that place.
     fn place(&self, mine: &Self::Mine) -> Option<usize>
         requires { may_accept mine.now }
         ensures place { result ≡ place_of mine.now }
-        ensures within { (t : Tally) → say self.now t → IfSome (place_of mine.now) (λ place. place < t.places) };
+        ensures within { (t : Tally) → agree self.now t → IfSome (place_of mine.now) (λ place. place < t.places) };
 
-    /// A line was accepted.
+    /// Counts an accepted line.
     fn accept(&mut self, mine: &mut Self::Mine)
         requires { may_accept mine.old }
-        ensures { (t : Tally) → say self.old t → t.accepted + 1 < 2 ^ 64
-            → say self.new (with_line t) × counts_line mine.old mine.new };
+        ensures { (t : Tally) → agree self.old t → t.accepted + 1 < 2 ^ 64
+            → agree self.new (with_line t) × counts_line mine.old mine.new };
 
-    /// The shutdown was sent.
+    /// Counts the shutdown, which was sent.
     fn shut(&mut self, mine: &mut Self::Shutdowns)
         requires { may_shut mine.old }
-        ensures { (t : Tally) → say self.old t → t.shutdowns ≡ 0
-            → say self.new (with_shutdown t) × counts_shutdown mine.old mine.new };
+        ensures { (t : Tally) → agree self.old t → t.shutdowns ≡ 0
+            → agree self.new (with_shutdown t) × counts_shutdown mine.old mine.new };
 
-    /// A line was handed to the worker.
+    /// Counts a line that was handed to the worker.
     fn hand(&mut self, pass: &mut Self::Pass)
         requires { may_take pass.old }
         ensures may { may_take pass.new }
-        ensures told { counts_take pass.old pass.new }
-        ensures say { (t : Tally) → say self.old t → say self.new (with_handed t) };
+        ensures counted { counts_take pass.old pass.new }
+        ensures agree { (t : Tally) → agree self.old t → agree self.new (with_handed t) };
 
-    /// The queue was closed.
+    /// Counts the closing of the queue.
     fn close(&mut self, pass: &mut Self::Pass)
         requires { may_take pass.old }
-        ensures { (t : Tally) → say self.old t → say self.new (with_closing t) × has_ended pass.new };
+        ensures { (t : Tally) → agree self.old t → agree self.new (with_closing t) × has_ended pass.new };
 
-    /// What a worker hands back that has ended.
+    /// Returns what a worker that has ended returns.
     fn done(pass: Self::Pass) -> Self::Done
         requires { has_ended pass };
 }
@@ -90,7 +90,7 @@ impl Books for NoBooks {
 
     type Done = ();
 
-    ghost say = { λ b t. Unit {0} };
+    ghost agree = { λ b t. Unit {0} };
 
     ghost may_accept = { λ m. Unit {0} };
 
@@ -138,7 +138,7 @@ pub struct FourBooks<A: Ledger, H: Ledger, S: Ledger, C: Ledger> {
     pub closings: Book<C>,
 }
 
-/// What a sender has: a share of the book of accepted lines, and its place in the queue.
+/// A sender's share of the book of accepted lines, and its place in the queue.
 #[derive(Drop)]
 pub struct SenderShare<A: Ledger> {
     pub share: Share<A>,
@@ -152,7 +152,7 @@ pub struct Pass<H: Ledger, C: Ledger> {
     pub closings: Share<C>,
 }
 
-/// What a worker hands back once it has closed the queue.
+/// What a worker returns after it has closed the queue.
 #[derive(Drop)]
 pub struct Done<H: Ledger, C: Ledger> {
     pub handed: Share<H>,
@@ -171,7 +171,7 @@ impl<A: Ledger, H: Ledger, S: Ledger, C: Ledger> Books for FourBooks<A, H, S, C>
 
     type Done = Done<H, C>;
 
-    ghost say = { λ b t. (b.accepted.total ≡ t.accepted) × (b.handed.total ≡ t.handed)
+    ghost agree = { λ b t. (b.accepted.total ≡ t.accepted) × (b.handed.total ≡ t.handed)
         × (b.shutdowns.total ≡ t.shutdowns) × (b.closings.total ≡ t.closings) × (t.places + 1 ≡ A.parts) };
 
     ghost may_accept = { λ m. (0 < m.share.parts) × (m.place + 1 < A.parts) };

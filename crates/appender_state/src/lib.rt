@@ -1,5 +1,5 @@
-//! What lies under the lock of a non-blocking writer: the queue, its books, and who sleeps. Each call of
-//! `State` is one step under that lock, and waits for nobody.
+//! What the lock of a non-blocking writer protects: the queue, its books, and who sleeps. Each call of
+//! `State` is one step under that lock, and doesn't block.
 #![tactic(auto)]
 
 pub mod books;

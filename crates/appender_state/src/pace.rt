@@ -1,30 +1,30 @@
 //! How often threads look again before they sleep, and how far senders may run ahead of the worker.
-//! The numbers were found by measuring: they change how fast lines go, and nothing else.
+//! The numbers are measured: they change how fast lines are queued and written, and nothing else.
 ghost use Rattle.std.specs.Prelude.{◌≡◌};
 
+use appender_base::sync::yield_for;
 use appender_queue::queue::LineQueue;
-use appender_sync::sync::rest;
 use std::thread;
 
 /// How often the worker looks again at an empty queue, and a sender at a full one, before it sleeps.
 pub const LOOKS: u32 = 16;
 
-/// How long the worker rests between two looks, in turns of a loop.
-pub const EMPTY_REST: u32 = 128;
+/// How long the worker yields between two looks, in turns of a loop.
+pub const EMPTY_TURNS: u32 = 128;
 
-// How long a sender rests between two looks at a full queue. If longer rests help, it is between these
-// two; the longer one takes less than a millisecond on every processor that was measured.
-const FULL_REST: u32 = 256;
+// How long a sender yields between two looks at a full queue. If longer back-offs help, it is between
+// the last two; the longest one takes less than a millisecond on every processor that was measured.
+const FULL_TURNS: u32 = 256;
 
-const LEAST_FULL_REST: u32 = 1024;
+const LEAST_FULL_TURNS: u32 = 1024;
 
-const MOST_FULL_REST: u32 = 8192;
+const MOST_FULL_TURNS: u32 = 8192;
 
 // A run of so many lines is long enough.
 const LONG_RUN: usize = 128;
 
-/// How long a sender rests where the worker is far behind.
-pub const BEHIND_REST: u32 = 2048;
+// How long a sender yields if the worker is far behind.
+const BEHIND_TURNS: u32 = 2048;
 
 /// How many buffers of written lines are kept for other lines.
 pub const MOST_SPARES: usize = 4096;
@@ -37,27 +37,27 @@ pub const MOST_BYTES: usize = 512;
 const BEHIND: u64 = 511;
 
 // While more lines than this wait, the sender of each line whose ticket has none of the bits of
-// `OFTEN` rests, so that the kept buffers are enough for all senders.
+// `OFTEN` backs off, so that the kept buffers are enough for all senders.
 const FAR_BEHIND: u64 = 1024;
 
 const OFTEN: u64 = 15;
 
-/// How long a sender rests at a full queue. If it looks again soon, it finds room for a line or two, and it
-/// and the worker take the queue from each other's cache for each line. So it rests longer as long as that
-/// makes its runs of lines longer.
+/// How long a sender backs off at a full queue. If it looks again soon, it finds room for a line or two,
+/// and it and the worker take the queue from each other's cache for each line. So it backs off longer as
+/// long as that makes its runs of lines longer.
 #[derive(Clone, Copy)]
-pub struct FullRest {
+pub struct FullBackoff {
     // Before the first look; 0 is a yield alone.
     turns: u32,
-    // How many lines were queued since the last rest.
+    // How many lines were queued since the last full queue.
     lines: usize,
     long_run: usize,
 }
 
-impl FullRest {
-    /// The rests of a new sender of a queue with this limit.
-    pub fn new(limit: usize) -> FullRest {
-        FullRest {
+impl FullBackoff {
+    /// The initial back-off of a sender of a queue with this limit.
+    pub fn new(limit: usize) -> FullBackoff {
+        FullBackoff {
             turns: 0,
             lines: 0,
             long_run: LONG_RUN.min(limit / 4),
@@ -70,64 +70,64 @@ impl FullRest {
         self.lines = self.lines.wrapping_add(1);
     }
 
-    /// Rests before the first look at a full queue: twice as long as at the last one if lines come fast and
+    /// Yields before the first look at a full queue: twice as long as at the last one if lines come fast and
     /// in short runs, else half as long.
     pub fn first(&mut self) {
-        let fast = self.lines >= (self.turns / LEAST_FULL_REST) as usize;
+        let fast = self.lines >= (self.turns / LEAST_FULL_TURNS) as usize;
         self.turns = if fast && self.lines < self.long_run {
             self.turns
                 .saturating_mul(2)
-                .clamp(LEAST_FULL_REST, MOST_FULL_REST)
-        } else if self.turns > LEAST_FULL_REST {
+                .clamp(LEAST_FULL_TURNS, MOST_FULL_TURNS)
+        } else if self.turns > LEAST_FULL_TURNS {
             self.turns / 2
         } else {
             0
         };
         self.lines = 0;
-        rest(self.turns);
+        yield_for(self.turns);
     }
 
-    /// Rests before another look.
+    /// Yields before another look.
     pub fn again(self) {
-        rest(self.turns.max(FULL_REST));
+        yield_for(self.turns.max(FULL_TURNS));
     }
 }
 
-/// How a sender goes on once its line is queued.
+/// What a sender does after its line is queued.
 #[derive(Clone, Copy)]
 pub enum Pace {
-    /// At once.
-    On,
-    /// After others had a turn.
-    Yields,
-    /// After a rest.
-    Rests,
+    /// It goes on at once.
+    GoOn,
+    /// It yields to other threads.
+    Yield,
+    /// It backs off.
+    BackOff,
 }
 
 impl Pace {
-    /// The pace behind the line with this ticket.
+    /// Returns the pace of the sender of the line with this ticket.
     #[inline(always)]
-    pub fn behind(ticket: u64, queue: &LineQueue) -> Pace {
+    pub fn after(ticket: u64, queue: &LineQueue) -> Pace {
         if ticket & OFTEN != 0 {
-            return Pace::On;
+            return Pace::GoOn;
         }
         let queued = queue.counts().queued;
         if queued > FAR_BEHIND {
-            Pace::Rests
+            Pace::BackOff
         } else if ticket & BEHIND == 0 && queued > BEHIND {
-            Pace::Yields
+            Pace::Yield
         } else {
-            Pace::On
+            Pace::GoOn
         }
     }
 
-    /// Lets others run.
+    /// Lets other threads run, if the worker is behind.
     #[inline(always)]
     pub fn keep(self) {
         match self {
-            Pace::On => {}
-            Pace::Yields => thread::yield_now(),
-            Pace::Rests => rest(BEHIND_REST),
+            Pace::GoOn => {}
+            Pace::Yield => thread::yield_now(),
+            Pace::BackOff => yield_for(BEHIND_TURNS),
         }
     }
 }

@@ -1,4 +1,4 @@
-//! What lies under the lock, and who is to be woken once it is let go.
+//! What the lock protects, and who is to be woken after it is released.
 ghost use Rattle.std.specs.Prelude.{
   ◌≡◌,
   ◌<◌,
@@ -19,7 +19,7 @@ ghost use Rattle.std.specs.Prelude.{
 ghost use Rattle.appender_queue.specs.Queue.{IsLawful, has_room, last_ticket_of};
 ghost use Rattle.appender_queue.specs.QueueChanges.{OfferFromLeaves};
 ghost use Rattle.appender_queue.specs.QueueReplies.{offer_reply};
-ghost use Rattle.appender_state.specs.Steps.{after_offer_at};
+ghost use Rattle.appender_state.specs.Offers.{after_offer_at};
 
 use crate::books::{Books, Done, FourBooks};
 use crate::pace::{MOST_BYTES, MOST_SPARES, Pace};
@@ -32,21 +32,21 @@ use std::alloc::{AllocError, Global};
 use std::marker::Model;
 use std::sync::ledger::{Ledger, Share};
 
-/// Who is to be woken. It can't be dropped: whoever let the lock go has to use it up.
+/// Who is to be woken. It can't be dropped: whoever releases the lock has to use it.
 #[must_use]
-pub struct Calls {
+pub struct Wakeups {
     /// The worker.
     pub worker: bool,
-    /// One thread that waits for room. It calls the next one, where there is more.
+    /// One thread that waits for room. It wakes the next one if there is more.
     pub sender: bool,
 }
 
 /// How a worker takes.
 #[derive(Drop)]
 pub struct TakeRequest {
-    /// It waits for a line: with a limit of 0 there is room then.
+    /// Whether it waits for a line: with a limit of 0 there is room then.
     pub waits: bool,
-    /// It sleeps if nothing is there.
+    /// Whether it sleeps if nothing is there.
     pub sleeps: bool,
     /// The buffer of its last line.
     pub spent: Option<Vec<u8>>,
@@ -71,10 +71,10 @@ pub struct Counted {
 /// The queue and its books, who sleeps, and the buffers that may be used again.
 #[derive(Drop)]
 pub struct State<B: Books> {
-    // Whether the worker sleeps and was not called.
+    // Whether the worker sleeps and was not woken.
     asleep: bool,
-    // Whether one of the threads that wait for room was called, and has not come yet.
-    called: bool,
+    // Whether one of the threads that wait for room was woken, and has not taken the lock since.
+    woken: bool,
     // How many threads wait for room.
     waiting: u32,
     queue: LineQueue,
@@ -94,53 +94,53 @@ impl<B: Books> Model for State<B> {
     ghost view = { λ s. record {
       queue = s.queue;
       asleep = s.asleep;
-      called = s.called;
+      woken = s.woken;
       waiting = s.waiting;
     } };
 
-    // The books say what the queue says. Nobody waits uncalled but at a full queue, which is open and has
-    // no room. The worker is not left asleep where a take would answer anything but that nothing is there.
-    ghost invariant = { λ s. IsLawful s.queue × B.say s.books (tally_of s.queue)
-        × (0 < s.waiting → s.called ≡ false → (not s.queue.closed && not (has_room s.queue)) ≡ true)
+    // The books agree with the queue. If threads wait and none was woken, the queue is open and has no
+    // room. The worker sleeps only if a take would find nothing.
+    ghost invariant = { λ s. IsLawful s.queue × B.agree s.books (tally_of s.queue)
+        × (0 < s.waiting → s.woken ≡ false → (not s.queue.closed && not (has_room s.queue)) ≡ true)
         × (s.asleep ≡ true → IsQuiet s.queue) };
 }
 
-// Whom to wake, now that the queue may have changed. Nobody is called twice.
+// Returns whom to wake after a change of the queue. Nobody is woken twice.
 #[inline(always)]
-fn call(
+fn wake_up(
     asleep: &mut bool,
-    called: &mut bool,
+    woken: &mut bool,
     waiting: u32,
     queue: &LineQueue,
     worker: bool,
-) -> Calls
+) -> Wakeups
     ensures work { asleep.new ≡ (asleep.old && not worker) }
     ensures worker { result.worker ≡ (asleep.old && worker) }
-    ensures room { 0 < waiting → called.new ≡ false
+    ensures room { 0 < waiting → woken.new ≡ false
         → (not queue.now.closed && not (has_room queue.now)) ≡ true }
-    ensures sender { called.new ≡ (called.old || result.sender) }
-    ensures waiter { result.sender ≡ true → (called.old ≡ false) × (0 < waiting) }
+    ensures sender { woken.new ≡ (woken.old || result.sender) }
+    ensures waiter { result.sender ≡ true → (woken.old ≡ false) × (0 < waiting) }
 {
     let wakes = *asleep && worker;
     *asleep = *asleep && !worker;
-    let sender = waiting != 0 && !*called && !queue.is_full();
-    *called = *called || sender;
-    Calls {
+    let sender = waiting != 0 && !*woken && !queue.is_full();
+    *woken = *woken || sender;
+    Wakeups {
         worker: wakes,
         sender,
     }
 }
 
-// A thread that comes from waiting is counted no longer, and its call is used up.
+// Counts a thread that has waited no longer, and uses its wake-up.
 #[inline(always)]
-fn come_back(came: Option<Waiter>, called: &mut bool, waiting: &mut u32)
-    ensures called { called.new ≡ (called.old && not (is_some came)) }
-    ensures waiting { waiting.new ≡ (if is_some came then waiting.old - 1 else waiting.old) }
+fn end_waiting(waited: Option<Waiter>, woken: &mut bool, waiting: &mut u32)
+    ensures woken { woken.new ≡ (woken.old && not (is_some waited)) }
+    ensures waiting { waiting.new ≡ (if is_some waited then waiting.old - 1 else waiting.old) }
 {
-    match came {
+    match waited {
         Some(Waiter { _counted: () }) => {
             *waiting = waiting.saturating_sub(1);
-            *called = false;
+            *woken = false;
         }
         None => {}
     }
@@ -167,8 +167,8 @@ fn offer_at(queue: &mut LineQueue, place: Option<usize>, line: Vec<u8>) -> Resul
 
 impl<B: Books> State<B> {
     ghost use Rattle.std.specs.Prelude.{◌+◌, ◌^◌, ◌≢◌, min, IsSome, IsNone, OnOk, OnErr, IfOk};
-    ghost use Rattle.appender_state.specs.Held.{when_back, CallsSender, Wakes};
-    ghost use Rattle.appender_state.specs.Steps.{Offers};
+    ghost use Rattle.appender_state.specs.Held.{after_waiting, WakesSender, Wakes};
+    ghost use Rattle.appender_state.specs.Offers.{Offers};
     ghost use Rattle.appender_state.specs.Tally.{new_tally};
     ghost use Rattle.appender_state.specs.Cases.{OnLine, OnEnd, OnEmpty};
     ghost use Rattle.appender_queue.specs.Queue.{fresh_with, has_room, left_of};
@@ -182,11 +182,11 @@ impl<B: Books> State<B> {
         places: usize,
         books: B,
     ) -> Result<State<B>, AllocError>
-        requires { B.say books (new_tally places) }
+        requires { B.agree books (new_tally places) }
         ensures { IfOk result (λ s. s ≡ record {
           queue = record (fresh_with limit lossy places) { senders = 0 };
           asleep = false;
-          called = false;
+          woken = false;
           waiting = 0;
         }) }
     {
@@ -196,7 +196,7 @@ impl<B: Books> State<B> {
         let spares = Vec::with_capacity(alloc, limit.min(MOST_SPARES))?;
         Ok(State {
             asleep: false,
-            called: false,
+            woken: false,
             waiting: 0,
             spares,
             queue: empty,
@@ -204,59 +204,59 @@ impl<B: Books> State<B> {
         })
     }
 
-    /// Offers a line from the sender's place, if it has one. A thread that `came` from waiting, whatever
-    /// woke it, is counted no longer. If the line is queued, the result says how the sender goes on, and
-    /// `spare` may be another buffer.
+    /// Offers a line from the sender's place, if it has one. A thread that has `waited`, whatever woke it,
+    /// is counted no longer. If the line is queued, its pace is beside the ticket, and `spare` may be
+    /// another buffer.
     #[inline(always)]
     pub fn offer(
         &mut self,
         line: Vec<u8>,
-        came: Option<Waiter>,
+        waited: Option<Waiter>,
         spare: &mut Vec<u8>,
         mine: &mut B::Mine,
-    ) -> (Result<(u64, Pace), Refused>, Calls)
+    ) -> (Result<(u64, Pace), Refused>, Wakeups)
         requires { B.may_accept mine.old }
         ensures offer { Offers self.old.queue (B.place_of mine.old) line result.0 self.new.queue }
-        ensures ticket { IfOk result.0 (λ told. told.0 ≡ self.old.queue.accepted + 1) }
-        ensures rises { IfOk result.0 (λ told. IfSome (B.place_of mine.old)
-            (λ place. last_ticket_of self.old.queue place < told.0)) }
-        ensures sets { IfOk result.0 (λ told. IfSome (B.place_of mine.old)
-            (λ place. last_ticket_of self.new.queue place ≡ told.0)) }
-        ensures wakes { Wakes (when_back (is_some came) self.old) result.1.worker result.1.sender self.new }
+        ensures ticket { IfOk result.0 (λ reply. reply.0 ≡ self.old.queue.accepted + 1) }
+        ensures rises { IfOk result.0 (λ reply. IfSome (B.place_of mine.old)
+            (λ place. last_ticket_of self.old.queue place < reply.0)) }
+        ensures sets { IfOk result.0 (λ reply. IfSome (B.place_of mine.old)
+            (λ place. last_ticket_of self.new.queue place ≡ reply.0)) }
+        ensures wakes { Wakes (after_waiting (is_some waited) self.old) result.1.worker result.1.sender self.new }
         ensures counted { OnOk result.0 (B.counts_line mine.old mine.new) }
         ensures refused { OnErr result.0 (mine.new ≡ mine.old) }
     {
         let State {
             asleep,
-            called,
+            woken,
             waiting,
             spares,
             queue,
             books,
         } = self;
-        come_back(came, called, waiting);
+        end_waiting(waited, woken, waiting);
         let reply = offer_at(queue, books.place(mine), line);
-        let calls = call(asleep, called, *waiting, queue, reply.is_ok());
+        let wakeups = wake_up(asleep, woken, *waiting, queue, reply.is_ok());
         match reply {
             Ok(ticket) => {
                 books.accept(mine);
                 if let Some(buffer) = spares.pop() {
                     *spare = buffer;
                 }
-                (Ok((ticket, Pace::behind(ticket, queue))), calls)
+                (Ok((ticket, Pace::after(ticket, queue))), wakeups)
             }
-            Err(refused) => (Err(refused), calls),
+            Err(refused) => (Err(refused), wakeups),
         }
     }
 
-    /// How many lines a lossy queue refused.
+    /// The number of lines that a lossy queue refused.
     pub fn dropped(&self) -> usize
         ensures { result ≡ self.now.queue.dropped }
     {
         self.queue.counts().dropped
     }
 
-    /// How many accepted lines nobody took before the queue was closed.
+    /// The number of accepted lines that were not taken before the queue was closed.
     pub fn left(&self) -> u64
         ensures { result ≡ left_of self.now.queue }
     {
@@ -277,46 +277,46 @@ impl<B: Books> State<B> {
         Some(Waiter { _counted: () })
     }
 
-    /// Whether a guard that waits has to go on. A call that came to it is used up.
+    /// Whether a guard that waits has to go on. Its wake-up is used.
     pub fn goes_on_waiting(&mut self) -> bool
         ensures full { result ≡ (not self.old.queue.closed && not (has_room self.old.queue)) }
-        ensures same { self.new ≡ record self.old { called = self.new.called } }
-        ensures waits { result ≡ true → self.new.called ≡ false }
+        ensures same { self.new ≡ record self.old { woken = self.new.woken } }
+        ensures waits { result ≡ true → self.new.woken ≡ false }
         ensures stays { result ≡ false → self.new ≡ self.old }
     {
         if !self.queue.is_full() {
             return false;
         }
-        self.called = false;
+        self.woken = false;
         true
     }
 
-    /// Tries to send the shutdown, for a guard that `came` from waiting.
-    pub fn shut(&mut self, came: Option<Waiter>, mine: &mut B::Shutdowns) -> (Shut, Calls)
+    /// Tries to send the shutdown, for a guard that may have `waited`.
+    pub fn shut(&mut self, waited: Option<Waiter>, mine: &mut B::Shutdowns) -> (Shut, Wakeups)
         requires { B.may_shut mine.old }
         ensures shut { Shuts self.old.queue result.0 self.new.queue }
-        ensures wakes { Wakes (when_back (is_some came) self.old) result.1.worker result.1.sender self.new }
+        ensures wakes { Wakes (after_waiting (is_some waited) self.old) result.1.worker result.1.sender self.new }
         ensures sent { result.0 ≡ Shut.Sent → B.counts_shutdown mine.old mine.new }
         ensures not_sent { result.0 ≢ Shut.Sent → mine.new ≡ mine.old }
     {
         let State {
             asleep,
-            called,
+            woken,
             waiting,
             queue,
             books,
             ..
         } = self;
-        come_back(came, called, waiting);
+        end_waiting(waited, woken, waiting);
         shutdowns_change_little();
         let reply = queue.shut();
-        let calls = call(asleep, called, *waiting, queue, true);
+        let wakeups = wake_up(asleep, woken, *waiting, queue, true);
         match reply {
             Shut::Sent => {
                 books.shut(mine);
-                (reply, calls)
+                (reply, wakeups)
             }
-            Shut::Already | Shut::Full | Shut::Closed => (reply, calls),
+            Shut::Already | Shut::Full | Shut::Closed => (reply, wakeups),
         }
     }
 
@@ -326,11 +326,11 @@ impl<B: Books> State<B> {
         &mut self,
         request: TakeRequest,
         pass: &mut B::Pass,
-    ) -> (Taken, Option<Vec<u8>>, Calls)
+    ) -> (Taken, Option<Vec<u8>>, Wakeups)
         requires { B.may_take pass.old }
         ensures take { Takes self.old.queue request.waits result.0 self.new.queue }
         ensures worker { result.2.worker ≡ false }
-        ensures sender { CallsSender self.old result.2.sender self.new }
+        ensures sender { WakesSender self.old result.2.sender self.new }
         ensures line { OnLine result.0 ((B.counts_take pass.old pass.new) × (B.may_take pass.new)
             × (self.new.asleep ≡ false)) }
         ensures ended { OnEnd result.0 ((B.has_ended pass.new) × (self.new.asleep ≡ false)) }
@@ -339,7 +339,7 @@ impl<B: Books> State<B> {
     {
         let State {
             asleep,
-            called,
+            woken,
             waiting,
             spares,
             queue,
@@ -360,11 +360,11 @@ impl<B: Books> State<B> {
             Taken::Empty => {}
         }
         *asleep = false;
-        let calls = call(asleep, called, *waiting, queue, false);
+        let wakeups = wake_up(asleep, woken, *waiting, queue, false);
         if let Taken::Empty = &taken {
             *asleep = sleeps;
         }
-        (taken, surplus, calls)
+        (taken, surplus, wakeups)
     }
 
     /// The worker is awake, whatever woke it.
@@ -374,7 +374,7 @@ impl<B: Books> State<B> {
         self.asleep = false;
     }
 
-    /// One sender more, which is counted until `drop_sender` takes the result.
+    /// Counts one sender more, until `drop_sender` takes the result.
     pub fn add_sender(&mut self) -> Counted
         ensures add { AddsSender self.old.queue self.new.queue.senders self.new.queue }
         ensures same { self.new ≡ record self.old { queue = self.new.queue } }
@@ -383,21 +383,21 @@ impl<B: Books> State<B> {
         Counted { _counted: () }
     }
 
-    /// One sender less. Where it was the last one, the worker ends.
-    pub fn drop_sender(&mut self, counted: Counted) -> Calls
+    /// Counts one sender less. After the last one, the worker ends.
+    pub fn drop_sender(&mut self, counted: Counted) -> Wakeups
         ensures drop { DropsSender self.old.queue self.new.queue.senders self.new.queue }
         ensures wakes { Wakes self.old result.worker result.sender self.new }
     {
         let Counted { _counted: () } = counted;
         let State {
             asleep,
-            called,
+            woken,
             waiting,
             queue,
             ..
         } = self;
         queue.drop_sender();
-        call(asleep, called, *waiting, queue, true)
+        wake_up(asleep, woken, *waiting, queue, true)
     }
 }
 
@@ -434,7 +434,7 @@ impl<A: Ledger, H: Ledger, S: Ledger, C: Ledger> State<FourBooks<A, H, S, C>> {
     }
 }
 
-// Keeps a buffer for a sender, or hands it back where enough are kept.
+// Keeps a buffer for a sender, or returns it if enough are kept.
 fn keep(spares: &mut Vec<Vec<u8>>, spent: Option<Vec<u8>>) -> Option<Vec<u8>> {
     match spent {
         Some(buffer) if spares.len() < spares.capacity() && buffer.capacity() <= MOST_BYTES => {

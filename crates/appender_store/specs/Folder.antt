@@ -86,6 +86,6 @@ HasRisen old new = new ≡ wrapping_next old
 
 -- An `Ok` counts no failure. An `Err` counts one, or memory was refused, or the content forbids the call.
 abbrev pub HasCause : {T : Type 0} → Bool → Type 0 → ℕ → ℕ → Result T Error → Type 0
-HasCause tells forbidden old new result =
+HasCause is_known forbidden old new result =
     MatchResult result (λ _. new ≡ old)
-    (λ e. HasRisen old new ⊎ ((new ≡ old) × ((error_kind e ≡ OutOfMemory) ⊎ (IsTrue tells × forbidden))))
+    (λ e. HasRisen old new ⊎ ((new ≡ old) × ((error_kind e ≡ OutOfMemory) ⊎ (IsTrue is_known × forbidden))))

@@ -4,8 +4,8 @@ use Rattle.appender_store.specs.Folder.{Noted, after_note, kind_of}
 use Rattle.appender_store.specs.declared.store.Folder.{Ghosts}
 
 -- the folder took a note, and nothing else changed
-pub record Notes {S F : Type 0} (kind : Ghosts S F) (old : S) (told : Noted) (new : S) : Type 0 where
-  pub call : kind.note_gives old told new
+pub record Notes {S F : Type 0} (kind : Ghosts S F) (old : S) (notice : Noted) (new : S) : Type 0 where
+  pub call : kind.note_gives old notice new
   pub content : kind.content new ≡ kind.content old
   pub failures : kind.failures new ≡ kind.failures old
-  pub noted : kind.noted new ≡ after_note (kind_of told) (kind.noted old)
+  pub noted : kind.noted new ≡ after_note (kind_of notice) (kind.noted old)

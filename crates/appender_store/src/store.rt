@@ -77,7 +77,7 @@ pub trait Folder: Drop {
     type File: Drop;
 
     /// Whether folders of this kind tell their content.
-    ghost tells: { Bool };
+    ghost is_known: { Bool };
 
     /// What it contains. Of a kind that doesn't tell this says nothing.
     ghost content: { Self → Content };
@@ -114,10 +114,10 @@ pub trait Folder: Drop {
     /// Each name of the folder once, in any order. Refused where the folder is absent.
     fn list(&mut self) -> io::Result<Vec<Listed>>
         ensures call { list_gives self.old result self.new }
-        ensures ok { IfOk result (λ all. IsTrue tells → Lists (content self.old) all.items) }
-        ensures there { OnOk result (IsTrue tells → (content self.old).there ≡ true) }
+        ensures ok { IfOk result (λ all. IsTrue is_known → Lists (content self.old) all.items) }
+        ensures there { OnOk result (IsTrue is_known → (content self.old).there ≡ true) }
         ensures content { content self.new ≡ content self.old }
-        ensures cause { HasCause tells (ForbidsList (content self.old))
+        ensures cause { HasCause is_known (ForbidsList (content self.old))
             (failures self.old) (failures self.new) result }
         ensures notices { noted self.new ≡ noted self.old };
 
@@ -125,10 +125,10 @@ pub trait Folder: Drop {
     /// folder is absent or no file has this name.
     fn remove(&mut self, name: &str) -> io::Result<()>
         ensures call { remove_gives self.old name.now result self.new }
-        ensures ok { OnOk result (IsTrue tells →
+        ensures ok { OnOk result (IsTrue is_known →
             Removes name.now (content self.old) (content self.new)) }
         ensures err { OnErr result (content self.new ≡ content self.old) }
-        ensures cause { HasCause tells (ForbidsRemove name.now (content self.old))
+        ensures cause { HasCause is_known (ForbidsRemove name.now (content self.old))
             (failures self.old) (failures self.new) result }
         ensures notices { noted self.new ≡ noted self.old };
 
@@ -136,58 +136,58 @@ pub trait Folder: Drop {
     /// the folder is absent or a folder or a link has this name.
     fn open(&mut self, name: &str) -> io::Result<Self::File>
         ensures call { open_gives self.old name.now result self.new }
-        ensures ok { IfOk result (λ file. IsTrue tells →
+        ensures ok { IfOk result (λ file. IsTrue is_known →
             Opens name.now (content self.old) (content self.new) (body file)) }
-        ensures there { IfOk result (λ file. IsTrue tells →
+        ensures there { IfOk result (λ file. IsTrue is_known →
             body file < length (content self.new).bodies) }
         ensures err { OnErr result (content self.new ≡ content self.old) }
-        ensures cause { HasCause tells (ForbidsOpen name.now (content self.old))
+        ensures cause { HasCause is_known (ForbidsOpen name.now (content self.old))
             (failures self.old) (failures self.new) result }
         ensures notices { noted self.new ≡ noted self.old };
 
     /// Makes the folder itself. One that is there stays as it is, which is no fault.
     fn make_folder(&mut self) -> io::Result<()>
         ensures call { make_folder_gives self.old result self.new }
-        ensures ok { OnOk result (IsTrue tells → content self.new ≡ after_make_folder (content self.old)) }
+        ensures ok { OnOk result (IsTrue is_known → content self.new ≡ after_make_folder (content self.old)) }
         ensures err { OnErr result (content self.new ≡ content self.old) }
-        ensures cause { HasCause tells ⊥ (failures self.old) (failures self.new) result }
+        ensures cause { HasCause is_known ⊥ (failures self.old) (failures self.new) result }
         ensures notices { noted self.new ≡ noted self.old };
 
     /// Takes a link away. Refused where the folder is absent or no link has this name; for want of
     /// memory only where `failures` counted it too.
     fn remove_link(&mut self, name: &str) -> io::Result<()>
         ensures call { remove_link_gives self.old name.now result self.new }
-        ensures ok { OnOk result (IsTrue tells →
+        ensures ok { OnOk result (IsTrue is_known →
             RemovesLink name.now (content self.old) (content self.new)) }
         ensures err { OnErr result (content self.new ≡ content self.old) }
-        ensures cause { HasCause tells (ForbidsRemoveLink name.now (content self.old))
+        ensures cause { HasCause is_known (ForbidsRemoveLink name.now (content self.old))
             (failures self.old) (failures self.new) result }
         ensures memory { OnErr result (HasRisen (failures self.old) (failures self.new)
-            ⊎ (IsTrue tells × ForbidsRemoveLink name.now (content self.old))) }
+            ⊎ (IsTrue is_known × ForbidsRemoveLink name.now (content self.old))) }
         ensures notices { noted self.new ≡ noted self.old };
 
     /// Makes a link of this name to a target, whatever that names. Refused where the folder is
     /// absent or the name is in use.
     fn make_link(&mut self, name: &str, target: &str) -> io::Result<()>
         ensures call { make_link_gives self.old name.now target.now result self.new }
-        ensures ok { OnOk result (IsTrue tells →
+        ensures ok { OnOk result (IsTrue is_known →
             MakesLink name.now target.now (content self.old) (content self.new)) }
         ensures err { OnErr result (content self.new ≡ content self.old) }
-        ensures cause { HasCause tells (ForbidsMakeLink name.now (content self.old))
+        ensures cause { HasCause is_known (ForbidsMakeLink name.now (content self.old))
             (failures self.old) (failures self.new) result }
         ensures notices { noted self.new ≡ noted self.old };
 
     /// Adds bytes at the end of an open file of this folder, and answers how many: the first of
     /// them, and no others.
     fn append(&mut self, file: &mut Self::File, bytes: &[u8]) -> io::Result<usize>
-        requires { IsTrue tells → body file.old < length (content self.old).bodies }
+        requires { IsTrue is_known → body file.old < length (content self.old).bodies }
         ensures call { append_gives self.old file.old bytes.now result self.new file.new }
         ensures bound { IfOk result (λ n. n ≤ length bytes.now) }
-        ensures ok { IfOk result (λ n. IsTrue tells →
+        ensures ok { IfOk result (λ n. IsTrue is_known →
             content self.new ≡ after_append (content self.old) (body file.old) (take n bytes.now)) }
         ensures err { OnErr result (content self.new ≡ content self.old) }
         ensures file { body file.new ≡ body file.old }
-        ensures cause { HasCause tells ⊥ (failures self.old) (failures self.new) result }
+        ensures cause { HasCause is_known ⊥ (failures self.old) (failures self.new) result }
         ensures notices { noted self.new ≡ noted self.old };
 
     /// Hands on what an open file of this folder still holds back.
@@ -195,7 +195,7 @@ pub trait Folder: Drop {
         ensures call { flush_gives self.old file.old result self.new file.new }
         ensures content { content self.new ≡ content self.old }
         ensures file { body file.new ≡ body file.old }
-        ensures cause { HasCause tells ⊥ (failures self.old) (failures self.new) result }
+        ensures cause { HasCause is_known ⊥ (failures self.old) (failures self.new) result }
         ensures notices { noted self.new ≡ noted self.old };
 
     /// Tells a fault that the appender goes on after.
@@ -218,5 +218,5 @@ pub trait Folder: Drop {
     ghost noted_fit: { (folder : Self) → AreCounts (noted folder) };
 
     /// Each file's name leads to a body that is there, and no body has two names.
-    ghost sound: { (folder : Self) → IsTrue tells → IsSound (content folder) };
+    ghost sound: { (folder : Self) → IsTrue is_known → IsSound (content folder) };
 }

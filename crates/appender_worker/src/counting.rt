@@ -103,7 +103,7 @@ impl<W: Write> Write for CountingWriter<W> {
             Err(fault) => {
                 self.lost = self.lost.saturating_add(1);
                 self.shared.lost.store(self.lost, SeqCst);
-                Err(told(fault))
+                Err(reported(fault))
             }
         }
     }
@@ -119,7 +119,7 @@ impl<W: Write> Write for CountingWriter<W> {
 }
 
 // The fault of a line as it is answered.
-fn told(fault: LineFault) -> io::Error
+fn reported(fault: LineFault) -> io::Error
     ensures { error_kind result ≢ ErrorKind.Interrupted }
 {
     match fault.error.kind() {

@@ -27,7 +27,7 @@ EndsLine bytes = (bytes ≡ []) ⊎ (ends_with_byte 10 bytes ≡ true)
 
 -- the open file is empty or ends with a newline, if folders of this kind tell their content
 abbrev pub EndsWhole : {S F C : Type 0} → Ghosts S F → Appending S F C → Type 0
-EndsWhole kind log = IsTrue kind.tells → EndsLine (body_at (kind.content log.roller.folder) (kind.body log.roller.file))
+EndsWhole kind log = IsTrue kind.is_known → EndsLine (body_at (kind.content log.roller.folder) (kind.body log.roller.file))
 
 -- ---- a line
 

@@ -22,7 +22,7 @@ pub trait Watch<S: Folder>: Drop {
     /// Returns whether the open file, which has this name, is empty or ends with a newline; `false` if that
     /// can't be seen.
     fn ends_line(&self, folder: &S, file: &S::File, name: &str) -> bool
-        ensures { result ≡ true → IsTrue S.tells →
+        ensures { result ≡ true → IsTrue S.is_known →
             EndsLine (body_at (S.content folder.now) (S.body file.now)) };
 
     /// Returns whether this name leads to the open file. If not, or if that can't be seen, reports it.

@@ -14,7 +14,7 @@ use Rattle.appender_queue.specs.Queue.{Queue}
 use Rattle.appender_queue.specs.QueueReplies.{counts_of}
 use Rattle.appender_replay.specs.Answers.{Answers, WorkerDoes}
 use Rattle.appender_replay.specs.Record.{queue_after}
-use Rattle.appender_replay.specs.Replay.{RollDoes, RunsFrom, told_of}
+use Rattle.appender_replay.specs.Replay.{RollDoes, RunsFrom, with_replies}
 use Rattle.appender_replay.specs.Whole.{HandsInOrder, HandsLabelInOrder, TextLaw}
 use Rattle.appender_replay.specs.declared.replay.RollStep.{RollStep}
 use Rattle.appender_replay.specs.declared.replay.RollReply.{RollReply}
@@ -38,7 +38,7 @@ pub record TellsRun {F : Type 0} (kind : Ghosts MemoryFolder F) (config : Config
   pub one_each : length replies ≡ length steps
   pub last : Rolling MemoryFolder F
   pub number : ℕ
-  pub runs : RunsFrom kind (RollDoes kind) config start number folder (told_of steps replies) last
+  pub runs : RunsFrom kind (RollDoes kind) config start number folder (with_replies steps replies) last
   pub page_is : page ≡ run_page (file_name_of config (stamp start number)) replies (state_of last.folder).content
 
 -- The log was opened behind a queue of so many lines, and all steps were run: each answered as those before it demand, which
@@ -47,15 +47,15 @@ pub record TellsRun {F : Type 0} (kind : Ghosts MemoryFolder F) (config : Config
 pub record TellsQueuedRun {F : Type 0} (kind : Ghosts MemoryFolder F) (config : Config) (folder : MemoryFolder) (start : ℤ) (limit : ℕ) (lossy : Bool) (steps : List Step) (page : List ℕ) : Type 0 where
   pub replies : List Reply
   pub one_each : length replies ≡ length steps
-  pub answers : Answers limit lossy (told_of steps replies)
+  pub answers : Answers limit lossy (with_replies steps replies)
   pub queue : Queue
-  pub queue_is : queue ≡ queue_after limit lossy (told_of steps replies)
-  pub handed : HandsInOrder (told_of steps replies) queue
-  pub labels : (label : ℕ) → HandsLabelInOrder (told_of steps replies) label
-  pub text : TextLaw (told_of steps replies)
+  pub queue_is : queue ≡ queue_after limit lossy (with_replies steps replies)
+  pub handed : HandsInOrder (with_replies steps replies) queue
+  pub labels : (label : ℕ) → HandsLabelInOrder (with_replies steps replies) label
+  pub text : TextLaw (with_replies steps replies)
   pub last : Rolling MemoryFolder F
   pub number : ℕ
-  pub runs : RunsFrom kind (WorkerDoes kind) config start number folder (told_of steps replies) last
+  pub runs : RunsFrom kind (WorkerDoes kind) config start number folder (with_replies steps replies) last
   pub page_is : page ≡ queued_page (file_name_of config (stamp start number)) replies (state_of last.folder).content (counts_of queue)
 
 -- the log was not opened, and the page tells why

@@ -45,7 +45,7 @@ impl Folder for Disturbed {
 
     type File = MemoryFile;
 
-    ghost tells = { true };
+    ghost is_known = { true };
 
     ghost content = { λ f. ⟦<MemoryFolder as Folder>⟧.content f.folder };
 

@@ -18,7 +18,7 @@ ghost use Rattle.appender_non_blocking.specs.Account.{
   total_queued,
   total_dropped,
 };
-ghost use Rattle.appender_non_blocking.specs.Told.{after_try};
+ghost use Rattle.appender_non_blocking.specs.Counted.{after_try};
 
 use super::counted::CountedSender;
 use super::guard::end;

@@ -3,7 +3,7 @@ ghost use Rattle.std.specs.Prelude.{◌≡◌, ◌≢◌, ◌+◌, ◌<◌, Ok, 
 ghost use Rattle.std.specs.IoError.{error_kind};
 ghost use Rattle.appender_non_blocking.specs.Account.{Sums, new_sender, new_senders};
 ghost use Rattle.appender_non_blocking.specs.Refusal.{IsRefusal};
-ghost use Rattle.appender_non_blocking.specs.Told.{after_line};
+ghost use Rattle.appender_non_blocking.specs.Counted.{after_line};
 
 use super::sender::{Local, Sent, copy_of, send};
 use super::shared::Shared;

@@ -2,10 +2,10 @@
 ghost use Rattle.std.specs.Prelude.{◌≡◌};
 
 use super::shared::Shared;
+use appender_base::sync::Backoff;
 use appender_queue::queue::Shut;
 use appender_state::books::{Books, NoBooks};
 use appender_state::state::Counted;
-use appender_sync::sync::Patience;
 use std::alloc::Global;
 use std::fmt;
 use std::fmt::{Debug, Formatter};
@@ -116,7 +116,7 @@ fn send_shutdown<B: Books, R: Wait + Clock>(
 ) -> Shut
     requires { B.may_shut mine.old }
 {
-    let mut state = shared.lock(rt, &mut Patience::NEW);
+    let mut state = shared.lock(rt, &mut Backoff::NEW);
     let waits = state.begins_waiting();
     if waits.is_some() {
         let time = Duration::from_millis(SHUTDOWN_MILLIS);
@@ -125,9 +125,9 @@ fn send_shutdown<B: Books, R: Wait + Clock>(
             .wait_timeout_while(rt, state, time, |state| state.goes_on_waiting())
             .0;
     }
-    let (reply, calls) = state.shut(waits, mine);
+    let (reply, wakeups) = state.shut(waits, mine);
     drop(state);
-    shared.wake(calls);
+    shared.wake(wakeups);
     reply
 }
 
@@ -141,6 +141,6 @@ fn wait_for_end<B: Books, R: Wait + Clock>(rt: &R, shared: &Shared<B>) -> Closin
         return Closing::Pending;
     }
     Closing::Done {
-        left: shared.lock(rt, &mut Patience::NEW).left(),
+        left: shared.lock(rt, &mut Backoff::NEW).left(),
     }
 }

@@ -20,12 +20,12 @@ ghost use Rattle.std.specs.Io.KnownBytes.{Appends};
 ghost use Rattle.appender_non_blocking.specs.Refusal.{IsRefusal};
 
 use super::shared::Shared;
+use appender_base::make_writer::MakeWriter;
+use appender_base::sync::Backoff;
 use appender_queue::queue::Refused;
 use appender_state::books::{Books, NoBooks};
-use appender_state::pace::{FullRest, LOOKS, MOST_BYTES};
+use appender_state::pace::{FullBackoff, LOOKS, MOST_BYTES};
 use appender_state::state::Counted;
-use appender_sync::sync::Patience;
-use appender_writers::MakeWriter;
 use std::alloc::{AllocError, Global};
 use std::fmt::{Debug, Formatter};
 use std::io::{ErrorKind, Write};
@@ -50,8 +50,8 @@ pub(super) struct Local {
     pub(super) lossy: bool,
     /// The buffer for the next line.
     pub(super) spare: Vec<u8>,
-    patience: Patience,
-    full_rest: FullRest,
+    backoff: Backoff,
+    full_backoff: FullBackoff,
 }
 
 /// Offers lines to a queue, which a worker empties. Each `write` is one line. `flush` does nothing: the
@@ -101,8 +101,8 @@ impl Local {
         Local {
             lossy,
             spare: Vec::new(alloc),
-            patience: Patience::NEW,
-            full_rest: FullRest::new(limit),
+            backoff: Backoff::NEW,
+            full_backoff: FullBackoff::new(limit),
         }
     }
 
@@ -113,8 +113,8 @@ impl Local {
         Local {
             lossy: self.lossy,
             spare: Vec::new(alloc),
-            patience: Patience::NEW,
-            full_rest: self.full_rest,
+            backoff: Backoff::NEW,
+            full_backoff: self.full_backoff,
         }
     }
 }
@@ -251,31 +251,31 @@ pub(super) fn send<B: Books, R: Wait>(
     ensures lossy { local.old.lossy ≡ true → IsSome result }
     ensures same { local.new.lossy ≡ local.old.lossy }
 {
-    let mut state = shared.lock(rt, &mut local.patience);
-    let (reply, calls) = state.offer(line, None, &mut local.spare, mine);
+    let mut state = shared.lock(rt, &mut local.backoff);
+    let (reply, wakeups) = state.offer(line, None, &mut local.spare, mine);
     match reply {
         Ok((ticket, pace)) => {
             drop(state);
-            shared.wake(calls);
-            local.full_rest.line();
+            shared.wake(wakeups);
+            local.full_backoff.line();
             pace.keep();
             Some(Sent::Queued(ticket))
         }
         Err(refused) if local.lossy => {
             shared.dropped.store(state.dropped(), SeqCst);
             drop(state);
-            shared.wake(calls);
+            shared.wake(wakeups);
             recycle(&mut local.spare, refused);
             Some(Sent::Dropped)
         }
         Err(Refused::Closed(_)) => {
             drop(state);
-            shared.wake(calls);
+            shared.wake(wakeups);
             None
         }
         Err(Refused::Full(line)) => {
             drop(state);
-            shared.wake(calls);
+            shared.wake(wakeups);
             send_later(rt, shared, local, line, mine)
         }
     }
@@ -299,36 +299,36 @@ fn send_later<B: Books, R: Wait>(
     ensures same { local.new.lossy ≡ local.old.lossy }
 {
     let mut line = line;
-    let mut came = None;
+    let mut waited = None;
     let mut looks = 1u32;
-    local.full_rest.first();
-    let mut state = shared.lock(rt, &mut local.patience);
+    local.full_backoff.first();
+    let mut state = shared.lock(rt, &mut local.backoff);
     for _ in rt.forever() {
-        let (reply, calls) = state.offer(line, came, &mut local.spare, mine);
+        let (reply, wakeups) = state.offer(line, waited, &mut local.spare, mine);
         match reply {
             Ok((ticket, _)) => {
                 drop(state);
-                shared.wake(calls);
+                shared.wake(wakeups);
                 return Some(Sent::Queued(ticket));
             }
             Err(Refused::Closed(_)) => {
                 drop(state);
-                shared.wake(calls);
+                shared.wake(wakeups);
                 return None;
             }
             Err(Refused::Full(back)) => {
                 line = back;
-                shared.wake(calls);
+                shared.wake(wakeups);
                 if looks < LOOKS {
                     drop(state);
-                    local.full_rest.again();
+                    local.full_backoff.again();
                     looks += 1;
-                    state = shared.lock(rt, &mut local.patience);
-                    came = None;
+                    state = shared.lock(rt, &mut local.backoff);
+                    waited = None;
                     continue;
                 }
-                came = state.begins_waiting();
-                if came.is_some() {
+                waited = state.begins_waiting();
+                if waited.is_some() {
                     state = shared.room.wait(rt, state);
                 }
             }

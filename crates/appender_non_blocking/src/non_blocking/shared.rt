@@ -2,11 +2,11 @@
 ghost use Rattle.std.specs.Prelude.{◌≡◌, ◌≢◌, ◌+◌};
 ghost use Rattle.appender_state.specs.Tally.{new_tally};
 
+use appender_base::sync;
+use appender_base::sync::Backoff;
 use appender_queue::queue::{Counts, Shut};
 use appender_state::books::{Books, Done, FourBooks};
-use appender_state::state::{Calls, Counted, State};
-use appender_sync::sync;
-use appender_sync::sync::Patience;
+use appender_state::state::{Counted, State, Wakeups};
 use crossbeam_utils::CachePadded;
 use std::alloc::{AllocError, Global};
 use std::sync::atomic::AtomicUsize;
@@ -18,7 +18,7 @@ pub(super) struct Shared<B: Books> {
     // Alone on its lines of the processor's cache.
     state: CachePadded<Mutex<State<B>>>,
     // The worker waits here.
-    pub(super) came: Condvar,
+    pub(super) work: Condvar,
     // Senders and the guard wait here.
     pub(super) room: Condvar,
     // Whether the worker has ended, and where the guard waits for that.
@@ -37,11 +37,11 @@ impl<B: Books> Shared<B> {
         places: usize,
         books: B,
     ) -> Result<Arc<Shared<B>, Global>, AllocError>
-        requires { B.say books (new_tally places) }
+        requires { B.agree books (new_tally places) }
     {
         let shared = Shared {
             state: CachePadded::new(Mutex::new(State::new(alloc, limit, lossy, places, books)?)),
-            came: Condvar::new(),
+            work: Condvar::new(),
             room: Condvar::new(),
             ended: Mutex::new(false),
             end: Condvar::new(),
@@ -52,18 +52,14 @@ impl<B: Books> Shared<B> {
 
     /// Takes the lock: tries for a while before it sleeps.
     #[inline(always)]
-    pub(super) fn lock<R: Wait>(
-        &self,
-        rt: &R,
-        patience: &mut Patience,
-    ) -> MutexGuard<'_, State<B>> {
-        sync::lock(rt, &self.state, patience)
+    pub(super) fn lock<R: Wait>(&self, rt: &R, backoff: &mut Backoff) -> MutexGuard<'_, State<B>> {
+        sync::lock(rt, &self.state, backoff)
     }
 
     /// Wakes those who are called. The lock was let go, or is let go by a wait.
     #[inline(always)]
-    pub(super) fn wake(&self, calls: Calls) {
-        let Calls { worker, sender } = calls;
+    pub(super) fn wake(&self, wakeups: Wakeups) {
+        let Wakeups { worker, sender } = wakeups;
         if worker || sender {
             self.notify(worker, sender);
         }
@@ -73,7 +69,7 @@ impl<B: Books> Shared<B> {
     #[inline(never)]
     fn notify(&self, worker: bool, sender: bool) {
         if worker {
-            self.came.notify_one();
+            self.work.notify_one();
         }
         if sender {
             self.room.notify_one();
@@ -82,15 +78,15 @@ impl<B: Books> Shared<B> {
 
     /// One sender more.
     pub(super) fn add_sender<R: Wait>(&self, rt: &R) -> Counted {
-        self.lock(rt, &mut Patience::NEW).add_sender()
+        self.lock(rt, &mut Backoff::NEW).add_sender()
     }
 
     /// One sender less.
     pub(super) fn drop_sender<R: Wait>(&self, rt: &R, counted: Counted) {
-        let mut state = self.lock(rt, &mut Patience::NEW);
-        let calls = state.drop_sender(counted);
+        let mut state = self.lock(rt, &mut Backoff::NEW);
+        let wakeups = state.drop_sender(counted);
         drop(state);
-        self.wake(calls);
+        self.wake(wakeups);
     }
 
     /// Tries once to send the shutdown.
@@ -99,10 +95,10 @@ impl<B: Books> Shared<B> {
         ensures sent { result ≡ Shut.Sent → B.counts_shutdown mine.old mine.new }
         ensures not_sent { result ≢ Shut.Sent → mine.new ≡ mine.old }
     {
-        let mut state = self.lock(rt, &mut Patience::NEW);
-        let (reply, calls) = state.shut(None, mine);
+        let mut state = self.lock(rt, &mut Backoff::NEW);
+        let (reply, wakeups) = state.shut(None, mine);
         drop(state);
-        self.wake(calls);
+        self.wake(wakeups);
         reply
     }
 
@@ -128,7 +124,7 @@ impl<A: Ledger, H: Ledger, S: Ledger, C: Ledger> Shared<FourBooks<A, H, S, C>> {
         ensures adds_up { result.0.accepted ≡ result.0.handed + result.0.left }
         ensures none_left { shutdowns.amount ≡ 0 → result.0.left ≡ 0 }
     {
-        let mut state = self.lock(rt, &mut Patience::NEW);
+        let mut state = self.lock(rt, &mut Backoff::NEW);
         state.final_counts(accepted, shutdowns, done)
     }
 }

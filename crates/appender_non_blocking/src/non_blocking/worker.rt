@@ -4,11 +4,11 @@ ghost use Rattle.appender_state.specs.Cases.{OnLine, OnEnd, OnEmpty};
 ghost use Rattle.appender_worker.specs.Core.{after_flushed, is_flushing};
 
 use super::shared::Shared;
+use appender_base::sync::{Backoff, yield_for};
 use appender_queue::queue::Taken;
 use appender_state::books::Books;
-use appender_state::pace::{EMPTY_REST, LOOKS};
+use appender_state::pace::{EMPTY_TURNS, LOOKS};
 use appender_state::state::TakeRequest;
-use appender_sync::sync::{Patience, rest};
 use appender_worker::worker::{Want, WorkerCore};
 use std::io::Write;
 use std::sync::Wait;
@@ -19,7 +19,7 @@ use std::{io, thread};
 fn take<B: Books, R: Wait>(
     rt: &R,
     shared: &Shared<B>,
-    patience: &mut Patience,
+    backoff: &mut Backoff,
     request: TakeRequest,
     pass: &mut B::Pass,
 ) -> Taken
@@ -29,16 +29,16 @@ fn take<B: Books, R: Wait>(
     ensures empty { OnEmpty result (B.may_take pass.new) }
 {
     let sleeps = request.sleeps;
-    let mut state = shared.lock(rt, patience);
-    let (taken, surplus, calls) = state.take(request, pass);
+    let mut state = shared.lock(rt, backoff);
+    let (taken, surplus, wakeups) = state.take(request, pass);
     if sleeps && matches!(&taken, Taken::Empty) {
         // With a limit of 0 there is room only now.
-        shared.wake(calls);
-        let mut state = shared.came.wait(rt, state);
+        shared.wake(wakeups);
+        let mut state = shared.work.wait(rt, state);
         state.wakes();
     } else {
         drop(state);
-        shared.wake(calls);
+        shared.wake(wakeups);
     }
     drop(surplus);
     taken
@@ -71,7 +71,7 @@ pub(super) fn serve<B: Books, W: Write, R: Wait + Eprint>(
     requires { B.may_take pass }
 {
     let mut pass = pass;
-    let mut patience = Patience::NEW;
+    let mut backoff = Backoff::NEW;
     let mut core = WorkerCore::new();
     // How often the queue was found empty, one look after another.
     let mut looks = 0u32;
@@ -83,14 +83,14 @@ pub(super) fn serve<B: Books, W: Write, R: Wait + Eprint>(
                     sleeps: waits && looks >= LOOKS,
                     spent: core.take_spent(),
                 };
-                let taken = take(rt, shared, &mut patience, request, &mut pass);
+                let taken = take(rt, shared, &mut backoff, request, &mut pass);
                 if !matches!(&taken, Taken::Empty) || looks >= LOOKS {
                     looks = 0;
                 } else if waits {
                     if looks == 0 {
                         thread::yield_now();
                     } else {
-                        rest(EMPTY_REST);
+                        yield_for(EMPTY_TURNS);
                     }
                     looks += 1;
                 }

@@ -9,25 +9,25 @@ use Rattle.appender_queue.specs.declared.queue.Refused.TheVariants.{Full as Refu
 use Rattle.appender_queue.specs.declared.queue.Taken.{Taken}
 use Rattle.appender_queue.specs.declared.queue.Taken.TheVariants.{Line as TakenLine, Shutdown as TakenShutdown, Gone as TakenGone, Empty as TakenEmpty}
 use Rattle.appender_store.specs.declared.store.Folder.{Ghosts}
-use Rattle.appender_replay.specs.Record.{Answered, answer_told}
+use Rattle.appender_replay.specs.Record.{Answered, written_answer}
 use Rattle.appender_replay.specs.Answers.{IsWrote, IsFlushed, offer_answer, take_answer}
-use Rattle.appender_replay.specs.Replay.{kind_told}
+use Rattle.appender_replay.specs.Replay.{by_kind}
 use Rattle.appender_rolling.specs.Roller.{Rolling, Puts, Flushes}
 use Rattle.appender_replay.specs.declared.replay.whole.Step.TheVariants.{Offer, Shut, AddSender, DropSender, Work}
 use Rattle.appender_replay.specs.declared.replay.whole.Reply.{Reply}
 use Rattle.appender_replay.specs.declared.replay.whole.Reply.TheVariants.{Accepted, Full, Closed, NoMemory, Shut as DidShut, Senders, Took, TookShutdown, TookGone, TookEmpty, Ended}
 
 -- what a queue answered, told as a reply
-abbrev pub told_offer : Result ℕ Refused → Reply
-told_offer (Ok ticket) = Accepted ticket
-told_offer (Err (RefusedFull line)) = Full
-told_offer (Err (RefusedClosed line)) = Closed
+abbrev pub offered_reply : Result ℕ Refused → Reply
+offered_reply (Ok ticket) = Accepted ticket
+offered_reply (Err (RefusedFull line)) = Full
+offered_reply (Err (RefusedClosed line)) = Closed
 
-abbrev pub told_take : Taken → Reply
-told_take (TakenLine ticket line) = Took ticket
-told_take TakenShutdown = TookShutdown
-told_take TakenGone = TookGone
-told_take TakenEmpty = TookEmpty
+abbrev pub taken_reply : Taken → Reply
+taken_reply (TakenLine ticket line) = Took ticket
+taken_reply TakenShutdown = TookShutdown
+taken_reply TakenGone = TookGone
+taken_reply TakenEmpty = TookEmpty
 
 -- what the worker sees of the answer to a take
 abbrev pub take_finds : Queue → Found
@@ -60,15 +60,15 @@ WorkDoes kind (Taking waits) m reply old new =
     × (new.worker ≡ after_took (Taking waits) (take_finds old.queue))
     × (new.roller ≡ old.roller)
 WorkDoes kind (Writing rest repeats) m reply old new =
-    IsWrote reply (λ switch told.
-    (answer : Result ℕ Error) × (told ≡ kind_told answer)
+    IsWrote reply (λ switch shown.
+    (answer : Result ℕ Error) × (shown ≡ by_kind answer)
     × Puts kind m rest switch answer old.roller new.roller
-    × (new.worker ≡ after_wrote (Writing rest repeats) (answer_told told)))
+    × (new.worker ≡ after_wrote (Writing rest repeats) (written_answer shown)))
     × (new.queue ≡ old.queue)
 WorkDoes kind Over m reply old new =
     (reply ≡ Ended) × (new.queue ≡ old.queue) × (new.worker ≡ Over) × (new.roller ≡ old.roller)
 WorkDoes kind flushing m reply old new =
-    IsFlushed reply (λ told. (answer : Result (Unit {0}) Error) × (told ≡ kind_told answer) × Flushes kind answer old.roller new.roller)
+    IsFlushed reply (λ shown. (answer : Result (Unit {0}) Error) × (shown ≡ by_kind answer) × Flushes kind answer old.roller new.roller)
     × (new.queue ≡ old.queue)
     × (new.worker ≡ after_flushed flushing)
 

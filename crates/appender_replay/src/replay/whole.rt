@@ -1,15 +1,12 @@
 // Runs of a queue, a worker and a roller together, as senders and a worker drive them.
-ghost use Rattle.std.specs.Prelude.{◌≡◌, ℕ, false, [], length, IfOk, IfErr, IsOk, IsTrue};
-ghost use Rattle.appender_names.specs.Rotation.{next_of};
-ghost use Rattle.appender_replay.specs.Run.{SwitchesAtAttempts, SwitchesAtArrivals, EachWriteReadsClock, latest_moment, last_opened, times};
-ghost use Rattle.appender_rolling.specs.Config.{stamp, is_limited};
-ghost use Rattle.appender_replay.specs.Replay.{told_of, FilesFollow, StandingFilesFollow, NoticesFollow, RunsFrom, IsNotRun};
-ghost use Rattle.appender_replay.specs.Record.{queue_after, worker_after};
-ghost use Rattle.appender_replay.specs.Answers.{Answers, WorkerDoes, worker_event, events};
-ghost use Rattle.appender_replay.specs.Inside.Steps.{told_offer, told_take, OffersCopy, WorkDoes, StepDoes, parts};
-ghost use Rattle.appender_replay.specs.Whole.{HandsInOrder, HandsLabelInOrder, TextLaw};
+ghost use Rattle.std.specs.Prelude.{◌≡◌, [], length, IfOk, IfErr, IsOk};
+ghost use Rattle.appender_replay.specs.Run.{EachWriteReadsClock};
+ghost use Rattle.appender_replay.specs.Replay.{with_replies, RunsFrom, RollerFollows, IsNotRun};
+ghost use Rattle.appender_replay.specs.Answers.{WorkerDoes, worker_event, events};
+ghost use Rattle.appender_replay.specs.Inside.Steps.{offered_reply, taken_reply, OffersCopy, WorkDoes, StepDoes, parts};
+ghost use Rattle.appender_replay.specs.Whole.{LinesFollow};
 
-use crate::replay::{ReplayError, push_reply, tell};
+use crate::replay::{ReplayError, by_kind};
 use appender_names::laws::{names_are_periods, periods_lie_between_boundaries};
 use appender_queue::queue::{LineQueue, Refused, Shut, Taken};
 use appender_rolling::laws::openings_keep_files;
@@ -79,8 +76,8 @@ pub struct Run<S: Folder> {
 }
 
 // What an offer was answered, without the line.
-fn tell_offer(answer: Result<u64, Refused>) -> Reply
-    ensures { result ≡ told_offer answer }
+fn reply_to_offer(answer: Result<u64, Refused>) -> Reply
+    ensures { result ≡ offered_reply answer }
 {
     match answer {
         Ok(ticket) => Reply::Accepted(ticket),
@@ -106,13 +103,13 @@ fn offer(alloc: Global, queue: &mut LineQueue, line: &[u8]) -> Reply
 {
     match copy_of(alloc, line) {
         Err(_) => Reply::NoMemory,
-        Ok(copy) => tell_offer(queue.offer(copy)),
+        Ok(copy) => reply_to_offer(queue.offer(copy)),
     }
 }
 
 // What a take was answered, without the line.
-fn tell_taken(taken: &Taken) -> Reply
-    ensures { result ≡ told_take taken.now }
+fn reply_to_take(taken: &Taken) -> Reply
+    ensures { result ≡ taken_reply taken.now }
 {
     match taken {
         Taken::Line(ticket, _) => Reply::Took(*ticket),
@@ -135,19 +132,19 @@ fn work<S: Folder>(
     match worker.want() {
         Want::Take { waits } => {
             let taken = queue.take(waits);
-            let reply = tell_taken(&taken);
+            let reply = reply_to_take(&taken);
             worker.took(taken);
             reply
         }
         Want::Write(rest) => {
             let (switch, answer) = roller.put(moment, rest);
-            let reply = Reply::Wrote(switch, tell(&answer));
+            let reply = Reply::Wrote(switch, by_kind(&answer));
             worker.wrote(answer);
             reply
         }
         Want::Flush => {
             let answer = roller.flush();
-            let reply = Reply::Flushed(tell(&answer));
+            let reply = Reply::Flushed(by_kind(&answer));
             worker.flushed(answer);
             reply
         }
@@ -188,31 +185,13 @@ pub fn replay<S: Folder>(
     steps: &[Step],
 ) -> Result<Run<S>, ReplayError<S>>
     ensures one_each { IfOk result (λ run. length run.replies.items ≡ length steps.now) }
-    ensures answers { IfOk result (λ run. Answers limit lossy (told_of steps.now run.replies.items)) }
-    ensures queue { IfOk result (λ run. run.queue ≡ queue_after limit lossy
-        (told_of steps.now run.replies.items)) }
-    ensures worker { IfOk result (λ run. run.worker ≡ worker_after (told_of steps.now run.replies.items)) }
-    ensures handed { IfOk result (λ run. HandsInOrder (told_of steps.now run.replies.items) run.queue) }
-    ensures labels { IfOk result (λ run. (label : ℕ) → HandsLabelInOrder (told_of steps.now run.replies.items) label) }
-    ensures text { IfOk result (λ run. TextLaw (told_of steps.now run.replies.items)) }
+    ensures lines { IfOk result (λ run. LinesFollow limit lossy (with_replies steps.now run.replies.items)
+        run.queue run.worker) }
+    ensures clock_read { IfOk result (λ run. EachWriteReadsClock (events (with_replies steps.now run.replies.items))) }
     ensures runs { IfOk result (λ run. RunsFrom S.Folder (WorkerDoes S.Folder) builder.now start run.number folder
-        (told_of steps.now run.replies.items) run.roller) }
-    ensures config { IfOk result (λ run. run.roller.config ≡ builder.now) }
-    ensures switches { IfOk result (λ run. SwitchesAtAttempts builder.now (stamp start run.number)
-        (events (told_of steps.now run.replies.items))) }
-    ensures arrivals { IfOk result (λ run. is_limited builder.now ≡ false →
-        SwitchesAtArrivals builder.now.rotation start (events (told_of steps.now run.replies.items))) }
-    ensures clock_read { IfOk result (λ run. EachWriteReadsClock (events (told_of steps.now run.replies.items))) }
-    ensures boundary { IfOk result (λ run. run.roller.boundary ≡ next_of builder.now.rotation
-        (latest_moment start (events (told_of steps.now run.replies.items)))) }
-    ensures opened { IfOk result (λ run. run.roller.opened ≡ last_opened (stamp start run.number)
-        (times builder.now (stamp start run.number) (events (told_of steps.now run.replies.items)))) }
-    ensures files { IfOk result (λ run. IsTrue S.tells → FilesFollow S.Folder (WorkerDoes S.Folder) worker_event
-        builder.now start run.number folder (told_of steps.now run.replies.items) run.roller) }
-    ensures notices { IfOk result (λ run. NoticesFollow S.Folder (WorkerDoes S.Folder) worker_event
-        builder.now start run.number folder (told_of steps.now run.replies.items) run.roller) }
-    ensures standing_files { IfOk result (λ run. IsTrue S.tells → StandingFilesFollow S.Folder (WorkerDoes S.Folder)
-        worker_event builder.now start run.number folder (told_of steps.now run.replies.items) run.roller) }
+        (with_replies steps.now run.replies.items) run.roller) }
+    ensures roller { IfOk result (λ run. RollerFollows S.Folder (WorkerDoes S.Folder) worker_event builder.now start
+        run.number folder (with_replies steps.now run.replies.items) run.roller) }
     ensures err { IfErr result (λ error. IsNotRun S.Folder builder.now start folder error) }
 {
     names_change_one_at_a_time();
@@ -238,7 +217,7 @@ pub fn replay<S: Folder>(
     let mut worker = WorkerCore::new();
     for step in steps {
         let reply = run_step(alloc, &mut queue, &mut worker, &mut roller, step);
-        push_reply(&mut replies, reply);
+        replies.push_reserved(reply);
     }
     Ok(Run {
         replies,

@@ -39,7 +39,7 @@ pub fn prune_old_logs<S: Folder>(alloc: Global, folder: &mut S, names: &Names, m
 
 // Removes the files at these places, one after another.
 fn remove_planned<S: Folder>(folder: &mut S, listed: &[Listed], gone: &[usize])
-    requires { IsTrue S.tells → AreFiles (S.content folder.old).names
+    requires { IsTrue S.is_known → AreFiles (S.content folder.old).names
         (filter_map (name_at (map listed_row listed.now)) gone.now) }
     ensures { RemovesEach S.Folder (filter_map (name_at (map listed_row listed.now)) gone.now)
         folder.old folder.new }
@@ -61,7 +61,7 @@ fn listed_name(listed: &[Listed], place: usize) -> Option<&str>
 
 // Removes a file, and notes a fault.
 fn remove_file<S: Folder>(folder: &mut S, name: &str)
-    requires { IsTrue S.tells → IsFile (fin.get (S.content folder.old).names name.now) }
+    requires { IsTrue S.is_known → IsFile (fin.get (S.content folder.old).names name.now) }
     ensures { RemovesFile S.Folder name.now folder.old folder.new }
 {
     if let Err(fault) = folder.remove(name) {

@@ -8,9 +8,9 @@ ghost use Rattle.appender_rolling.specs.Appender.{plain_config, SharesSome, Open
 use super::gated::Gated;
 use super::writer::RollingWriter;
 use super::{Builder, Clock, InitError, RollingFile, Rotation, SystemClock};
+use appender_base::make_writer::MakeWriter;
 use appender_folder::folder::DirFolder;
 use appender_store::store::Folder;
-use appender_writers::MakeWriter;
 use std::alloc::{AllocError, Global};
 use std::fmt::{Debug, Formatter};
 use std::io::Write;

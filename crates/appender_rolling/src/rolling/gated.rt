@@ -4,8 +4,8 @@ ghost use Rattle.std.specs.Prelude.{◌≡◌};
 use super::Roller;
 use super::log_file::LogFile;
 use super::schedule::Schedule;
+use appender_base::sync::{Backoff, lock};
 use appender_store::store::Folder;
-use appender_sync::sync::{Patience, lock};
 use std::fmt::Formatter;
 use std::sync::{Mutex, Wait};
 use std::{fmt, io};
@@ -40,7 +40,7 @@ impl<S: Folder> Gated<S> {
         ensures { AsksSome S.Folder self.now.schedule moment result }
     {
         let room = if self.schedule.is_limited() {
-            lock(rt, &self.log, &mut Patience::NEW).room
+            lock(rt, &self.log, &mut Backoff::NEW).room
         } else {
             0
         };
@@ -67,7 +67,7 @@ impl<S: Folder> Gated<S> {
     pub(super) fn write<R: Wait>(&self, rt: &R, bytes: &[u8]) -> io::Result<usize>
         ensures { WritesSome S.Folder self.now.schedule bytes.now result }
     {
-        lock(rt, &self.log, &mut Patience::NEW).write(bytes)
+        lock(rt, &self.log, &mut Backoff::NEW).write(bytes)
     }
 
     // Repeats it under one lock for what was not taken.
@@ -75,14 +75,14 @@ impl<S: Folder> Gated<S> {
         ensures bytes { OnOk result (Appends None None bytes.now) }
         ensures appends { WritesAllSome S.Folder self.now.schedule bytes.now result }
     {
-        lock(rt, &self.log, &mut Patience::NEW).write_all(bytes)
+        lock(rt, &self.log, &mut Backoff::NEW).write_all(bytes)
     }
 
     // Flushes the open file.
     pub(super) fn flush<R: Wait>(&self, rt: &R) -> io::Result<()>
         ensures { FlushesSome S.Folder self.now.schedule result }
     {
-        lock(rt, &self.log, &mut Patience::NEW).flush()
+        lock(rt, &self.log, &mut Backoff::NEW).flush()
     }
 
     // Flushes the open file, for which a thread that holds the gate alone takes no lock.

@@ -23,7 +23,7 @@ impl<S: Folder> Model for LogFile<S> {
 
     ghost view = { λ l. record { folder = l.folder; file = l.file; room = l.room } };
 
-    ghost invariant = { λ l. IsTrue S.tells → S.body l.file < length (S.content l.folder).bodies };
+    ghost invariant = { λ l. IsTrue S.is_known → S.body l.file < length (S.content l.folder).bodies };
 }
 
 impl<S: Folder> LogFile<S> {

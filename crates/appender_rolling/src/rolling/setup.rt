@@ -336,7 +336,7 @@ fn open_or_make<S: Folder>(folder: &mut S, name: &str) -> Result<S::File, InitEr
 
 // Makes a link to a name, in place of what link stands there.
 fn relink<S: Folder>(folder: &mut S, link: &str, name: &str) -> io::Result<()>
-    requires { IsTrue S.tells → (S.content folder.old).there ≡ true }
+    requires { IsTrue S.is_known → (S.content folder.old).there ≡ true }
     ensures ok { OnOk result (Relinks S.Folder link.now name.now folder.old folder.new) }
     ensures err { IfErr result (λ fault. RelinksNot S.Folder link.now name.now
         folder.old fault folder.new) }

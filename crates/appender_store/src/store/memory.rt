@@ -264,7 +264,7 @@ impl Folder for MemoryFolder {
 
     type File = MemoryFile;
 
-    ghost tells = { true };
+    ghost is_known = { true };
 
     ghost content = { λ f. (state_of f).content };
 

@@ -1,14 +1,10 @@
 use Rattle.std.proofs.Common.{◌≡◌, ◌∙◌, ◌+◌, ◌++◌, [], ◌∷◌, length, length-append, take, rules, sym, ap, refl, arith, w64, FitsSigned}
-use Rattle.std.proofs.Math.Nat.{le_trans}
 use Rattle.std.proofs.Math.Seq.{length-take-le}
 use Rattle.std.proofs.lemmas.Int.{to_z-of_z}
 use Rattle.std.proofs.lemmas.List.{take_more, take_all}
 use Rattle.appender_rolling.specs.declared.rolling.setup.Stamp.{Stamp}
-use Rattle.appender_replay.specs.Replay.{told_of}
-use Rattle.appender_replay.proofs.Bounds.{keeps_to_limit}
-use Rattle.appender_replay.proofs.Files.{law_so_far, periods_so_far}
-use Rattle.appender_replay.proofs.Unlimited.{switch_at_arrivals}
-use Rattle.appender_replay.proofs.Runs.{Grounds, roll_law, other_names, told_more}
+use Rattle.appender_replay.specs.Replay.{with_replies}
+use Rattle.appender_replay.proofs.Runs.{Grounds, roll_law, follows, other_names, one_reply_more}
 use Rattle.appender_replay.proofs.replay.replay_rolling.Goals as goal
 
 pub loop-step-init : goal.loop-step-init
@@ -32,12 +28,12 @@ loop-step-preserved g c =
     let more : take (i + 1) steps ≡ take i steps ++ step ∷ [] =
     take_more steps i step c.loop-step-test.true ∙ ap (λ s. take i steps ++ s ∷ []) (sym c.step-item.is) in
     let even : length (take i steps) ≡ length replies = length-take-le i steps (omega arith) ∙ sym inv.one_each in
-    let told : told_of (take (i + 1) steps) c.push_reply.new.replies.items ≡ (step, reply) ∷ told_of (take i steps) replies =
-    rw (more, c.push_reply.ensures.items) (told_more [] (take i steps) replies step reply even) in
+    let past : with_replies (take (i + 1) steps) c.push_reserved.new.self.items ≡ (step, reply) ∷ with_replies (take i steps) replies =
+    rw (more, c.push_reserved.ensures.items) (one_reply_more [] (take i steps) replies step reply even) in
     record {
-      one_each = ap length c.push_reply.ensures.items ∙ length-append replies (reply ∷ []) ∙ ap (λ n. n + 1) inv.one_each;
-      room = le_trans inv.room c.push_reply.ensures.capacity;
-      runs = rw told (record { first = inv.runs.first; opens = inv.runs.opens; number_is = inv.runs.number_is; runs = (c.loop-step.roller, inv.runs.runs, c.run_step-reply.ensures) });
+      one_each = ap length c.push_reserved.ensures.items ∙ length-append replies (reply ∷ []) ∙ ap (λ n. n + 1) inv.one_each;
+      room = rw c.push_reserved.ensures.capacity inv.room;
+      runs = rw past (record { first = inv.runs.first; opens = inv.runs.opens; number_is = inv.runs.number_is; runs = (c.loop-step.roller, inv.runs.runs, c.run_step-reply.ensures) });
     }
 
 pub returns : goal.returns
@@ -54,19 +50,11 @@ returns g c =
       parts = c.openings_keep_files.ensures;
       sound = g.met.S.Folder.sound;
     } in
-    let law = roll_law g.S.Folder c.args.builder.now c.args.start c.number-number.result c.args.folder (told_of c.args.steps.now c.loop-step.replies.items) c.loop-step.roller grounds in
-    let so = law runs in
+    let law = roll_law g.S.Folder c.args.builder.now c.args.start c.number-number.result c.args.folder (with_replies c.args.steps.now c.loop-step.replies.items) c.loop-step.roller grounds in
     record {
       one_each = one_each;
       runs = runs;
-      config = so.config_is;
-      switches = so.clock.switches;
-      arrivals = λ unlimited. switch_at_arrivals c.args.builder.now _ unlimited _ so.clock.switches;
-      boundary = so.clock.boundary_is;
-      files = λ tells run. law_so_far _ _ _ _ _ _ _ _ _ _ ((law run).files tells) (law run).is_stamp (keeps_to_limit c.args.builder.now _ _ _ ((law run).files tells).are_times (law run).clock.switches (law run).fit);
-      standing_files = λ tells run. periods_so_far _ _ _ _ _ _ _ _ _ _ ((law run).files tells) (law run).is_stamp;
+      roller = follows _ _ _ _ _ _ _ _ _ law runs;
       err = tt;
       memory = tt;
-      opened = so.opened_is;
-      notices = λ run. (law run).noted;
     }

@@ -1,10 +1,10 @@
 use Rattle.std.proofs.Common.{◌≡◌, ◌≤◌, length, take, vec_capacity}
-use Rattle.appender_replay.specs.Replay.{told_of, RollDoes, RunsFrom}
+use Rattle.appender_replay.specs.Replay.{with_replies, RollDoes, RunsFrom}
 use Rattle.appender_replay.proofs.replay.replay_rolling.Given as goal
 
 abbrev pub invariant-loop-step : goal.invariant-loop-step
 invariant-loop-step g l = record {
   one_each : length l.replies.items ≡ l.step-index;
   room : length l.steps ≤ vec_capacity l.replies;
-  runs : RunsFrom g.S.Folder (RollDoes g.S.Folder) l.fn.builder l.fn.start l.number l.fn.folder (told_of (take l.step-index l.steps) l.replies.items) l.roller;
+  runs : RunsFrom g.S.Folder (RollDoes g.S.Folder) l.fn.builder l.fn.start l.number l.fn.folder (with_replies (take l.step-index l.steps) l.replies.items) l.roller;
 }

@@ -12,16 +12,16 @@ returns-in-Ok-print_queued_run-clause-ok c =
     record {
       replies = c.in-Ok.run'.replies.items;
       one_each = c.in-Ok.ensures.one_each;
-      answers = c.in-Ok.ensures.answers;
+      answers = c.in-Ok.ensures.lines.answers;
       queue = c.in-Ok.run'.queue;
-      queue_is = c.in-Ok.ensures.queue;
-      handed = c.in-Ok.ensures.handed;
-      labels = c.in-Ok.ensures.labels;
-      text = c.in-Ok.ensures.text;
+      queue_is = c.in-Ok.ensures.lines.queue_is;
+      handed = c.in-Ok.ensures.lines.handed;
+      labels = c.in-Ok.ensures.lines.labels;
+      text = c.in-Ok.ensures.lines.text;
       last = c.in-Ok.run'.roller;
       number = c.in-Ok.run'.number;
       runs = rw start at c.in-Ok.ensures.runs;
-      page_is = rw (start, c.in-Ok.ensures.config, c.new-page.ensures.items) at c.in-Ok-print_queued_run.ensures;
+      page_is = rw (start, c.in-Ok.ensures.roller.config_is, c.new-page.ensures.items) at c.in-Ok-print_queued_run.ensures;
     }
 
 pub returns-in-Err-clause-ok : goal.returns-in-Err-clause-ok

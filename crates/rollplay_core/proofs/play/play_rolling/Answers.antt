@@ -15,7 +15,7 @@ returns-in-Ok-print_run-clause-ok c =
       last = c.in-Ok.run'.roller;
       number = c.in-Ok.run'.number;
       runs = rw start at c.in-Ok.ensures.runs;
-      page_is = rw (start, c.in-Ok.ensures.config, c.new-page.ensures.items) at c.in-Ok-print_run.ensures;
+      page_is = rw (start, c.in-Ok.ensures.roller.config_is, c.new-page.ensures.items) at c.in-Ok-print_run.ensures;
     }
 
 pub returns-in-Err-clause-ok : goal.returns-in-Err-clause-ok

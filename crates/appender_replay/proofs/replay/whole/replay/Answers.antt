@@ -1,15 +1,11 @@
 use Rattle.std.proofs.Common.{◌≡◌, ◌∙◌, ◌+◌, ◌++◌, [], ◌∷◌, length, length-append, take, rules, sym, ap, arith, w64, FitsSigned}
-use Rattle.std.proofs.Math.Nat.{le_trans}
 use Rattle.std.proofs.Math.Seq.{length-take-le}
 use Rattle.std.proofs.lemmas.Int.{to_z-of_z}
 use Rattle.std.proofs.lemmas.List.{take_more, take_all}
-use Rattle.appender_replay.specs.Replay.{told_of}
+use Rattle.appender_replay.specs.Replay.{with_replies}
 use Rattle.appender_replay.specs.Inside.Steps.{parts}
-use Rattle.appender_replay.proofs.Bounds.{keeps_to_limit}
-use Rattle.appender_replay.proofs.Files.{law_so_far, periods_so_far}
-use Rattle.appender_replay.proofs.Unlimited.{switch_at_arrivals}
 use Rattle.appender_replay.proofs.Orders.{in_order, hands, labels}
-use Rattle.appender_replay.proofs.Runs.{Grounds, other_names, told_more}
+use Rattle.appender_replay.proofs.Runs.{Grounds, follows, other_names, one_reply_more}
 use Rattle.appender_replay.proofs.Texts.{WorkerLaws, text_law}
 use Rattle.appender_replay.proofs.Wholes.{GoesFrom, goes_begins, goes_on, whole_law, each_write_reads}
 use Rattle.appender_replay.proofs.replay.whole.replay.Goals as goal
@@ -34,12 +30,12 @@ loop-step-preserved g c =
     let more : take (i + 1) steps ≡ take i steps ++ step ∷ [] =
     take_more steps i step c.loop-step-test.true ∙ ap (λ s. take i steps ++ s ∷ []) (sym c.step-item.is) in
     let even : length (take i steps) ≡ length replies = length-take-le i steps (omega arith) ∙ sym inv.one_each in
-    let told : told_of (take (i + 1) steps) c.push_reply.new.replies.items ≡ (step, reply) ∷ told_of (take i steps) replies =
-    rw (more, c.push_reply.ensures.items) (told_more [] (take i steps) replies step reply even) in
+    let past : with_replies (take (i + 1) steps) c.push_reserved.new.self.items ≡ (step, reply) ∷ with_replies (take i steps) replies =
+    rw (more, c.push_reserved.ensures.items) (one_reply_more [] (take i steps) replies step reply even) in
     record {
-      one_each = ap length c.push_reply.ensures.items ∙ length-append replies (reply ∷ []) ∙ ap (λ n. n + 1) inv.one_each;
-      room = le_trans inv.room c.push_reply.ensures.capacity;
-      goes = rw told (goes_on g.S.Folder _ _ _ _ _ _ (told_of (take i steps) replies) (step, reply)
+      one_each = ap length c.push_reserved.ensures.items ∙ length-append replies (reply ∷ []) ∙ ap (λ n. n + 1) inv.one_each;
+      room = rw c.push_reserved.ensures.capacity inv.room;
+      goes = rw past (goes_on g.S.Folder _ _ _ _ _ _ (with_replies (take i steps) replies) (step, reply)
           (parts c.loop-step.queue c.loop-step.worker c.loop-step.roller)
           (parts c.run_step-reply.new.queue c.run_step-reply.new.worker c.run_step-reply.new.roller) inv.goes c.run_step-reply.ensures);
     }
@@ -50,9 +46,9 @@ returns g c =
     let whole : take c.loop-step.step-index c.args.steps.now ≡ c.args.steps.now = take_all _ _ c.loop-step-test.false in
     let one_each : length c.loop-step.replies.items ≡ length c.args.steps.now = search rules in
     let goes : GoesFrom g.S.Folder c.args.builder.now c.args.limit c.args.lossy c.args.start c.number-number.result c.args.folder
-    (told_of c.args.steps.now c.loop-step.replies.items) c.loop-step.queue c.loop-step.worker c.loop-step.roller =
+    (with_replies c.args.steps.now c.loop-step.replies.items) c.loop-step.queue c.loop-step.worker c.loop-step.roller =
     simp (to_z-of_z, whole) at c.loop-step.invariant.goes in
-    let told = told_of c.args.steps.now c.loop-step.replies.items in
+    let past = with_replies c.args.steps.now c.loop-step.replies.items in
     let periods = c.periods_lie_between_boundaries.ensures in
     let grounds : Grounds g.S.Folder c.args.builder.now = record {
       laws = record { begins = periods.begin _; ends = periods.end _ };
@@ -66,26 +62,20 @@ returns g c =
       flushes = c.takes_are_flushed.ensures;
       ends_for_good = c.runs_end_for_good.ensures;
     } in
-    let law = whole_law g.S.Folder c.args.builder.now c.args.start c.number-number.result c.args.folder told c.loop-step.roller grounds in
-    let so = law goes.runs in
-    let handed = hands c.args.limit c.args.lossy told c.loop-step.queue (in_order c.args.limit c.args.lossy told goes.answers) goes.stands.queue in
+    let law = whole_law g.S.Folder c.args.builder.now c.args.start c.number-number.result c.args.folder past c.loop-step.roller grounds in
+    let handed = hands c.args.limit c.args.lossy past c.loop-step.queue (in_order c.args.limit c.args.lossy past goes.answers) goes.stands.queue in
     record {
       one_each = one_each;
-      answers = goes.answers;
-      queue = goes.stands.queue;
-      worker = goes.stands.worker;
-      handed = handed;
-      labels = λ label. labels c.args.limit c.args.lossy told c.loop-step.queue label handed;
-      text = text_law c.args.limit c.args.lossy told laws goes.answers;
+      lines = record {
+        answers = goes.answers;
+        queue_is = goes.stands.queue;
+        worker_is = goes.stands.worker;
+        handed = handed;
+        labels = λ label. labels c.args.limit c.args.lossy past c.loop-step.queue label handed;
+        text = text_law c.args.limit c.args.lossy past laws goes.answers;
+      };
+      clock_read = each_write_reads past;
       runs = goes.runs;
-      clock_read = each_write_reads told;
-      config = so.config_is;
-      switches = so.clock.switches;
-      arrivals = λ unlimited. switch_at_arrivals c.args.builder.now _ unlimited _ so.clock.switches;
-      boundary = so.clock.boundary_is;
-      opened = so.opened_is;
-      files = λ tells run. law_so_far _ _ _ _ _ _ _ _ _ _ ((law run).files tells) (law run).is_stamp (keeps_to_limit c.args.builder.now _ _ _ ((law run).files tells).are_times (law run).clock.switches (law run).fit);
-      notices = λ run. (law run).noted;
-      standing_files = λ tells run. periods_so_far _ _ _ _ _ _ _ _ _ _ ((law run).files tells) (law run).is_stamp;
+      roller = follows _ _ _ _ _ _ _ _ _ law goes.runs;
       err = tt;
     }

@@ -7,9 +7,9 @@ use Rattle.appender_retain.proofs.Planned.{planned_files, prunes}
 use Rattle.appender_retain.proofs.retain.prune.prune_old_logs.Goals as goal
 
 pub remove_planned-requires : goal.remove_planned-requires
-remove_planned-requires g c = λ tells.
+remove_planned-requires g c = λ is_known.
     rw (c.deref-in-Ok-plan.ensures.value, c.deref-in-Ok-plan-2.ensures.value, c.in-Ok.ensures.content)
-    (planned_files c.args.names.now c.args.max (g.S.Folder.content c.args.folder.now) (map listed_row c.in-Ok.listed.items) c.in-Ok-plan.gone.items (record { moved = c.in-Ok.ensures.ok tells }) (rw c.deref.ensures.value at c.in-Ok-plan.ensures))
+    (planned_files c.args.names.now c.args.max (g.S.Folder.content c.args.folder.now) (map listed_row c.in-Ok.listed.items) c.in-Ok-plan.gone.items (record { moved = c.in-Ok.ensures.ok is_known }) (rw c.deref.ensures.value at c.in-Ok-plan.ensures))
 
 pub returns-in-Ok-plan : goal.returns-in-Ok-plan
 returns-in-Ok-plan g c =
@@ -21,7 +21,7 @@ returns-in-Ok-plan g c =
     rw (c.deref-in-Ok-plan.ensures.value, c.deref-in-Ok-plan-2.ensures.value) at c.remove_planned.ensures in
     let short : length gone < 2 ^ 64 = omega (arith, c.deref-in-Ok-plan-2.type_inv.0, ap length c.deref-in-Ok-plan-2.ensures.value) in
     prunes maps g.S.Folder g.met.S.Folder.noted_fit c.args.names.now c.args.max c.args.folder.now c.list.new.self c.remove_planned.new.folder rows gone
-    (λ zero. absurd (omega arith)) short (λ tells. record { moved = c.in-Ok.ensures.ok tells }) c.in-Ok.ensures.there plan c.in-Ok.ensures.content c.in-Ok.ensures.notices each
+    (λ zero. absurd (omega arith)) short (λ is_known. record { moved = c.in-Ok.ensures.ok is_known }) c.in-Ok.ensures.there plan c.in-Ok.ensures.content c.in-Ok.ensures.notices each
     (record {
       answer = c.list.result;
       listed = c.list.new.self;

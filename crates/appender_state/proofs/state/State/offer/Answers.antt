@@ -16,19 +16,19 @@ invariant_of-self g c =
           let more = subst (λ reply. OfferFromLeaves old new c.args.line.items reply) w.in-Ok.is leaves in
           let fits : old.accepted + 1 < 2 ^ 64 = subst (λ q. q.accepted < 2 ^ 64) more.1 c.offer_at-reply.ensures.lawful.tickets_fit in
           let counted = w.accept.ensures (tally_of old) c.self.invariant.1 fits in
-          let placed = subst (λ n. g.B.Books.say w.accept.new.self (record (with_line (tally_of old)) { places = n })) (sym more.2) counted.0 in
+          let placed = subst (λ n. g.B.Books.agree w.accept.new.self (record (with_line (tally_of old)) { places = n })) (sym more.2) counted.0 in
           rw w.self-inside-is (
             c.offer_at-reply.ensures.lawful,
-            subst (λ q. g.B.Books.say w.accept.new.self (tally_of q)) (sym more.1) placed,
-            c.call-calls.ensures.room,
+            subst (λ q. g.B.Books.agree w.accept.new.self (tally_of q)) (sym more.1) placed,
+            c.wake_up-wakeups.ensures.room,
             search rules,
           )
       | in-Err w ↦
           let little = subst (λ reply. OfferFromLeaves old new c.args.line.items reply) w.in-Err.is leaves in
           rw w.self-inside-is (
             c.offer_at-reply.ensures.lawful,
-            subst (λ q. g.B.Books.say c.self.inside.books (tally_of q)) (sym little) c.self.invariant.1,
-            c.call-calls.ensures.room,
+            subst (λ q. g.B.Books.agree c.self.inside.books (tally_of q)) (sym little) c.self.invariant.1,
+            c.wake_up-wakeups.ensures.room,
             search rules,
           )
     ]

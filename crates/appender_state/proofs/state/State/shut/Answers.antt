@@ -13,7 +13,7 @@ invariant_of-self g c =
           rw w.self-inside-is (
             c.shut-reply.ensures.lawful,
             search rules,
-            c.call-calls.ensures.room,
+            c.wake_up-wakeups.ensures.room,
             search rules,
           )
       | in-Already w ↦
@@ -24,8 +24,8 @@ invariant_of-self g c =
           ] in
           rw w.self-inside-is (
             c.shut-reply.ensures.lawful,
-            subst (λ q. g.B.Books.say c.self.inside.books (tally_of q)) (sym unchanged) c.self.invariant.1,
-            c.call-calls.ensures.room,
+            subst (λ q. g.B.Books.agree c.self.inside.books (tally_of q)) (sym unchanged) c.self.invariant.1,
+            c.wake_up-wakeups.ensures.room,
             search rules,
           )
     ]

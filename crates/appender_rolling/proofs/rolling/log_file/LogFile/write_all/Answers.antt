@@ -68,7 +68,7 @@ loop-made-init g c = (
     pieces = (refl, refl);
     taken = [];
     split = refl;
-    content = λ tells. sym (after_append_nothing (g.S.Folder.content c.args.self.now.folder) (g.S.Folder.body c.args.self.now.file));
+    content = λ is_known. sym (after_append_nothing (g.S.Folder.content c.args.self.now.folder) (g.S.Folder.body c.args.self.now.file));
     stays = record { config_is = refl; opened = refl; last = refl; boundary = refl; file = refl; noted = refl };
     room = omega arith;
   },

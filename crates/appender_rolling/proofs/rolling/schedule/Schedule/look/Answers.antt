@@ -72,8 +72,8 @@ invariant_of-self-in-Err g c =
     }
 
 pub invariant_of-log-in-Err : goal.invariant_of-log-in-Err
-invariant_of-log-in-Err g c tells =
-    rw c.note.ensures.content ((keeps_little (maps c.names_change_one_at_a_time.ensures.removals c.names_change_one_at_a_time.ensures.additions) _ _ _ _ (refuses_little _ _ _ _ _ _ tells c.in-Err.ensures.err)).keeps.more _ (c.log.invariant tells))
+invariant_of-log-in-Err g c is_known =
+    rw c.note.ensures.content ((keeps_little (maps c.names_change_one_at_a_time.ensures.removals c.names_change_one_at_a_time.ensures.additions) _ _ _ _ (refuses_little _ _ _ _ _ _ is_known c.in-Err.ensures.err)).keeps.more _ (c.log.invariant is_known))
 
 pub returns-in-Ok : goal.returns-in-Ok
 returns-in-Ok g c =
@@ -99,7 +99,7 @@ returns-in-Ok g c =
       closes = rw (← c.log.view_is) c.close_last.ensures;
       content = c.close_last.ensures.content;
       quiet = rw (← c.log.view_is) (closes_quietly _ _ _ _ _ c.close_last.ensures);
-      at_most = rw (← c.self.view_is, ← c.log.view_is) (λ quiet tells some. rw c.close_last.ensures.content (opened.at_most (closes_quietly _ _ _ _ _ c.close_last.ensures quiet) tells some));
+      at_most = rw (← c.self.view_is, ← c.log.view_is) (λ quiet is_known some. rw c.close_last.ensures.content (opened.at_most (closes_quietly _ _ _ _ _ c.close_last.ensures quiet) is_known some));
     }
 
 pub returns-in-Err : goal.returns-in-Err
@@ -126,5 +126,5 @@ returns-in-Err g c =
       refused = c.open_next.new.folder;
       refuses = rw (← c.self.view_is, ← c.log.view_is) refused;
       notes = search rules;
-      content = rw (← c.self.view_is, ← c.log.view_is) (λ tells. rw c.note.ensures.content (refuses_little _ _ _ _ _ _ tells refused));
+      content = rw (← c.self.view_is, ← c.log.view_is) (λ is_known. rw c.note.ensures.content (refuses_little _ _ _ _ _ _ is_known refused));
     }

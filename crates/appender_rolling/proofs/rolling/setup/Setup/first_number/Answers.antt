@@ -31,7 +31,7 @@ returns-in-Ok g c =
         content = c.in-Ok.ensures.content;
         noted = c.in-Ok.ensures.notices;
         number_is = rw c.in-Ok.is (is_first, refl);
-        number_in = λ ok tells. of_content (naming_of c.args.self.now) c.args.moment (g.S.Folder.content c.args.folder.now) c.in-Ok.listed.items c.first_number.result (c.in-Ok.ensures.ok tells) is_first;
+        number_in = λ ok is_known. of_content (naming_of c.args.self.now) c.args.moment (g.S.Folder.content c.args.folder.now) c.in-Ok.listed.items c.first_number.result (c.in-Ok.ensures.ok is_known) is_first;
       };
       number_is = omega (arith, last, c.first_number.ensures.bound);
       content = c.in-Ok.ensures.content;

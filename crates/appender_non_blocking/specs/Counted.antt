@@ -1,4 +1,4 @@
--- What a sender and a guard are told.
+-- The counts of a sender after a line, and of a guard after a shutdown.
 use Rattle.std.specs.Prelude.{◌+◌, ◌-◌, ◌^◌, Bool, true, false, ◌||◌, min, Result, Ok, Err}
 use Rattle.std.specs.declared.io.Error.{Error}
 use Rattle.appender_non_blocking.specs.Account.{Sums, Guard}

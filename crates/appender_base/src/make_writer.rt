@@ -1,5 +1,4 @@
 //! What makes writers, as loggers ask for them.
-#![tactic(auto)]
 
 use std::alloc::AllocError;
 use std::io::Write;
@@ -8,8 +7,8 @@ use std::io::Write;
 /// `tracing-subscriber` does.
 pub trait MakeWriter<'a> {
     /// What it makes, which may borrow from it.
-    type Writer: Write;
+    type Writer: Write + Drop;
 
-    /// A writer for one piece. `AllocError` where there is no memory for it.
+    /// Returns a writer for one piece. `AllocError` if there is no memory for it.
     fn make_writer(&'a self) -> Result<Self::Writer, AllocError>;
 }
