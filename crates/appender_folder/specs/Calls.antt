@@ -1,4 +1,4 @@
--- What the calls of a folder of the file system tell.
+-- What the calls of a folder of the file system count.
 use Rattle.std.specs.Prelude.{◌≡◌, ℕ, List, [], Result, MatchResult, OnOk, false}
 use Rattle.std.specs.FinMap as map
 use Rattle.std.specs.declared.io.Error.{Error}
@@ -12,7 +12,7 @@ pub record Disk : Type 0 where
   pub failures : ℕ
   pub noted : NoticeCounts
 
--- a call counts a failure where it answers an Err, and there alone
+-- a call counts a failure exactly if it returns an Err
 abbrev pub CountsFailure : {T : Type 0} → ℕ → ℕ → Result T Error → Type 0
 CountsFailure old new result = MatchResult result (λ _. new ≡ old) (λ _. new ≡ wrapping_next old)
 
@@ -21,6 +21,6 @@ pub record CallsEntry {T : Type 0} (name : List ℕ) (old new : ℕ) (result : R
   pub counts : CountsFailure old new result
   pub entry : OnOk result (IsEntry name)
 
--- no content is told
+-- the content of a folder of the file system
 abbrev pub unknown : Content
 unknown = record { there = false; bodies = []; names = map.empty }

@@ -15,11 +15,10 @@ use std::marker::Model;
 use std::rt::Files;
 use std::{fs, io};
 
-/// A folder of the file system. What it holds no contract tells, since other programs write to the
-/// disk too. Each call that answers an `Err` is counted in `failures`, also where an opening goes on
-/// after it: a folder or a link that isn't there yet. A name that cannot be that of one entry is
-/// refused by the kind InvalidInput, so that no call leaves the folder. Notices go to standard error,
-/// a line each.
+/// A folder of the file system. No contract says what it contains, since other programs write to the disk
+/// too. `failures` counts each call that returns an `Err`, also if an opening goes on after it (a folder or
+/// a link that is absent). Every call rejects a name that is not a single path component with
+/// `InvalidInput`, so that no call leaves the folder. Notices are lines on standard error.
 #[derive(Drop)]
 pub struct DirFolder<R = HostRuntime> {
     rt: R,
@@ -44,8 +43,8 @@ impl<R: Files + AllocGlobal + Eprint + Clone + Drop> DirFolder<R> {
     ghost use Rattle.appender_store.specs.MemoryState.{count_of};
     ghost use Rattle.appender_store.specs.NoticeCounts.{counts_of};
 
-    /// The folder at a path, which need not be there yet; an empty path is the current directory.
-    /// Nothing is read or made.
+    /// Returns the folder at a path, which need not exist; an empty path is the current directory. Nothing
+    /// is read or made.
     pub fn new(rt: R, path: &str) -> Result<DirFolder<R>, AllocError>
         ensures failures { IfOk result (λ folder. folder.failures ≡ 0) }
         ensures notices { IfOk result (λ folder. counts_of folder.noted ≡
@@ -67,8 +66,8 @@ impl<R: Files + AllocGlobal + Eprint + Clone + Drop> DirFolder<R> {
         })
     }
 
-    /// Makes each flush of a file also sync its data to the disk (`fdatasync`): what was written before it then
-    /// survives a loss of power, as far as the disk keeps its word.
+    /// Makes each flush of a file also sync its data to the disk (`fdatasync`), so that what was written before
+    /// survives a loss of power.
     #[must_use]
     pub fn synced(self) -> DirFolder<R>
         ensures { result ≡ self }
@@ -89,13 +88,13 @@ impl<R: Files + AllocGlobal + Eprint + Clone + Drop> DirFolder<R> {
         }
     }
 
-    /// Returns whether a name leads to this very open file: it no longer does once the file was removed,
-    /// renamed or replaced. Nothing is counted in `failures`.
+    /// Returns whether a name leads to this open file. It doesn't if the file was removed, renamed or
+    /// replaced. `failures` doesn't count the call.
     pub fn is_named(&self, file: &R::File, name: &str) -> io::Result<bool> {
         is_named(&self.rt, self.path.as_str(), file, name)
     }
 
-    /// How often a kind of notice was noted, modulo 2^64.
+    /// Returns the number of notices of a kind, modulo 2^64.
     pub fn notices(&self, kind: NoticeKind) -> u64
         ensures { result ≡ count_of kind (counts_of self.now.noted) }
     {
@@ -114,7 +113,7 @@ impl<R: Files + AllocGlobal + Eprint + Clone + Drop> DirFolder<R> {
         answer
     }
 
-    // Tells a notice on standard error.
+    // Reports a notice on standard error.
     fn tell(&self, notice: Notice<'_>) -> io::Result<()> {
         let rt = &self.rt;
         match notice {
@@ -234,7 +233,7 @@ impl<R: Files + AllocGlobal + Eprint + Clone + Drop> Folder for DirFolder<R> {
 
     fn note(&mut self, notice: Notice<'_>) {
         self.noted.add(notice.kind());
-        // A fault of standard error has nowhere to be told.
+        // A fault of standard error can't be reported.
         let _ = self.tell(notice);
     }
 

@@ -45,10 +45,10 @@ total_dropped senders = sum_by (λ s. s.dropped) senders
 
 -- the account of a guard and all its senders
 pub record IsAccount (accepted handed left dropped : ℕ) (guard : Guard) (senders : List Sums) : Type 0 where
-  -- each line that a sender was told is queued was accepted, and no other
+  -- the accepted lines are those that a sender queued
   pub accepted_is : accepted ≡ total_queued senders
   pub dropped_is : dropped ≡ min (total_dropped senders) (2 ^ 64 - 1)
-  -- no accepted line is lost sight of
+  -- every accepted line is accounted for
   pub adds_up : accepted ≡ handed + left
-  -- only lines behind a shutdown are left
+  -- only lines after a shutdown are left
   pub none_left : guard.sent ≡ false → left ≡ 0

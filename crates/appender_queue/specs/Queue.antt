@@ -31,7 +31,7 @@ abbrev pub is_sent : Option ℕ → Bool
 is_sent None = false
 is_sent (Some place) = true
 
--- a shutdown that lies in the queue takes one place
+-- a shutdown in the queue takes one place
 abbrev pub places_of : Option ℕ → ℕ
 places_of None = 0
 places_of (Some place) = 1
@@ -40,7 +40,7 @@ places_of (Some place) = 1
 abbrev pub taken_places : Queue → ℕ
 taken_places q = if q.closed then 0 else (length q.lines + places_of q.shutdown)
 
--- whether one more may lie there: fewer than the limit do; at limit 0 none does and the worker waits for it
+-- whether there is room for one more: fewer than the limit are queued; or with a limit of 0 none is and the worker waits
 abbrev pub has_room : Queue → Bool
 has_room q =
     if q.limit == 0 then ((taken_places q == 0) && q.worker_waits)
@@ -105,7 +105,7 @@ after_offer_from q place line =
 abbrev pub may_shut : Queue → Bool
 may_shut q = not q.closed && (not (is_sent q.shutdown) && has_room q)
 
--- the queue after a shutdown was tried: where it is taken in, it stands behind all lines accepted so far
+-- the queue after a shutdown was tried: one that is accepted is after all lines accepted so far
 abbrev pub after_shut : Queue → Queue
 after_shut q = if may_shut q then record q { shutdown = Some q.accepted } else q
 
@@ -118,7 +118,7 @@ is_before (Some place) handed = nat_lt handed place
 abbrev pub has_line : Queue → Bool
 has_line q = nat_lt q.handed q.accepted && is_before q.shutdown q.handed
 
--- the queue once it is closed: what lay there is left
+-- the queue when it is closed: what was queued is left
 abbrev pub after_closing : Queue → Queue
 after_closing q = record q { lines = []; closed = true; worker_waits = false }
 
@@ -139,16 +139,16 @@ queued_of q = length q.lines
 abbrev pub left_of : Queue → ℕ
 left_of q = if q.closed then q.accepted - q.handed else 0
 
--- the shutdown stands between the handed and the accepted lines
+-- the shutdown is after the handed lines and no later than the accepted ones
 abbrev pub Stands : Option ℕ → ℕ → ℕ → Type 0
 Stands shutdown handed accepted = (place : ℕ) → shutdown ≡ Some place → (handed ≤ place) × (place ≤ accepted)
 
 -- what every queue keeps
 pub record IsLawful (q : Queue) : Type 0 where
-  -- no accepted line is lost sight of
+  -- every accepted line is accounted for
   pub counted : q.accepted ≡ q.handed + queued_of q + left_of q
   pub shutdown_between : Stands q.shutdown q.handed q.accepted
-  -- a queue that closed for want of senders handed all its lines
+  -- a queue that closed because no sender was left has handed all its lines
   pub none_left : q.closed ≡ true → q.shutdown ≡ None → left_of q ≡ 0
   -- in waiting mode no line is dropped
   pub none_dropped : q.lossy ≡ false → q.dropped ≡ 0

@@ -1,4 +1,4 @@
--- What each call of a queue answers and leaves. The queue that it leaves is lawful.
+-- The reply of each call of a queue, and the queue after it. The queue that it leaves is lawful.
 use Rattle.std.specs.Prelude.{◌≡◌, ◌≢◌, ℕ, ◌<◌, Bool, length, IfOk, Result, Vec}
 use Rattle.std.specs.declared.alloc.Global.{Global}
 use Rattle.appender_queue.specs.Queue.{Queue, IsLawful, after_offer, after_offer_from, last_ticket_of, after_shut, after_take, saturating_next, one_less}

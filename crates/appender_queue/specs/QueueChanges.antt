@@ -1,4 +1,4 @@
--- What calls of a queue change, by what they answer.
+-- What calls of a queue change, by their replies.
 use Rattle.std.specs.Prelude.{◌≡◌, ℕ, ◌+◌, List, length, true, false, Some, None, Result, Ok, Err}
 use Rattle.appender_queue.specs.Queue.{Queue, after_acceptance}
 use Rattle.appender_queue.specs.declared.queue.Refused.{Refused}
@@ -7,7 +7,7 @@ use Rattle.appender_queue.specs.declared.queue.Shut.TheVariants.{Sent, Already, 
 use Rattle.appender_queue.specs.declared.queue.Taken.{Taken}
 use Rattle.appender_queue.specs.declared.queue.Taken.TheVariants.{Line, Shutdown, Gone, Empty}
 
--- what an offer leaves: an accepted line lies last and has the next ticket, and a refused one changes at most the
+-- what an offer leaves: an accepted line is the last one and has the next ticket, and a refused one changes at most the
 -- count of dropped lines
 abbrev pub OfferLeaves : Queue → Queue → List ℕ → Result ℕ Refused → Type 0
 OfferLeaves q new line (Ok ticket) = (ticket ≡ q.accepted + 1) × (new ≡ after_acceptance q line)

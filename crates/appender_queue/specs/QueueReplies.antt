@@ -1,4 +1,4 @@
--- What a queue answers.
+-- The replies of a queue.
 use Rattle.std.specs.Prelude.{◌≡◌, ℕ, ◌+◌, [], true, false, not, ◌&&◌, ◌||◌, ◌==◌, if◌then◌else◌, Result, Ok, Err, Vec, slice_index_or}
 use Rattle.std.specs.declared.alloc.Global.{Global}
 use Rattle.appender_queue.specs.Queue.{Queue, has_room, is_open, is_sent, has_line, queued_of, left_of}
@@ -20,8 +20,8 @@ abbrev pub shut_reply : Queue → Shut
 shut_reply q =
     if q.closed then ShutClosed else if is_sent q.shutdown then Already else if has_room q then ShutSent else ShutFull
 
--- to a take: the first line with the ticket behind the last one handed, where a line lies before the shutdown;
--- else the shutdown; else, with no sender left, that all are gone; else that nothing is there
+-- to a take: the first line, with the ticket after that of the last one handed, if a line is before the shutdown;
+-- else the shutdown; else `Gone` if no sender is left; else `Empty`
 abbrev pub IsTaken : Queue → Taken → Type 0
 IsTaken q (Line ticket line) =
     (q.closed ≡ false) × (has_line q ≡ true) × (ticket ≡ q.handed + 1) × (line.items ≡ slice_index_or q.lines 0 [])

@@ -1,4 +1,4 @@
-//! Laws of what calls of a queue change. The functions do nothing: what they say is their contract.
+//! Laws of what calls of a queue change. The functions do nothing: their contracts are the laws.
 ghost use Rattle.std.specs.Prelude.{◌≡◌, ℕ, Bool, Result, Vec};
 ghost use Rattle.std.specs.declared.alloc.Global.{Global};
 ghost use Rattle.appender_queue.specs.declared.queue.Refused.{Refused};
@@ -8,7 +8,7 @@ ghost use Rattle.appender_queue.specs.Queue.{Queue};
 ghost use Rattle.appender_queue.specs.QueueCalls.{Offers, OffersFrom, Shuts, Takes, AddsSender, DropsSender};
 ghost use Rattle.appender_queue.specs.QueueChanges.{OfferLeaves, OfferFromLeaves, ShutLeaves, TakeLeaves};
 
-/// An accepted line lies last and has the next ticket. A refused one changes at most the count of
+/// An accepted line is the last one and has the next ticket. A refused one changes at most the count of
 /// dropped lines.
 #[inline(always)]
 pub fn offers_change_little()
@@ -40,7 +40,7 @@ pub fn shutdowns_change_little()
     ensures { (old new : Queue) (reply : Shut) → Shuts old reply new → ShutLeaves old new reply }
 {}
 
-/// A take that gives a line raises the number of handed lines to its ticket. The queue is closed
+/// A take that returns a line raises the number of handed lines to its ticket. The queue is closed
 /// exactly after `Shutdown` and `Gone`.
 pub fn takes_change_little()
     ensures { (old new : Queue) (waits : Bool) (reply : Taken)

@@ -1,4 +1,4 @@
-//! The bounded queue of lines between senders and a worker. No call here waits or starts a thread.
+//! The bounded queue of lines between senders and a worker. No call here blocks or starts a thread.
 #![tactic(auto)]
 
 pub mod laws;

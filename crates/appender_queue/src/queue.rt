@@ -15,19 +15,19 @@ use std::fmt;
 use std::fmt::{Debug, Formatter};
 use std::marker::Model;
 
-/// A line that was not queued, given back, and why.
+/// A line that was not queued, and why. The line is returned.
 #[derive(Debug, PartialEq, Eq, Drop)]
 pub enum Refused {
     /// The queue is full.
     Full(Vec<u8>),
-    /// The queue is closed, or has given out all its tickets.
+    /// The queue is closed, or has no tickets left.
     Closed(Vec<u8>),
 }
 
 /// What became of a shutdown.
 #[derive(Clone, Copy, Debug, PartialEq, Eq)]
 pub enum Shut {
-    /// It lies in the queue, behind all lines accepted so far.
+    /// It is in the queue, after all lines accepted so far.
     Sent,
     /// One was sent before.
     Already,
@@ -37,7 +37,7 @@ pub enum Shut {
     Closed,
 }
 
-/// What a take answers.
+/// The reply to a take.
 #[derive(Debug, PartialEq, Eq, Drop)]
 pub enum Taken {
     /// The first line, with its ticket.
@@ -50,7 +50,7 @@ pub enum Taken {
     Empty,
 }
 
-/// The counts of a queue, where `accepted` is always `handed + queued + left`.
+/// The counts of a queue. `accepted` is always `handed + queued + left`.
 #[derive(Clone, Copy, Debug, PartialEq, Eq)]
 pub struct Counts {
     /// Lines that were accepted.
@@ -59,7 +59,7 @@ pub struct Counts {
     pub handed: u64,
     /// Lines that the worker can still take.
     pub queued: u64,
-    /// Accepted lines behind a shutdown that was taken, which nobody will take.
+    /// Lines that were accepted after a shutdown which was taken: they will not be taken.
     pub left: u64,
     /// Offers refused in lossy mode, at most `usize::MAX`.
     pub dropped: usize,
@@ -266,7 +266,7 @@ impl<S: Store> Rules<S> {
     fn drop_sender(&mut self) -> u64
         ensures { DropsSender self.old result self.new }
     {
-        // Once saturated, the count is not known any more.
+        // A saturated count is no longer known.
         if self.senders != u64::MAX {
             self.senders = self.senders.saturating_sub(1);
         }
@@ -289,8 +289,8 @@ impl<S: Store> Rules<S> {
 
 /// The lines between senders and a worker, with a limit. Contracts see it as a `Queue`.
 ///
-/// In lossy mode a refused line counts as dropped; else its sender is to try again, as in the
-/// documentation of the crate tracing-appender.
+/// In lossy mode a refused line counts as dropped; else its sender has to try again, as the documentation
+/// of the crate tracing-appender says.
 #[derive(Drop)]
 pub struct LineQueue {
     rules: Rules<Ring>,
@@ -344,7 +344,7 @@ impl LineQueue {
         })
     }
 
-    /// Puts a line at the end, and answers its ticket: 1 for the first accepted line, then 2, ..
+    /// Puts a line at the end, and returns its ticket: 1 for the first accepted line, then 2, ..
     #[inline(always)]
     pub fn offer(&mut self, line: Vec<u8>) -> Result<u64, Refused>
         ensures { Offers self.old line result self.new }
@@ -377,8 +377,8 @@ impl LineQueue {
         self.rules.shut()
     }
 
-    /// Takes what lies first, for the worker. `waits` says whether the worker will wait where
-    /// nothing is there, so that at limit 0 a line can be handed over.
+    /// Takes the first line or the shutdown, for the worker. `waits` says whether the worker will wait if
+    /// nothing is there: with a limit of 0 a line is accepted only then.
     #[inline(always)]
     pub fn take(&mut self, waits: bool) -> Taken
         ensures { Takes self.old waits result self.new }
@@ -386,21 +386,21 @@ impl LineQueue {
         self.rules.take(waits)
     }
 
-    /// One more sender. Answers how many there are; `u64::MAX`, once reached, stays.
+    /// Counts one sender more, and returns how many there are. A count of `u64::MAX` stays.
     pub fn add_sender(&mut self) -> u64
         ensures { AddsSender self.old result self.new }
     {
         self.rules.add_sender()
     }
 
-    /// One sender less. Answers how many there are; 0 stays 0, and `u64::MAX` stays.
+    /// Counts one sender less, and returns how many there are. A count of 0 or of `u64::MAX` stays.
     pub fn drop_sender(&mut self) -> u64
         ensures { DropsSender self.old result self.new }
     {
         self.rules.drop_sender()
     }
 
-    /// Whether neither a line nor the shutdown would find a place. A closed queue isn't full.
+    /// Returns whether there is no place for a line or for the shutdown. A closed queue isn't full.
     #[inline(always)]
     pub fn is_full(&self) -> bool
         ensures { result ≡ (not self.now.closed && not (has_room self.now)) }
@@ -408,7 +408,7 @@ impl LineQueue {
         !self.rules.closed && !self.rules.is_roomy()
     }
 
-    /// How many lines were accepted, handed, are queued, are left and were dropped.
+    /// Returns how many lines were accepted, were handed, are queued, are left and were dropped.
     #[inline(always)]
     pub fn counts(&self) -> Counts
         ensures { TellsCounts self.now result }

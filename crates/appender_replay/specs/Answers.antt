@@ -1,4 +1,4 @@
--- What each step of a run of queue, worker and roller has to answer, given the steps before it, what it does to the roller, and
+-- The reply to each step of a run of queue, worker and roller, given the steps before it, what it does to the roller, and
 -- how the run reads as a history of the files.
 use Rattle.std.specs.Prelude.{◌≡◌, ◌≢◌, ◌⊎◌, ℕ, ◌+◌, ◌≤◌, ◌==◌, List, [], ◌∷◌, ◌++◌, Bool, if◌then◌else◌, length, take, Result, Some, None}
 use Rattle.std.specs.declared.io.Error.{Error}
@@ -31,8 +31,8 @@ IsFlushed reply P = ⊥
 abbrev pub offer_answer : Queue → Reply
 offer_answer q = if is_open q then (if has_room q then Accepted (q.accepted + 1) else Full) else Closed
 
--- The reply to a take: the first accepted line that was not handed, where one lies before the shutdown; else the shutdown;
--- else, with no sender left, that all are gone; else that nothing is there.
+-- The reply to a take: the first accepted line that was not handed, if it is before the shutdown; else the shutdown; else, with no
+-- sender left, that; else that nothing is there.
 abbrev pub take_answer : Queue → Reply
 take_answer q =
     if q.closed then TookGone
@@ -41,7 +41,7 @@ take_answer q =
     else if q.senders == 0 then TookGone
     else TookEmpty
 
--- What the worker's step answers: it does the one thing that it wants next.
+-- The reply to the worker's step: it does the one thing that it wants next.
 abbrev pub WorkAnswers : Queue → Core → Reply → Type 0
 WorkAnswers q (Taking waits) reply = reply ≡ take_answer q
 WorkAnswers q (Writing rest repeats) reply = IsWrote reply (λ switch answer. count_of answer ≤ length rest)
@@ -49,8 +49,7 @@ WorkAnswers q Flushing reply = IsFlushed reply (λ answer. Unit {0})
 WorkAnswers q (Ending flushes) reply = IsFlushed reply (λ answer. Unit {0})
 WorkAnswers q Over reply = reply ≡ Ended
 
--- What a step answers, with this queue and this worker before it. Memory is wanted only for the copy of a line that isn't
--- empty.
+-- The reply to a step, with this queue and this worker before it. Memory is needed only for the copy of a line that isn't empty.
 abbrev pub StepAnswers : Queue → Core → Answered → Type 0
 StepAnswers q core (Offer label line, reply) = ((reply ≡ NoMemory) × (line.items ≢ [])) ⊎ (reply ≡ offer_answer q)
 StepAnswers q core (Shut, reply) = reply ≡ DidShut (shut_reply q)
@@ -58,7 +57,7 @@ StepAnswers q core (AddSender, reply) = reply ≡ Senders (saturating_next q.sen
 StepAnswers q core (DropSender, reply) = reply ≡ Senders (one_less q.senders)
 StepAnswers q core (Work m, reply) = WorkAnswers q core reply
 
--- Each step answers as the steps before it demand.
+-- Each reply is the one that the steps before it demand.
 abbrev pub Answers : ℕ → Bool → List Answered → Type 0
 Answers limit lossy [] = Unit {0}
 Answers limit lossy (t ∷ earlier) =
@@ -71,7 +70,7 @@ abbrev pub rest_of : Core → List ℕ
 rest_of (Writing rest repeats) = rest
 rest_of core = []
 
--- What a step does to the roller: a write of the worker looks at the clock and puts the rest of the line in hand, a flush of
+-- What a step does to the roller: a write of the worker checks the clock and puts the rest of the line in hand, a flush of
 -- it flushes, and no other step touches the roller. Replies show the kinds of faults alone.
 abbrev pub RollerDoes : {S F : Type 0} → Ghosts S F → Core → Answered → Rolling S F → Rolling S F → Type 0
 RollerDoes kind core (Work m, Wrote switch shown) old new =

@@ -1,6 +1,5 @@
--- What the told steps of a run of queue, worker and roller come to: the accepted lines, those that were handed to the worker,
--- the shutdown, the senders, and what the worker does next. A told step is a step with its reply, and told steps stand the
--- newest first.
+-- What follows from the steps of a run of queue, worker and roller, each with its reply, the newest first: the accepted lines,
+-- those that were handed to the worker, the shutdown, the senders, and what the worker does next.
 use Rattle.std.specs.Prelude.{ℕ, ◌+◌, ◌-◌, ◌^◌, List, [], ◌∷◌, ◌++◌, Bool, true, false, ◌&&◌, ◌||◌, ◌==◌, nat_le, if◌then◌else◌, length, map, get_or, take, drop, min, Option, Some, None, Result, Ok, Err}
 use Rattle.std.specs.declared.io.ErrorKind.{ErrorKind}
 use Rattle.appender_worker.specs.Core.{Core, Taking, Answer, Wrote as DidWrite, Interrupted, Failed, Line, Last, Nothing, most_repeats}
@@ -66,7 +65,7 @@ closes (Work m, TookShutdown) = true
 closes (Work m, TookGone) = true
 closes past = false
 
--- whether the worker has taken the shutdown, or has found that all senders are gone
+-- whether the worker has taken the shutdown, or has found that no sender is left
 abbrev pub is_closed : List Answered → Bool
 is_closed [] = false
 is_closed (t ∷ earlier) = closes t || is_closed earlier
@@ -99,7 +98,7 @@ abbrev pub written_answer : Result ℕ ErrorKind → Answer
 written_answer (Ok n) = DidWrite n
 written_answer (Err kind) = if is_interruption kind then Interrupted else Failed
 
--- what a step tells the worker, if it is one of the worker's: what a take found, what a write answered, or that a flush did
+-- what a step passes to the worker, if it is one of the worker's: what a take found, the result of a write, or that a flush was made
 abbrev pub worker_event : List Offered → Answered → Option Event
 worker_event lines (Work m, Took ticket) = Some (DidTake (Line ((with_ticket ticket lines).1)))
 worker_event lines (Work m, TookShutdown) = Some (DidTake Last)
@@ -118,7 +117,7 @@ abbrev pub worker_after : List Answered → Core
 worker_after [] = Taking true
 worker_after (t ∷ earlier) = after_event (worker_after earlier) (worker_event (accepted_lines earlier) t)
 
--- all that the worker was told, in order
+-- all that was passed to the worker, in order
 abbrev pub worker_events : List Answered → List Event
 worker_events [] = []
 worker_events (t ∷ earlier) = at_end (worker_events earlier) (worker_event (accepted_lines earlier) t)

@@ -1,4 +1,4 @@
--- What a replay of steps over a roller answers, and how it reads as a run.
+-- What a replay of steps over a roller returns, and how it reads as a run.
 use Rattle.std.specs.Prelude.{◌≡◌, ◌<◌, nat_le, suc, if◌then◌else◌, ℕ, ℤ, false, IsTrue, List, [], ◌∷◌, length, take, Option, None, Some, Result, Ok, Err}
 use Rattle.std.specs.IoError.{error_kind}
 use Rattle.std.specs.declared.io.Error.{Error}
@@ -17,7 +17,7 @@ use Rattle.appender_replay.specs.declared.replay.ReplayError.{ReplayError}
 use Rattle.appender_replay.specs.declared.replay.ReplayError.TheVariants.{Memory as OutOfMemory, Init}
 use Rattle.appender_replay.specs.declared.replay.RollReply.TheVariants.{Saw, Put as DidPut, Wrote, Flushed}
 
--- an answer with its fault's kind alone
+-- an answer with its error by its kind alone
 abbrev pub by_kind : {T : Type 0} → Result T Error → Result T ErrorKind
 by_kind (Ok x) = Ok x
 by_kind (Err fault) = Err (error_kind fault)
@@ -68,7 +68,7 @@ abbrev pub LeadsTo : {S F T : Type 0} → (List T → T → Rolling S F → Roll
 LeadsTo does [] old new = new ≡ old
 LeadsTo does (t ∷ earlier) old new = (between : Rolling _ _) × LeadsTo does earlier old between × does earlier t between new
 
--- the events of told steps, where what a step is to the files may depend on those before it
+-- the events of steps with replies, where the event of a step may depend on those before it
 abbrev pub events_by : {T : Type 0} → (List T → T → Event) → List T → List Event
 events_by event [] = []
 events_by event (t ∷ earlier) = event earlier t ∷ events_by event earlier

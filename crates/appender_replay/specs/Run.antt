@@ -17,7 +17,7 @@ use Rattle.appender_rolling.specs.Opening.{file_name_of, Linked, LeavesLittle}
 use Rattle.appender_rolling.specs.declared.rolling.Switch.{Switch}
 use Rattle.appender_rolling.specs.declared.rolling.Switch.TheVariants.{None as Stayed, Opened as Switched, Failed as SwitchFailed}
 
--- One step as the files see it: the moment that it read, if it read the clock, how many bytes it offered, the switch that it told,
+-- One step as the files see it: the moment that it read, if it read the clock, how many bytes it offered, the switch that it replied,
 -- and its piece, the bytes that it offered and that were taken.
 pub record Event : Type 0 where
   pub read : Option ℤ
@@ -145,13 +145,13 @@ times c first [] = (0, first, true) ∷ []
 times c first (e ∷ earlier) =
     with_time (stamp_at c first (times c first earlier) e earlier) (suc (length earlier)) (is_opened e.switch) (times c first earlier)
 
--- a switch is told exactly where a step makes an attempt
+-- a switch is replied exactly if a step makes an attempt
 abbrev pub SwitchesAtAttempts : Config → Stamp → List Event → Type 0
 SwitchesAtAttempts c first [] = Unit {0}
 SwitchesAtAttempts c first (e ∷ earlier) =
     (is_switch e.switch ≡ is_some (stamp_at c first (times c first earlier) e earlier)) × SwitchesAtAttempts c first earlier
 
--- Without a limit of bytes it is told exactly at the arrivals.
+-- Without a limit of bytes it is replied exactly at the arrivals.
 abbrev pub SwitchesAtArrivals : Rotation → ℤ → List Event → Type 0
 SwitchesAtArrivals r start [] = Unit {0}
 SwitchesAtArrivals r start (e ∷ earlier) = (is_switch e.switch ≡ arrives r start e earlier) × SwitchesAtArrivals r start earlier
@@ -161,7 +161,7 @@ abbrev pub last_opened : Stamp → List Time → Stamp
 last_opened first [] = first
 last_opened first ((step, s, succeeded) ∷ earlier) = if succeeded then s else last_opened first earlier
 
--- what tells the files of a run apart: a period, and a number in it
+-- what distinguishes the files of a run: a period, and a number in it
 abbrev pub Key : Type 0
 Key = Option ℤ × ℕ
 

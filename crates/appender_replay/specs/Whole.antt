@@ -1,4 +1,4 @@
--- What a whole run comes to: which lines were handed, and what the worker wrote of them.
+-- What follows of a whole run: which lines were handed, and what the worker wrote of them.
 use Rattle.std.specs.Prelude.{◌≡◌, ◌⊎◌, ℕ, ◌<◌, ◌==◌, List, [], ◌∷◌, ◌++◌, Bool, true, false, All, length, map, take, filter}
 use Rattle.appender_worker.specs.Core.{Core, Taking, Last, is_writing}
 use Rattle.appender_queue.specs.Queue.{Queue, left_of}
@@ -53,8 +53,8 @@ pub record TextLaw (past : List Answered) : Type 0 where
   pub flushes : FlushesFollow (passes_of (Taking true) (worker_events past))
   pub ends : (es fs : List WorkerEvent) → worker_events past ≡ es ++ Took Last ∷ fs → IsEnd fs (worker_after past)
 
--- What steps and replies say of the lines: each step was answered as those before it demand, which lead to this queue and this
--- worker; lines were handed in order, those of each label too; and what the worker wrote is of these lines.
+-- What follows of the lines: each reply is the one that the steps before it demand, and these lead to this queue and this worker;
+-- lines were handed in order, those of each label too; and what the worker wrote is of these lines.
 pub record LinesFollow (limit : ℕ) (lossy : Bool) (past : List Answered) (queue : Queue) (worker : Core) : Type 0 where
   pub answers : Answers limit lossy past
   pub queue_is : queue ≡ queue_after limit lossy past

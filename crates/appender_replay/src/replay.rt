@@ -17,17 +17,17 @@ pub use whole::{Reply, Run, Step, replay};
 /// A step of a roller's run. Moments are seconds of UTC since the epoch.
 #[derive(Debug, Drop, PartialEq, Eq)]
 pub enum RollStep {
-    /// A look at the clock.
+    /// A check of the clock.
     See(i64),
-    /// A look at the clock, and then a write.
+    /// A check of the clock, and then a write.
     Put(i64, Vec<u8>),
-    /// A write that doesn't look at the clock.
+    /// A write that doesn't check the clock.
     Write(Vec<u8>),
     /// A flush of the open file.
     Flush,
 }
 
-/// What a step answered, a fault by its kind alone.
+/// The reply to a step. It has a fault by its kind alone.
 #[derive(Clone, Copy, Debug, PartialEq, Eq)]
 pub enum RollReply {
     /// To `See`.

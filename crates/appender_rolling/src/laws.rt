@@ -18,8 +18,8 @@ pub fn openings_keep_files()
     names_change_one_at_a_time();
 }
 
-/// An opening, and a refused one too, takes no name away but those that don't survive retention, and a
-/// link under the name of the link that is set.
+/// An opening, and a refused one too, removes no name but those that don't survive retention, and a link with
+/// the name of the link that is set.
 pub fn openings_take_little<S: Folder>()
     ensures opened { (config : Config) (name : List ℕ) (old : S) (file : S.File) (new : S)
         → OpensFile S.Folder config name old file new → IsTrue S.is_known
@@ -32,7 +32,7 @@ pub fn openings_take_little<S: Folder>()
 }
 
 /// An opening is refused for a reason, by the calls that led from the folder before it to the one after:
-/// the call whose fault is told counted a failure or was refused memory; or what had the file's name
+/// the call whose fault is returned counted a failure or was refused memory; or what had the file's name
 /// before was a link or a folder; or what had the link's name was a file or a folder, or a link whose
 /// removal counted a failure.
 pub fn refusals_have_reasons<S: Folder>()

@@ -1,4 +1,4 @@
-//! Log files that begin anew at each boundary of a rotation.
+//! Rotating log files: a new one at each boundary of a rotation.
 #![tactic(auto)]
 
 pub mod laws;

@@ -1,4 +1,4 @@
-//! Log files that begin anew at each boundary of a rotation.
+//! Rotating log files: a new one at each boundary of a rotation.
 ghost use Rattle.std.specs.Prelude.{◌≡◌};
 
 mod appender;
@@ -29,15 +29,15 @@ use std::io::Write;
 use std::marker::Model;
 pub use writer::RollingWriter;
 
-/// What a look at the clock led to.
+/// What a check of the clock led to.
 #[derive(Clone, Copy, Debug, PartialEq, Eq)]
 pub enum Switch {
-    /// No file begins: no boundary has come, and the open file isn't full.
+    /// The open file stays: no boundary was reached, and the file isn't full.
     None,
     /// The next file is open now.
     Opened,
-    /// The next file could not be opened. The last one stays open until the next boundary, or until the
-    /// limit of bytes was written to it once more.
+    /// The next file could not be opened. The last one stays open until the next boundary, or until as many
+    /// bytes as the limit were written to it again.
     Failed,
 }
 
@@ -102,17 +102,17 @@ impl<S: Folder> Roller<S> {
         }
     }
 
-    /// Returns whether a look at the clock at this moment would begin the next file: a moment of the range
-    /// that is not before the boundary, or any moment if the file is full.
+    /// Returns whether a check of the clock at this moment would open the next file: if the moment is in range
+    /// and not before the boundary, or if the file is full.
     pub fn due(&self, moment: i64) -> bool
         ensures { result ≡ is_some (next_stamp self.now moment 0) }
     {
         self.schedule.next_stamp(self.log.room, moment, 0).is_some()
     }
 
-    /// Looks at the clock. If a boundary has come, opens the file of the moment's period in place of the
-    /// last one; if the last one is full, the next of its period. A failure is noted, and not tried
-    /// again before the next boundary, or before the limit of bytes was written once more.
+    /// Checks the clock. If a boundary was reached, opens the file of the moment's period in place of the last
+    /// one; if the last one is full, the next of its period. A failure is noted, and not tried again before
+    /// the next boundary, or before as many bytes as the limit were written again.
     pub fn see(&mut self, moment: i64) -> Switch
         ensures { Sees S.Folder moment result self.old self.new }
     {
@@ -126,7 +126,7 @@ impl<S: Folder> Roller<S> {
         self.log.write(bytes)
     }
 
-    /// Looks at the clock with these bytes to write, and then writes them.
+    /// Checks the clock for these bytes, and then writes them.
     pub fn put(&mut self, moment: i64, bytes: &[u8]) -> (Switch, io::Result<usize>)
         ensures { Puts S.Folder moment bytes.now result.0 result.1 self.old self.new }
     {
@@ -164,15 +164,15 @@ impl<S: Folder> Roller<S> {
         self.schedule.boundary
     }
 
-    /// Returns the name of the open file and the second at which the next period begins, as they are
-    /// together in every roller, and so in one under a lock each time the lock is taken.
+    /// Returns the name of the open file and the second at which the next period begins. They agree in every
+    /// roller, and so also in one under a lock each time the lock is taken.
     pub fn name_and_boundary(&self) -> (&str, Option<i64>)
         ensures { Stands self.now.config result.0.now self.now.opened result.1 }
     {
         self.schedule.name_and_boundary()
     }
 
-    /// Returns what its files are called.
+    /// Returns the naming of its files.
     pub fn names(&self) -> &Names
         ensures { result.now ≡ naming_of self.now.config }
     {
@@ -208,7 +208,7 @@ impl<S: Folder> Write for Roller<S> {
     ghost use Rattle.std.specs.Io.KnownBytes.{Appends, WriteAppends};
     ghost use Rattle.appender_rolling.specs.Roller.{Writes, WritesAll, Flushes};
 
-    /// One append to the open file. A roller reads no clock.
+    /// Makes one append to the open file. A roller reads no clock.
     fn write(&mut self, bytes: &[u8]) -> io::Result<usize>
         ensures bound { WritesAtMost result bytes.now }
         ensures bytes { WriteAppends None None result bytes.now }
@@ -217,8 +217,8 @@ impl<S: Folder> Write for Roller<S> {
         Roller::write(self, bytes)
     }
 
-    /// One append after another, each of what those before it left. One that was interrupted is made
-    /// again; `WriteZero` if one takes nothing.
+    /// Makes one append after another until all bytes are taken. An interrupted one is repeated; `WriteZero` if
+    /// one takes nothing.
     fn write_all(&mut self, bytes: &[u8]) -> io::Result<()>
         ensures bytes { OnOk result (Appends None None bytes.now) }
         ensures appends { WritesAll S.Folder bytes.now result self.old self.new }

@@ -2,7 +2,7 @@
 //! contract is the law.
 ghost use Rattle.appender_store.specs.NameLaws.{RemovalsTakeOneName, AdditionsAddOneName};
 
-/// A removal takes away its own name and no other; what is added stands under its own name, and no
+/// A removal removes its own name and no other; what is added has its own name, and no
 /// other name changes.
 pub fn names_change_one_at_a_time()
     ensures removals { RemovalsTakeOneName }

@@ -33,24 +33,24 @@ pub enum Kind {
 /// An entry of a listing.
 #[derive(Debug, Drop)]
 pub struct Listed {
-    /// The name; `None` where it is not readable as UTF-8.
+    /// The name; `None` if it is not UTF-8.
     pub name: Option<String>,
     /// What the name leads to.
     pub kind: Kind,
-    /// The creation moment, in nanoseconds since 1970-01-01 00:00:00 UTC, where it is known.
+    /// The creation time in nanoseconds since 1970-01-01 00:00:00 UTC, if it is known.
     pub created: Option<i128>,
 }
 
 /// A fault that an appender goes on after.
 #[derive(Clone, Copy, Debug)]
 pub enum Notice<'a> {
-    /// The folder was not listed, or there was no memory to choose what goes.
+    /// The folder was not listed, or there was no memory to choose what is removed.
     List(&'a io::Error),
     /// The file of this name was not removed.
     Remove(&'a str, &'a io::Error),
     /// The old file was not flushed.
     Flush(&'a io::Error),
-    /// The new file was not opened, and the old one stays.
+    /// The new file was not opened, and the old one stays open.
     Open(&'a InitError),
 }
 
@@ -67,32 +67,32 @@ pub enum NoticeKind {
     Open,
 }
 
-/// A folder that log files are written to. A call that answers an `Err` has changed nothing in it.
-/// It answers one only where `failures` counted it, where memory was refused, with the kind
-/// OutOfMemory, or where what the folder contains forbids the call.
+/// A folder that log files are written to. A call that returns an `Err` has changed nothing in it. There
+/// are three causes: `failures` counted the call; memory was refused (`OutOfMemory`); or what the folder
+/// contains forbids the call.
 pub trait Folder: Drop {
     ghost use Rattle.appender_store.specs.declared.store.Listed.{Listed};
 
     /// A file that is open for appends.
     type File: Drop;
 
-    /// Whether folders of this kind tell their content.
+    /// Whether the contracts say what folders of this kind contain.
     ghost is_known: { Bool };
 
-    /// What it contains. Of a kind that doesn't tell this says nothing.
+    /// What it contains, if that is known.
     ghost content: { Self → Content };
 
     /// The number of the body that an open file writes to.
     ghost body: { Self.File → ℕ };
 
-    /// How often a call has failed by itself, modulo 2^64.
+    /// The number of calls that failed by themselves, modulo 2^64.
     ghost failures: { Self → ℕ };
 
     /// The count of each kind of notice, modulo 2^64.
     ghost noted: { Self → Counts };
 
-    // What one call does beside the clauses below: whatever the kind of folder says. Generic code
-    // can show it only by making the call.
+    // What else one call does, as the kind of folder defines it. Generic code can show it only by making
+    // the call.
     ghost list_gives: { Self → Result (Vec Listed Global) Error → Self → Type 0 };
 
     ghost remove_gives: { Self → List ℕ → Result (Unit {0}) Error → Self → Type 0 };
@@ -111,7 +111,7 @@ pub trait Folder: Drop {
 
     ghost note_gives: { Self → Noted → Self → Type 0 };
 
-    /// Each name of the folder once, in any order. Refused where the folder is absent.
+    /// Returns each name of the folder once, in any order. Forbidden if the folder is absent.
     fn list(&mut self) -> io::Result<Vec<Listed>>
         ensures call { list_gives self.old result self.new }
         ensures ok { IfOk result (λ all. IsTrue is_known → Lists (content self.old) all.items) }
@@ -121,8 +121,8 @@ pub trait Folder: Drop {
             (failures self.old) (failures self.new) result }
         ensures notices { noted self.new ≡ noted self.old };
 
-    /// Takes a file's name away; its body stays for those who have it open. Refused where the
-    /// folder is absent or no file has this name.
+    /// Removes a file's name; its bytes stay for those who have it open. Forbidden if the folder is absent
+    /// or no file has this name.
     fn remove(&mut self, name: &str) -> io::Result<()>
         ensures call { remove_gives self.old name.now result self.new }
         ensures ok { OnOk result (IsTrue is_known →
@@ -132,8 +132,8 @@ pub trait Folder: Drop {
             (failures self.old) (failures self.new) result }
         ensures notices { noted self.new ≡ noted self.old };
 
-    /// Opens the file of this name for appends, as it stands, or makes an empty one. Refused where
-    /// the folder is absent or a folder or a link has this name.
+    /// Opens the file of this name for appends, with the bytes that it has, or makes an empty one.
+    /// Forbidden if the folder is absent, or a folder or a link has this name.
     fn open(&mut self, name: &str) -> io::Result<Self::File>
         ensures call { open_gives self.old name.now result self.new }
         ensures ok { IfOk result (λ file. IsTrue is_known →
@@ -145,7 +145,7 @@ pub trait Folder: Drop {
             (failures self.old) (failures self.new) result }
         ensures notices { noted self.new ≡ noted self.old };
 
-    /// Makes the folder itself. One that is there stays as it is, which is no fault.
+    /// Makes the folder itself, if it is absent.
     fn make_folder(&mut self) -> io::Result<()>
         ensures call { make_folder_gives self.old result self.new }
         ensures ok { OnOk result (IsTrue is_known → content self.new ≡ after_make_folder (content self.old)) }
@@ -153,8 +153,8 @@ pub trait Folder: Drop {
         ensures cause { HasCause is_known ⊥ (failures self.old) (failures self.new) result }
         ensures notices { noted self.new ≡ noted self.old };
 
-    /// Takes a link away. Refused where the folder is absent or no link has this name; for want of
-    /// memory only where `failures` counted it too.
+    /// Removes a link. Forbidden if the folder is absent or no link has this name. If memory is refused,
+    /// `failures` counts the call too.
     fn remove_link(&mut self, name: &str) -> io::Result<()>
         ensures call { remove_link_gives self.old name.now result self.new }
         ensures ok { OnOk result (IsTrue is_known →
@@ -166,8 +166,8 @@ pub trait Folder: Drop {
             ⊎ (IsTrue is_known × ForbidsRemoveLink name.now (content self.old))) }
         ensures notices { noted self.new ≡ noted self.old };
 
-    /// Makes a link of this name to a target, whatever that names. Refused where the folder is
-    /// absent or the name is in use.
+    /// Makes a link of this name to a target, which need not exist. Forbidden if the folder is absent or
+    /// the name is in use.
     fn make_link(&mut self, name: &str, target: &str) -> io::Result<()>
         ensures call { make_link_gives self.old name.now target.now result self.new }
         ensures ok { OnOk result (IsTrue is_known →
@@ -177,8 +177,8 @@ pub trait Folder: Drop {
             (failures self.old) (failures self.new) result }
         ensures notices { noted self.new ≡ noted self.old };
 
-    /// Adds bytes at the end of an open file of this folder, and answers how many: the first of
-    /// them, and no others.
+    /// Adds the first of these bytes at the end of an open file of this folder, and returns how many were
+    /// added.
     fn append(&mut self, file: &mut Self::File, bytes: &[u8]) -> io::Result<usize>
         requires { IsTrue is_known → body file.old < length (content self.old).bodies }
         ensures call { append_gives self.old file.old bytes.now result self.new file.new }
@@ -190,7 +190,7 @@ pub trait Folder: Drop {
         ensures cause { HasCause is_known ⊥ (failures self.old) (failures self.new) result }
         ensures notices { noted self.new ≡ noted self.old };
 
-    /// Hands on what an open file of this folder still holds back.
+    /// Writes out what is buffered of an open file of this folder.
     fn flush(&mut self, file: &mut Self::File) -> io::Result<()>
         ensures call { flush_gives self.old file.old result self.new file.new }
         ensures content { content self.new ≡ content self.old }
@@ -198,7 +198,7 @@ pub trait Folder: Drop {
         ensures cause { HasCause is_known ⊥ (failures self.old) (failures self.new) result }
         ensures notices { noted self.new ≡ noted self.old };
 
-    /// Tells a fault that the appender goes on after.
+    /// Reports a fault that the appender goes on after.
     fn note(&mut self, notice: Notice<'_>)
         ensures call { note_gives self.old (message_of notice.entry) self.new }
         ensures content { content self.new ≡ content self.old }
@@ -206,8 +206,8 @@ pub trait Folder: Drop {
         ensures notices { noted self.new ≡
             after_note (kind_of (message_of notice.entry)) (noted self.old) };
 
-    /// How often a call has failed by itself, modulo 2^64. A call that the content forbids, or that
-    /// finds no memory, counts only where it failed by itself too.
+    /// Returns the number of calls that failed by themselves, modulo 2^64. A call that the content forbids,
+    /// or that finds no memory, counts only if it also failed by itself.
     fn failures(&self) -> u64
         ensures { result ≡ failures self.now };
 

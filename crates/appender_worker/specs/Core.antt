@@ -1,4 +1,4 @@
--- What the worker does next, by what it was told.
+-- What the worker does next, by the results so far.
 use Rattle.std.specs.Prelude.{ℕ, ◌+◌, List, [], ◌∷◌, Bool, true, false, ◌==◌, if◌then◌else◌, nat_le, nat_lt, length, drop}
 
 -- it takes, waiting or not; it writes what is left of a line, which was interrupted so often; it flushes once after
@@ -10,13 +10,13 @@ pub data Core : Type 0 where
   Ending : ℕ → Core
   Over : Core
 
--- what a write answers: that so many bytes were taken, that it was interrupted, or any other fault
+-- the result of a write: how many bytes were taken, that it was interrupted, or any other fault
 pub data Answer : Type 0 where
   Wrote : ℕ → Answer
   Interrupted : Answer
   Failed : Answer
 
--- what a take finds: a line, the end (the shutdown, or that all senders are gone), or nothing
+-- what a take finds: a line, the end (the shutdown, or that no sender is left), or nothing
 pub data Found : Type 0 where
   Line : List ℕ → Found
   Last : Found
@@ -45,7 +45,7 @@ after_wrote (Writing rest repeats) Interrupted = if nat_lt repeats most_repeats 
 after_wrote (Writing rest repeats) Failed = Taking true
 after_wrote core answer = core
 
--- after a flush, whatever it answered
+-- after a flush, whatever its result
 abbrev pub after_flushed : Core → Core
 after_flushed Flushing = Taking true
 after_flushed (Ending n) = if n == 2 then Ending 1 else Over

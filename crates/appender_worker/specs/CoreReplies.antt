@@ -1,4 +1,4 @@
--- What the worker is told, and what it wants.
+-- Results that are passed to the worker, and what it wants.
 use Rattle.std.specs.Prelude.{◌≡◌, ℕ, Bool, true, false, if◌then◌else◌, Result, Ok, Err}
 use Rattle.std.specs.IoError.{error_kind}
 use Rattle.std.specs.declared.io.Error.{Error}
@@ -22,7 +22,7 @@ abbrev pub is_interruption : ErrorKind → Bool
 is_interruption KindInterrupted = true
 is_interruption kind = false
 
--- what a write answered, of which the worker sees so much
+-- the result of a write, as far as the worker sees it
 abbrev pub answer_of : Result ℕ Error → Answer
 answer_of (Ok n) = Wrote n
 answer_of (Err e) = if is_interruption (error_kind e) then Interrupted else Failed

@@ -2,7 +2,7 @@
 use Rattle.std.specs.Prelude.{◌≡◌, ℕ, ◌+◌, ◌-◌, ◌^◌, ◌<◌, min, List, Option, length, take}
 use Rattle.std.specs.Io.KnownBytes.{Appends}
 
--- the writer behind it, and how many lines that took whole and not whole
+-- its writer, and how many lines that took whole and not whole
 pub record Counting (W : Type 0) : Type 0 where
   pub writer : W
   pub taken : ℕ

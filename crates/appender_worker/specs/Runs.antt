@@ -2,7 +2,7 @@
 use Rattle.std.specs.Prelude.{◌≡◌, ℕ, ◌+◌, ◌<◌, ◌≤◌, List, [], ◌∷◌, ◌++◌, Bool, true, false, ◌&&◌, ◌||◌, ◌==◌, nat_le, length, take}
 use Rattle.appender_worker.specs.Core.{Core, Taking, Writing, Ending, Over, Answer, Wrote, Interrupted, Failed, Found, Line, Last, Nothing, most_repeats, after_took, after_wrote, after_flushed, is_taking, is_writing, is_flushing}
 
--- what the worker was told: what a take found, what a write answered, or that a flush answered
+-- a result that was passed to the worker: what a take found, the result of a write, or that a flush was made
 pub data Event : Type 0 where
   Took : Found → Event
   Write : Answer → Event
@@ -19,7 +19,7 @@ abbrev pub ends : Core → List Event → Core
 ends core [] = core
 ends core (e ∷ es) = ends (after core e) es
 
--- whether the worker wants what the event answers
+-- whether the worker wants what the event is the result of
 abbrev pub in_turn : Core → Event → Bool
 in_turn core (Took found) = is_taking core
 in_turn core (Write answer) = is_writing core
@@ -40,7 +40,7 @@ abbrev pub text_of : Core → List Event → List ℕ
 text_of core [] = []
 text_of core (e ∷ es) = piece core e ++ text_of (after core e) es
 
--- a handed line, and what its writes were answered
+-- a handed line, and the results of its writes
 pub record Turn : Type 0 where
   pub line : List ℕ
   pub answers : List Answer
@@ -48,14 +48,14 @@ pub record Turn : Type 0 where
 abbrev pub turn : List ℕ → List Answer → Turn
 turn line answers = record { line = line; answers = answers }
 
--- the answers up to the next take or flush
+-- the results up to the next take or flush
 abbrev pub next_answers : List Event → List Answer
 next_answers [] = []
 next_answers (Write answer ∷ es) = answer ∷ next_answers es
 next_answers (Took found ∷ es) = []
 next_answers (Flushed ∷ es) = []
 
--- the handed lines in order, each with the answers to its writes
+-- the handed lines in order, each with the results of its writes
 abbrev pub turns_of : List Event → List Turn
 turns_of [] = []
 turns_of (Took (Line line) ∷ es) = turn line (next_answers es) ∷ turns_of es
@@ -104,7 +104,7 @@ are_done in_hand (t ∷ ts) = ((in_hand && is_none ts) || is_done t.line 0 t.ans
 abbrev pub IsCutShort : Turn → Type 0
 IsCutShort t = is_given_up t ≡ true → taken_in t.answers < length t.line
 
--- one take of a run: whether it waited, what it found, what the writes up to the next take were answered, and how
+-- one take of a run: whether it waited, what it found, the results of the writes up to the next take, and how
 -- many flushes came before the next take
 pub record Pass : Type 0 where
   pub waits : Bool
@@ -140,7 +140,7 @@ waits_after (Line line) answers = gives_up 0 answers
 waits_after Last answers = true
 waits_after Nothing answers = true
 
--- the first take waits as told, and each other one exactly where the one before it didn't give a line that was not
+-- the first take waits as given, and each other one exactly if the one before it didn't return a line that was not
 -- given up
 abbrev pub WaitsFollow : Bool → List Pass → Type 0
 WaitsFollow waits [] = Unit {0}

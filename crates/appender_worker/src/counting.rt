@@ -1,4 +1,4 @@
-//! A writer that counts the lines which it was handed.
+//! A writer that counts lines.
 ghost use Rattle.std.specs.Prelude.{◌≡◌, ◌≢◌, IfOk, IfErr, length};
 ghost use Rattle.std.specs.IoError.{error_kind};
 
@@ -11,8 +11,8 @@ use std::sync::Arc;
 use std::sync::atomic::AtomicU64;
 use std::sync::atomic::Ordering::SeqCst;
 
-/// Writes each line as a worker does, and counts the lines that its writer took whole and those that it did not. Hand
-/// it to a worker to learn what was lost: the counts are read by the `LineCounts` that it is made with.
+/// Writes each line as a worker does, and counts the lines that its writer took whole and those that it did not. A worker
+/// that writes to it shows by its `LineCounts` how many lines were lost.
 #[derive(Drop)]
 pub struct CountingWriter<W> {
     writer: W,
@@ -27,7 +27,7 @@ pub struct LineCounts {
     shared: Arc<SharedCounts, Global>,
 }
 
-// The counts as the handle reads them.
+// The counts, which the handle reads.
 #[derive(Drop)]
 struct SharedCounts {
     taken: AtomicU64,
@@ -45,7 +45,7 @@ impl<W> Model for CountingWriter<W> {
 impl<W> CountingWriter<W> {
     ghost use Rattle.appender_worker.specs.Counting.{counting_none};
 
-    /// A writer that counted nothing yet, and the handle to its counts. `AllocError` if memory is refused; then the
+    /// Returns a writer with counts of 0, and the handle to its counts. `AllocError` if memory is refused; then the
     /// writer is dropped.
     pub fn new(alloc: Global, writer: W) -> Result<(CountingWriter<W>, LineCounts), AllocError>
     where
@@ -68,12 +68,12 @@ impl<W> CountingWriter<W> {
 }
 
 impl LineCounts {
-    /// How many lines were taken whole so far.
+    /// Returns the number of lines that were taken whole.
     pub fn taken(&self) -> u64 {
         self.shared.taken.load(SeqCst)
     }
 
-    /// How many lines were not taken whole so far.
+    /// Returns the number of lines that were not taken whole.
     pub fn lost(&self) -> u64 {
         self.shared.lost.load(SeqCst)
     }
@@ -85,8 +85,8 @@ impl<W: Write> Write for CountingWriter<W> {
     ghost use Rattle.std.specs.Io.KnownBytes.{Keeps, WriteAppends};
     ghost use Rattle.appender_worker.specs.Counting.{Takes, Loses, KeepsCounts};
 
-    /// Writes one whole line, and counts it. The error is that of the writer's last write, but never `Interrupted`,
-    /// so that nobody writes the line again. An empty line makes no write, and is taken.
+    /// Writes one whole line, and counts it. The error is that of the writer's last write, but never `Interrupted`, so
+    /// that no caller writes the line again. An empty line makes no write, and counts as taken.
     fn write(&mut self, line: &[u8]) -> io::Result<usize>
         ensures bound { WritesAtMost result line.now }
         ensures bytes { WriteAppends None None result line.now }
@@ -118,7 +118,7 @@ impl<W: Write> Write for CountingWriter<W> {
     }
 }
 
-// The fault of a line as it is answered.
+// Returns the error of a line for its caller.
 fn reported(fault: LineFault) -> io::Error
     ensures { error_kind result ≢ ErrorKind.Interrupted }
 {

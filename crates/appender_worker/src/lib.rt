@@ -1,5 +1,5 @@
-//! The machine that says what the worker does next between a queue and its writer, the writing of one
-//! line, and a writer that counts lines. No call here waits or starts a thread.
+//! The worker between a queue and its writer as a state machine, the writing of one line, and a writer that
+//! counts lines. No call here blocks or starts a thread.
 #![tactic(auto)]
 
 mod counting;

@@ -1,5 +1,5 @@
-//! The machine that says what a worker does between the queue and its writer, with no thread, and
-//! the writing of one line.
+//! The worker between a queue and its writer as a state machine, with no thread, and the writing of one
+//! line.
 ghost use Rattle.std.specs.Prelude.{◌≡◌, ◌<◌, [], length, true, OnOk, IfErr, IsOk, take};
 ghost use Rattle.std.specs.Io.KnownBytes.{Appends};
 ghost use Rattle.appender_worker.specs.CoreReplies.{answer_of};
@@ -17,9 +17,9 @@ const MOST_REPEATS: u32 = 100;
 /// What the worker does next.
 #[derive(Clone, Copy, Debug, PartialEq, Eq)]
 pub enum Want<'a> {
-    /// A take from the queue, which waits for a line where it `waits`.
+    /// A take from the queue.
     Take {
-        /// Whether to wait where nothing is there.
+        /// Whether to wait if nothing is there.
         waits: bool,
     },
     /// One write of these bytes, the rest of the line in hand.
@@ -47,12 +47,12 @@ enum State {
     Ended,
 }
 
-/// What a worker does between a queue and a writer. Whoever drives it does what `want` says, and
-/// tells the answer by `took`, `wrote` or `flushed`. Contracts see it as a `Core`.
+/// What a worker does between a queue and a writer. The caller does what `want` returns, and passes on the
+/// result by `took`, `wrote` or `flushed`. Contracts see it as a `Core`.
 #[derive(Debug, Drop)]
 pub struct WorkerCore {
     state: State,
-    // The buffer of the line that was written last, until somebody wants it.
+    // The buffer of the line that was written last, until it is taken.
     spent: Option<Vec<u8>>,
 }
 
@@ -79,7 +79,7 @@ impl WorkerCore {
     };
     ghost use Rattle.appender_worker.specs.CoreReplies.{Wants, found_in};
 
-    /// A worker that begins with a take that waits.
+    /// Returns a worker that begins with a take that waits.
     pub fn new() -> WorkerCore
         ensures { result ≡ Taking true }
     {
@@ -89,8 +89,8 @@ impl WorkerCore {
         }
     }
 
-    /// The buffer of the line that was written or given up last, to be used for another line. It is
-    /// there once.
+    /// Returns the buffer of the line that was written or given up last, to be used for another line, if it was
+    /// not taken before.
     #[inline(always)]
     pub fn take_spent(&mut self) -> Option<Vec<u8>>
         ensures { self.new ≡ self.old }
@@ -98,7 +98,7 @@ impl WorkerCore {
         self.spent.take()
     }
 
-    /// What to do next.
+    /// Returns what to do next.
     pub fn want(&self) -> Want<'_>
         ensures { Wants self.now result }
     {
@@ -110,7 +110,7 @@ impl WorkerCore {
         }
     }
 
-    /// Tells what a take answered.
+    /// Passes on the reply to a take.
     pub fn took(&mut self, taken: Taken)
         requires { is_taking self.old ≡ true }
         ensures { self.new ≡ after_took self.old (found_in taken) }
@@ -135,7 +135,7 @@ impl WorkerCore {
         };
     }
 
-    /// Tells what a write answered.
+    /// Passes on the result of a write.
     pub fn wrote(&mut self, answer: io::Result<usize>)
         requires { is_writing self.old ≡ true }
         ensures { self.new ≡ after_wrote self.old (answer_of answer) }
@@ -166,7 +166,7 @@ impl WorkerCore {
         }
     }
 
-    /// Tells that a flush answered. What it answered changes nothing.
+    /// Passes on the result of a flush. An error changes nothing.
     pub fn flushed(&mut self, answer: io::Result<()>)
         requires { is_flushing self.old ≡ true }
         ensures { self.new ≡ after_flushed self.old }
@@ -212,7 +212,7 @@ fn next(rest: usize, repeats: u32, answer: &io::Result<usize>) -> Step
 pub struct LineFault {
     /// How many of its first bytes were taken.
     pub taken: usize,
-    /// The fault of the last write; of kind `WriteZero` where that took nothing.
+    /// The error of the last write; `WriteZero` if that took nothing.
     pub error: io::Error,
 }
 

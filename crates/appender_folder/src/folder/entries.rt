@@ -6,8 +6,8 @@ use std::rt::Files;
 use std::time::UNIX_EPOCH;
 use std::{fs, io};
 
-/// All entries of a folder. A fault that breaks off the listing is the answer, so that no choice is
-/// made among some entries alone.
+/// Returns all entries of a folder, or the fault that ended the listing, so that no choice is made among
+/// some entries alone.
 pub(super) fn list_entries<R: Files + AllocGlobal + Clone + Drop>(
     rt: &R,
     path: &str,
@@ -19,7 +19,7 @@ pub(super) fn list_entries<R: Files + AllocGlobal + Clone + Drop>(
     Ok(all)
 }
 
-// An entry, or what stands for it where its name is no UTF-8 or its metadata can't be read.
+// Returns an entry, also if its name is not UTF-8 or its metadata can't be read.
 fn list_entry<R: Files + Clone + Drop>(
     alloc: Global,
     entry: io::Result<DirEntry<R, Global>>,
@@ -64,7 +64,7 @@ fn kind_of(metadata: &Metadata) -> Kind {
     }
 }
 
-// In nanoseconds since 1970-01-01 00:00:00 UTC, where the file system tells it and it is not earlier.
+// In nanoseconds since 1970-01-01 00:00:00 UTC, if the file system has it and it is not earlier.
 fn creation_of(metadata: &Metadata) -> Option<i128> {
     let since = metadata.created().ok()?.duration_since(UNIX_EPOCH).ok()?;
     i128::try_from(since.as_nanos()).ok()

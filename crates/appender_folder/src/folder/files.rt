@@ -10,7 +10,7 @@ use std::os::unix::fs::{MetadataExt, symlink};
 use std::rt::Files;
 use std::{fs, io};
 
-/// Opens a plain file for appends, or makes an empty one where nothing has its name.
+/// Opens a plain file for appends, or makes an empty one if the name is free.
 pub(super) fn open_plain<R: Files + AllocGlobal>(
     rt: &R,
     folder: &str,
@@ -33,9 +33,9 @@ pub(super) fn open_plain<R: Files + AllocGlobal>(
     }
 }
 
-// A link may have come since the look: what was opened has to be the plain file that the name leads
+// A link may have been made since the check: what was opened has to be the plain file that the name leads
 // to now, while it is open and its number can't be another's. Nor may the file have a second name, by a
-// hard link, since lines would then be found where no log was asked for.
+// hard link, since lines would then be in a file that is not a log.
 fn open_standing<R: Files>(rt: &R, path: &str) -> io::Result<R::File> {
     let file = open_to_append(rt, path)?;
     let opened = file.metadata()?;
@@ -49,8 +49,8 @@ fn open_standing<R: Files>(rt: &R, path: &str) -> io::Result<R::File> {
     }
 }
 
-// Opened for reading too, a pipe that has come since the look doesn't wait for a reader. A file that
-// can't be read is opened for appends alone.
+// It is opened for reading too, so that a pipe that was made since the check doesn't wait for a reader. A
+// file that can't be read is opened for appends alone.
 fn open_to_append<R: Files>(rt: &R, path: &str) -> io::Result<R::File> {
     match OpenOptions::new().read(true).append(true).open(rt, path) {
         Err(fault) if fault.kind() == ErrorKind::PermissionDenied => {
@@ -60,7 +60,7 @@ fn open_to_append<R: Files>(rt: &R, path: &str) -> io::Result<R::File> {
     }
 }
 
-/// Whether a name leads to this open file. A name that is gone leads to none.
+/// Returns whether a name leads to this open file. A free name doesn't.
 pub(super) fn is_named<R: Files + AllocGlobal>(
     rt: &R,
     folder: &str,
@@ -115,8 +115,8 @@ pub(super) fn remove_link<R: Files + AllocGlobal>(
     }
 }
 
-/// Makes a link to a target, whatever that names. One that already leads there, which another process
-/// made, is what was wanted.
+/// Makes a link to a target, which need not exist. It is no error if another process has made the same
+/// link.
 pub(super) fn make_link<R: Files + AllocGlobal>(
     rt: &R,
     folder: &str,

@@ -1,4 +1,4 @@
-// The guard of counted senders, and the account of what became of their lines.
+// The guard of counted senders, and the account of their lines.
 ghost use Rattle.std.specs.Prelude.{
   ◌≡◌,
   ◌+◌,
@@ -42,7 +42,7 @@ pub struct Account {
     pub accepted: u64,
     /// Lines that the worker took, and wrote or gave up.
     pub handed: u64,
-    /// Lines that stood behind a shutdown, and were not written.
+    /// Lines that were queued after a shutdown, and were not written.
     pub left: u64,
     /// Lines that a lossy queue refused, at most `usize::MAX`.
     pub dropped: usize,
@@ -95,12 +95,12 @@ pub struct Settled<H: Ledger> {
     pub handed: Share<H>,
 }
 
-/// Some senders are missing. All that came is given back as it was.
+/// Some senders are missing. The guard and the other senders are returned as they were.
 #[derive(Drop)]
 pub struct Unsettled<A: Ledger, H: Ledger, S: Ledger, C: Ledger, R: Wait + Clock + Print + Drop> {
     /// The guard.
     pub guard: CountedGuard<A, H, S, C, R>,
-    /// The senders that came.
+    /// The senders that were not missing.
     pub senders: Vec<CountedSender<A, H, S, C, R>>,
 }
 
@@ -129,7 +129,7 @@ impl<A: Ledger, H: Ledger, S: Ledger, C: Ledger, R: Wait + Clock + Print + Drop>
         reply
     }
 
-    /// Whether a call of `shut` has answered `Sent`.
+    /// Returns whether a call of `shut` has returned `Sent`.
     pub fn sent(&self) -> bool
         ensures { result ≡ self.now.sent }
     {
@@ -226,7 +226,7 @@ fn end_all<A: Ledger, H: Ledger, S: Ledger, C: Ledger, R: Wait + Drop>(
         all.merge(share);
         dropped = dropped.saturating_add(count);
     }
-    // A merge tells that there are no more parts than were made.
+    // A merge shows that there are no more parts than were made.
     let none = all.empty();
     all.merge(none);
     (all, dropped)

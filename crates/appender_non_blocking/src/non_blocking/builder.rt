@@ -18,13 +18,13 @@ use std::thread::{JoinHandle, Threads};
 use std::time::Clock;
 use std::{io, thread};
 
-/// How many lines may wait, unless a builder says otherwise.
+/// The greatest number of queued lines, unless a builder sets another.
 pub const DEFAULT_BUFFERED_LINES_LIMIT: usize = 128_000;
 
 const DEFAULT_NAME: &str = "tracing-appender";
 
-/// What a worker and its queue are made by: at first a lossy queue of `DEFAULT_BUFFERED_LINES_LIMIT`
-/// lines, and a thread of the name `tracing-appender`.
+/// The settings of a worker and its queue. The default is a lossy queue of `DEFAULT_BUFFERED_LINES_LIMIT`
+/// lines, and a thread named `tracing-appender`.
 #[derive(Debug, Drop)]
 pub struct NonBlockingBuilder {
     limit: usize,
@@ -57,7 +57,7 @@ impl Default for NonBlockingBuilder {
 }
 
 impl NonBlockingBuilder {
-    /// How many lines may wait to be written. With 0, a line is taken only while the worker waits.
+    /// Sets how many lines may be queued. With 0, a line is accepted only while the worker waits.
     #[must_use]
     pub fn buffered_lines_limit(self, limit: usize) -> NonBlockingBuilder
         ensures { result ≡ record self { limit = limit } }
@@ -70,7 +70,7 @@ impl NonBlockingBuilder {
         NonBlockingBuilder { limit, lossy, name }
     }
 
-    /// Whether a line that finds no room is dropped. If not, its sender waits for room.
+    /// Sets whether a line that finds no room is dropped. If not, its sender waits for room.
     #[must_use]
     pub fn lossy(self, lossy: bool) -> NonBlockingBuilder
         ensures { result ≡ record self { lossy = lossy } }
@@ -83,7 +83,7 @@ impl NonBlockingBuilder {
         NonBlockingBuilder { limit, lossy, name }
     }
 
-    /// The name of the worker's thread, which is copied: `AllocError` where there is no memory for it.
+    /// Sets the name of the worker's thread. `AllocError` if there is no memory for its copy.
     pub fn thread_name(self, alloc: Global, name: &str) -> Result<NonBlockingBuilder, AllocError>
         ensures limit { IfOk result (λ builder. builder.limit ≡ self.limit) }
         ensures lossy { IfOk result (λ builder. builder.lossy ≡ self.lossy) }
@@ -244,8 +244,8 @@ fn name_or_default(alloc: Global, name: Option<String>) -> Result<String, AllocE
     }
 }
 
-/// A lossy queue of `DEFAULT_BUFFERED_LINES_LIMIT` lines over a writer. Errors are those of
-/// `NonBlockingBuilder::finish`.
+/// Starts a worker with a lossy queue of `DEFAULT_BUFFERED_LINES_LIMIT` lines for a writer. Errors are those
+/// of `NonBlockingBuilder::finish`.
 pub fn non_blocking<
     W: Write + Send + Drop + 'static,
     R: Threads + Wait + Clock + Print + Eprint + Copy + Send + 'static,
@@ -256,7 +256,7 @@ pub fn non_blocking<
 }
 
 impl<R: Threads + Wait + Clock + Print + Eprint + Copy + Send + 'static> NonBlocking<R> {
-    /// As the function `non_blocking`.
+    /// Does what the function `non_blocking` does.
     pub fn new<W: Write + Send + Drop + 'static>(
         rt: R,
         alloc: Global,

@@ -1,4 +1,4 @@
-// Senders that count what they are told.
+// Senders that count their lines.
 ghost use Rattle.std.specs.Prelude.{◌≡◌, ◌≢◌, ◌+◌, ◌<◌, Ok, IfOk, IfErr, false};
 ghost use Rattle.std.specs.IoError.{error_kind};
 ghost use Rattle.appender_non_blocking.specs.Account.{Sums, new_sender, new_senders};
@@ -17,7 +17,7 @@ use std::sync::ledger::{Ledger, Share};
 use std::sync::{Arc, Wait};
 use std::{fmt, io};
 
-/// A sender that counts the lines which it was told are queued, and those that were dropped. There is
+/// A sender that counts the lines that it queued, and those that were dropped. There is
 /// one for each thread: it has no clone, and its guard settles the account of all of them.
 pub struct CountedSender<A: Ledger, H: Ledger, S: Ledger, C: Ledger, R: Wait + Drop> {
     rt: R,
@@ -116,7 +116,7 @@ impl<A: Ledger, H: Ledger, S: Ledger, C: Ledger, R: Wait + Drop> CountedSender<A
         }
     }
 
-    /// How many lines this sender was told are queued.
+    /// Returns the number of lines that this sender queued.
     pub fn queued(&self) -> u64
         ensures { result ≡ self.now.queued }
     {

@@ -23,10 +23,10 @@ const END_MILLIS: u64 = 1000;
 pub enum Closing {
     /// The worker ended.
     Done {
-        /// How many accepted lines stood behind the shutdown, and so were not written.
+        /// How many lines were accepted after the shutdown, and so were not written.
         left: u64,
     },
-    /// The shutdown was sent, and the worker had not ended after 1,000 milliseconds.
+    /// The shutdown was sent, but the worker did not end within 1,000 milliseconds.
     Pending,
     /// No shutdown was sent: the queue stayed full for 100 milliseconds.
     Full,
@@ -53,7 +53,7 @@ impl<R: Wait + Clock + Print + Drop> WorkerGuard<R> {
         }
     }
 
-    /// Does what dropping does, and tells what came of it.
+    /// Does what dropping does, and returns the result.
     pub fn close(self) -> Closing {
         let WorkerGuard {
             rt,

@@ -39,11 +39,11 @@ use std::{fmt, io, mem};
 pub enum Sent {
     /// It is queued, and has this ticket: 1 for the first line of all senders, then 2, ..
     Queued(u64),
-    /// It found a lossy queue full or closed, and was dropped.
+    /// The queue is lossy and was full or closed: the line was dropped.
     Dropped,
 }
 
-/// What is not shared: each sender has its own.
+/// What each sender has of its own.
 #[derive(Drop)]
 pub(super) struct Local {
     /// Whether a line that finds no room is dropped.
@@ -143,8 +143,8 @@ impl<R: Wait + Drop> NonBlocking<R> {
         }
     }
 
-    /// The count of lines that were dropped. `AllocError` only where the runtime can't count one more
-    /// owner of the queue.
+    /// Returns the count of dropped lines. `AllocError` only if the runtime can't count one more owner of the
+    /// queue.
     pub fn error_counter(&self) -> Result<ErrorCounter, AllocError>
         ensures { IfOk result (λ counter. counter.lossy ≡ self.now.lossy) }
     {
@@ -154,8 +154,8 @@ impl<R: Wait + Drop> NonBlocking<R> {
         })
     }
 
-    // Copies a line, and sends the copy. An error is told by its kind alone, since an `io::Error` is
-    // large and this is the way of every line.
+    // Copies a line, and sends the copy. An error is returned by its kind alone: an `io::Error` is large, and
+    // every line passes here.
     #[inline(always)]
     fn send_copy(&mut self, buf: &[u8]) -> Result<(), ErrorKind>
         ensures kind { IfErr result (λ kind. IsRefusal self.old.lossy kind) }
@@ -176,10 +176,10 @@ impl<R: Wait + Drop> NonBlocking<R> {
 }
 
 impl<R: Wait + Drop> Write for NonBlocking<R> {
-    /// Queues a copy of the bytes as one line, be it an empty one, and answers their number. Where the
-    /// queue is full or closed, a lossy one drops the line and answers no less; else the call waits for
-    /// room, and a closed queue is an error of the kind `Other`. `OutOfMemory` where there is no memory
-    /// for the copy: then nothing was queued or counted.
+    /// Queues a copy of the bytes as one line, also an empty one, and returns their number. If the queue is full
+    /// or closed, a lossy one drops the line and returns the same. Otherwise the call waits for room, and a
+    /// closed queue is an error of the kind `Other`. `OutOfMemory` if there is no memory for the copy: then
+    /// nothing is queued or counted.
     #[inline]
     fn write(&mut self, buf: &[u8]) -> io::Result<usize>
         ensures whole { IfOk result (λ n. n ≡ length buf.now) }
@@ -219,7 +219,7 @@ fn fault(kind: ErrorKind) -> io::Result<usize>
     Err(io::Error::from(kind))
 }
 
-/// A copy of a line, in the spare buffer.
+/// Returns a copy of a line, in the spare buffer.
 #[inline(always)]
 pub(super) fn copy_of(alloc: Global, spare: &mut Vec<u8>, buf: &[u8]) -> Result<Vec<u8>, ErrorKind>
     ensures copy { IfOk result (λ line. line.items ≡ buf.now) }
@@ -233,8 +233,8 @@ pub(super) fn copy_of(alloc: Global, spare: &mut Vec<u8>, buf: &[u8]) -> Result<
     Ok(line)
 }
 
-/// One locked offer. Where a waiting queue is full, others follow once it may have room. None where a
-/// waiting queue is closed.
+/// Makes one offer under the lock. If a waiting queue is full, offers again until there is room. Returns
+/// `None` if a waiting queue is closed.
 #[inline(always)]
 pub(super) fn send<B: Books, R: Wait>(
     rt: &R,
@@ -389,7 +389,7 @@ impl<R: Wait + Drop> Debug for NonBlocking<R> {
     }
 }
 
-/// How many lines a lossy queue dropped, as far as it is known; 0 where senders wait.
+/// The number of lines that a lossy queue dropped; 0 if senders wait.
 #[derive(Drop)]
 pub struct ErrorCounter {
     shared: Arc<Shared<NoBooks>, Global>,
@@ -405,7 +405,7 @@ impl Model for ErrorCounter {
 }
 
 impl ErrorCounter {
-    /// The number of dropped lines, as it was stored last. The call takes no lock.
+    /// Returns the number of dropped lines. The call takes no lock, and may miss the newest ones.
     pub fn dropped_lines(&self) -> usize
         ensures waiting { self.now.lossy ≡ false → result ≡ 0 }
     {

@@ -17,9 +17,9 @@ use std::sync::{Arc, Condvar, Mutex, MutexGuard, Wait};
 pub(super) struct Shared<B: Books> {
     // Alone on its lines of the processor's cache.
     state: CachePadded<Mutex<State<B>>>,
-    // The worker waits here.
-    pub(super) work: Condvar,
-    // Senders and the guard wait here.
+    // The worker waits for lines here.
+    pub(super) lines: Condvar,
+    // Senders and the guard wait for room here.
     pub(super) room: Condvar,
     // Whether the worker has ended, and where the guard waits for that.
     pub(super) ended: Mutex<bool>,
@@ -41,7 +41,7 @@ impl<B: Books> Shared<B> {
     {
         let shared = Shared {
             state: CachePadded::new(Mutex::new(State::new(alloc, limit, lossy, places, books)?)),
-            work: Condvar::new(),
+            lines: Condvar::new(),
             room: Condvar::new(),
             ended: Mutex::new(false),
             end: Condvar::new(),
@@ -56,7 +56,7 @@ impl<B: Books> Shared<B> {
         sync::lock(rt, &self.state, backoff)
     }
 
-    /// Wakes those who are called. The lock was let go, or is let go by a wait.
+    /// Wakes whom a step under the lock says. The lock was released, or will be by a wait.
     #[inline(always)]
     pub(super) fn wake(&self, wakeups: Wakeups) {
         let Wakeups { worker, sender } = wakeups;
@@ -69,19 +69,19 @@ impl<B: Books> Shared<B> {
     #[inline(never)]
     fn notify(&self, worker: bool, sender: bool) {
         if worker {
-            self.work.notify_one();
+            self.lines.notify_one();
         }
         if sender {
             self.room.notify_one();
         }
     }
 
-    /// One sender more.
+    /// Counts one sender more.
     pub(super) fn add_sender<R: Wait>(&self, rt: &R) -> Counted {
         self.lock(rt, &mut Backoff::NEW).add_sender()
     }
 
-    /// One sender less.
+    /// Counts one sender less.
     pub(super) fn drop_sender<R: Wait>(&self, rt: &R, counted: Counted) {
         let mut state = self.lock(rt, &mut Backoff::NEW);
         let wakeups = state.drop_sender(counted);
@@ -102,7 +102,7 @@ impl<B: Books> Shared<B> {
         reply
     }
 
-    /// Tells the guard that the worker has ended.
+    /// Wakes the guard, since the worker has ended.
     pub(super) fn announce_end<R: Wait>(&self, rt: &R) {
         *self.ended.lock(rt) = true;
         self.end.notify_all();

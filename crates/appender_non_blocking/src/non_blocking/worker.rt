@@ -14,7 +14,8 @@ use std::io::Write;
 use std::sync::Wait;
 use std::{io, thread};
 
-// One locked take. If nothing is there and the worker sleeps then, it sleeps until it is called.
+// Makes one take under the lock. If there is nothing to take and the request says so, sleeps until it is
+// woken.
 #[inline]
 fn take<B: Books, R: Wait>(
     rt: &R,
@@ -34,7 +35,7 @@ fn take<B: Books, R: Wait>(
     if sleeps && matches!(&taken, Taken::Empty) {
         // With a limit of 0 there is room only now.
         shared.wake(wakeups);
-        let mut state = shared.work.wait(rt, state);
+        let mut state = shared.lines.wait(rt, state);
         state.wakes();
     } else {
         drop(state);
@@ -44,7 +45,7 @@ fn take<B: Books, R: Wait>(
     taken
 }
 
-// One flush. A fault of the last one is told on standard error, since no line comes behind it.
+// Flushes the writer. A fault of the last flush is reported on standard error, since no line follows it.
 fn flush<W: Write, R: Eprint>(rt: &R, core: &mut WorkerCore, writer: &mut W)
     requires { is_flushing core.old ≡ true }
     ensures { core.new ≡ after_flushed core.old }
@@ -60,7 +61,7 @@ fn flush<W: Write, R: Eprint>(rt: &R, core: &mut WorkerCore, writer: &mut W)
     }
 }
 
-/// Does what the worker's core wants, until it has ended, and tells the guard so.
+/// Does what the worker's core wants until it has ended, and then wakes the guard.
 #[tactic(auto, using(crate::proofs::Endings::took_goes_on, crate::proofs::Endings::took_ends, crate::proofs::Endings::ending_wrote, crate::proofs::Endings::ending_flushed))]
 pub(super) fn serve<B: Books, W: Write, R: Wait + Eprint>(
     rt: &R,

@@ -14,7 +14,7 @@ all_empty [] = true
 all_empty (None ∷ slots) = all_empty slots
 all_empty (Some line ∷ slots) = false
 
--- behind an empty slot all are empty
+-- after an empty slot all are empty
 abbrev pub is_packed : List (Option (Vec ℕ Global)) → Bool
 is_packed [] = true
 is_packed (None ∷ slots) = all_empty slots

@@ -78,7 +78,7 @@ fn fill(slots: &mut [Option<Vec<u8>>], at: usize, line: Vec<u8>)
     slots[at] = Some(line);
 }
 
-// Takes the first slot's line, and moves the full slots behind it down by one.
+// Takes the first slot's line, and moves the full slots after it down by one.
 fn empty_first(slots: &mut [Option<Vec<u8>>], full: usize) -> Vec<u8>
     requires packed { is_packed slots.old ≡ true }
     requires full { full ≡ length (lines_in slots.old) }

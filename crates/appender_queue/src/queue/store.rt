@@ -1,7 +1,7 @@
-// Where the queued lines lie, however they are kept.
+// Where queued lines are stored.
 ghost use Rattle.std.specs.Prelude.{◌≡◌, ℕ, ◌<◌, ◌≤◌, List, [], ◌∷◌, ◌++◌, length, MatchOption};
 
-/// A place for a bounded number of lines, all of whose memory was taken when it was made.
+/// A store for a bounded number of lines, all of whose memory was allocated when it was made.
 pub(crate) trait Store: Drop {
     /// The lines, the first to be taken first.
     ghost lines: { Self → List (List ℕ) };

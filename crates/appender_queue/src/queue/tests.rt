@@ -1,4 +1,4 @@
-// Queues over a ring and over slots answer alike, and each keeps the last tickets of its places.
+// Queues over a ring and over slots reply alike, and each keeps the last tickets of its places.
 use crate::queue::ring::Ring;
 use crate::queue::slots::Slots;
 use crate::queue::{LineQueue, Rules};
@@ -57,7 +57,7 @@ fn last_tickets_are_equal(ring: &Rules<Ring>, slots: &Rules<Slots>, place: usize
     ring.last_ticket(place) == slots.last_ticket(place)
 }
 
-// Whether both answer a call alike, and count alike behind it.
+// Whether both reply to a call alike, and count alike after it.
 fn answer_alike(
     alloc: Global,
     ring: &mut Rules<Ring>,
@@ -76,7 +76,7 @@ fn answer_alike(
     Ok(alike && ring.counts() == slots.counts())
 }
 
-// Makes a round of calls of both, and answers how many they answered alike, and how many lines were handed.
+// Makes a round of calls of both, and returns how many replies were alike, and how many lines were handed.
 fn play(
     alloc: Global,
     ring: Rules<Ring>,

@@ -17,7 +17,7 @@ use Rattle.appender_replay.specs.declared.replay.whole.Step.TheVariants.{Offer, 
 use Rattle.appender_replay.specs.declared.replay.whole.Reply.{Reply}
 use Rattle.appender_replay.specs.declared.replay.whole.Reply.TheVariants.{Accepted, Full, Closed, NoMemory, Shut as DidShut, Senders, Took, TookShutdown, TookGone, TookEmpty, Ended}
 
--- what a queue answered, told as a reply
+-- a queue's answers as replies
 abbrev pub offered_reply : Result ℕ Refused → Reply
 offered_reply (Ok ticket) = Accepted ticket
 offered_reply (Err (RefusedFull line)) = Full
@@ -29,7 +29,7 @@ taken_reply TakenShutdown = TookShutdown
 taken_reply TakenGone = TookGone
 taken_reply TakenEmpty = TookEmpty
 
--- what the worker sees of the answer to a take
+-- what the worker sees of the reply to a take
 abbrev pub take_finds : Queue → Found
 take_finds q =
     if q.closed then Last

@@ -29,11 +29,11 @@ pub enum Step {
     AddSender,
     /// One sender less.
     DropSender,
-    /// The worker does the one thing that it wants next. A write, and it alone, looks at the clock.
+    /// The worker does the one thing that it wants next. Only a write checks the clock.
     Work(i64),
 }
 
-/// What a step answered, a fault by its kind alone.
+/// The reply to a step. It has a fault by its kind alone.
 #[derive(Clone, Copy, Debug, PartialEq, Eq)]
 pub enum Reply {
     /// To `Offer`: the line's ticket.
@@ -54,7 +54,7 @@ pub enum Reply {
     TookShutdown,
     /// To `Work`: the queue is closed, or closed by this take, since no sender is left.
     TookGone,
-    /// To `Work`: nothing was there to take.
+    /// To `Work`: there was nothing to take.
     TookEmpty,
     /// To `Work`: it wrote, and how many bytes were taken.
     Wrote(Switch, Result<usize, io::ErrorKind>),
@@ -75,7 +75,7 @@ pub struct Run<S: Folder> {
     pub number: u32,
 }
 
-// What an offer was answered, without the line.
+// The reply to an offer, without the line.
 fn reply_to_offer(answer: Result<u64, Refused>) -> Reply
     ensures { result ≡ offered_reply answer }
 {
@@ -107,7 +107,7 @@ fn offer(alloc: Global, queue: &mut LineQueue, line: &[u8]) -> Reply
     }
 }
 
-// What a take was answered, without the line.
+// The reply to a take, without the line.
 fn reply_to_take(taken: &Taken) -> Reply
     ensures { result ≡ taken_reply taken.now }
 {
@@ -172,8 +172,8 @@ fn run_step<S: Folder>(
     }
 }
 
-/// Opens a roller over the folder at `start`, in seconds of UTC since the epoch, behind a queue of
-/// `limit` lines, and runs the steps in order. Room for all replies and for the queue is taken before
+/// Opens a roller over the folder at `start`, in seconds of UTC since the epoch, with a queue of `limit` lines
+/// and a worker before it, and runs the steps in order. Room for all replies and for the queue is taken before
 /// the opening.
 pub fn replay<S: Folder>(
     alloc: Global,

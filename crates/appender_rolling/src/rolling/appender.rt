@@ -1,4 +1,4 @@
-// A roller that threads share, and the clock that it is asked by.
+// A roller that threads share, and its clock.
 ghost use Rattle.std.specs.Prelude.{◌≡◌, IfOk, IfErr};
 ghost use Rattle.appender_names.specs.declared.rotation.RotationKind.TheVariants.{Minutely, Hourly, Daily, Weekly, Never};
 ghost use Rattle.appender_names.specs.Rotation.{rotation_of};
@@ -19,14 +19,13 @@ use std::rt::Files;
 use std::sync::{RwLock, RwLockReadGuard, Wait};
 use std::{fmt, io, time};
 
-/// Writes a log to the file of the moment, from as many threads as make writers of it. Making a
-/// writer, and each write of its own, looks at the clock, and at a boundary of the rotation begins
-/// the next file.
+/// A log that threads share, each by writers that it makes. Making a writer, and each write of its own,
+/// checks the clock, and at a boundary of the rotation opens the next file.
 #[derive(Drop)]
 pub struct RollingFileAppender<S: Folder, C: Clock, R: Drop = HostRuntime> {
     rt: R,
-    // Writers hold it to read, so that no file begins between the pieces of one of them; a look at
-    // the clock that is to begin a file holds it alone.
+    // Writers hold it to read, so that no file is opened between the pieces of one of them. A thread that
+    // opens the next file holds it alone.
     gate: RwLock<Gated<S>>,
     clock: C,
 }
@@ -45,7 +44,7 @@ impl<S: Folder, C: Clock, R: Drop> Model for RollingFileAppender<S, C, R> {
 impl<S: Folder, C: Clock> RollingFile<S, C> {
     ghost use Rattle.std.specs.Prelude.{◌≡◌};
 
-    /// The same log, for many threads. The runtime is what waits for its locks.
+    /// Returns the same log for many threads. The runtime waits for its locks.
     pub fn share<R: Drop>(self, rt: R) -> RollingFileAppender<S, C, R>
         ensures { result.clock ≡ self.clock }
     {
@@ -63,8 +62,8 @@ impl<S: Folder, C: Clock, R: Wait + Drop> RollingFileAppender<S, C, R> {
     ghost use Rattle.appender_rolling.specs.Roller.{Scheduled};
     ghost use Rattle.appender_rolling.specs.Appender.{AsksSome, SeesSome};
 
-    // Goes through the gate, unless a file is to begin: then the roller looks at the clock while no other
-    // thread is inside, and the caller tries again.
+    // Enters the gate, unless a file is due: then opens it while no other thread is inside, and the caller
+    // tries again.
     fn pass(&self, moment: i64) -> Option<RwLockReadGuard<'_, Gated<S>>>
         ensures { MatchOption result
             ((old : Scheduled) × (new : Scheduled) × SeesSome S.Folder moment old new)
@@ -83,7 +82,7 @@ impl<S: Folder, C: Clock, R: Wait + Drop> RollingFileAppender<S, C, R> {
 impl<S: Folder, C: Clock, R: Drop> RollingFileAppender<S, C, R> {
     ghost use Rattle.std.specs.Prelude.{◌≡◌};
 
-    /// The folder and the clock, with the open file let go.
+    /// Closes the open file, and returns the folder and the clock.
     pub fn into_parts(self) -> (S, C)
         ensures clock { result.1 ≡ self.clock }
     {
@@ -98,10 +97,9 @@ impl<'a, S: Folder + 'a, C: Clock, R: Wait + Drop + 'a> MakeWriter<'a>
 
     type Writer = RollingWriter<'a, S, R>;
 
-    /// Looks at the clock, and returns a writer to the file that is open then; no other file begins
-    /// until it is dropped. A thread that holds one must not make another: it may wait for itself. With a
-    /// limit of bytes the next file begins when the open one is full; a writer that was made before may
-    /// write past the limit.
+    /// Checks the clock, and returns a writer to the open file; no other file is opened until it is dropped. A
+    /// thread that holds one must not make another: it may wait for itself. With a limit of bytes the next
+    /// file is opened when the open one is full; a writer that was made before may write past the limit.
     fn make_writer(&'a self) -> Result<RollingWriter<'a, S, R>, AllocError>
         ensures ok { IsOk result }
         ensures looks { IfOk result (LooksNow S.Folder C.Clock self.now.clock) }
@@ -123,8 +121,8 @@ impl<S: Folder, C: Clock, R: Drop> Write for RollingFileAppender<S, C, R> {
     ghost use Rattle.appender_rolling.specs.Roller.{Scheduled};
     ghost use Rattle.appender_rolling.specs.Appender.{PutsAtClock, FlushesSome};
 
-    /// Reads the clock once, and puts the bytes at that moment. `write_all` repeats it for what was
-    /// not taken, so that its pieces may stand in two files. It takes no lock.
+    /// Reads the clock once, and writes the bytes at that moment. `write_all` repeats it for what was not taken,
+    /// so that its pieces may be in two files. It takes no lock.
     fn write(&mut self, bytes: &[u8]) -> io::Result<usize>
         ensures bound { WritesAtMost result bytes.now }
         ensures bytes { WriteAppends None None result bytes.now }
@@ -144,7 +142,7 @@ impl<S: Folder, C: Clock, R: Drop> Write for RollingFileAppender<S, C, R> {
 
 impl<S: Folder, C: Clock, R: Drop> Debug for RollingFileAppender<S, C, R> {
     fn fmt<W: fmt::Write>(&self, f: &mut Formatter<W>) -> fmt::Result {
-        // Waiting here could be for a writer of the same thread.
+        // To wait here could be to wait for a writer of the same thread.
         match self.gate.try_read() {
             Some(gate) => gate.fmt(f),
             None => f.pad("RollingFileAppender { .. }"),
@@ -156,8 +154,8 @@ impl Builder {
     ghost use Rattle.std.specs.Prelude.{◌≡◌};
     ghost use Rattle.appender_rolling.specs.Appender.{SharesNow, SharesSome, OpensNone};
 
-    /// Opens an appender in a folder, at the moment that the clock tells. The errors are those of
-    /// `Roller::open`, and hand folder and clock back.
+    /// Opens an appender in a folder, at the clock's moment. Errors are those of `Roller::open`, and return
+    /// folder and clock.
     pub fn build_in<S: Folder, C: Clock, R: Drop>(
         &self,
         rt: R,
@@ -172,7 +170,7 @@ impl Builder {
         Ok(self.open_in(alloc, folder, clock)?.share(rt))
     }
 
-    /// Opens an appender in a folder of the file system, by the system's clock. The errors are those
+    /// Opens an appender in a folder of the file system, by the system's clock. Errors are those
     /// of `Roller::open`.
     pub fn build<R: Files + AllocGlobal + Eprint + time::Clock + Clone + Drop>(
         &self,
@@ -190,7 +188,7 @@ impl Builder {
 }
 
 impl RollingFileAppender<DirFolder, SystemClock> {
-    /// A builder with nothing set, as `Builder::new`.
+    /// Returns a builder with nothing set, as `Builder::new` does.
     #[must_use]
     pub fn builder() -> Builder
         ensures { result ≡ defaults }
@@ -205,7 +203,7 @@ impl<R: Files + AllocGlobal + Eprint + time::Clock + Clone + Drop> RollingFileAp
     R,
 > {
     /// Opens an appender in a folder of the file system, by the system's clock. The names of its files
-    /// begin with the prefix, and an empty one is none. The errors are those of `Builder::build`.
+    /// begin with the prefix; an empty one is none. Errors are those of `Builder::build`.
     pub fn new(
         rt: R,
         rotation: Rotation,
@@ -224,7 +222,7 @@ impl<R: Files + AllocGlobal + Eprint + time::Clock + Clone + Drop> RollingFileAp
     }
 }
 
-/// A log whose file changes each minute: `directory/prefix.yyyy-MM-dd-HH-mm`. The errors are those of
+/// Opens a log with a new file each minute: `directory/prefix.yyyy-MM-dd-HH-mm`. Errors are those of
 /// `Builder::build`.
 pub fn minutely<R: Files + AllocGlobal + Eprint + time::Clock + Clone + Drop>(
     rt: R,
@@ -239,7 +237,7 @@ pub fn minutely<R: Files + AllocGlobal + Eprint + time::Clock + Clone + Drop>(
     RollingFileAppender::new(rt, Rotation::MINUTELY, directory, prefix)
 }
 
-/// A log whose file changes each hour: `directory/prefix.yyyy-MM-dd-HH`. Errors as for
+/// Opens a log with a new file each hour: `directory/prefix.yyyy-MM-dd-HH`. Errors as for
 /// `minutely`.
 pub fn hourly<R: Files + AllocGlobal + Eprint + time::Clock + Clone + Drop>(
     rt: R,
@@ -254,7 +252,7 @@ pub fn hourly<R: Files + AllocGlobal + Eprint + time::Clock + Clone + Drop>(
     RollingFileAppender::new(rt, Rotation::HOURLY, directory, prefix)
 }
 
-/// A log whose file changes each day: `directory/prefix.yyyy-MM-dd`. Errors as for
+/// Opens a log with a new file each day: `directory/prefix.yyyy-MM-dd`. Errors as for
 /// `minutely`.
 pub fn daily<R: Files + AllocGlobal + Eprint + time::Clock + Clone + Drop>(
     rt: R,
@@ -269,7 +267,7 @@ pub fn daily<R: Files + AllocGlobal + Eprint + time::Clock + Clone + Drop>(
     RollingFileAppender::new(rt, Rotation::DAILY, directory, prefix)
 }
 
-/// A log whose file changes each week, on Sunday: `directory/prefix.yyyy-MM-dd`. Errors as for
+/// Opens a log with a new file each week, on Sunday: `directory/prefix.yyyy-MM-dd`. Errors as for
 /// `minutely`.
 pub fn weekly<R: Files + AllocGlobal + Eprint + time::Clock + Clone + Drop>(
     rt: R,
@@ -284,7 +282,7 @@ pub fn weekly<R: Files + AllocGlobal + Eprint + time::Clock + Clone + Drop>(
     RollingFileAppender::new(rt, Rotation::WEEKLY, directory, prefix)
 }
 
-/// A log of one file for all time: `directory/prefix`, or for an empty prefix the date of the opening.
+/// Opens a log of one file for all time: `directory/prefix`, or for an empty prefix the date of the opening.
 /// Errors as for `minutely`.
 pub fn never<R: Files + AllocGlobal + Eprint + time::Clock + Clone + Drop>(
     rt: R,

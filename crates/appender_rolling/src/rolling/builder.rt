@@ -1,4 +1,4 @@
-//! What an appender is set up with.
+//! The settings of an appender.
 ghost use Rattle.std.specs.Prelude.{◌≡◌, ◌≢◌, ◌↔◌, ◌⊎◌, true, IfOk, IfErr, Err, IsTrue};
 ghost use Rattle.appender_names.specs.Rotation.{IsNever};
 ghost use Rattle.appender_names.specs.Name.{IsAllowed};
@@ -11,8 +11,8 @@ use appender_names::rotation::Rotation;
 use std::alloc::{AllocError, Global};
 use std::marker::Model;
 
-/// What an appender is set up with: how often a new file begins, what the files are called, how many
-/// files are kept, how many bytes each takes, and which link follows the newest.
+/// The settings of an appender: its rotation, the names of its files, how many files are kept, how many bytes
+/// each takes, and the link to the newest.
 #[derive(Debug, Drop)]
 pub struct Builder {
     rotation: Rotation,
@@ -39,7 +39,8 @@ impl Model for Builder {
 }
 
 impl Builder {
-    /// One file for all time, with neither prefix nor suffix, no link and no maximum of files or bytes.
+    /// Returns the settings of one file for all time, with no prefix, suffix or link, and no maximum of files or
+    /// bytes.
     #[must_use]
     pub fn new() -> Builder
         ensures { result ≡ defaults }
@@ -54,7 +55,7 @@ impl Builder {
         }
     }
 
-    /// How often a new file begins.
+    /// Sets how often a new file is opened.
     #[must_use]
     pub fn rotation(mut self, rotation: Rotation) -> Builder
         ensures { result ≡ record self { rotation = rotation } }
@@ -63,8 +64,8 @@ impl Builder {
         self
     }
 
-    /// What stands before the date in each name; an empty text is none. A refusal of memory drops
-    /// the builder.
+    /// Sets the text before the date in each name; an empty one is none. If memory is refused, the builder is
+    /// dropped.
     #[must_use]
     pub fn filename_prefix(mut self, alloc: Global, prefix: &str) -> Result<Builder, AllocError>
         ensures { IfOk result (λ builder. builder ≡ record self { prefix = prefix.now }) }
@@ -73,8 +74,8 @@ impl Builder {
         Ok(self)
     }
 
-    /// What stands behind the date in each name; an empty text is none. A refusal of memory drops
-    /// the builder.
+    /// Sets the text after the date in each name; an empty one is none. If memory is refused, the builder is
+    /// dropped.
     #[must_use]
     pub fn filename_suffix(mut self, alloc: Global, suffix: &str) -> Result<Builder, AllocError>
         ensures { IfOk result (λ builder. builder ≡ record self { suffix = suffix.now }) }
@@ -83,8 +84,8 @@ impl Builder {
         Ok(self)
     }
 
-    /// The name of a symbolic link that leads to the newest log file; an empty text is none. It must
-    /// not be a name that a log file can have. A refusal of memory drops the builder.
+    /// Sets the name of a symbolic link to the newest log file; an empty one is none. It must not be a name that
+    /// a log file can have. If memory is refused, the builder is dropped.
     #[must_use]
     pub fn latest_symlink(mut self, alloc: Global, name: &str) -> Result<Builder, AllocError>
         ensures { IfOk result (λ builder. builder ≡ record self { link = name.now }) }
@@ -93,7 +94,7 @@ impl Builder {
         Ok(self)
     }
 
-    /// How many log files are kept; 0 is no maximum. When a file is opened, the oldest go.
+    /// Sets how many log files are kept; 0 is no maximum. When a file is opened, the oldest are removed.
     #[must_use]
     pub fn max_log_files(mut self, max: usize) -> Builder
         ensures { result ≡ record self { max_files = max } }
@@ -102,7 +103,7 @@ impl Builder {
         self
     }
 
-    /// The most bytes that are written to a log file before the next one of its period begins; 0 is no
+    /// Sets how many bytes are written to a log file before the next one of its period is opened; 0 is no
     /// limit. Bytes that the file held when it was opened don't count, and a longer piece has a file of
     /// its own. With a limit a dot and a number of six digits follow the date in each name, and the
     /// rotation must not be `NEVER`.
@@ -114,7 +115,7 @@ impl Builder {
         self
     }
 
-    /// Returns what the log files are called. `Name` if prefix and suffix make no names of entries of a
+    /// Returns the naming of the log files. `Name` if prefix and suffix make no names of entries of a
     /// folder; else `Limit` if a limit of bytes is set under `NEVER`; else `Memory` if there is no room
     /// for a copy of both.
     pub fn names(&self, alloc: Global) -> Result<Names, InitError>

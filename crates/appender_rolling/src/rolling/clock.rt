@@ -1,15 +1,15 @@
-// Where the moments come from.
+// Clocks.
 use std::time;
 
-/// Tells the time.
+/// A clock.
 pub trait Clock: Drop {
     ghost use Rattle.std.specs.Prelude.{ℤ};
 
-    // What readings of a clock of this kind tell. Generic code can show it only by a reading.
+    // What a reading of a clock of this kind may return. Generic code can show it only by a reading.
     ghost now_gives: { Self → ℤ → Type 0 };
 
-    /// The moment, in whole seconds of UTC since the epoch, rounded down. A clock that can't be read
-    /// answers `i64::MIN`, which lies outside the years 1 to 9998 and so counts as not seen.
+    /// Returns the time in whole seconds of UTC since the epoch, rounded down. A clock that can't be read returns
+    /// `i64::MIN`, which is outside the years 1 to 9998 and so counts as not seen.
     fn now(&self) -> i64
         ensures { now_gives self.now result };
 }
@@ -22,14 +22,14 @@ impl<C: Clock> Clock for &C {
     }
 }
 
-/// The system's clock. Before 1970 it counts as one that can't be read.
+/// The system's clock. A time before 1970 counts as not seen.
 #[derive(Clone, Copy, Debug)]
 pub struct SystemClock<R = HostRuntime> {
     rt: R,
 }
 
 impl<R: time::Clock + Drop> SystemClock<R> {
-    /// The clock of a runtime.
+    /// Returns the clock of a runtime.
     pub fn new(rt: R) -> SystemClock<R> {
         SystemClock { rt }
     }

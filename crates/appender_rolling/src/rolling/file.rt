@@ -1,4 +1,4 @@
-// A roller and the clock that it is asked by, for one thread.
+// A roller and its clock, for one thread.
 ghost use Rattle.std.specs.Prelude.{◌≡◌, IfOk, IfErr};
 
 use super::{Builder, Clock, InitError, Roller, Switch, SystemClock};
@@ -11,8 +11,8 @@ use std::marker::Model;
 use std::rt::Files;
 use std::{fmt, io, time};
 
-/// A log for one thread, whose contract says what each put did to its folder: each looks at the
-/// clock, and at a boundary of the rotation begins the next file.
+/// A log for one thread. Each write checks the clock, and at a boundary of the rotation opens the next file.
+/// Contracts say what each write did to the folder.
 #[derive(Drop)]
 pub struct RollingFile<S: Folder, C: Clock> {
     pub(super) roller: Roller<S>,
@@ -33,8 +33,8 @@ impl<S: Folder, C: Clock> RollingFile<S, C> {
     ghost use Rattle.appender_rolling.specs.Opening.{file_name_of};
     ghost use Rattle.appender_rolling.specs.Roller.{Sees, next_stamp};
 
-    /// Looks at the clock, and then adds bytes to the open file by one append. Tells whether a new
-    /// file was begun, and how many bytes were taken.
+    /// Checks the clock, and then adds bytes to the open file by one append. Returns whether a new file was
+    /// opened, and how many bytes were taken.
     pub fn put(&mut self, bytes: &[u8]) -> (Switch, io::Result<usize>)
         ensures { PutsNow S.Folder C.Clock bytes.now result.0 result.1 self.old self.new }
     {
@@ -42,7 +42,7 @@ impl<S: Folder, C: Clock> RollingFile<S, C> {
         self.roller.put(moment, bytes)
     }
 
-    /// Looks at the clock, and writes nothing. Returns whether a new file was begun.
+    /// Checks the clock, and writes nothing. Returns whether a new file was opened.
     pub fn look(&mut self) -> Switch
         ensures { SeesNow S.Folder C.Clock result self.old self.new }
     {
@@ -58,14 +58,14 @@ impl<S: Folder, C: Clock> RollingFile<S, C> {
         self.clock.now()
     }
 
-    /// Returns whether a look at the clock at this moment would begin the next file.
+    /// Returns whether a check of the clock at this moment would open the next file.
     pub fn due(&self, moment: i64) -> bool
         ensures { result ≡ is_some (next_stamp self.now.roller moment 0) }
     {
         self.roller.due(moment)
     }
 
-    /// Begins the next file if one is due at this moment, and reads no clock. Returns whether a file was begun.
+    /// Opens the next file if one is due at this moment, and reads no clock. Returns whether a file was opened.
     pub fn see(&mut self, moment: i64) -> Switch
         ensures sees { Sees S.Folder moment result self.old.roller self.new.roller }
         ensures clock { self.new.clock ≡ self.old.clock }
@@ -102,7 +102,7 @@ impl<S: Folder, C: Clock> RollingFile<S, C> {
         self.roller.folder()
     }
 
-    /// The folder and the clock, with the open file let go.
+    /// Closes the open file, and returns the folder and the clock.
     pub fn into_parts(self) -> (S, C)
         ensures folder { result.0 ≡ self.roller.folder }
         ensures clock { result.1 ≡ self.clock }
@@ -117,8 +117,8 @@ impl<S: Folder, C: Clock> Write for RollingFile<S, C> {
     ghost use Rattle.std.specs.Io.KnownBytes.{WriteAppends};
     ghost use Rattle.appender_rolling.specs.Appender.{WritesNow, FlushesNow};
 
-    /// One `put`: the clock is read once. `write_all` repeats it for what was not taken, so that its
-    /// pieces may stand in two files.
+    /// Does what `put` does, and so reads the clock once. `write_all` repeats it for what was not taken, so that
+    /// its pieces may be in two files.
     fn write(&mut self, bytes: &[u8]) -> io::Result<usize>
         ensures bound { WritesAtMost result bytes.now }
         ensures bytes { WriteAppends None None result bytes.now }
@@ -148,8 +148,8 @@ impl Builder {
     ghost use Rattle.std.specs.Prelude.{◌≡◌};
     ghost use Rattle.appender_rolling.specs.Appender.{OpensNow, OpensSome, OpensNone, OpensNoneOfSome};
 
-    /// Opens a log for one thread in a folder, at the moment that the clock tells. The errors are
-    /// those of `Roller::open`, and hand folder and clock back.
+    /// Opens a log for one thread in a folder, at the clock's moment. Errors are those of `Roller::open`, and
+    /// return folder and clock.
     pub fn open_in<S: Folder, C: Clock>(
         &self,
         alloc: Global,
@@ -167,7 +167,7 @@ impl Builder {
         }
     }
 
-    /// Opens a log for one thread in a folder of the file system, by the system's clock. The errors
+    /// Opens a log for one thread in a folder of the file system, by the system's clock. Errors
     /// are those of `Roller::open`.
     pub fn open<R: Files + AllocGlobal + Eprint + time::Clock + Clone + Drop>(
         &self,

@@ -11,7 +11,7 @@ use std::sync::{Mutex, Wait};
 use std::{fmt, io};
 
 /// A roller inside a gate. Many threads at once may hold the gate and write to the open file, which has a
-/// lock of its own; a thread that begins the next file holds the gate alone. So the schedule needs no
+/// lock of its own; a thread that opens the next file holds the gate alone. So the schedule needs no
 /// lock but the gate.
 #[derive(Drop)]
 pub struct Gated<S: Folder> {
@@ -34,7 +34,7 @@ impl<S: Folder> Gated<S> {
         }
     }
 
-    // Returns whether a look at this moment would begin the next file. The file's lock is taken only if a
+    // Returns whether a check of the clock at this moment would open the next file. The file's lock is taken only if a
     // limit of bytes is set.
     pub(super) fn due<R: Wait>(&self, rt: &R, moment: i64) -> bool
         ensures { AsksSome S.Folder self.now.schedule moment result }
@@ -47,14 +47,14 @@ impl<S: Folder> Gated<S> {
         self.schedule.next_stamp(room, moment, 0).is_some()
     }
 
-    // Looks at the clock.
+    // Checks the clock.
     pub(super) fn see(&mut self, moment: i64)
         ensures { SeesSome S.Folder moment self.old.schedule self.new.schedule }
     {
         self.schedule.look(self.log.get_mut(), moment, 0);
     }
 
-    // Looks at the clock with these bytes to write, and then writes them.
+    // Checks the clock for these bytes, and then writes them.
     pub(super) fn put(&mut self, moment: i64, bytes: &[u8]) -> io::Result<usize>
         ensures { PutsSome S.Folder moment bytes.now result self.old.schedule self.new.schedule }
     {
@@ -63,7 +63,7 @@ impl<S: Folder> Gated<S> {
         log.write(bytes)
     }
 
-    // One append to the open file.
+    // Makes one append to the open file.
     pub(super) fn write<R: Wait>(&self, rt: &R, bytes: &[u8]) -> io::Result<usize>
         ensures { WritesSome S.Folder self.now.schedule bytes.now result }
     {

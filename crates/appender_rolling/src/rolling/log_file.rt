@@ -39,8 +39,8 @@ impl<S: Folder> LogFile<S> {
         written
     }
 
-    // Adds bytes by one append after another, each of what those before it left. One that was
-    // interrupted is made again; `WriteZero` if one takes nothing.
+    // Makes one append after another until all bytes are taken. An interrupted one is repeated; `WriteZero` if
+    // one takes nothing.
     pub(super) fn write_all(&mut self, bytes: &[u8]) -> io::Result<()>
         ensures { FileWritesAll S.Folder bytes.now result self.old self.new }
     {

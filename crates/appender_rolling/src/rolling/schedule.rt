@@ -61,8 +61,8 @@ impl Schedule {
         self.setup.max_bytes() != 0
     }
 
-    // Returns what the next attempt is for, if a look at the clock makes one: a look at this moment, with
-    // so many bytes to write to a file with this much room.
+    // Returns what the next attempt is for, if a check of the clock at this moment makes one, with so many bytes
+    // to write to a file with this much room.
     pub(super) fn next_stamp(&self, room: u64, moment: i64, len: usize) -> Option<Stamp>
         ensures { result ≡ next_with self.now room moment len }
     {
@@ -86,8 +86,8 @@ impl Schedule {
         self.last.number < LAST_NUMBER && room < self.setup.max_bytes() && room < wanted
     }
 
-    // Looks at the clock with so many bytes to write: if a boundary has come or the file is full, opens
-    // the next file in place of this one.
+    // Checks the clock with so many bytes to write: if a boundary was reached or the file is full, opens the
+    // next file in place of this one.
     pub(super) fn look<S: Folder>(
         &mut self,
         log: &mut LogFile<S>,
@@ -119,8 +119,8 @@ impl Schedule {
         }
     }
 
-    // The name of the open file and the second at which the next period begins, as they are together
-    // in every schedule, and so in one under a lock each time the lock is taken.
+    // Returns the name of the open file and the second at which the next period begins. They agree in every
+    // schedule, and so also in one under a lock each time the lock is taken.
     pub(super) fn name_and_boundary(&self) -> (&str, Option<i64>)
         ensures { Stands self.now.config result.0.now self.now.opened result.1 }
     {

@@ -1,4 +1,4 @@
-// The opening of a log file: old ones go, the file is opened, and a link follows it.
+// The opening of a log file: old ones are removed, the file is opened, and a link is made to it.
 ghost use Rattle.std.specs.Prelude.{◌≡◌, ◌↔◌, ◌≤◌, true, IfOk, IfErr, OnOk, IsTrue, Err, map, option_and_then};
 ghost use Rattle.appender_names.specs.declared.error.InitError.TheVariants.{Name, Limit};
 ghost use Rattle.appender_names.specs.Rotation.{IsMoment};
@@ -143,7 +143,7 @@ impl Setup {
         self.max_bytes
     }
 
-    /// The name of the file with this stamp. The error is a refusal of memory.
+    /// Returns the name of the file with this stamp. The error is a refusal of memory.
     fn file_name(&self, stamp: Stamp) -> Result<String, InitError>
         requires { IsStamp self.now stamp }
         ensures ok { IfOk result (λ name. string_bytes name ≡ file_name_of self.now stamp) }
@@ -197,7 +197,7 @@ impl Setup {
         self.names.read(name).is_some()
     }
 
-    /// Removes old log files, opens the file of this name, and lets the link lead to it.
+    /// Removes old log files, opens the file of this name, and makes the link to it.
     pub(super) fn open_file<S: Folder>(
         &self,
         folder: &mut S,
@@ -315,7 +315,7 @@ fn greater(a: u32, b: u32) -> u32
     if a < b { b } else { a }
 }
 
-// Opens the file of this name, in a folder that is made where the first call is refused.
+// Opens the file of this name. If that is refused, makes the folder and opens it again.
 fn open_or_make<S: Folder>(folder: &mut S, name: &str) -> Result<S::File, InitError>
     ensures ok { IfOk result (λ file. GetsFile S.Folder name.now folder.old file folder.new) }
     ensures err { IfErr result (λ error. GetsNo S.Folder name.now folder.old error folder.new) }
@@ -334,7 +334,7 @@ fn open_or_make<S: Folder>(folder: &mut S, name: &str) -> Result<S::File, InitEr
     }
 }
 
-// Makes a link to a name, in place of what link stands there.
+// Makes a link to a name, in place of an older link.
 fn relink<S: Folder>(folder: &mut S, link: &str, name: &str) -> io::Result<()>
     requires { IsTrue S.is_known → (S.content folder.old).there ≡ true }
     ensures ok { OnOk result (Relinks S.Folder link.now name.now folder.old folder.new) }

@@ -1,4 +1,4 @@
-// What a thread writes through.
+// Writers for threads that share an appender.
 ghost use Rattle.std.specs.Prelude.{◌≡◌, None, OnOk};
 ghost use Rattle.std.specs.Io.{WritesAtMost};
 ghost use Rattle.std.specs.Io.KnownBytes.{Appends, WriteAppends};
@@ -11,7 +11,7 @@ use std::marker::Model;
 use std::sync::{RwLockReadGuard, Wait};
 use std::{fmt, io};
 
-/// Writes to the file that was open when it was made: no other file begins until it is dropped.
+/// Writes to the file that was open when it was made: no other file is opened until it is dropped.
 pub struct RollingWriter<'a, S: Folder, R = HostRuntime> {
     pub(super) rt: &'a R,
     pub(super) gate: RwLockReadGuard<'a, Gated<S>>,
@@ -36,7 +36,7 @@ impl<S: Folder, R> Drop for RollingWriter<'_, S, R> {
 impl<'a, S: Folder, R: Wait> Write for RollingWriter<'a, S, R> {
     ghost use Rattle.appender_rolling.specs.Appender.{WritesSome, WritesAllSome, FlushesSome};
 
-    /// One append to the open file. It reads no clock.
+    /// Makes one append to the open file, and reads no clock.
     fn write(&mut self, bytes: &[u8]) -> io::Result<usize>
         ensures bound { WritesAtMost result bytes.now }
         ensures bytes { WriteAppends None None result bytes.now }
@@ -46,7 +46,7 @@ impl<'a, S: Folder, R: Wait> Write for RollingWriter<'a, S, R> {
         self.gate.write(self.rt, bytes)
     }
 
-    /// Repeats it under one lock for what was not taken, so that no other piece comes between.
+    /// Repeats `write` under one lock until all bytes are taken, so that no other piece is between them.
     fn write_all(&mut self, bytes: &[u8]) -> io::Result<()>
         ensures bytes { OnOk result (Appends None None bytes.now) }
         ensures appends { WritesAllSome S.Folder self.old bytes.now result }

@@ -18,7 +18,7 @@ pub(crate) enum Item {
     Folder,
 }
 
-// What a look at a name answers.
+// What a name leads to, and its number.
 #[derive(Clone, Copy)]
 pub(crate) enum Look<'a> {
     Free,
@@ -43,7 +43,7 @@ pub(crate) fn put_item(
     Ok(())
 }
 
-// Makes a file of this name, with a new body that holds these bytes, and answers the body's number.
+// Makes a file of this name with a new body of these bytes, and returns the body's number.
 pub(crate) fn add_file(
     alloc: Global,
     bodies: &mut Vec<Vec<u8>>,
@@ -71,7 +71,7 @@ pub(crate) fn add_file(
     }
 }
 
-// Takes a name away.
+// Removes a name.
 pub(crate) fn take_name(names: &mut BTreeMap<String, Item>, name: &str)
     ensures { names_of names.new ≡ fin.remove (names_of names.old) name.now }
 {
@@ -90,7 +90,7 @@ pub(crate) fn look_up<'a>(names: &'a BTreeMap<String, Item>, name: &str) -> Look
     }
 }
 
-// An entry as a listing tells it.
+// Returns the entry of a listing.
 fn listed_entry(alloc: Global, name: &str, item: &Item) -> Result<Listed, AllocError>
     ensures { IfOk result (λ entry. listed_row entry ≡ entry_row (name.now, entry_of item.now)) }
 {

@@ -18,9 +18,9 @@ pub struct MemoryFile {
     body: usize,
 }
 
-/// A folder in memory that tells its content, and whose calls can be made to fail or to fall short.
-/// Its calls get numbers, the first one 1: all of `Folder` but `note` and `failures`, refused ones
-/// too. What isn't there is refused by the kind NotFound, and a name in use by AlreadyExists.
+/// A folder in memory, whose content is known and whose calls can be made to fail or to be short. Its
+/// calls have numbers from 1: all of `Folder` but `note` and `failures`, and refused ones too. An error is
+/// `NotFound` for what is absent, and `AlreadyExists` for a name in use.
 #[derive(Drop)]
 pub struct MemoryFolder {
     alloc: Global,
@@ -44,14 +44,14 @@ impl MemoryFolder {
     ghost use Rattle.appender_store.specs.MemoryState.{empty_state, lesser_limit, with_file, with_entry, without_entry, bytes_in, target_in, kind_in, count_of};
     ghost use Rattle.appender_store.specs.MemoryView.{state_of};
 
-    /// A folder that is there and empty.
+    /// Returns an empty folder.
     pub fn new(alloc: Global) -> MemoryFolder
         ensures { state_of result ≡ empty_state true }
     {
         MemoryFolder::make(alloc, true)
     }
 
-    /// A folder that isn't there yet.
+    /// Returns a folder that is absent.
     pub fn absent(alloc: Global) -> MemoryFolder
         ensures { state_of result ≡ empty_state false }
     {
@@ -72,8 +72,8 @@ impl MemoryFolder {
         }
     }
 
-    /// Puts a plain file with these bytes as a new body; a folder that was absent is then there.
-    /// The errors are those of `PutError`, and leave all as it was.
+    /// Puts a plain file with these bytes as a new body, and makes an absent folder. After an error all is
+    /// as it was.
     pub fn put_file(&mut self, name: &str, bytes: &[u8]) -> Result<(), PutError>
         ensures answer { AnswersPut (state_of self.old).content.names name.now result }
         ensures ok { OnOk result
@@ -86,7 +86,7 @@ impl MemoryFolder {
         Ok(())
     }
 
-    /// Puts a folder, with the errors of `put_file`; a folder that was absent is then there.
+    /// Puts a folder, as `put_file` does.
     pub fn put_folder(&mut self, name: &str) -> Result<(), PutError>
         ensures answer { AnswersPut (state_of self.old).content.names name.now result }
         ensures ok { OnOk result
@@ -98,8 +98,7 @@ impl MemoryFolder {
         Ok(())
     }
 
-    /// Puts a link, whatever its target names, with the errors of `put_file`; a folder that was
-    /// absent is then there.
+    /// Puts a link, as `put_file` does. Its target need not exist.
     pub fn put_link(&mut self, name: &str, target: &str) -> Result<(), PutError>
         ensures answer { AnswersPut (state_of self.old).content.names name.now result }
         ensures ok { OnOk result
@@ -119,8 +118,7 @@ impl MemoryFolder {
         self.created = created;
     }
 
-    /// Lets the call of this number fail: it counts a failure and answers an error of the kind
-    /// Other.
+    /// Lets the call of this number fail: it counts a failure and returns the error `Other`.
     pub fn fail_call(&mut self, number: u64) -> Result<(), AllocError>
         ensures ok { OnOk result (state_of self.new ≡
             record (state_of self.old) {
@@ -131,8 +129,8 @@ impl MemoryFolder {
         self.calls.fail(number)
     }
 
-    /// Lets the call of this number, if it is an append, take at most `limit` bytes, which is no
-    /// failure. Of two limits the lesser holds, and a call that is also named to fail fails.
+    /// Lets the call of this number, if it is an append, take at most `limit` bytes, which is no failure.
+    /// The lesser of two limits holds, and a call that is also to fail fails.
     pub fn short_append(&mut self, number: u64, limit: usize) -> Result<(), AllocError>
         ensures ok { OnOk result (state_of self.new ≡
             record (state_of self.old) {
@@ -144,7 +142,7 @@ impl MemoryFolder {
         self.calls.shorten(number, limit)
     }
 
-    /// The bytes of a plain file.
+    /// Returns the bytes of a plain file.
     pub fn bytes(&self, name: &str) -> Option<&[u8]>
         ensures { option_map (λ bytes. bytes.now) result ≡
             bytes_in (state_of self.now).content (fin.get (state_of self.now).content.names name.now) }
@@ -155,8 +153,8 @@ impl MemoryFolder {
         }
     }
 
-    /// What a body holds, also one that no name leads to any more. Bodies are numbered from 0, as
-    /// they were made.
+    /// Returns the bytes of a body, also of one that no name leads to any more. Bodies are numbered from 0
+    /// in the order in which they were made.
     pub fn body(&self, number: usize) -> Option<&[u8]>
         ensures { option_map (λ bytes. bytes.now) result ≡
             slice_get (state_of self.now).content.bodies number }
@@ -167,7 +165,7 @@ impl MemoryFolder {
         }
     }
 
-    /// The target of a link.
+    /// Returns the target of a link.
     pub fn target(&self, name: &str) -> Option<&str>
         ensures { option_map (λ target. target.now) result ≡
             target_in (fin.get (state_of self.now).content.names name.now) }
@@ -178,7 +176,7 @@ impl MemoryFolder {
         }
     }
 
-    /// What a name leads to; `None` where it is free.
+    /// Returns what a name leads to; `None` if it is free.
     pub fn kind(&self, name: &str) -> Option<Kind>
         ensures { result ≡ kind_in (fin.get (state_of self.now).content.names name.now) }
     {
@@ -190,7 +188,7 @@ impl MemoryFolder {
         }
     }
 
-    /// All names, in byte order.
+    /// Returns all names in byte order.
     pub fn names(&self) -> Result<Vec<String>, AllocError>
         ensures { IfOk result (λ all.
             map string_bytes all.items ≡ fin.keys (state_of self.now).content.names) }
@@ -198,7 +196,7 @@ impl MemoryFolder {
         all_names(self.alloc, &self.names)
     }
 
-    /// How often a kind of notice was noted, modulo 2^64.
+    /// Returns the number of notices of a kind, modulo 2^64.
     pub fn notices(&self, kind: NoticeKind) -> u64
         ensures { result ≡ count_of kind (state_of self.now).noted }
     {
@@ -227,8 +225,7 @@ impl MemoryFolder {
         self.enter(name, Item::Link(target))
     }
 
-    // Makes a file with a new body of these bytes, whose number is the answer; the folder is then
-    // there.
+    // Makes a file with a new body of these bytes, and the folder. Returns the body's number.
     fn enter_file(&mut self, name: &str, bytes: Vec<u8>) -> Result<usize, AllocError>
         ensures body { IfOk result (λ b. b ≡ length (state_of self.old).content.bodies) }
         ensures ok { OnOk result
@@ -385,7 +382,7 @@ impl Folder for MemoryFolder {
         Ok(count)
     }
 
-    // What was appended stands in memory already.
+    // Appended bytes are in memory already.
     fn flush(&mut self, file: &mut MemoryFile) -> io::Result<()> {
         let _ = file;
         self.calls.count()

@@ -1,11 +1,11 @@
-// How often each kind of notice was noted.
+// Counts of notices.
 ghost use Rattle.std.specs.Prelude.{◌≡◌};
 ghost use Rattle.appender_store.specs.Folder.{after_note, message_of, kind_of};
 
 use super::{Notice, NoticeKind};
 
 impl Notice<'_> {
-    /// The kind by which it is counted.
+    /// Returns its kind.
     pub fn kind(&self) -> NoticeKind
         ensures { result ≡ kind_of (message_of self.now) }
     {
@@ -56,7 +56,7 @@ impl NoticeCounts {
         }
     }
 
-    /// How often this kind was noted.
+    /// Returns the number of notices of this kind.
     pub fn of(&self, kind: NoticeKind) -> u64
         ensures { result ≡ count_of kind (counts_of self.now) }
     {

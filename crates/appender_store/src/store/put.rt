@@ -10,7 +10,7 @@ use thiserror::Error;
 /// Why something was not put into a folder in memory.
 #[derive(Clone, Copy, Debug, PartialEq, Eq, Error)]
 pub enum PutError {
-    /// It names no entry of one folder: it is empty, `.` or `..`, or it has a `/` or a zero byte.
+    /// It is not a single path component: it is empty, `.` or `..`, or contains a `/` or a zero byte.
     #[error("name not allowed")]
     Name,
     /// The name is in use.
