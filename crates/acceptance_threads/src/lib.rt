@@ -26,3 +26,5 @@ mod plain_ends;
 mod scene;
 #[cfg(test)]
 mod whole_lines;
+#[cfg(test)]
+mod work;

@@ -10,6 +10,7 @@ mod counted;
 mod guard;
 mod sender;
 mod shared;
+mod work;
 mod worker;
 
 pub use account::{Account, CountedGuard, Settled, Unsettled};
@@ -18,3 +19,4 @@ pub use builder::{DEFAULT_BUFFERED_LINES_LIMIT, NonBlockingBuilder, non_blocking
 pub use counted::CountedSender;
 pub use guard::{Closing, WorkerGuard};
 pub use sender::{ErrorCounter, NonBlocking, Sent};
+pub use work::{CountedWork, LineSender};

@@ -1,5 +1,5 @@
 //! An access log: one line for each request that a service answered.
-ghost use Rattle.std.specs.Prelude.{◌≡◌, ◌<◌, length, string_bytes, IfOk};
+ghost use Rattle.std.specs.Prelude.{◌≡◌, string_bytes, IfOk};
 ghost use Rattle.callers.specs.AccessLog.{line_of, IsWritten};
 
 use bytes::Bytes;
@@ -8,6 +8,7 @@ use http_server::{Response, Service};
 use std::alloc::{AllocError, Global};
 use std::io::Write;
 use std::marker::Model;
+use tracing_appender::worker::run_line;
 
 /// Passes each request to a service, and then writes its line to a log, as `GET /path?query 200`. The log changes no
 /// answer. A line that it did not take whole is counted.
@@ -80,7 +81,7 @@ fn write_line<W: Write>(
     ensures { IsWritten W.contents (line_of request.now response.now) log.old log.new result }
 {
     match line(alloc, request, response) {
-        Ok(line) => write_once(log, line.as_bytes()),
+        Ok(line) => run_line(log, line.as_bytes()).is_ok(),
         Err(_) => false,
     }
 }
@@ -90,15 +91,4 @@ fn line(alloc: Global, request: &Request<Bytes>, response: &Response) -> Result<
 {
     let status = response.status.as_u16();
     format!(in alloc; "{} {} {status}\n", request.method(), request.uri())
-}
-
-// Writes these bytes by one write, and returns whether all of them were written.
-fn write_once<W: Write>(log: &mut W, bytes: &[u8]) -> bool
-    requires { 0 < length bytes.now }
-    ensures { IsWritten W.contents bytes.now log.old log.new result }
-{
-    match log.write(bytes) {
-        Ok(taken) => taken == bytes.len(),
-        Err(_) => false,
-    }
 }

@@ -1,9 +1,9 @@
 //! A structured logger over a log of the day, to which a worker thread writes.
 ghost use Rattle.std.specs.Prelude.{◌≡◌, IfOk};
 
-use crate::Host;
 use appender_log::LogSink;
 use log::{Level, Log, Logged, info};
+use program_input::Host;
 use std::alloc::AllocError;
 use std::io;
 use std::io::Write;

@@ -1,10 +1,9 @@
 //! A supervisor: the output of a child goes to a log, line by line.
-ghost use Rattle.std.specs.Prelude.{◌≡◌, ◌≢◌, ◌≤◌, ◌↔◌, ◌+◌, ℕ, length, List, [], Some, Ok, IfOk, OnOk, true, false};
-ghost use Rattle.std.specs.Io.BufRead.{take_through, drop_through};
-ghost use Rattle.std.specs.Io.KnownBytes.{Appends, IsAtEnd};
+ghost use Rattle.std.specs.Prelude.{◌≡◌, ◌≤◌, ◌↔◌, ◌+◌, ℕ, length, List, Some, IfOk, true};
+ghost use Rattle.std.specs.Io.KnownBytes.{Appends};
 ghost use Rattle.callers.specs.Supervisor.{HasLines};
 
-use crate::Host;
+use program_input::{Host, read_line};
 use std::alloc::Global;
 use std::io;
 use std::io::{BufRead, Write};
@@ -41,20 +40,6 @@ pub fn copy<I: BufRead, W: Write>(alloc: Global, input: &mut I, log: &mut W) -> 
         copied.cut += cut_of(log, line.as_slice());
     }
     Err(io::Error::other("too many lines"))
-}
-
-// Reads one line with its newline, if it has one, in place of the last one. It returns whether there was a line.
-fn read_line<I: BufRead>(input: &mut I, line: &mut Vec<u8>) -> io::Result<bool>
-    ensures line { OnOk result ((text : List ℕ) → I.remaining input.old ≡ Some text
-        → line.new.items ≡ take_through 10 text) }
-    ensures rest { OnOk result ((text : List ℕ) → I.remaining input.old ≡ Some text
-        → I.remaining input.new ≡ Some (drop_through 10 text)) }
-    ensures some { result ≡ Ok true → line.new.items ≢ [] }
-    ensures end { result ≡ Ok false → IsAtEnd (I.remaining input.old) }
-{
-    line.clear();
-    let length = input.read_until(b'\n', line)?;
-    Ok(length > 0)
 }
 
 // Writes one line, and returns 1 if the log did not take it whole, else 0.

@@ -28,6 +28,7 @@ pub use Rattle.appender_non_blocking.specs.Account
 pub use Rattle.appender_non_blocking.specs.Mode
 pub use Rattle.appender_non_blocking.specs.Refusal
 pub use Rattle.appender_non_blocking.specs.Counted
+pub use Rattle.appender_non_blocking.specs.Work
 pub use Rattle.appender_replay.specs.Run
 pub use Rattle.appender_replay.specs.Replay
 pub use Rattle.appender_replay.specs.Retention
