@@ -1,19 +1,19 @@
 // What counted senders are told, and what their guard answers.
 ghost use Rattle.std.specs.Prelude.{◌≡◌, ◌+◌, ◌<◌};
-ghost use Rattle.appender_non_blocking.specs.Account.{IsBlankOf};
+ghost use Rattle.appender_non_blocking.specs.Account.{AreBlanksOf};
 
 use crate::counted_crowd::{Tickets, expect_in_order, write_by_ten};
 use crate::expect::{expect_eq, expect_shown, expect_text, put};
 use crate::gate::{Gate, Host, Seen, new_gate};
 use appender_non_blocking::non_blocking::{
-    Account, CountedGuard, CountedSender, NonBlockingBuilder, Sent, Shut, Unsettled,
+    Account, Blanks, CountedGuard, CountedSender, NonBlockingBuilder, Sent, Shut, Unsettled,
 };
 use std::alloc::{AllocError, Global};
 use std::io;
 use std::marker::Brand;
 use std::process::Abort;
 use std::sync::Arc;
-use std::sync::ledger::{Blank, Ledger};
+use std::sync::ledger::Ledger;
 
 // What a test does with the senders of one worker.
 #[derive(Clone, Copy)]
@@ -89,15 +89,11 @@ fn run<R: Host + Abort>(rt: R, story: &Story) {
         seen,
         told: Vec::new(rt.alloc()),
     };
-    let accepted = Blank::new(u64::from(story.senders) + 1);
     tell::<Brand, Brand, Brand, Brand, R>(
         &mut stage,
         story,
         writer,
-        accepted,
-        Blank::new(1),
-        Blank::new(1),
-        Blank::new(1),
+        Blanks::new(story.senders as usize),
     );
     stage.expect_came(story.came);
 }
@@ -109,33 +105,13 @@ fn tell<
     S: Ledger + Send + Sync + 'static,
     C: Ledger + Send + Sync + 'static,
     R: Host + Abort,
->(
-    stage: &mut Stage<R>,
-    story: &Story,
-    writer: Gate<R>,
-    accepted: Blank,
-    handed: Blank,
-    shutdowns: Blank,
-    closings: Blank,
-)
-    requires accepted { IsBlankOf A.Ledger (story.now.senders + 1) accepted }
-    requires handed { IsBlankOf H.Ledger 1 handed }
-    requires shutdowns { IsBlankOf S.Ledger 1 shutdowns }
-    requires closings { IsBlankOf C.Ledger 1 closings }
+>(stage: &mut Stage<R>, story: &Story, writer: Gate<R>, blanks: Blanks)
+    requires { AreBlanksOf A.Ledger H.Ledger S.Ledger C.Ledger story.now.senders blanks }
 {
     let rt = stage.rt;
     let builder = builder(rt.alloc(), story).expect(&rt, "memory");
     let (senders, guard) = builder
-        .finish_counted::<A, H, S, C, _, R>(
-            rt,
-            rt.alloc(),
-            writer,
-            story.senders as usize,
-            accepted,
-            handed,
-            shutdowns,
-            closings,
-        )
+        .finish_counted::<A, H, S, C, _, R>(rt, rt.alloc(), writer, story.senders as usize, blanks)
         .expect(&rt, "a worker");
     play(stage, story, senders, guard);
 }

@@ -1,16 +1,16 @@
 // Which counted senders count, and what their queue was asked for.
 ghost use Rattle.std.specs.Prelude.{◌≡◌, ◌+◌};
-ghost use Rattle.appender_non_blocking.specs.Account.{IsBlankOf};
+ghost use Rattle.appender_non_blocking.specs.Account.{AreBlanksOf};
 
 use crate::counted::Told;
 use crate::expect::{expect_eq, expect_text};
 use crate::gate::{Gate, Host, Seen, new_gate};
-use appender_non_blocking::non_blocking::{CountedGuard, NonBlockingBuilder, Sent, Shut};
+use appender_non_blocking::non_blocking::{Blanks, CountedGuard, NonBlockingBuilder, Sent, Shut};
 use std::io::{ErrorKind, Write};
 use std::marker::Brand;
 use std::process::Abort;
 use std::sync::Wait;
-use std::sync::ledger::{Blank, Ledger};
+use std::sync::ledger::Ledger;
 use std::time::{Clock, Duration};
 use std::{fs, io, thread};
 
@@ -50,17 +50,7 @@ pub(crate) fn run<R: Host + Abort, W: Write + Send + Drop + 'static>(
     lossy: bool,
     act: Act,
 ) {
-    tell::<Brand, Brand, Brand, Brand, R, W>(
-        rt,
-        writer,
-        seen,
-        lossy,
-        act,
-        Blank::new(4),
-        Blank::new(1),
-        Blank::new(1),
-        Blank::new(1),
-    );
+    tell::<Brand, Brand, Brand, Brand, R, W>(rt, writer, seen, lossy, act, Blanks::new(3));
 }
 
 fn tell<
@@ -70,21 +60,8 @@ fn tell<
     C: Ledger + Send + Sync + 'static,
     R: Host + Abort,
     W: Write + Send + Drop + 'static,
->(
-    rt: R,
-    writer: W,
-    seen: &Seen,
-    lossy: bool,
-    act: Act,
-    accepted: Blank,
-    handed: Blank,
-    shutdowns: Blank,
-    closings: Blank,
-)
-    requires accepted { IsBlankOf A.Ledger 4 accepted }
-    requires handed { IsBlankOf H.Ledger 1 handed }
-    requires shutdowns { IsBlankOf S.Ledger 1 shutdowns }
-    requires closings { IsBlankOf C.Ledger 1 closings }
+>(rt: R, writer: W, seen: &Seen, lossy: bool, act: Act, blanks: Blanks)
+    requires { AreBlanksOf A.Ledger H.Ledger S.Ledger C.Ledger 3 blanks }
 {
     let builder = NonBlockingBuilder::default()
         .buffered_lines_limit(3)
@@ -92,16 +69,7 @@ fn tell<
         .thread_name(rt.alloc(), "counter")
         .expect(&rt, "memory");
     let (mut senders, guard) = builder
-        .finish_counted::<A, H, S, C, _, R>(
-            rt,
-            rt.alloc(),
-            writer,
-            3,
-            accepted,
-            handed,
-            shutdowns,
-            closings,
-        )
+        .finish_counted::<A, H, S, C, _, R>(rt, rt.alloc(), writer, 3, blanks)
         .expect(&rt, "a worker");
     play(rt, seen, act, &mut senders, guard);
     drop(senders);

@@ -3,10 +3,19 @@ use Rattle.std.specs.Prelude.{◌≡◌, ℕ, ◌+◌, ◌-◌, ◌^◌, Bool, f
 use Rattle.std.specs.List.{range_with_len}
 use Rattle.std.specs.declared.sync.ledger.Blank.{Blank}
 use Rattle.std.specs.declared.sync.ledger.Ledger.{Ghosts}
+use Rattle.appender_non_blocking.specs.declared.non_blocking.account.Blanks.{Blanks}
 
 -- a blank of a ledger, with all its parts, of which there are this many
 abbrev pub IsBlankOf : {L : Type 0} → Ghosts L → ℕ → Blank → Type 0
 IsBlankOf ledger parts blank = (blank.name ≡ ledger.name) × (blank.parts ≡ ledger.parts) × (blank.parts ≡ parts)
+
+-- The blanks of the four ledgers of so many senders. Of accepted lines there is one part for each sender and one for the guard.
+abbrev pub AreBlanksOf : {A H S C : Type 0} → Ghosts A → Ghosts H → Ghosts S → Ghosts C → ℕ → Blanks → Type 0
+AreBlanksOf accepted handed shutdowns closings senders blanks =
+    IsBlankOf accepted (senders + 1) blanks.accepted
+    × IsBlankOf handed 1 blanks.handed
+    × IsBlankOf shutdowns 1 blanks.shutdowns
+    × IsBlankOf closings 1 blanks.closings
 
 -- what a counted sender shows
 pub record Sums : Type 0 where

@@ -13,7 +13,7 @@ mod shared;
 mod work;
 mod worker;
 
-pub use account::{Account, CountedGuard, Settled, Unsettled};
+pub use account::{Account, Blanks, CountedGuard, Settled, Unsettled};
 pub use appender_queue::queue::Shut;
 pub use builder::{DEFAULT_BUFFERED_LINES_LIMIT, NonBlockingBuilder, non_blocking};
 pub use counted::CountedSender;

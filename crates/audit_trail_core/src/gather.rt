@@ -1,6 +1,6 @@
 //! The lines of several sources in one log, and the account of them.
 ghost use Rattle.std.specs.Prelude.{◌≡◌, ◌⊎◌, ◌+◌, ◌≤◌, IfOk, vec_len};
-ghost use Rattle.appender_non_blocking.specs.Account.{IsBlankOf};
+ghost use Rattle.appender_non_blocking.specs.Account.{AreBlanksOf};
 ghost use Rattle.audit_trail_core.specs.Fault.{status_of, TellsStatus};
 
 use crate::trail::{Fault, TrailLog, open_trail, tell, zero};
@@ -11,11 +11,11 @@ use std::io::{BufRead, BufReader, Read, Write};
 use std::marker::Brand;
 use std::sync::atomic::AtomicU64;
 use std::sync::atomic::Ordering::SeqCst;
-use std::sync::ledger::{Blank, Ledger};
+use std::sync::ledger::Ledger;
 use std::sync::{Arc, Wait};
 use std::thread::JoinHandle;
 use std::{io, thread};
-use tracing_appender::non_blocking::{Account, CountedSender, NonBlockingBuilder};
+use tracing_appender::non_blocking::{Account, Blanks, CountedSender, NonBlockingBuilder};
 use tracing_appender::rolling::InitError;
 use tracing_appender::worker::CountingWriter;
 
@@ -284,16 +284,8 @@ pub fn gather<L: Write + Send + Drop + 'static, I: Read + Send + Drop + 'static,
     ensures handed { IfOk result (λ told. told.0.handed ≡ told.0.accepted) }
     ensures left { IfOk result (λ told. told.0.left ≡ 0) }
 {
-    let parts = sources.len() as u64 + 1;
-    gather_by::<Brand, Brand, Brand, Brand, L, I, R>(
-        rt,
-        log,
-        sources,
-        Blank::new(parts),
-        Blank::new(1),
-        Blank::new(1),
-        Blank::new(1),
-    )
+    let blanks = Blanks::new(sources.len());
+    gather_by::<Brand, Brand, Brand, Brand, L, I, R>(rt, log, sources, blanks)
 }
 
 // The same by these books: of accepted lines, of handed ones, of shutdowns and of closings.
@@ -309,31 +301,16 @@ fn gather_by<
     rt: R,
     log: L,
     sources: Vec<I>,
-    accepted: Blank,
-    handed: Blank,
-    shutdowns: Blank,
-    closings: Blank,
+    blanks: Blanks,
 ) -> Result<(Account, Vec<Result<(), Fault>>), Fault>
-    requires accepted { IsBlankOf A.Ledger (vec_len sources + 1) accepted }
-    requires handed { IsBlankOf H.Ledger 1 handed }
-    requires shutdowns { IsBlankOf S.Ledger 1 shutdowns }
-    requires closings { IsBlankOf C.Ledger 1 closings }
+    requires { AreBlanksOf A.Ledger H.Ledger S.Ledger C.Ledger (vec_len sources) blanks }
     ensures handed { IfOk result (λ told. told.0.handed ≡ told.0.accepted) }
     ensures left { IfOk result (λ told. told.0.left ≡ 0) }
 {
     let (senders, guard) = NonBlockingBuilder::default()
         .lossy(false)
         .buffered_lines_limit(WAITING_LINES)
-        .finish_counted::<A, H, S, C, L, R>(
-            rt,
-            rt.alloc(),
-            log,
-            sources.len(),
-            accepted,
-            handed,
-            shutdowns,
-            closings,
-        )
+        .finish_counted::<A, H, S, C, L, R>(rt, rt.alloc(), log, sources.len(), blanks)
         .map_err(|fault| Fault::Thread.unless_memory(fault.kind()))?;
     let (back, sent) = send_all(rt, senders, sources)?;
     match guard.settle(back) {

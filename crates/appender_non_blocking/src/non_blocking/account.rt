@@ -30,10 +30,37 @@ use std::alloc::Global;
 use std::fmt;
 use std::fmt::{Debug, Formatter};
 use std::marker::Model;
-use std::sync::ledger::{Ledger, Share};
+use std::sync::ledger::{Blank, Ledger, Share};
 use std::sync::{Arc, Wait};
 use std::thread::{JoinHandle, Threads};
 use std::time::Clock;
+
+/// Blanks for the ledgers of an account: of accepted lines, of handed lines, of shutdowns and of closings.
+#[derive(Drop)]
+pub struct Blanks {
+    pub accepted: Blank,
+    pub handed: Blank,
+    pub shutdowns: Blank,
+    pub closings: Blank,
+}
+
+impl Blanks {
+    /// Returns new blanks for the account of this number of senders.
+    pub fn new(senders: usize) -> Blanks
+        requires { senders + 1 < 2 ^ 64 }
+        ensures accepted { result.accepted.parts ≡ senders + 1 }
+        ensures handed { result.handed.parts ≡ 1 }
+        ensures shutdowns { result.shutdowns.parts ≡ 1 }
+        ensures closings { result.closings.parts ≡ 1 }
+    {
+        Blanks {
+            accepted: Blank::new(senders as u64 + 1),
+            handed: Blank::new(1),
+            shutdowns: Blank::new(1),
+            closings: Blank::new(1),
+        }
+    }
+}
 
 /// What became of all lines of a guard's senders.
 #[derive(Clone, Copy, PartialEq, Eq, Debug)]

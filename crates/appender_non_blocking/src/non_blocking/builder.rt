@@ -1,8 +1,8 @@
 // How a worker and its first sender are made.
 ghost use Rattle.std.specs.Prelude.{◌≡◌, ◌+◌, IfOk, Some, None, true};
-ghost use Rattle.appender_non_blocking.specs.Account.{IsBlankOf, new_senders, new_guard};
+ghost use Rattle.appender_non_blocking.specs.Account.{AreBlanksOf, new_senders, new_guard};
 
-use super::account::CountedGuard;
+use super::account::{Blanks, CountedGuard};
 use super::counted::{CountedSender, make_senders};
 use super::guard::WorkerGuard;
 use super::sender::{Local, NonBlocking};
@@ -12,7 +12,7 @@ use appender_state::books::{Done, FourBooks, NoBooks, Pass};
 use std::alloc::{AllocError, Global};
 use std::io::Write;
 use std::marker::Model;
-use std::sync::ledger::{Blank, Ledger};
+use std::sync::ledger::Ledger;
 use std::sync::{Arc, Wait};
 use std::thread::{JoinHandle, Threads};
 use std::time::Clock;
@@ -120,8 +120,7 @@ impl NonBlockingBuilder {
 
     /// Starts the worker, and makes this number of counted senders and the guard that settles their
     /// account. Each sender has a place of its own in the queue, which keeps the last ticket of each.
-    /// The book of accepted lines needs a blank of one part more than there are senders, the other three
-    /// one of one part each. Errors are those of `finish`.
+    /// Errors are those of `finish`.
     pub fn finish_counted<
         A: Ledger + Send + Sync + 'static,
         H: Ledger + Send + Sync + 'static,
@@ -135,29 +134,23 @@ impl NonBlockingBuilder {
         alloc: Global,
         writer: W,
         senders: usize,
-        accepted: Blank,
-        handed: Blank,
-        shutdowns: Blank,
-        closings: Blank,
+        blanks: Blanks,
     ) -> io::Result<
         (
             Vec<CountedSender<A, H, S, C, R>>,
             CountedGuard<A, H, S, C, R>,
         ),
     >
-        requires accepted { IsBlankOf A.Ledger (senders + 1) accepted }
-        requires handed { IsBlankOf H.Ledger 1 handed }
-        requires shutdowns { IsBlankOf S.Ledger 1 shutdowns }
-        requires closings { IsBlankOf C.Ledger 1 closings }
+        requires { AreBlanksOf A.Ledger H.Ledger S.Ledger C.Ledger senders blanks }
         ensures senders { IfOk result (λ made. made.0.items ≡ new_senders self.lossy senders) }
         ensures guard { IfOk result (λ made. made.1 ≡ new_guard senders) }
     {
         let NonBlockingBuilder { limit, lossy, name } = self;
         let name = name_or_default(alloc, name)?;
-        let (accepted, share) = accepted.open::<A>();
-        let (handed, lines) = handed.open::<H>();
-        let (shutdowns, shut) = shutdowns.open::<S>();
-        let (closings, closed) = closings.open::<C>();
+        let (accepted, share) = blanks.accepted.open::<A>();
+        let (handed, lines) = blanks.handed.open::<H>();
+        let (shutdowns, shut) = blanks.shutdowns.open::<S>();
+        let (closings, closed) = blanks.closings.open::<C>();
         let books = FourBooks {
             accepted,
             handed,

@@ -3,7 +3,7 @@ ghost use Rattle.std.specs.Prelude.{◌≡◌, ◌≢◌, ◌+◌, Ok, IfOk, IfE
 ghost use Rattle.std.specs.IoError.{error_kind};
 ghost use Rattle.appender_non_blocking.specs.Account.{
   IsAccount,
-  IsBlankOf,
+  AreBlanksOf,
   Sums,
   new_guard,
   new_senders,
@@ -12,7 +12,7 @@ ghost use Rattle.appender_non_blocking.specs.Refusal.{IsRefusal};
 ghost use Rattle.appender_non_blocking.specs.Counted.{after_line};
 ghost use Rattle.appender_non_blocking.specs.Work.{Worked};
 
-use super::account::Account;
+use super::account::{Account, Blanks};
 use super::builder::NonBlockingBuilder;
 use super::counted::CountedSender;
 use super::sender::Sent;
@@ -20,7 +20,7 @@ use std::alloc::Global;
 use std::io::{ErrorKind, Write};
 use std::marker::Brand;
 use std::sync::Wait;
-use std::sync::ledger::{Blank, Ledger};
+use std::sync::ledger::Ledger;
 use std::thread::Threads;
 use std::time::Clock;
 use std::{io, thread};
@@ -93,9 +93,9 @@ impl NonBlockingBuilder {
             × Worked (K.CountedWork.does work.now) self.lossy threads ended
             × IsAccount a.accepted a.handed a.left a.dropped (new_guard threads) ended) }
     {
-        let Some(parts) = (threads as u64).checked_add(1) else {
+        if threads == usize::MAX {
             return Err(io::Error::from(ErrorKind::OutOfMemory));
-        };
+        }
         run_by::<Brand, Brand, Brand, Brand, K, W, R>(
             self,
             rt,
@@ -103,10 +103,7 @@ impl NonBlockingBuilder {
             writer,
             threads,
             work,
-            Blank::new(parts),
-            Blank::new(1),
-            Blank::new(1),
-            Blank::new(1),
+            Blanks::new(threads),
         )
     }
 }
@@ -127,21 +124,15 @@ fn run_by<
     writer: W,
     threads: usize,
     work: &K,
-    accepted: Blank,
-    handed: Blank,
-    shutdowns: Blank,
-    closings: Blank,
+    blanks: Blanks,
 ) -> io::Result<Account>
-    requires accepted { IsBlankOf A.Ledger (threads + 1) accepted }
-    requires handed { IsBlankOf H.Ledger 1 handed }
-    requires shutdowns { IsBlankOf S.Ledger 1 shutdowns }
-    requires closings { IsBlankOf C.Ledger 1 closings }
+    requires { AreBlanksOf A.Ledger H.Ledger S.Ledger C.Ledger threads blanks }
     ensures account { IfOk result (λ a. (ended : List Sums)
         × Worked (K.CountedWork.does work.now) builder.lossy threads ended
         × IsAccount a.accepted a.handed a.left a.dropped (new_guard threads) ended) }
 {
     let (senders, guard) = builder.finish_counted::<A, H, S, C, W, R>(
-        rt, alloc, writer, threads, accepted, handed, shutdowns, closings,
+        rt, alloc, writer, threads, blanks,
     )?;
     match guard.settle(run_all(&rt, work, senders)) {
         Ok(account) => Ok(account),
