@@ -77,11 +77,12 @@ fn open_log<R: Files + AllocGlobal + Eprint + Copy + Drop, C: Clock>(
     builder.open_in(rt.alloc(), folder, clock).ok()
 }
 
-// Looks at the clock until the log came to all boundaries. Answers how many files it began.
-fn look_at_each<S: Folder, C: Clock>(mut log: RollingFile<S, C>) -> u64 {
+// Checks the clock until the log has reached all boundaries. Returns how many files it opened.
+fn reach_all<S: Folder, C: Clock>(mut log: RollingFile<S, C>) -> u64 {
     let (mut opened, mut failed) = (0u64, 0u64);
     for _ in 0..2000u32 {
-        match log.look() {
+        let moment = log.moment();
+        match log.see(moment) {
             Switch::Opened => opened = opened.saturating_add(1),
             Switch::Failed => failed = failed.saturating_add(1),
             Switch::None => {}
@@ -93,13 +94,13 @@ fn look_at_each<S: Folder, C: Clock>(mut log: RollingFile<S, C>) -> u64 {
     opened
 }
 
-// Opens a log, and answers how many files it began after the first.
+// Opens a log, and returns how many files it opened after the first.
 fn run_log<R: Files + AllocGlobal + Eprint + Copy + Drop, C: Clock>(
     rt: R,
     directory: &str,
     clock: C,
 ) -> u64 {
-    open_log(rt, directory, clock).map_or(0, look_at_each)
+    open_log(rt, directory, clock).map_or(0, reach_all)
 }
 
 #[test]

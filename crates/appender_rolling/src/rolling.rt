@@ -116,7 +116,7 @@ impl<S: Folder> Roller<S> {
     pub fn see(&mut self, moment: i64) -> Switch
         ensures { Sees S.Folder moment result self.old self.new }
     {
-        self.schedule.look(&mut self.log, moment, 0)
+        self.schedule.check_clock(&mut self.log, moment, 0)
     }
 
     /// Adds bytes to the open file by one append, and returns how many were taken.
@@ -130,7 +130,9 @@ impl<S: Folder> Roller<S> {
     pub fn put(&mut self, moment: i64, bytes: &[u8]) -> (Switch, io::Result<usize>)
         ensures { Puts S.Folder moment bytes.now result.0 result.1 self.old self.new }
     {
-        let switch = self.schedule.look(&mut self.log, moment, bytes.len());
+        let switch = self
+            .schedule
+            .check_clock(&mut self.log, moment, bytes.len());
         let written = self.log.write(bytes);
         (switch, written)
     }

@@ -29,7 +29,7 @@ impl<S: Folder, C: Clock> Model for RollingFile<S, C> {
 
 impl<S: Folder, C: Clock> RollingFile<S, C> {
     ghost use Rattle.std.specs.Prelude.{◌≡◌, is_some};
-    ghost use Rattle.appender_rolling.specs.Appender.{AppendsNow, PutsNow, SeesNow};
+    ghost use Rattle.appender_rolling.specs.Appender.{AppendsNow, PutsNow};
     ghost use Rattle.appender_rolling.specs.Opening.{file_name_of};
     ghost use Rattle.appender_rolling.specs.Roller.{Sees, next_stamp};
 
@@ -42,16 +42,8 @@ impl<S: Folder, C: Clock> RollingFile<S, C> {
         self.roller.put(moment, bytes)
     }
 
-    /// Checks the clock, and writes nothing. Returns whether a new file was opened.
-    pub fn look(&mut self) -> Switch
-        ensures { SeesNow S.Folder C.Clock result self.old self.new }
-    {
-        let moment = self.clock.now();
-        self.roller.see(moment)
-    }
-
     /// Reads the clock, and does nothing else. Returns seconds of UTC since the epoch. A `see` of this moment then
-    /// does what a `look` does.
+    /// checks the clock without a write.
     pub fn moment(&self) -> i64
         ensures { C.now_gives self.now.clock result }
     {
@@ -73,8 +65,8 @@ impl<S: Folder, C: Clock> RollingFile<S, C> {
         self.roller.see(moment)
     }
 
-    /// Adds bytes to the open file by one append, and reads no clock: what follows a `look` or a short
-    /// `put` is in the same file. Returns how many were taken.
+    /// Adds bytes to the open file by one append, and reads no clock: what follows a `see` or a short `put` is in
+    /// the same file. Returns how many were taken.
     pub fn append(&mut self, bytes: &[u8]) -> io::Result<usize>
         ensures { AppendsNow S.Folder bytes.now result self.old self.new }
     {

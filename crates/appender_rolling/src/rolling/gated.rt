@@ -51,7 +51,7 @@ impl<S: Folder> Gated<S> {
     pub(super) fn see(&mut self, moment: i64)
         ensures { SeesSome S.Folder moment self.old.schedule self.new.schedule }
     {
-        self.schedule.look(self.log.get_mut(), moment, 0);
+        self.schedule.check_clock(self.log.get_mut(), moment, 0);
     }
 
     // Checks the clock for these bytes, and then writes them.
@@ -59,7 +59,7 @@ impl<S: Folder> Gated<S> {
         ensures { PutsSome S.Folder moment bytes.now result self.old.schedule self.new.schedule }
     {
         let log = self.log.get_mut();
-        self.schedule.look(log, moment, bytes.len());
+        self.schedule.check_clock(log, moment, bytes.len());
         log.write(bytes)
     }
 

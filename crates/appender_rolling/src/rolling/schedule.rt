@@ -88,7 +88,7 @@ impl Schedule {
 
     // Checks the clock with so many bytes to write: if a boundary was reached or the file is full, opens the
     // next file in place of this one.
-    pub(super) fn look<S: Folder>(
+    pub(super) fn check_clock<S: Folder>(
         &mut self,
         log: &mut LogFile<S>,
         moment: i64,

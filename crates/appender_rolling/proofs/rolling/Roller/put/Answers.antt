@@ -7,7 +7,7 @@ pub returns : goal.returns
 returns g c =
     let fits : FitsSigned w64 c.args.moment = c.ranges.moment in
     record {
-      between = rolling_of c.look-switch.new.self c.look-switch.new.log;
-      looks = rw (← c.self.view_is) (simp to_z-of_z at c.look-switch.ensures);
-      writes = c.write-written.ensures.writes c.look-switch.new.self;
+      between = rolling_of c.check_clock-switch.new.self c.check_clock-switch.new.log;
+      looks = rw (← c.self.view_is) (simp to_z-of_z at c.check_clock-switch.ensures);
+      writes = c.write-written.ensures.writes c.check_clock-switch.new.self;
     }

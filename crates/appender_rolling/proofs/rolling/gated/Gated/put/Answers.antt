@@ -7,12 +7,12 @@ pub returns : goal.returns
 returns g c =
     let fits : FitsSigned w64 c.args.moment = c.ranges.moment in
     record {
-      switch = c.look.result;
+      switch = c.check_clock.result;
       found = c.get_mut-log.result.now;
       left = c.write.new.self;
       puts = record {
-        between = rolling_of c.look.new.self c.look.new.log;
-        looks = simp to_z-of_z at c.look.ensures;
-        writes = c.write.ensures.writes c.look.new.self;
+        between = rolling_of c.check_clock.new.self c.check_clock.new.log;
+        looks = simp to_z-of_z at c.check_clock.ensures;
+        writes = c.write.ensures.writes c.check_clock.new.self;
       };
     }

@@ -6,8 +6,8 @@ pub returns : goal.returns
 returns g c =
     let fits : FitsSigned w64 c.args.moment = c.ranges.moment in
     record {
-      switch = c.look.result;
+      switch = c.check_clock.result;
       found = c.get_mut.result.now;
-      left = c.look.new.log;
-      sees = simp to_z-of_z at c.look.ensures;
+      left = c.check_clock.new.log;
+      sees = simp to_z-of_z at c.check_clock.ensures;
     }

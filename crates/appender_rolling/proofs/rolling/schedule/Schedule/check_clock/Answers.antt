@@ -7,7 +7,7 @@ use Rattle.appender_rolling.proofs.Boundaries.{IsNext, is_next, next_lies_ahead,
 use Rattle.appender_rolling.proofs.Closings.{closes_quietly}
 use Rattle.appender_rolling.proofs.Kept.{maps, keeps_little}
 use Rattle.appender_rolling.proofs.Refusals.{refuses_little}
-use Rattle.appender_rolling.proofs.rolling.schedule.Schedule.look.Goals as goal
+use Rattle.appender_rolling.proofs.rolling.schedule.Schedule.check_clock.Goals as goal
 
 pub next_date-self-inside-requires : goal.next_date-self-inside-requires
 next_date-self-inside-requires g c =
