@@ -248,7 +248,7 @@ fn expect_open(rt: &impl Abort, roller: &mut Roller<MemoryFolder>, number: u32, 
     expect_due(rt, roller, true);
 }
 
-// Looks at the clock when the file is full, at moments out of range.
+// Checks the clock when the file is full, at moments out of range.
 fn see_full(rt: &impl Host) -> Roller<MemoryFolder> {
     let mut roller = open_roller(rt, MemoryFolder::new(rt.alloc()));
     expect_open(rt, &mut roller, 0, "app.2020-02-01-10.000000");
@@ -381,7 +381,7 @@ fn folder_of(rt: &impl Host, entries: &[(Kind, &str)]) -> MemoryFolder {
     folder
 }
 
-// A put that fills a file of three bytes, and a look at the clock.
+// A put that fills a file of three bytes, and a check of the clock.
 fn filling_steps(rt: &impl Host) -> Vec<RollStep> {
     let mut steps = Vec::new(rt.alloc());
     let put = RollStep::Put(START, bytes(rt, "abc"));

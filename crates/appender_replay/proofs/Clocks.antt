@@ -18,7 +18,7 @@ use Rattle.appender_names.proofs.Periods.{is_same_is}
 use Rattle.appender_replay.proofs.Periods.{Laws, IsLater, moves, later_differs}
 use Rattle.appender_replay.proofs.Turns.{LooksBy, Turns}
 
--- whether a look at the clock is due
+-- whether a check of the clock is due
 abbrev pub due_by : Option ℤ → Option ℤ → Bool
 due_by boundary None = false
 due_by boundary (Some m) = is_due boundary m
@@ -68,7 +68,7 @@ turn_decides kind e old new t =
       room = omega (arith, t.room, d.room);
     }
 
--- What a look at the clock, or none, does to the latest moment l.
+-- What a check of the clock, or none, does to the latest moment l.
 pub record Turn (r : Rotation) (l : ℤ) (read : Option ℤ) (now : ℤ) : Type 0 where
   pub arrived : (is_some read && not (is_same_start (period_of r now) (period_of r l))) ≡ due_by (next_of r l) read
   pub boundary : boundary_by r (next_of r l) read ≡ next_of r now

@@ -170,7 +170,7 @@ module _ {S F : Type 0} (kind : Ghosts S F) (config : Config) (start : Stamp) (f
         after : (seen (suc (length h))).content ≡ after_append (kind.content now.folder) (seen (suc (length h))).body (seen (suc (length h))).piece
         noted_after : kind.noted now.folder ≡ (seen (suc (length h))).noted
 
-      -- after the look at the clock of a step, and before its piece
+      -- after the check of the clock of a step, and before its piece
       looked : (e : Event) (h : List Event) (old now : Rolling S F) → AtStep e h old now → IsTrue kind.is_known → old.config ≡ config → Comes config start grounds.laws e h old → Holds h h old → (switch : Switch) → e.switch ≡ switch → LooksBy kind e.read e.offered switch old now → Holds (e ∷ h) h now
       looked e h old now at_step is_known same come so switch is looks = by e.read refl switch is come looks
         where

@@ -1,4 +1,4 @@
--- Each step of a replay as a look at the clock, or none, and a piece.
+-- Each step of a replay as a check of the clock, or none, and a piece.
 use Rattle.std.proofs.Common.{◌≡◌, ℕ, ◌-◌, ◌≤◌, ℤ, List, length, arith, take, Option, None, Some, Result, Ok, Err, IsTrue, refl, ap, sym, ◌∙◌}
 use Rattle.std.proofs.Math.Seq.{length-take-le}
 use Rattle.std.specs.declared.io.Error.{Error}
@@ -14,7 +14,7 @@ use Rattle.appender_rolling.specs.declared.rolling.Switch.TheVariants.{None as S
 use Rattle.appender_replay.specs.declared.replay.RollStep.TheVariants.{See, Put, Write, Flush}
 use Rattle.appender_replay.specs.declared.replay.RollReply.TheVariants.{Saw, Put as DidPut, Wrote, Flushed}
 
--- the look at the clock, if the step makes one
+-- the check of the clock, if the step makes one
 abbrev pub LooksBy : {S F : Type 0} → Ghosts S F → Option ℤ → ℕ → Switch → Rolling S F → Rolling S F → Type 0
 LooksBy kind None len switch old new = (switch ≡ Stayed) × (new ≡ old)
 LooksBy kind (Some m) len switch old new = Looks kind m len switch old new

@@ -31,7 +31,7 @@ pub record GoesFrom {S F : Type 0} (kind : Ghosts S F) (config : Config) (limit 
 
 -- ---- as a run of files
 
--- a step that neither looks at the clock nor writes
+-- a step that neither checks the clock nor writes
 quiet : Event
 quiet = record { read = None; offered = 0; switch = Stayed; piece = [] }
 
@@ -46,7 +46,7 @@ quiet_turn kind old new same = record {
   fits = omega arith;
 }
 
--- each step is a look at the clock, or none, and a piece
+-- each step is a check of the clock, or none, and a piece
 roller_turns : {S F : Type 0} (kind : Ghosts S F) (core : Core) (t : Answered) (old new : Rolling S F) → RollerDoes kind core t old new → Turns kind (file_event core t) old new
 unfolding quiet
 roller_turns kind core (Work m, Wrote switch shown) old new does = record {

@@ -92,13 +92,13 @@ SharesSome {S} {F} {C} kind time config new = (folder : S) × (clock : C) × Sha
 abbrev pub Holding : Type 0
 Holding = Scheduled
 
--- Whether a look at the clock would begin the next file was asked. With a limit of bytes, the answer is for the room that the open
+-- Whether a check of the clock would begin the next file was asked. With a limit of bytes, the answer is for the room that the open
 -- file was found with.
 pub record AsksSome {S F : Type 0} (kind : Ghosts S F) (s : Scheduled) (m : ℤ) (answer : Bool) : Type 0 where
   pub plain : is_limited s.config ≡ false → answer ≡ is_due s.boundary m
   pub limited : is_limited s.config ≡ true → (found : Held S F) × (answer ≡ is_some (next_stamp (rolling_of s found) m 0))
 
--- a roller with this schedule looked at the clock, which left that one
+-- a roller with this schedule checked the clock, which left that one
 pub record SeesSome {S F : Type 0} (kind : Ghosts S F) (m : ℤ) (old new : Scheduled) : Type 0 where
   pub switch : Switch
   pub found : Held S F

@@ -106,7 +106,7 @@ OpensNoRoller kind config m old error new =
     NamesEntries config × MayLimit config × IsMoment m × (¬ LinkClashes config m)
     × ((number : ℕ) × (listed : _) × FindsNumber kind config m old number listed × RefusesFile kind config (file_name_of config (stamp m number)) listed error new)
 
--- ---- a look at the clock
+-- ---- a check of the clock
 
 -- a boundary is stored that this moment of the range has reached
 abbrev pub is_due : Option ℤ → ℤ → Bool
@@ -184,7 +184,7 @@ pub record KeepsFile {S F : Type 0} (kind : Ghosts S F) (m : ℤ) (len : ℕ) (o
   pub notes : Notes kind refused (NotedOpen reason) new.folder
   pub content : IsTrue kind.is_known → LeavesLittle old.config (file_name_of old.config at_stamp) (kind.content old.folder) (kind.content new.folder)
 
--- What a look at the clock at m does, with so many bytes to write: nothing at all unless a boundary has come or the file is full. So
+-- What a check of the clock at m does, with so many bytes to write: nothing at all unless a boundary has come or the file is full. So
 -- without a limit of bytes a moment that isn't later than the last opening switches nothing.
 abbrev pub Looks : {S F : Type 0} → Ghosts S F → ℤ → ℕ → Switch → Rolling S F → Rolling S F → Type 0
 Looks kind m len Stayed old new = (next_stamp old m len ≡ None) × (new ≡ old)
@@ -262,7 +262,7 @@ pub record WritesAll {S F : Type 0} (kind : Ghosts S F) (bytes : List ℕ) (answ
   pub whole : OnOk answer (rest ≡ [])
   pub stops : IfErr answer (λ fault. Stops answers fault)
 
--- A look at the clock with these bytes to write, and then the write.
+-- A check of the clock with these bytes to write, and then the write.
 pub record Puts {S F : Type 0} (kind : Ghosts S F) (m : ℤ) (bytes : List ℕ) (switch : Switch) (answer : Result ℕ Error) (old new : Rolling S F) : Type 0 where
   pub between : Rolling S F
   pub looks : Looks kind m (length bytes) switch old between

@@ -56,7 +56,7 @@ abbrev pub EndsPart : {S F C : Type 0} → Ghosts S F → Bool → List (Result 
 EndsPart kind true answers old new = Adds kind answers (10 ∷ []) [] old new
 EndsPart kind false answers old new = (answers ≡ []) × (new ≡ old)
 
--- A line was put: after one look at the clock, all of it was added to one file, where it begins a line. At most 100 appends were
+-- A line was put: after one check of the clock, all of it was added to one file, where it begins a line. At most 100 appends were
 -- interrupted.
 pub record PutsLine {S F C : Type 0} (kind : Ghosts S F) (time : Readings C) (line : List ℕ) (old new : Trailing S F C) : Type 0 where
   pub looked : Trailing S F C

@@ -64,7 +64,7 @@ impl<S: Folder, C: Clock, W: Watch<S>> LineLog<S, C, W> {
         }
     }
 
-    /// Looks at the clock once, and then adds all of a line to the open file, where it begins a line. An
+    /// Checks the clock once, and then adds all of a line to the open file, where it begins a line. An
     /// append that was interrupted is made again, at most 100 times for a line.
     pub fn write_line(&mut self, line: &[u8]) -> Result<(), LineFault>
         ensures ok { OnOk result (PutsLine S.Folder C.Clock line.now self.old self.new) }
@@ -85,7 +85,7 @@ impl<S: Folder, C: Clock, W: Watch<S>> LineLog<S, C, W> {
         }
     }
 
-    // Looks at the clock, and how the file ends that then begins.
+    // Checks the clock, and how the file ends that then begins.
     fn look(&mut self)
         ensures { LooksAtClock S.Folder C.Clock self.old self.new }
     {

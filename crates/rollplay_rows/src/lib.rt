@@ -192,7 +192,7 @@ pub static QUEUED: Table = Table {
         // What lies behind the shutdown is left, and two flushes come before the end.
         "rotation hourly\nprefix app\nqueue 3 lossy\nstart 1580551260\noffer 1 a\nshut\noffer 2 b\nwork 1580551260\nwork 1580551260\nwork 1580551260\nwork 1580551260\nwork 1580551260\nwork 1580551260\noffer 2 c\n|",
         "open app.2020-02-01-10\naccepted 1\nsent\naccepted 2\ntook 1\nwrote none ok 1\nshutdown\nflushed\nflushed\nended\nclosed\nfile app.2020-02-01-10 1 a\ncounts 2 1 0 1 1\n|",
-        // The rest of a line goes to a file of its own where a boundary lies between its writes; a take looks at no clock.
+        // The rest of a line goes to a file of its own where a boundary lies between its writes; a take checks no clock.
         "rotation hourly\nprefix app\nshort 2 1\nqueue 1 waiting\nstart 1580551260\noffer 1 ab\nwork 1580558400\nwork 1580551260\nwork 1580554800\n|",
         "open app.2020-02-01-10\naccepted 1\ntook 1\nwrote none ok 1\nwrote opened ok 1\nfile app.2020-02-01-10 1 a\nfile app.2020-02-01-11 1 b\ncounts 1 1 0 0 0\n|",
         // A queue of no line has room while the worker waits, for one.
