@@ -4,6 +4,7 @@ pub use Rattle.appender_names.specs.Equality
 pub use Rattle.appender_names.specs.InitError
 pub use Rattle.appender_names.specs.Name
 pub use Rattle.appender_names.specs.Rotation
+pub use Rattle.appender_names.specs.RotationText
 pub use Rattle.appender_queue.specs.Queue
 pub use Rattle.appender_queue.specs.QueueReplies
 pub use Rattle.appender_queue.specs.QueueCalls

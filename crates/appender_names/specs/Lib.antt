@@ -4,3 +4,4 @@ pub mod Equality
 pub mod InitError
 pub mod Name
 pub mod Rotation
+pub mod RotationText

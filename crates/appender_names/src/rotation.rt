@@ -1,7 +1,11 @@
 //! When a new log file begins, as in the documentation of the crate tracing-appender. A moment is
 //! in whole seconds of UTC since 1970-01-01 00:00:00, with days of 86,400 seconds.
 ghost use Rattle.std.specs.Prelude.{◌≡◌, ◌≢◌, ◌↔◌, negsuc, ◌≤ℤ◌, IsTrue, IsNone, IfSome};
+ghost use Rattle.appender_names.specs.RotationText.{ParsesRotation};
 ghost use Rattle.appender_names.specs.Rotation.{IsMoment, IsNever, IsGreatestBoundary, IsNextBoundary, step_of, period_of, next_of, is_in_period};
+
+use std::str::FromStr;
+use thiserror::Error;
 
 /// How often a new log file begins. Its boundaries are whole minutes, hours, days or weeks of UTC.
 #[derive(Clone, Copy, Debug, PartialEq, Eq)]
@@ -138,6 +142,29 @@ impl Rotation {
         self.round_date(moment) + self.kind.step() as i64
     }
 }
+
+/// Reads `minutely`, `hourly`, `daily`, `weekly` or `never`.
+impl FromStr for Rotation {
+    type Err = ParseRotationError;
+
+    ghost from_str_gives = { ParsesRotation };
+
+    fn from_str(text: &str) -> Result<Rotation, ParseRotationError> {
+        match text {
+            "minutely" => Ok(Rotation::MINUTELY),
+            "hourly" => Ok(Rotation::HOURLY),
+            "daily" => Ok(Rotation::DAILY),
+            "weekly" => Ok(Rotation::WEEKLY),
+            "never" => Ok(Rotation::NEVER),
+            _ => Err(ParseRotationError),
+        }
+    }
+}
+
+/// A text is not the word for a rotation.
+#[derive(Clone, Copy, Debug, PartialEq, Eq, Error)]
+#[error("unknown rotation")]
+pub struct ParseRotationError;
 
 /// Whether a moment lies in the range from 0001-01-01 00:00:00 to 9998-12-31 23:59:59 UTC, whose
 /// moments all have a name.

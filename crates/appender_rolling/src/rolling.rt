@@ -15,7 +15,7 @@ pub use appender::{FileAppender, RollingFileAppender, daily, hourly, minutely, n
 pub use appender_base::make_writer::MakeWriter;
 pub use appender_names::error::InitError;
 use appender_names::names::Names;
-pub use appender_names::rotation::Rotation;
+pub use appender_names::rotation::{ParseRotationError, Rotation};
 use appender_store::store::Folder;
 pub use builder::Builder;
 pub use clock::{Clock, SystemClock};

@@ -16,7 +16,7 @@ use Rattle.appender_replay.specs.declared.replay.RollReply.{RollReply}
 use Rattle.appender_replay.specs.declared.replay.RollReply.TheVariants.{Saw, Put, Wrote, Flushed}
 use Rattle.appender_replay.specs.declared.replay.whole.Reply.{Reply}
 use Rattle.appender_replay.specs.declared.replay.whole.Reply.TheVariants.{Accepted, Full, Closed, NoMemory, Shut, Senders, Took, TookShutdown, TookGone, TookEmpty, Wrote as DidWrite, Flushed as DidFlush, Ended}
-use Rattle.rollplay_words.specs.Text.{escapes_of}
+use Rattle.rollplay_script.specs.Text.{escapes_of}
 
 -- a text with its newline
 abbrev pub line_of : List ℕ → List ℕ

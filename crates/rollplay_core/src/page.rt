@@ -8,7 +8,7 @@ ghost use Rattle.rollplay_core.specs.Page.{reply_words, line_of, entry_words, en
 ghost use Rattle.rollplay_core.specs.Page.{refusal_page, open_line, reply_lines, queue_reply_words, queue_reply_lines};
 ghost use Rattle.rollplay_core.specs.Page.{counts_words, queued_page};
 ghost use Rattle.appender_queue.specs.QueueReplies.{counts_of};
-ghost use Rattle.rollplay_words.specs.Text.{escape_of, escapes_of};
+ghost use Rattle.rollplay_script.specs.Text.{escape_of, escapes_of};
 
 use std::alloc::AllocError;
 use std::io::Write;

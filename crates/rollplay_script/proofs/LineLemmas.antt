@@ -5,8 +5,8 @@ use Rattle.std.specs.Str.{bytes_eq}
 use Rattle.std.proofs.lemmas.List.{append_cancel_left}
 use Rattle.std.proofs.lemmas.List.Elements.{All-cons}
 use Rattle.rollplay_script.specs.declared.line.ScriptLine.{ScriptLine}
-use Rattle.rollplay_words.specs.Words.{tail_of, TakesWord, HasNoWord, Takes, TakesNo}
-use Rattle.rollplay_words.specs.Text.{StandsForNone}
+use Rattle.rollplay_script.specs.Words.{tail_of, TakesWord, HasNoWord, Takes, TakesNo}
+use Rattle.rollplay_script.specs.Text.{StandsForNone}
 use Rattle.rollplay_script.specs.Line.{LineKind, rotation, prefix, suffix, link, maximum, byte_limit, created, file, folder, link_at, absent, failing, shortened, start, see, put, write, flush, queue, offer, shut, add, drop, work, first_word, log_kinds, folder_kinds, run_kinds, queue_kinds, HasArguments, IsNotOf, BeginsWith, ContinuesWith, TakesText}
 
 -- what stands behind a word tells what is left

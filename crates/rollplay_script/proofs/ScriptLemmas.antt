@@ -13,8 +13,8 @@ use Rattle.rollplay_script.specs.declared.line.Setting.{Setting}
 use Rattle.rollplay_script.specs.declared.script.Script.{Script}
 use Rattle.rollplay_script.specs.declared.script.ScriptError.{ScriptError}
 use Rattle.rollplay_script.specs.declared.script.ScriptError.TheVariants.{Fault, Memory}
-use Rattle.rollplay_words.specs.declared.words.LineError.{LineError}
-use Rattle.rollplay_words.specs.declared.words.LineError.TheVariants.{Fault as LineFault, Memory as LineMemory}
+use Rattle.rollplay_script.specs.declared.words.LineError.{LineError}
+use Rattle.rollplay_script.specs.declared.words.LineError.TheVariants.{Fault as LineFault, Memory as LineMemory}
 use Rattle.rollplay_script.specs.Draft.{plan_of}
 use Rattle.rollplay_script.specs.Script.{Progress, Gives, BeginsWithLine, IsFaultyLine, Stops, Reaches, IsScript, HasFirstFault, is_misplaced}
 

@@ -1,3 +1,5 @@
 pub mod Draft
 pub mod Line
 pub mod Script
+pub mod Text
+pub mod Words

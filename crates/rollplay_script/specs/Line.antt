@@ -2,27 +2,14 @@
 use Rattle.std.specs.Prelude.{◌≡◌, ℕ, ℤ, Bool, true, false, List, [], ◌∷◌, Option, None, Some, String, string_bytes, unwrap_or, codes}
 use Rattle.std.specs.declared.alloc.Global.{Global}
 use Rattle.appender_names.specs.declared.rotation.Rotation.{Rotation}
-use Rattle.appender_names.specs.declared.rotation.RotationKind.{RotationKind}
-use Rattle.appender_names.specs.declared.rotation.RotationKind.TheVariants.{Minutely, Hourly, Daily, Weekly, Never}
-use Rattle.appender_names.specs.Rotation.{rotation_kind}
+use Rattle.appender_names.specs.RotationText.{rotation_word}
 use Rattle.appender_replay.specs.declared.replay.RollStep.TheVariants.{See, Put, Write, Flush}
 use Rattle.appender_replay.specs.declared.replay.whole.Step.TheVariants.{Offer, Shut, AddSender, DropSender, Work}
 use Rattle.rollplay_script.specs.declared.line.ScriptLine.{ScriptLine}
 use Rattle.rollplay_script.specs.declared.line.ScriptLine.TheVariants.{Setting, Start, Step, QueueStep}
 use Rattle.rollplay_script.specs.declared.line.Setting.TheVariants.{Rotation as SetRotation, Prefix, Suffix, Link, Max, Bytes, Created, File, Folder, LinkAt, Absent, Fail, Short, Queue}
-use Rattle.rollplay_words.specs.Words.{TakesWord, Takes}
-use Rattle.rollplay_words.specs.Text.{IsEscaped, IsSeconds, IsCreated, IsCount, IsCall}
-
--- a rotation in one word
-abbrev pub kind_word : RotationKind → List ℕ
-kind_word Minutely = codes "minutely"
-kind_word Hourly = codes "hourly"
-kind_word Daily = codes "daily"
-kind_word Weekly = codes "weekly"
-kind_word Never = codes "never"
-
-abbrev pub rotation_word : Rotation → List ℕ
-rotation_word r = kind_word (rotation_kind r)
+use Rattle.rollplay_script.specs.Words.{TakesWord, Takes}
+use Rattle.rollplay_script.specs.Text.{IsEscaped, IsSeconds, IsCreated, IsCount, IsCall}
 
 -- what a queue does with a line that finds no room: it drops and counts it, or has its sender try again
 abbrev pub mode_word : Bool → List ℕ

@@ -16,8 +16,8 @@ use Rattle.rollplay_script.specs.declared.line.ScriptLine.TheVariants.{Setting a
 use Rattle.rollplay_script.specs.declared.line.Setting.{Setting}
 use Rattle.rollplay_script.specs.declared.line.Setting.TheVariants.{Rotation, Prefix, Suffix, Link, Max, Bytes, Created, File, Folder, LinkAt, Absent, Fail, Short, Queue}
 use Rattle.rollplay_script.specs.Line.{IsLine, IsNoLine}
-use Rattle.rollplay_words.specs.declared.words.LineError.{LineError}
-use Rattle.rollplay_words.specs.declared.words.LineError.TheVariants.{Fault, Memory}
+use Rattle.rollplay_script.specs.declared.words.LineError.{LineError}
+use Rattle.rollplay_script.specs.declared.words.LineError.TheVariants.{Fault, Memory}
 
 -- A script as far as it was read: whether anything was set up, with what the log is opened, the folder before it, the queue
 -- if there is one, the moment of the opening once it is known, and the steps so far, of a log by itself and of a queue.

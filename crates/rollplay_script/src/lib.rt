@@ -1,5 +1,6 @@
-//! The language of scripts: what a line says, and which line may stand where.
+//! The language of scripts: words, lines, and which line may stand where.
 #![tactic(auto)]
 
 pub mod line;
 pub mod script;
+pub mod words;

@@ -2,14 +2,14 @@
 
 ghost use Rattle.std.specs.Prelude.{◌≡◌, ◌≢◌, ◌++◌, Option, List, ℕ, Bool, None, Some, Err, IfOk, IfErr};
 ghost use Rattle.std.specs.List.{All};
-ghost use Rattle.appender_names.specs.declared.rotation.Rotation.{Rotation};
-ghost use Rattle.rollplay_script.specs.Line.{rotation_word, mode_word, BeginsWith, ContinuesWith, IsNotOf};
+ghost use Rattle.appender_names.specs.RotationText.{IsNoRotation, rotation_word};
+ghost use Rattle.rollplay_script.specs.Line.{mode_word, BeginsWith, ContinuesWith, IsNotOf};
 ghost use Rattle.rollplay_script.specs.Line.{log_kinds, folder_kinds, run_kinds, queue_kinds};
 ghost use Rattle.rollplay_script.specs.Line.{IsLine, IsNoLine};
 
+use crate::words::{LineError, Words};
 use appender_names::rotation::Rotation;
 use appender_replay::replay::{RollStep, Step};
-use rollplay_words::words::{LineError, Words};
 use std::alloc::Global;
 
 /// The queue before a worker that writes the log.
@@ -197,14 +197,7 @@ fn read_mode(word: &str) -> Result<bool, LineError>
 fn read_rotation(word: &str) -> Result<Rotation, LineError>
     ensures ok { IfOk result (λ r. word.now ≡ rotation_word r) }
     ensures err { IfErr result (λ e. (e ≡ LineError.Fault)
-        × ((r : Rotation) → word.now ≢ rotation_word r)) }
+        × IsNoRotation word.now) }
 {
-    match word {
-        "minutely" => Ok(Rotation::MINUTELY),
-        "hourly" => Ok(Rotation::HOURLY),
-        "daily" => Ok(Rotation::DAILY),
-        "weekly" => Ok(Rotation::WEEKLY),
-        "never" => Ok(Rotation::NEVER),
-        _ => Err(LineError::Fault),
-    }
+    word.parse::<Rotation>().map_err(|_| LineError::Fault)
 }

@@ -6,10 +6,10 @@ ghost use Rattle.appender_store.specs.MemoryView.{state_of};
 ghost use Rattle.rollplay_script.specs.Script.{BeginsWithLine, config_after, folder_after, queueing_after, is_refused_put, error_of_put};
 
 use crate::line::{Queueing, ScriptLine, Setting};
+use crate::words::LineError;
 use appender_replay::replay::{RollStep, Step};
 use appender_rolling::rolling::Builder;
 use appender_store::store::{MemoryFolder, PutError};
-use rollplay_words::words::LineError;
 use std::alloc::{AllocError, Global};
 use std::mem;
 

@@ -1,6 +1,7 @@
 -- Which fault is told, and what a process ends with.
 use Rattle.std.specs.Prelude.{◌≡◌, ℕ, List, [], ◌∷◌, ◌++◌, Option, None, Some, IfSome, String, string_bytes, codes}
 use Rattle.std.specs.declared.alloc.Global.{Global}
+use Rattle.appender_names.specs.RotationText.{IsNoRotation}
 use Rattle.program_input.specs.Report.{AppendsBeginning}
 use Rattle.std.specs.declared.io.ErrorKind.{ErrorKind}
 use Rattle.std.specs.declared.io.ErrorKind.TheVariants.{OutOfMemory}
@@ -9,6 +10,11 @@ use Rattle.program_input.specs.declared.CopyFault.{CopyFault}
 use Rattle.program_input.specs.declared.CopyFault.TheVariants.{Read as Failed, Write as Refused, Cut}
 use Rattle.rolltee_core.specs.declared.tee.Fault.{Fault}
 use Rattle.rolltee_core.specs.declared.tee.Fault.TheVariants.{Usage, Open, Thread, Read, Write, Pending, Full, Memory}
+
+-- the first argument is the word for no rotation
+abbrev pub NamesNoRotation : List (String Global) → Type 0
+NamesNoRotation arguments =
+    (rotation : String Global) × (others : List (String Global)) × (arguments ≡ rotation ∷ others) × IsNoRotation (string_bytes rotation)
 
 -- the second argument, which names the folder of the log, is empty
 abbrev pub HasNoFolder : List (String Global) → Type 0

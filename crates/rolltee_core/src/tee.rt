@@ -2,7 +2,8 @@
 ghost use Rattle.std.specs.Prelude.{◌≡◌, ◌≢◌, ◌≤◌, [], length, Err, IfSome};
 ghost use Rattle.std.specs.Io.KnownBytes.{Keeps};
 ghost use Rattle.std.specs.IoError.{error_kind};
-ghost use Rattle.rolltee_core.specs.Fault.{status_of, unless_memory, words_of, HasNoFolder, Tells};
+ghost use Rattle.rolltee_core.specs.Fault.{status_of, unless_memory, words_of, HasNoFolder, NamesNoRotation, Tells};
+ghost use Rattle.appender_names.specs.RotationText.{IsNoRotation};
 
 use program_input::report::report;
 use program_input::{CopyFault, Host, copy_lines};
@@ -160,6 +161,7 @@ pub fn tee<R: Host, L: Logs, I: Read, E: Write>(
 ) -> u8
     ensures status { result ≤ 3 }
     ensures usage { length arguments.now ≢ 3 → result ≡ 2 }
+    ensures no_rotation { NamesNoRotation arguments.now → result ≡ 2 }
     ensures no_folder { HasNoFolder arguments.now → result ≡ 2 }
     ensures silent { result ≡ 0 → Keeps (E.contents errors.old) (E.contents errors.new) }
     ensures told { 1 ≤ result → (fault : Fault) × Tells fault result (E.contents errors.old) (E.contents errors.new) }
@@ -188,6 +190,7 @@ fn copy_through<R: Host, L: Logs, I: Read>(
     input: &mut I,
 ) -> Result<(), Fault>
     ensures usage { length arguments.now ≢ 3 → result ≡ Err Fault.Usage }
+    ensures no_rotation { NamesNoRotation arguments.now → result ≡ Err Fault.Usage }
     ensures no_folder { HasNoFolder arguments.now → result ≡ Err Fault.Usage }
 {
     let [rotation, directory, prefix] = arguments else {
@@ -199,12 +202,13 @@ fn copy_through<R: Host, L: Logs, I: Read>(
 
 // Opens the log that the arguments name.
 fn open<L: Logs>(logs: &L, rotation: &str, directory: &str, prefix: &str) -> Result<L::Log, Fault>
-    ensures { directory.now ≡ [] → result ≡ Err Fault.Usage }
+    ensures no_rotation { IsNoRotation rotation.now → result ≡ Err Fault.Usage }
+    ensures no_folder { directory.now ≡ [] → result ≡ Err Fault.Usage }
 {
     if directory.is_empty() {
         return Err(Fault::Usage);
     }
-    let rotation = rotation_of(rotation).ok_or(Fault::Usage)?;
+    let rotation = rotation.parse::<Rotation>().map_err(|_| Fault::Usage)?;
     logs.open_log(rotation, directory, prefix)
         .map_err(Fault::Open)
 }
@@ -242,17 +246,6 @@ fn start<R: Host, W: Write + Send + Drop + 'static>(
     match builder.finish(rt, rt.alloc(), log) {
         Ok(made) => Ok(made),
         Err(error) => Err(Fault::Thread.unless_memory(error.kind())),
-    }
-}
-
-fn rotation_of(word: &str) -> Option<Rotation> {
-    match word {
-        "minutely" => Some(Rotation::MINUTELY),
-        "hourly" => Some(Rotation::HOURLY),
-        "daily" => Some(Rotation::DAILY),
-        "weekly" => Some(Rotation::WEEKLY),
-        "never" => Some(Rotation::NEVER),
-        _ => None,
     }
 }
 

@@ -4,6 +4,7 @@ pub use Rattle.appender_core.specs.Equality
 pub use Rattle.appender_core.specs.InitError
 pub use Rattle.appender_core.specs.Name
 pub use Rattle.appender_core.specs.Rotation
+pub use Rattle.appender_core.specs.RotationText
 pub use Rattle.appender_core.specs.Queue
 pub use Rattle.appender_core.specs.QueueReplies
 pub use Rattle.appender_core.specs.QueueCalls

@@ -1,6 +1,6 @@
 -- Adds a byte at a time.
 use Rattle.std.proofs.Common.{◌≡◌, ◌++◌, take}
-use Rattle.rollplay_words.specs.Text.{escapes_of}
+use Rattle.rollplay_script.specs.Text.{escapes_of}
 use Rattle.rollplay_core.proofs.page.push_escapes.Given as goal
 
 abbrev pub invariant-loop-byte : goal.invariant-loop-byte

@@ -1,6 +1,6 @@
 use Rattle.std.proofs.Common.{refl, subst, Option, List, [], ◌++◌, ℕ, unwrap_or, string_bytes, rules}
-use Rattle.rollplay_words.specs.Words.{TakesWord, Takes}
-use Rattle.rollplay_words.specs.Text.{IsEscaped, StandsForNone, IsCount}
+use Rattle.rollplay_script.specs.Words.{TakesWord, Takes}
+use Rattle.rollplay_script.specs.Text.{IsEscaped, StandsForNone, IsCount}
 use Rattle.rollplay_script.proofs.LineLemmas.{continues_with, none_behind, none_unless, takes_no, takes_none, takes_once}
 use Rattle.rollplay_script.specs.Line.{folder_kinds, run_kinds, queue_kinds, created, file, folder, link_at, absent, failing, shortened}
 use Rattle.rollplay_script.proofs.line.ScriptLine.read_folder_words.Goals.{in-created+in_ok-creation-in-created, in-file+in_ok-word-in-file+in_ok-text-in-file, in-folder+in_ok-word-in-folder, in-text+in_ok-word-in-text+in_ok-word-in-text-2, in-absent, in-fail+in_ok-call-in-fail, in-short+in_ok-call-in-short+in_ok-count-in-short}

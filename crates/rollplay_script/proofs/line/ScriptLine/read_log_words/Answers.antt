@@ -1,5 +1,5 @@
 use Rattle.std.proofs.Common.{refl, ◌∙◌, ◌++◌, [], unwrap_or, rules}
-use Rattle.rollplay_words.specs.Text.{StandsForNone}
+use Rattle.rollplay_script.specs.Text.{StandsForNone}
 use Rattle.rollplay_script.proofs.LineLemmas.{continues_with, none_behind, none_unless, no_text, takes_no, takes_none, takes_once}
 use Rattle.rollplay_script.specs.Line.{log_kinds, folder_kinds, run_kinds, queue_kinds, rotation, prefix, suffix, link, maximum, byte_limit}
 use Rattle.rollplay_script.proofs.line.ScriptLine.read_log_words.Goals.{in-rotation+in_ok-word-in-rotation+in_ok-read_rotation-in-rotation, in-prefix+in_ok-text-in-prefix, in-suffix+in_ok-text-in-suffix, in-link+in_ok-text-in-link, in-max+in_ok-count-in-max, in-bytes+in_ok-label-in-bytes}

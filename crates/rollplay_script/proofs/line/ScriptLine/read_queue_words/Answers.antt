@@ -1,8 +1,8 @@
 use Rattle.std.proofs.Common.{refl, ◌∙◌, subst, Option, List, [], ℕ, unwrap_or, rules}
 use Rattle.std.specs.Int.{w64}
 use Rattle.std.proofs.lemmas.Int.{to_z-of_z}
-use Rattle.rollplay_words.specs.Words.{TakesWord}
-use Rattle.rollplay_words.specs.Text.{IsEscaped, StandsForNone}
+use Rattle.rollplay_script.specs.Words.{TakesWord}
+use Rattle.rollplay_script.specs.Text.{IsEscaped, StandsForNone}
 use Rattle.rollplay_script.specs.Line.{queue_kinds, queue, offer, shut, add, drop, work}
 use Rattle.std.proofs.lemmas.List.Elements.{All-nil}
 use Rattle.rollplay_script.proofs.LineLemmas.{continues_with, none_behind, none_unless, takes_none, takes_once}

@@ -1,7 +1,7 @@
 use Rattle.std.proofs.Common.{refl, subst, Option, List, [], ◌++◌, ℕ, unwrap_or, rules}
 use Rattle.std.specs.Int.{w64}
 use Rattle.std.proofs.lemmas.Int.{to_z-of_z}
-use Rattle.rollplay_words.specs.Text.{IsEscaped, StandsForNone}
+use Rattle.rollplay_script.specs.Text.{IsEscaped, StandsForNone}
 use Rattle.rollplay_script.proofs.LineLemmas.{continues_with, none_behind, none_unless, no_text, takes_no, takes_once}
 use Rattle.rollplay_script.specs.Line.{run_kinds, queue_kinds, start, see, put, write, flush}
 use Rattle.rollplay_script.proofs.line.ScriptLine.read_run_words.Goals.{in-start+in_ok-seconds-in-start, in-see+in_ok-seconds-in-see, in-put+in_ok-seconds-in-put+in_ok-text-in-put, in-write+in_ok-text-in-write, in-flush}

@@ -1,8 +1,8 @@
 use Rattle.std.proofs.Common.{◌≡◌, ◌∷◌, [], ◌++◌, string_bytes, None, lit<, ap, ◌∙◌, rules}
 use Rattle.std.specs.Result.{result_ok}
 use Rattle.std.proofs.lemmas.Str.Pattern.{split_parts}
-use Rattle.rollplay_words.proofs.TextLemmas.{resolved_more, resolved_no_more, resolved_last}
-use Rattle.rollplay_words.proofs.words.unescape.Goals as goal
+use Rattle.rollplay_script.proofs.TextLemmas.{resolved_more, resolved_no_more, resolved_last}
+use Rattle.rollplay_script.proofs.words.unescape.Goals as goal
 
 pub loop-before-preserved : goal.loop-before-preserved
 loop-before-preserved c =

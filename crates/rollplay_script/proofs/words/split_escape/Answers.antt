@@ -1,7 +1,7 @@
 use Rattle.std.proofs.Common.{◌++◌, ◌∙◌, ap, sym, lit<, inl, inr}
 use Rattle.std.proofs.lemmas.Str.{encode_ascii}
-use Rattle.rollplay_words.proofs.TextLemmas.{escape_of-cases}
-use Rattle.rollplay_words.proofs.words.split_escape.Goals as goal
+use Rattle.rollplay_script.proofs.TextLemmas.{escape_of-cases}
+use Rattle.rollplay_script.proofs.words.split_escape.Goals as goal
 
 pub returns-in_err-behind-clause-none : goal.returns-in_err-behind-clause-none
 returns-in_err-behind-clause-none c =

@@ -5,9 +5,9 @@ ghost use Rattle.std.specs.Prelude.{string_bytes, unwrap_or};
 ghost use Rattle.std.specs.Int.{w128};
 ghost use Rattle.std.specs.Option.{option_map};
 ghost use Rattle.std.specs.List.{before_first};
-ghost use Rattle.rollplay_words.specs.Words.{tail_of, TakesWord, HasNoWord, Takes, TakesNo};
-ghost use Rattle.rollplay_words.specs.Text.{escape_of, IsEscaped, StandsForNone, IsSigned, IsUnsigned, IsSeconds};
-ghost use Rattle.rollplay_words.specs.Text.{IsCreated, IsCount, IsCall};
+ghost use Rattle.rollplay_script.specs.Words.{tail_of, TakesWord, HasNoWord, Takes, TakesNo};
+ghost use Rattle.rollplay_script.specs.Text.{escape_of, IsEscaped, StandsForNone, IsSigned, IsUnsigned, IsSeconds};
+ghost use Rattle.rollplay_script.specs.Text.{IsCreated, IsCount, IsCall};
 
 use std::alloc::{AllocError, Global};
 use std::marker::Model;
@@ -22,7 +22,7 @@ pub enum LineError {
 }
 
 impl From<AllocError> for LineError {
-    ghost use Rattle.rollplay_words.specs.declared.words.LineError.TheVariants.{Memory};
+    ghost use Rattle.rollplay_script.specs.declared.words.LineError.TheVariants.{Memory};
 
     ghost from_gives = { λ _ e. e ≡ Memory };
 

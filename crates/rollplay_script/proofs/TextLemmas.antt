@@ -4,7 +4,7 @@ use Rattle.std.proofs.lemmas.Bool.{cases_eq}
 use Rattle.std.proofs.lemmas.Grind.{common_steps}
 use Rattle.std.proofs.lemmas.List.{append-nil}
 use Rattle.std.proofs.lemmas.List.Elements.{All-head, All-tail, All-from_get_or}
-use Rattle.rollplay_words.specs.Text.{escape_of, StandsFirst, IsEscaped, StandsForNone}
+use Rattle.rollplay_script.specs.Text.{escape_of, StandsFirst, IsEscaped, StandsForNone}
 
 -- a byte that needs no escape
 escape_of-plain : (b : ℕ) → b ≢ 10 → b ≢ 92 → escape_of b ≡ b ∷ []

@@ -2,8 +2,8 @@
 use Rattle.std.proofs.Common.{string_bytes, length}
 use denote.Text.{Utf8}
 use denote.Shadow.{shadow}
-use Rattle.rollplay_words.proofs.TextLemmas.{IsResolved}
-use Rattle.rollplay_words.proofs.words.unescape.Given as goal
+use Rattle.rollplay_script.proofs.TextLemmas.{IsResolved}
+use Rattle.rollplay_script.proofs.words.unescape.Given as goal
 
 abbrev pub invariant-loop-before : goal.invariant-loop-before
 invariant-loop-before l = record { utf8 : shadow (Utf8 l.rest); resolved : IsResolved l.text (string_bytes l.plain) l.rest }
