@@ -10,6 +10,10 @@ use Rattle.appender_names.specs.declared.rotation.Rotation.{Rotation}
 abbrev pub IsMoment : ℤ → Type 0
 IsMoment m = (negsuc 62135596799 ≤ℤ m) × (m ≤ℤ pos 253370764799)
 
+-- a moment or the start of its period: the first week starts a day before the range
+abbrev pub IsDatable : ℤ → Type 0
+IsDatable s = (negsuc 62135683199 ≤ℤ s) × (s ≤ℤ pos 253370764799)
+
 -- the same range as a test
 abbrev pub is_moment : ℤ → Bool
 is_moment m = not (int_lt m (negsuc 62135596799)) && not (int_lt (pos 253370764799) m)

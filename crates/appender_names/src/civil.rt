@@ -1,6 +1,7 @@
-//! Dates and times of day of moments, as jiff gives them, and the texts by which names show them.
+//! Dates and times of day, by jiff, and their texts in names.
 ghost use Rattle.std.specs.Prelude.{◌≡◌, ◌≢◌, ℕ, ℤ, pos, negsuc, ◌*ℤ◌, ◌<◌, [], ◌∷◌, IfOk, MatchOption, string_bytes};
-ghost use Rattle.jiff.specs.Words.{civil_nanos, IsBetween};
+ghost use Rattle.jiff.specs.Words.{civil_nanos};
+ghost use Rattle.appender_names.specs.Rotation.{IsDatable};
 ghost use Rattle.appender_names.specs.DateText.{date_text as text_of, two_digits, BeginsMinute, IsReadAt, IsDateText};
 
 use crate::rotation::RotationKind;
@@ -9,21 +10,21 @@ use jiff::civil::DateTime;
 use jiff::tz::Offset;
 use std::alloc::{AllocError, Global};
 
-// The date and the time of day of a moment. The first week starts a day before the range.
+// Returns the date and the time of day of a moment.
 fn civil(moment: i64) -> DateTime
-    requires { IsBetween (negsuc 62135683199) (pos 253370764799) moment }
+    requires { IsDatable moment }
     ensures { civil_nanos result ≡ moment *ℤ pos 1_000_000_000 }
 {
     Offset::UTC.to_datetime(Timestamp::from_second(moment).unwrap())
 }
 
-/// The date text of a moment, to the minute, the hour or the day.
+/// Returns the date text of a moment, to the minute, the hour or the day.
 pub(crate) fn date_text(
     alloc: Global,
     kind: RotationKind,
     moment: i64,
 ) -> Result<String, AllocError>
-    requires { IsBetween (negsuc 62135683199) (pos 253370764799) moment }
+    requires { IsDatable moment }
     ensures { IfOk result (λ text. string_bytes text ≡ text_of kind moment) }
 {
     let civil = civil(moment);
@@ -39,8 +40,8 @@ pub(crate) fn date_text(
     }
 }
 
-/// The second that a date text stands for. The date must exist in the years 0000 to 9999 of the
-/// proleptic Gregorian calendar.
+/// Returns the second of a date text. The date must exist in the years 0000 to 9999 of the proleptic Gregorian
+/// calendar.
 pub(crate) fn read_date(kind: RotationKind, text: &[u8]) -> Option<i64>
     ensures { MatchOption result ((s : ℤ) → ¬ (IsDateText kind text.now s))
         (IsDateText kind text.now) }
@@ -60,7 +61,7 @@ pub(crate) fn read_date(kind: RotationKind, text: &[u8]) -> Option<i64>
     }
 }
 
-// The second that begins a minute of the date that the text names.
+// Returns the first second of the minute, hour or day of a text.
 fn read_second(date: &[u8], hour: u8, minute: u8) -> Option<i64>
     requires hour { hour < 100 }
     requires minute { minute < 100 }
@@ -77,7 +78,7 @@ fn read_second(date: &[u8], hour: u8, minute: u8) -> Option<i64>
     second_at(century as u16 * 100 + year as u16, month, day, hour, minute)
 }
 
-// The second that begins a minute, if the calendar has the day and clocks show the minute.
+// Returns the first second of a minute, if the calendar has the day and the day has the minute.
 fn second_at(year: u16, month: u8, day: u8, hour: u8, minute: u8) -> Option<i64>
     requires year { year < 10_000 }
     requires month { month < 100 }
@@ -99,7 +100,7 @@ fn second_at(year: u16, month: u8, day: u8, hour: u8, minute: u8) -> Option<i64>
     Some(begin.ok()?.duration_since(civil(0)).as_secs())
 }
 
-// The number that two digits write.
+// Returns the number of two digits.
 pub(crate) fn number(tens: u8, ones: u8) -> Option<u8>
     ensures { MatchOption result ((n : ℕ) → n < 100 → two_digits n ≢ tens ∷ ones ∷ [])
         (λ n. (n < 100) × (two_digits n ≡ tens ∷ ones ∷ [])) }

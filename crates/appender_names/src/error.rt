@@ -9,26 +9,26 @@ use thiserror::Error;
 /// Why an appender cannot be opened.
 #[derive(Debug, Drop, Error)]
 pub enum InitError {
-    /// The folder was not there and could not be made.
+    /// The folder was absent and could not be made.
     #[error("failed to create log directory: {0}")]
     Directory(io::Error),
     /// The log file could not be opened.
     #[error("failed to create log file: {0}")]
     File(io::Error),
-    /// The link to the newest log file could not be made; the log file stands.
+    /// The link to the newest log file could not be made. The log file was made.
     #[error("failed to create symlink to latest log file: {0}")]
     Symlink(io::Error),
-    /// The moment lies outside the years 1 to 9998 of UTC.
+    /// The moment is outside the years 1 to 9998 of UTC.
     #[error("moment out of range")]
     Moment,
-    /// Prefix and suffix, the name that they make, or the link's name cannot name one entry of a
-    /// folder; or the link has the name of a log file.
+    /// Prefix and suffix, the name that they make, or the link's name is not a single path component; or the link
+    /// has the name of a log file.
     #[error("name not allowed")]
     Name,
     /// Memory was refused.
     #[error("out of memory")]
     Memory,
-    /// A limit of bytes is set under `NEVER`, whose names need have no date for the number to follow.
+    /// A limit of bytes is set under `NEVER`, whose names may have no date for the number to follow.
     #[error("byte limit without a rotation")]
     Limit,
 }

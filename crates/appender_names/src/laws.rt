@@ -1,5 +1,5 @@
-//! What holds of all rotations and all names. A caller cites a law by a call: the function does
-//! nothing, and its contract is the law.
+//! Laws of all rotations and all names. A caller cites a law by a call: the function does nothing, and its
+//! contract is the law.
 ghost use Rattle.std.specs.Prelude.{◌≡◌, ◌↔◌, IsTrue};
 ghost use Rattle.appender_names.specs.declared.rotation.Rotation.{Rotation};
 ghost use Rattle.appender_names.specs.declared.rotation.RotationKind.TheVariants.{Minutely, Hourly, Daily, Weekly};
@@ -9,8 +9,8 @@ ghost use Rattle.appender_names.specs.Rotation.{IsRotation, IsNever, StartsItsel
 
 use crate::rotation::Rotation;
 
-/// What each constant stands for: its kind, and which seconds are its boundaries, by the rest that
-/// they leave when they are divided by its step. Weeks begin on Sunday, as 1970-01-04 is.
+/// The meaning of each constant: its kind, and which seconds are its boundaries, by their remainder when divided
+/// by its step. Weeks begin on Sunday, as 1970-01-04 is.
 pub fn constants_have_their_boundaries()
     ensures minutely { IsRotation Rotation.MINUTELY Minutely 60 0 }
     ensures hourly { IsRotation Rotation.HOURLY Hourly 3600 0 }
@@ -19,12 +19,12 @@ pub fn constants_have_their_boundaries()
     ensures never { IsNever Rotation.NEVER }
 {}
 
-/// `==` of rotations holds exactly where both are the same rotation.
+/// Rotations are equal by `==` exactly if they are the same rotation.
 pub fn equal_rotations_are_the_same()
     ensures { (r s : Rotation) → IsTrue (rotation_eq r s) ↔ (r ≡ s) }
 {}
 
-/// The start of a period lies in that period, so that rounding twice is rounding once.
+/// The start of a period is in that period, so that rounding twice is rounding once.
 pub fn periods_start_themselves()
     ensures { (r : Rotation) → StartsItself r }
 {}
@@ -40,8 +40,8 @@ pub fn names_rise()
     ensures { (n : Naming) → NamesRise n }
 {}
 
-/// Under each rotation but `NEVER`, which has no boundaries, moments share a name exactly where they
-/// share a period and have one number.
+/// Under each rotation but `NEVER`, which has no boundaries, moments share a name exactly if they share a period
+/// and have one number.
 pub fn names_are_periods()
     ensures { (n : Naming) → NamesArePeriods n }
 {}
@@ -56,7 +56,7 @@ pub fn names_read_once()
     ensures { (n : Naming) → NamesReadOnce n }
 {}
 
-/// Each name is that of one entry of a folder.
+/// Each name is a single path component.
 pub fn names_are_entries()
     ensures { (n : Naming) → NamesAreEntries n }
 {}

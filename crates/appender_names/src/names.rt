@@ -1,9 +1,8 @@
-//! What the log files are called, as in the documentation of the crate tracing-appender: prefix,
-//! date and suffix, with a dot between. Dates are those of UTC in the proleptic Gregorian calendar
-//! of ISO 8601.
+//! The names of log files, as the documentation of the crate tracing-appender has them: prefix, date and
+//! suffix, with dots between. Dates are those of UTC in the proleptic Gregorian calendar of ISO 8601.
 ghost use Rattle.std.specs.Prelude.{◌≡◌, ◌≢◌, ◌↔◌, ◌≤◌, true, ℕ, ℤ, pos, negsuc, List, [], ◌∷◌, IsTrue, IsOk, IfOk, IfErr, MatchOption, None, Some, Err, string_bytes, string_len, string_capacity, ◌⊎◌, ◌+◌, ◌++◌, ◌<◌, length, if◌then◌else◌};
 ghost use Rattle.appender_names.specs.declared.rotation.RotationKind.TheVariants.{Never};
-ghost use Rattle.appender_names.specs.Rotation.{IsMoment, IsNever};
+ghost use Rattle.appender_names.specs.Rotation.{IsMoment, IsDatable, IsNever};
 ghost use Rattle.appender_names.specs.DateText.{date_text, two_digits};
 ghost use Rattle.std.specs.List.{list_all};
 ghost use Rattle.appender_names.specs.Name as spec;
@@ -15,7 +14,7 @@ use crate::rotation::{Rotation, RotationKind};
 use std::alloc::{AllocError, Global};
 use std::marker::Model;
 
-/// What the log files of one appender are called.
+/// The naming of the log files of one appender.
 #[derive(Drop)]
 pub struct Names {
     alloc: Global,
@@ -43,18 +42,17 @@ impl Model for Names {
 
 impl Names {
     ghost use Rattle.appender_names.specs.Name.{Naming, name_of, name_at, last_number, mark_of, naming, numbered_naming, named_moment, Reads, ReadsAt, reading, reading_at};
-    ghost use Rattle.jiff.specs.Words.{IsBetween};
 
-    /// Whether names may have this prefix and this suffix, where an empty text is none: neither has
-    /// a `/` or a zero byte, and under `NEVER` both together don't make `.` or `..`.
+    /// Returns whether names may have this prefix and this suffix, of which an empty one is none: neither has a
+    /// `/` or a zero byte, and under `NEVER` both together don't make `.` or `..`.
     pub fn is_allowed(rotation: Rotation, prefix: &str, suffix: &str) -> bool
         ensures { IsTrue result ↔ IsAllowed rotation prefix.now suffix.now }
     {
         is_part(prefix) && is_part(suffix) && (!rotation.is_never() || is_plain(prefix, suffix))
     }
 
-    /// Names with this prefix and this suffix, where an empty text is none. `Name` says that
-    /// `is_allowed` refuses them, and `Memory` that there is no room for a copy of both.
+    /// Returns names with this prefix and this suffix, of which an empty one is none. `Name` if `is_allowed`
+    /// refuses them; else `Memory` if there is no room for a copy of both.
     pub fn new(
         alloc: Global,
         rotation: Rotation,
@@ -117,21 +115,21 @@ impl Names {
         self.numbered
     }
 
-    /// How often a new name begins.
+    /// Returns the rotation.
     pub fn rotation(&self) -> Rotation
         ensures { result ≡ self.now.rotation }
     {
         self.rotation
     }
 
-    /// What each name begins with; empty where nothing is set.
+    /// Returns the prefix; empty if none is set.
     pub fn prefix(&self) -> &str
         ensures { result.now ≡ self.now.prefix }
     {
         self.prefix.as_str()
     }
 
-    /// What each name ends with; empty where nothing is set.
+    /// Returns the suffix; empty if none is set.
     pub fn suffix(&self) -> &str
         ensures { result.now ≡ self.now.suffix }
     {
@@ -181,7 +179,7 @@ impl Names {
         dated_name(self.alloc, prefix, suffix, self.mark(moment, number)?)
     }
 
-    // What stands between prefix and suffix, where a date does.
+    // Adds what is between prefix and suffix, if there is a date.
     fn mark(&self, moment: i64, number: u32) -> Result<String, AllocError>
         requires rotates { ¬ (IsNever self.now.rotation) }
         requires moment { IsMoment moment }
@@ -197,18 +195,18 @@ impl Names {
         numbered_date(date, number)
     }
 
-    // The moment whose date stands in the name, where periods have a start: the start.
+    // Returns the second whose date is in the name: the start of the period, if it has one.
     fn named_start(&self, moment: i64) -> i64
         requires rotates { ¬ (IsNever self.now.rotation) }
         requires moment { IsMoment moment }
         ensures start { result ≡ named_moment self.now.rotation moment }
-        ensures within { IsBetween (negsuc 62135683199) (pos 253370764799) result }
+        ensures within { IsDatable result }
     {
         self.rotation.round_date(moment)
     }
 
-    /// The moment at which the minute, hour or day begins whose date stands in a name. It is `None`
-    /// for a text that no date of the years 0000 to 9999 has as its name.
+    /// Returns the first second of the minute, hour or day whose date is in a name. `None` if the text is not the
+    /// name of a date of the years 0000 to 9999.
     pub fn read(&self, name: &str) -> Option<i64>
         ensures exact { (s : ℤ) → (result ≡ Some s) ↔ Reads self.now name.now s }
         ensures value { result ≡ reading self.now name.now }
@@ -230,7 +228,7 @@ impl Names {
         self.read_both(name)
     }
 
-    // The second and the number that a name reads as; without numbers the number is 0.
+    // Returns the second and the number of a name; without numbers the number is 0.
     fn read_both(&self, name: &str) -> Option<(i64, u32)>
         ensures exact { (s : ℤ) (k : ℕ) → (result ≡ Some (s, k)) ↔ ReadsAt self.now name.now s k }
         ensures value { result ≡ reading_at self.now name.now }
@@ -241,7 +239,7 @@ impl Names {
     }
 }
 
-// The second and the number that stand between prefix and suffix.
+// Returns the second and the number that are between prefix and suffix.
 fn read_mark(kind: RotationKind, numbered: bool, mark: &[u8]) -> Option<(i64, u32)>
     ensures { MatchOption result ((s : ℤ) (k : ℕ) → ¬ (IsMark kind numbered mark.now s k))
         (λ key. IsMark kind numbered mark.now key.0 key.1) }
@@ -250,7 +248,7 @@ fn read_mark(kind: RotationKind, numbered: bool, mark: &[u8]) -> Option<(i64, u3
     Some((civil::read_date(kind, date)?, number))
 }
 
-// The date, and the number after it and a dot, if names are numbered; else the number is 0.
+// Returns the date, and the number after it and a dot, if names are numbered; else the number is 0.
 fn split_number(numbered: bool, mark: &[u8]) -> Option<(&[u8], u32)>
     ensures { MatchOption result
         ((date : List ℕ) (k : ℕ) → k ≤ last_by numbered → mark.now ≢ marked numbered date k)
@@ -268,7 +266,7 @@ fn split_number(numbered: bool, mark: &[u8]) -> Option<(&[u8], u32)>
     Some((date, high * 10_000 + middle * 100 + low))
 }
 
-// How many bytes a number and the suffix after it have.
+// Returns how many bytes a number and the suffix after it have.
 fn tail_len(suffix: &str) -> usize
     ensures { result ≡ 6 + length (back suffix.now) }
 {
@@ -339,8 +337,8 @@ fn numbered_date(date: String, number: u32) -> Result<String, AllocError>
     Ok(mark)
 }
 
-/// Whether a text names one entry of a folder: it is not empty, `.` or `..`, and it has no `/` and no
-/// zero byte.
+/// Returns whether a text is a single path component: it is not empty, `.` or `..`, and it has no `/` and no zero
+/// byte.
 pub fn is_entry_name(name: &str) -> bool
     ensures entry { IsTrue result ↔ IsEntry name.now }
     ensures test { result ≡ spec.is_entry name.now }
@@ -355,7 +353,7 @@ fn is_part(text: &str) -> bool
     text.as_bytes().iter().all(|b| *b != b'/' && *b != 0)
 }
 
-// Whether these two make another name than `.` and `..` where no date stands between them.
+// Returns whether these two, with no date between them, make another name than `.` and `..`.
 fn is_plain(prefix: &str, suffix: &str) -> bool
     ensures { IsTrue result ↔ ¬ (IsDots (spec.undated_name prefix.now suffix.now [])) }
 {
@@ -372,7 +370,7 @@ fn is_dots(name: &str) -> bool
     name == "." || name == ".."
 }
 
-// The name that a date has.
+// Returns the name for a date.
 fn dated_name(alloc: Global, prefix: &str, suffix: &str, date: String) -> Result<String, AllocError>
     ensures { IfOk result (λ name.
         string_bytes name ≡ spec.dated_name prefix.now suffix.now (string_bytes date)) }
@@ -385,7 +383,7 @@ fn dated_name(alloc: Global, prefix: &str, suffix: &str, date: String) -> Result
     }
 }
 
-// The name under `NEVER`, which has a date only where nothing else can stand in it.
+// Returns the name under `NEVER`, which has a date only if it would be empty without one.
 fn undated_name(
     alloc: Global,
     prefix: &str,
@@ -404,7 +402,7 @@ fn undated_name(
     }
 }
 
-// What stands behind the prefix, if one is set, and a dot.
+// Returns what is after the prefix, if one is set, and a dot.
 fn behind<'a>(text: &'a [u8], prefix: &[u8]) -> Option<&'a [u8]>
     ensures { MatchOption result ((rest : List ℕ) → text.now ≢ spec.behind prefix.now rest)
         (λ rest. text.now ≡ spec.behind prefix.now rest.now) }
@@ -415,7 +413,7 @@ fn behind<'a>(text: &'a [u8], prefix: &[u8]) -> Option<&'a [u8]>
     text.strip_prefix(prefix)?.strip_prefix(b".")
 }
 
-// What stands before a dot and the suffix, if one is set.
+// Returns what is before a dot and the suffix, if one is set.
 fn before<'a>(text: &'a [u8], suffix: &[u8]) -> Option<&'a [u8]>
     ensures { MatchOption result ((rest : List ℕ) → text.now ≢ spec.before rest suffix.now)
         (λ rest. text.now ≡ spec.before rest.now suffix.now) }

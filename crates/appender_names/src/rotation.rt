@@ -1,5 +1,5 @@
-//! When a new log file begins, as in the documentation of the crate tracing-appender. A moment is
-//! in whole seconds of UTC since 1970-01-01 00:00:00, with days of 86,400 seconds.
+//! When log files rotate, as the documentation of the crate tracing-appender says. A moment is in whole seconds
+//! of UTC since 1970-01-01 00:00:00, with days of 86,400 seconds.
 ghost use Rattle.std.specs.Prelude.{◌≡◌, ◌≢◌, ◌↔◌, negsuc, ◌≤ℤ◌, IsTrue, IsNone, IfSome};
 ghost use Rattle.appender_names.specs.RotationText.{ParsesRotation};
 ghost use Rattle.appender_names.specs.Rotation.{IsMoment, IsNever, IsGreatestBoundary, IsNextBoundary, step_of, period_of, next_of, is_in_period};
@@ -7,7 +7,7 @@ ghost use Rattle.appender_names.specs.Rotation.{IsMoment, IsNever, IsGreatestBou
 use std::str::FromStr;
 use thiserror::Error;
 
-/// How often a new log file begins. Its boundaries are whole minutes, hours, days or weeks of UTC.
+/// How often a new log file is opened. Its boundaries are whole minutes, hours, days or weeks of UTC.
 #[derive(Clone, Copy, Debug, PartialEq, Eq)]
 pub struct Rotation {
     kind: RotationKind,
@@ -29,12 +29,12 @@ const FIRST: i64 = -62_135_596_800;
 // 9998-12-31 23:59:59.
 const LAST: i64 = 253_370_764_799;
 
-// Seconds from the Sunday before the first moment to 1970-01-01. Each kind's boundaries lie whole
-// steps after that Sunday.
+// Seconds from the Sunday before the first moment to 1970-01-01. Each kind's boundaries are whole steps after
+// that Sunday.
 const BEFORE: i64 = 62_135_683_200;
 
 impl RotationKind {
-    // Seconds from a boundary to the next.
+    // Returns the seconds from a boundary to the next.
     fn step(self) -> u64
         ensures step { result ≡ step_of self }
     {
@@ -49,32 +49,32 @@ impl RotationKind {
 }
 
 impl Rotation {
-    /// A new file begins each minute.
+    /// A new file each minute.
     pub const MINUTELY: Rotation = Rotation {
         kind: RotationKind::Minutely,
     };
 
-    /// A new file begins each hour.
+    /// A new file each hour.
     pub const HOURLY: Rotation = Rotation {
         kind: RotationKind::Hourly,
     };
 
-    /// A new file begins each day at 00:00:00.
+    /// A new file each day at 00:00:00.
     pub const DAILY: Rotation = Rotation {
         kind: RotationKind::Daily,
     };
 
-    /// A new file begins each Sunday at 00:00:00.
+    /// A new file each Sunday at 00:00:00.
     pub const WEEKLY: Rotation = Rotation {
         kind: RotationKind::Weekly,
     };
 
-    /// There is one file for all time.
+    /// One file for all time.
     pub const NEVER: Rotation = Rotation {
         kind: RotationKind::Never,
     };
 
-    /// Whether this is `NEVER`, which has no boundaries.
+    /// Returns whether this is `NEVER`, which has no boundaries.
     pub fn is_never(&self) -> bool
         ensures { IsTrue result ↔ IsNever self.now }
     {
@@ -87,8 +87,8 @@ impl Rotation {
         self.kind
     }
 
-    /// The start of the moment's period, in seconds: the greatest boundary that isn't after the
-    /// moment. The first week starts a day before the range that `in_range` tests.
+    /// Returns the start of the moment's period, in seconds: the greatest boundary that isn't after the moment. The
+    /// first week starts a day before the range that `in_range` tests.
     pub fn round_date(&self, moment: i64) -> i64
         requires rotates { ¬ (IsNever self.now) }
         requires moment { IsMoment moment }
@@ -101,8 +101,7 @@ impl Rotation {
         (since - since % step) as i64 - BEFORE
     }
 
-    /// The start of the next period, in seconds: the least boundary after the moment. `NEVER` has
-    /// none.
+    /// Returns the start of the next period, in seconds: the least boundary after the moment. `None` under `NEVER`.
     pub fn next_date(&self, moment: i64) -> Option<i64>
         requires moment { IsMoment moment }
         ensures value { result ≡ next_of self.now moment }
@@ -123,7 +122,7 @@ impl Rotation {
         self.is_never() || self.is_between(moment, second)
     }
 
-    // The same, where periods have a start.
+    // The same, if periods have a start.
     fn is_between(&self, moment: i64, second: i64) -> bool
         requires rotates { ¬ (IsNever self.now) }
         requires moment { IsMoment moment }
@@ -132,7 +131,7 @@ impl Rotation {
         self.round_date(moment) <= second && second < self.next_start(moment)
     }
 
-    // Where the next period starts.
+    // Returns the start of the next period.
     fn next_start(&self, moment: i64) -> i64
         requires rotates { ¬ (IsNever self.now) }
         requires moment { IsMoment moment }

@@ -1,11 +1,11 @@
-//! What holds of the log files in a folder. A caller cites a law by a call: the function does
-//! nothing, and its contract is the law.
+//! Laws of the log files in a folder. A caller cites a law by a call: the function does nothing, and its contract
+//! is the law.
 ghost use Rattle.appender_names.specs.Name.{Naming};
 ghost use Rattle.appender_retain.specs.Survival.{OpeningsAddOne, LinksAddNone};
 
 use appender_store::laws::names_change_one_at_a_time;
 
-/// With one file more, at most one candidate more stands.
+/// One file more is at most one candidate more.
 pub fn openings_add_one()
     ensures { (n : Naming) → OpeningsAddOne n }
 {

@@ -1,4 +1,4 @@
-//! Which log files go so that only the newest remain, and their removal.
+//! Retention: which log files are removed so that only the newest remain, and their removal.
 #![tactic(auto)]
 
 pub mod laws;

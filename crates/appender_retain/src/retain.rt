@@ -1,5 +1,5 @@
-//! Retention, as in the documentation of tracing-appender: the oldest log files go, so that at most
-//! a maximum remains.
+//! Retention, as the documentation of tracing-appender has it: the oldest log files are removed, so that at most a
+//! maximum remains.
 ghost use Rattle.std.specs.Prelude.{◌≡◌, IfOk, map};
 ghost use Rattle.std.specs.Option.{option_map};
 ghost use Rattle.appender_store.specs.Folder.{listed_row};
@@ -15,7 +15,7 @@ use std::alloc::{AllocError, Global};
 
 const NANOS_PER_SECOND: i128 = 1_000_000_000;
 
-// A candidate, with what decides its rank in this order.
+// A candidate, with what decides its rank, in this order.
 #[derive(Clone, Copy, Debug, PartialEq, Eq, PartialOrd, Ord)]
 struct Candidate<'a> {
     key: i128,
@@ -23,10 +23,10 @@ struct Candidate<'a> {
     place: usize,
 }
 
-/// The places of the entries that go so that at most `max` log files remain once one more is made,
-/// lowest rank first; none where `max` is 0. A log file is a plain file whose name begins with the
+/// Returns the places of the entries to remove so that at most `max` log files remain when one more is made,
+/// lowest rank first; none if `max` is 0. A log file is a plain file whose name begins with the
 /// prefix and ends with the suffix; with neither set the name must read as a date. They are ranked
-/// by creation moment, or by the second that the name reads as where there is none, then by name.
+/// by creation time, or if it is unknown by the second of the name, and then by name.
 pub fn plan(
     alloc: Global,
     names: &Names,
@@ -41,7 +41,7 @@ pub fn plan(
     places(alloc, &all[..count])
 }
 
-// The candidates of a listing, in its order.
+// Returns the candidates of a listing, in its order.
 fn candidates<'a>(
     alloc: Global,
     names: &Names,
@@ -59,7 +59,7 @@ fn candidates<'a>(
     Ok(all)
 }
 
-// The entry as a candidate, if it is one.
+// Returns the entry as a candidate, if it is one.
 fn as_candidate<'a>(names: &Names, place: usize, entry: &'a Listed) -> Option<Candidate<'a>>
     ensures { option_map rank_in result ≡ rank_of names.now (place, listed_row entry.now) }
 {
@@ -71,7 +71,7 @@ fn as_candidate<'a>(names: &Names, place: usize, entry: &'a Listed) -> Option<Ca
     Some(Candidate { key, name, place })
 }
 
-// The nanosecond that ranks a file: that of its creation, else the one that its name tells.
+// Returns the nanosecond that ranks a file: that of its creation, else that of its name.
 fn key(names: &Names, name: &str, created: Option<i128>) -> Option<i128>
     ensures { result ≡ key_of names.now name.now created }
 {
@@ -84,7 +84,7 @@ fn key(names: &Names, name: &str, created: Option<i128>) -> Option<i128>
     }
 }
 
-// Whether a name has prefix and suffix, and reads as a date where neither is set.
+// Returns whether a name has prefix and suffix, and reads as a date if neither is set.
 fn has_parts(names: &Names, name: &str) -> bool
     ensures { result ≡ matches_parts names.now name.now }
 {
@@ -94,7 +94,7 @@ fn has_parts(names: &Names, name: &str) -> bool
         && (!(prefix.is_empty() && suffix.is_empty()) || names.read(name).is_some())
 }
 
-// How many of so many candidates go.
+// Returns how many of so many candidates are removed.
 fn how_many(max: usize, count: usize) -> usize
     ensures { result ≡ how_many_go max count }
 {
@@ -105,7 +105,7 @@ fn how_many(max: usize, count: usize) -> usize
     }
 }
 
-// The places of some candidates.
+// Returns the places of some candidates.
 fn places(alloc: Global, some: &[Candidate<'_>]) -> Result<Vec<usize>, AllocError>
     ensures { IfOk result (λ all. all.items ≡ map (λ c. c.place) some.now) }
 {

@@ -1,4 +1,4 @@
-// The removal of the log files that don't survive.
+// The removal of log files.
 ghost use Rattle.std.specs.Prelude.{◌≡◌, IsTrue, map, filter_map};
 ghost use Rattle.std.specs.Option.{option_map};
 ghost use Rattle.appender_store.specs.Content.{IsFile};
@@ -14,9 +14,9 @@ use appender_store::store::{Folder, Listed, Notice};
 use std::alloc::Global;
 use std::io;
 
-/// Removes the log files that don't survive, so that at most `max` remain once one more is made;
-/// none where `max` is 0. A listing or a plan that can't be had is noted as `Notice::List`, and
-/// nothing goes; a removal that fails is noted as `Notice::Remove`, and the next is tried.
+/// Removes the oldest log files, so that at most `max` remain when one more is made; none if `max` is 0. If the
+/// folder can't be listed, or memory is refused, `Notice::List` is noted and nothing is removed. A removal that
+/// fails is noted as `Notice::Remove`, and the next is tried.
 pub fn prune_old_logs<S: Folder>(alloc: Global, folder: &mut S, names: &Names, max: usize)
     ensures { Prunes S.Folder names.now max folder.old folder.new }
 {
@@ -52,14 +52,14 @@ fn remove_planned<S: Folder>(folder: &mut S, listed: &[Listed], gone: &[usize])
     }
 }
 
-// The name listed at a place, if it can be read.
+// Returns the name listed at a place, if it can be read.
 fn listed_name(listed: &[Listed], place: usize) -> Option<&str>
     ensures { option_map (λ name. name.now) result ≡ name_at (map listed_row listed.now) place }
 {
     Some(listed.get(place)?.name.as_ref()?.as_str())
 }
 
-// Removes a file, and notes a fault.
+// Removes a file, and notes a failure.
 fn remove_file<S: Folder>(folder: &mut S, name: &str)
     requires { IsTrue S.is_known → IsFile (fin.get (S.content folder.old).names name.now) }
     ensures { RemovesFile S.Folder name.now folder.old folder.new }
