@@ -13,7 +13,7 @@ use Rattle.appender_replay.specs.declared.replay.ReplayError.TheVariants.{Memory
 use Rattle.rollplay_core.specs.declared.play.Failure.{Failure}
 use Rattle.rollplay_core.specs.declared.play.Opening.{Opening}
 use Rattle.rollplay_core.specs.declared.play.Opening.TheVariants.{Refused}
-use Rattle.rollplay_core.specs.Play.{IsGiven, IsRefusalPage, Tells}
+use Rattle.rollplay_core.specs.Play.{IsGiven, IsRefusalPage, IsPlayPage}
 use Rattle.rollplay_script.specs.Script.{Plan, rolling, queued}
 
 -- a front that is shorter than it may be is all
@@ -29,13 +29,13 @@ given_whole (Some bytes) limit most read next front short =
     let all : length bytes ≤ limit = omega (arith, counted) in
     sym (front ∙ take_short limit bytes all)
 
--- where no log was opened, the page tells why
-pub tells_refusal : {F : Type 0} (kind : Ghosts MemoryFolder F) (config : Config) (folder : MemoryFolder) (start : ℤ) (plan : Plan) (error : ReplayError MemoryFolder) (result : Result (Opening × Vec ℕ Global) Failure)
+-- the page of a log that was not opened
+pub refused_page : {F : Type 0} (kind : Ghosts MemoryFolder F) (config : Config) (folder : MemoryFolder) (start : ℤ) (plan : Plan) (error : ReplayError MemoryFolder) (result : Result (Opening × Vec ℕ Global) Failure)
     → IsNotRun kind config start folder error → IfOk result (λ r. (r.0 ≡ Refused) × IsRefusalPage error r.1.items)
-    → IfOk result (λ r. Tells kind config folder start plan r.0 r.1.items)
-tells_refusal kind config folder start plan error (Err failure) not_run told = tt
-tells_refusal kind config folder start plan (NoMemory back) (Ok r) not_run told = absurd told.1
-tells_refusal kind config folder start (rolling steps) (Init error back) (Ok r) not_run told =
-    rw told.0 (record { error = error; back = back; refused = not_run; page_is = told.1 })
-tells_refusal kind config folder start (queued limit lossy steps) (Init error back) (Ok r) not_run told =
-    rw told.0 (record { error = error; back = back; refused = not_run; page_is = told.1 })
+    → IfOk result (λ r. IsPlayPage kind config folder start plan r.0 r.1.items)
+refused_page kind config folder start plan error (Err failure) not_run is = tt
+refused_page kind config folder start plan (NoMemory back) (Ok r) not_run is = absurd is.1
+refused_page kind config folder start (rolling steps) (Init error back) (Ok r) not_run is =
+    rw is.0 (record { error = error; back = back; refused = not_run; page_is = is.1 })
+refused_page kind config folder start (queued limit lossy steps) (Init error back) (Ok r) not_run is =
+    rw is.0 (record { error = error; back = back; refused = not_run; page_is = is.1 })

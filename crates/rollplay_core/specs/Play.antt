@@ -1,4 +1,4 @@
--- A play of a script: its run over a folder in memory, and what is printed of it. `kind` has what such a folder tells.
+-- A play of a script: its run over a folder in memory, and what is printed of it. `kind` has the ghost members of such a folder.
 use Rattle.std.specs.Prelude.{◌≡◌, ◌<◌, ◌⊎◌, ℕ, ℤ, Bool, List, [], ◌++◌, length, Option, IfSome, IsUtf8, codes}
 use Rattle.std.specs.Fmt.{decimal}
 use Rattle.std.specs.Io.KnownBytes.{Appends, Keeps}
@@ -12,10 +12,10 @@ use Rattle.appender_rolling.specs.Opening.{file_name_of}
 use Rattle.appender_rolling.specs.Roller.{Rolling, OpensNoRoller}
 use Rattle.appender_queue.specs.Queue.{Queue}
 use Rattle.appender_queue.specs.QueueReplies.{counts_of}
-use Rattle.appender_replay.specs.Answers.{Answers, WorkerDoes}
-use Rattle.appender_replay.specs.Record.{queue_after}
+use Rattle.appender_worker.specs.Core.{Core}
+use Rattle.appender_replay.specs.Answers.{WorkerDoes}
 use Rattle.appender_replay.specs.Replay.{RollDoes, RunsFrom, with_replies}
-use Rattle.appender_replay.specs.Whole.{HandsInOrder, HandsLabelInOrder, TextLaw}
+use Rattle.appender_replay.specs.Whole.{LinesFollow}
 use Rattle.appender_replay.specs.declared.replay.RollStep.{RollStep}
 use Rattle.appender_replay.specs.declared.replay.RollReply.{RollReply}
 use Rattle.appender_replay.specs.declared.replay.ReplayError.{ReplayError}
@@ -32,8 +32,8 @@ use Rattle.rollplay_script.specs.declared.script.ScriptError.TheVariants.{Fault,
 use Rattle.rollplay_core.specs.Page.{line_of, run_page, queued_page, refusal_page}
 use Rattle.rollplay_script.specs.Script.{Plan, rolling, queued, IsScript, HasFirstFault}
 
--- the log was opened and all steps were run, and the page tells it
-pub record TellsRun {F : Type 0} (kind : Ghosts MemoryFolder F) (config : Config) (folder : MemoryFolder) (start : ℤ) (steps : List RollStep) (page : List ℕ) : Type 0 where
+-- the log was opened and all steps were run, and the page has the replies and the folder at the end
+pub record IsRunPage {F : Type 0} (kind : Ghosts MemoryFolder F) (config : Config) (folder : MemoryFolder) (start : ℤ) (steps : List RollStep) (page : List ℕ) : Type 0 where
   pub replies : List RollReply
   pub one_each : length replies ≡ length steps
   pub last : Rolling MemoryFolder F
@@ -41,48 +41,44 @@ pub record TellsRun {F : Type 0} (kind : Ghosts MemoryFolder F) (config : Config
   pub runs : RunsFrom kind (RollDoes kind) config start number folder (with_replies steps replies) last
   pub page_is : page ≡ run_page (file_name_of config (stamp start number)) replies (state_of last.folder).content
 
--- The log was opened behind a queue of so many lines, and all steps were run: each answered as those before it demand, which
--- lead to this queue, and the worker did what it wanted. Its lines were handed over in order, those of each sender too, and
--- the worker's writes are of them alone. The page tells the replies, the folder at the end and the counts of the queue.
-pub record TellsQueuedRun {F : Type 0} (kind : Ghosts MemoryFolder F) (config : Config) (folder : MemoryFolder) (start : ℤ) (limit : ℕ) (lossy : Bool) (steps : List Step) (page : List ℕ) : Type 0 where
+-- The log was opened with a queue of so many lines before it, and all steps were run, with these replies; the laws of lines hold.
+-- The page has the replies, the folder at the end and the counts of the queue.
+pub record IsQueuedRunPage {F : Type 0} (kind : Ghosts MemoryFolder F) (config : Config) (folder : MemoryFolder) (start : ℤ) (limit : ℕ) (lossy : Bool) (steps : List Step) (page : List ℕ) : Type 0 where
   pub replies : List Reply
   pub one_each : length replies ≡ length steps
-  pub answers : Answers limit lossy (with_replies steps replies)
   pub queue : Queue
-  pub queue_is : queue ≡ queue_after limit lossy (with_replies steps replies)
-  pub handed : HandsInOrder (with_replies steps replies) queue
-  pub labels : (label : ℕ) → HandsLabelInOrder (with_replies steps replies) label
-  pub text : TextLaw (with_replies steps replies)
+  pub worker : Core
+  pub lines : LinesFollow limit lossy (with_replies steps replies) queue worker
   pub last : Rolling MemoryFolder F
   pub number : ℕ
   pub runs : RunsFrom kind (WorkerDoes kind) config start number folder (with_replies steps replies) last
   pub page_is : page ≡ queued_page (file_name_of config (stamp start number)) replies (state_of last.folder).content (counts_of queue)
 
--- the log was not opened, and the page tells why
-pub record TellsRefusal {F : Type 0} (kind : Ghosts MemoryFolder F) (config : Config) (folder : MemoryFolder) (start : ℤ) (page : List ℕ) : Type 0 where
+-- the log was not opened, and the page has the reason
+pub record IsRefusedPage {F : Type 0} (kind : Ghosts MemoryFolder F) (config : Config) (folder : MemoryFolder) (start : ℤ) (page : List ℕ) : Type 0 where
   pub error : InitError
   pub back : MemoryFolder
   pub refused : OpensNoRoller kind config start folder error back
   pub page_is : page ≡ refusal_page error (state_of back).content
 
--- where no step was run, the page tells why; nothing is told of a lack of memory
+-- if no step was run, the page has the reason; there is none for a lack of memory
 abbrev pub IsRefusalPage : ReplayError MemoryFolder → List ℕ → Type 0
 IsRefusalPage (NoMemory back) page = ⊥
 IsRefusalPage (Init error back) page = page ≡ refusal_page error (state_of back).content
 
-abbrev pub Tells : {F : Type 0} → Ghosts MemoryFolder F → Config → MemoryFolder → ℤ → Plan → Opening → List ℕ → Type 0
-Tells kind config folder start (rolling steps) Opened page = TellsRun kind config folder start steps page
-Tells kind config folder start (queued limit lossy steps) Opened page = TellsQueuedRun kind config folder start limit lossy steps page
-Tells kind config folder start plan Refused page = TellsRefusal kind config folder start page
+abbrev pub IsPlayPage : {F : Type 0} → Ghosts MemoryFolder F → Config → MemoryFolder → ℤ → Plan → Opening → List ℕ → Type 0
+IsPlayPage kind config folder start (rolling steps) Opened page = IsRunPage kind config folder start steps page
+IsPlayPage kind config folder start (queued limit lossy steps) Opened page = IsQueuedRunPage kind config folder start limit lossy steps page
+IsPlayPage kind config folder start plan Refused page = IsRefusedPage kind config folder start page
 
--- the text is a script, and the page tells its run
+-- the text is a script, and the page is that of its run
 pub record Plays {F : Type 0} (kind : Ghosts MemoryFolder F) (opening : Opening) (text page : List ℕ) : Type 0 where
   pub config : Config
   pub folder : MemoryFolder
   pub start : ℤ
   pub plan : Plan
   pub script : IsScript text config (state_of folder) start plan
-  pub tells : Tells kind config folder start plan opening page
+  pub page_of : IsPlayPage kind config folder start plan opening page
 
 -- all that was given, where that is known
 abbrev pub IsGiven : Option (List ℕ) → List ℕ → Type 0
@@ -106,7 +102,7 @@ pub record IsUnwritten {F : Type 0} (kind : Ghosts MemoryFolder F) (given : Opti
 
 -- ---- failures
 
--- what is told of each
+-- what is reported of each
 abbrev pub words_of : Failure → List ℕ
 words_of (Line number) = line_of (codes "line " ++ (decimal number ++ codes ": fault"))
 words_of Script = line_of (codes "bad script")

@@ -20,13 +20,13 @@ use tracing_appender::store::MemoryFolder;
 
 // A switch in one word.
 #[derive(Clone, Copy)]
-struct Told(Switch);
+struct SwitchWord(Switch);
 
-impl fmt::Display for Told {
+impl fmt::Display for SwitchWord {
     ghost use Rattle.std.specs.Prelude.{Some};
     ghost use Rattle.rollplay_core.specs.Page.{switch_word};
 
-    ghost output = { λ told. Some (switch_word told.0) };
+    ghost output = { λ word. Some (switch_word word.0) };
 
     fn fmt<W: fmt::Write>(&self, f: &mut fmt::Formatter<W>) -> fmt::Result {
         f.write_str(match self.0 {
@@ -126,8 +126,8 @@ fn print_reply(page: &mut Vec<u8>, reply: &RollReply) -> io::Result<()>
         (page.new.items ≡ page.old.items ++ line_of (reply_words reply.now)) }
 {
     match reply {
-        RollReply::Saw(switch) => writeln!(page, "{}", Told(*switch)),
-        RollReply::Put(switch, taken) => writeln!(page, "{} {}", Told(*switch), Taken(taken)),
+        RollReply::Saw(switch) => writeln!(page, "{}", SwitchWord(*switch)),
+        RollReply::Put(switch, taken) => writeln!(page, "{} {}", SwitchWord(*switch), Taken(taken)),
         RollReply::Wrote(taken) => writeln!(page, "{}", Taken(taken)),
         RollReply::Flushed(Ok(())) => writeln!(page, "ok"),
         RollReply::Flushed(Err(_)) => writeln!(page, "err"),
@@ -154,7 +154,7 @@ fn print_queue_reply(page: &mut Vec<u8>, reply: &Reply) -> io::Result<()>
         Reply::Senders(count) => return writeln!(page, "senders {count}"),
         Reply::Took(ticket) => return writeln!(page, "took {ticket}"),
         Reply::Wrote(switch, taken) => {
-            return writeln!(page, "wrote {} {}", Told(*switch), Taken(taken));
+            return writeln!(page, "wrote {} {}", SwitchWord(*switch), Taken(taken));
         }
         Reply::Full | Reply::Shut(Shut::Full) => "full",
         Reply::Closed | Reply::Shut(Shut::Closed) => "closed",

@@ -3,7 +3,7 @@
 ghost use Rattle.std.specs.Prelude.{◌≡◌, ◌≤◌, IfOk, IfErr, OnOk, IfSome, string_bytes, string_len};
 ghost use Rattle.std.specs.Io.KnownBytes.{Keeps, Appends};
 ghost use Rattle.appender_store.specs.MemoryView.{state_of};
-ghost use Rattle.rollplay_core.specs.Play.{Tells, IsGiven, Prints, IsOfReading, Fails, Reports, words_of};
+ghost use Rattle.rollplay_core.specs.Play.{IsPlayPage, IsGiven, Prints, IsOfReading, Fails, Reports, words_of};
 ghost use Rattle.rollplay_core.specs.Play.{status_of, IsRefusalPage};
 ghost use Rattle.program_input.specs.Report.{AppendsBeginning};
 ghost use Rattle.rollplay_script.specs.Draft.{plan_of};
@@ -66,7 +66,7 @@ impl Failure {
     }
 
     // Reports it on `errors`, and needs no memory for that.
-    fn tell<E: Write>(self, errors: &mut E) -> io::Result<()>
+    fn report<E: Write>(self, errors: &mut E) -> io::Result<()>
         ensures whole { OnOk result (Appends (E.contents errors.old) (E.contents errors.new) (words_of self)) }
         ensures beginning { AppendsBeginning (E.contents errors.old) (E.contents errors.new) (words_of self) }
     {
@@ -103,10 +103,10 @@ impl From<ScriptError> for Failure {
     }
 }
 
-/// Reads a script on `input` and plays it over a folder in memory. What the calls answered and what the folder then
-/// holds goes to `output`, and what stands in the way to `errors`, whose own faults are ignored. The answer is the
-/// status of the process: 0; 1 where the log was not opened; 2 where the script is faulty or not read, or the output
-/// not written; 3 where memory was refused.
+/// Reads a script on `input` and plays it over a folder in memory. The replies of the calls and what the folder then
+/// contains go to `output`, a failure to `errors`, whose own faults are ignored. Returns the status of the process: 0;
+/// 1 if the log was not opened; 2 if the script is faulty or not read, or the output not written; 3 if memory was
+/// refused.
 pub fn play<R: Read, W: Write, E: Write>(
     alloc: Global,
     input: &mut R,
@@ -125,7 +125,7 @@ pub fn play<R: Read, W: Write, E: Write>(
     match play_input(alloc, input, output) {
         Ok(opening) => opening.status(),
         Err(failure) => {
-            let _ = failure.tell(errors);
+            let _ = failure.report(errors);
             failure.status()
         }
     }
@@ -173,9 +173,9 @@ fn read_text<R: Read>(alloc: Global, input: &mut R) -> Result<String, Failure>
     }
 }
 
-// Runs a script, and tells on a page what is to be printed.
+// Runs a script, and returns the page to print.
 fn play_script(alloc: Global, script: Script) -> Result<(Opening, Vec<u8>), Failure>
-    ensures ok { IfOk result (λ r. Tells ⟦<MemoryFolder as Folder>⟧ script.builder script.folder
+    ensures ok { IfOk result (λ r. IsPlayPage ⟦<MemoryFolder as Folder>⟧ script.builder script.folder
         script.start (plan_of script.plan) r.0 r.1.items) }
     ensures err { IfErr result (λ failure. failure ≡ Failure.Memory) }
 {
@@ -201,7 +201,7 @@ fn play_rolling(
     start: i64,
     steps: &[RollStep],
 ) -> Result<(Opening, Vec<u8>), Failure>
-    ensures ok { IfOk result (λ r. Tells ⟦<MemoryFolder as Folder>⟧ builder.now folder
+    ensures ok { IfOk result (λ r. IsPlayPage ⟦<MemoryFolder as Folder>⟧ builder.now folder
         start (rolling steps.now) r.0 r.1.items) }
     ensures err { IfErr result (λ failure. failure ≡ Failure.Memory) }
 {
@@ -211,7 +211,7 @@ fn play_rolling(
             Ok(()) => Ok((Opening::Opened, page)),
             Err(_) => Err(Failure::Memory),
         },
-        Err(error) => tell_refusal(alloc, error),
+        Err(error) => play_refusal(alloc, error),
     }
 }
 
@@ -224,7 +224,7 @@ fn play_queued(
     start: i64,
     steps: &[Step],
 ) -> Result<(Opening, Vec<u8>), Failure>
-    ensures ok { IfOk result (λ r. Tells ⟦<MemoryFolder as Folder>⟧ builder.now folder
+    ensures ok { IfOk result (λ r. IsPlayPage ⟦<MemoryFolder as Folder>⟧ builder.now folder
         start (queued queueing.limit queueing.lossy steps.now) r.0 r.1.items) }
     ensures err { IfErr result (λ failure. failure ≡ Failure.Memory) }
 {
@@ -235,12 +235,12 @@ fn play_queued(
             Ok(()) => Ok((Opening::Opened, page)),
             Err(_) => Err(Failure::Memory),
         },
-        Err(error) => tell_refusal(alloc, error),
+        Err(error) => play_refusal(alloc, error),
     }
 }
 
-// Tells on a page why the log was not opened.
-fn tell_refusal(
+// IsPlayPage on a page why the log was not opened.
+fn play_refusal(
     alloc: Global,
     error: ReplayError<MemoryFolder>,
 ) -> Result<(Opening, Vec<u8>), Failure>

@@ -12,7 +12,7 @@ returns-in-Ok-clause-ok g c = record {
     start = c.in_ok-script.script.start;
     plan = plan_of c.in_ok-script.script.plan;
     script = c.in_ok-script.ensures.ok;
-    tells = c.in_ok-opening.ensures.ok;
+    page_of = c.in_ok-opening.ensures.ok;
   };
   appends = rw (← c.as_slice.ensures.value) c.in-Ok.ensures;
 }
@@ -29,6 +29,6 @@ returns-clause-err g c = record {
     start = c.in_ok-script.script.start;
     plan = plan_of c.in_ok-script.script.plan;
     script = c.in_ok-script.ensures.ok;
-    tells = c.in_ok-opening.ensures.ok;
+    page_of = c.in_ok-opening.ensures.ok;
   };
 }

@@ -2,7 +2,7 @@ use Rattle.std.proofs.Common.{FitsSigned, rules}
 use Rattle.std.specs.Int.{w64}
 use Rattle.std.proofs.lemmas.Int.{to_z-of_z}
 use Rattle.rollplay_script.specs.Script.{queued}
-use Rattle.rollplay_core.proofs.PlayLemmas.{tells_refusal}
+use Rattle.rollplay_core.proofs.PlayLemmas.{refused_page}
 use Rattle.rollplay_core.proofs.play.play_queued.Goals as goal
 
 pub returns-in-Ok-print_queued_run-clause-ok : goal.returns-in-Ok-print_queued_run-clause-ok
@@ -12,12 +12,9 @@ returns-in-Ok-print_queued_run-clause-ok c =
     record {
       replies = c.in-Ok.run'.replies.items;
       one_each = c.in-Ok.ensures.one_each;
-      answers = c.in-Ok.ensures.lines.answers;
       queue = c.in-Ok.run'.queue;
-      queue_is = c.in-Ok.ensures.lines.queue_is;
-      handed = c.in-Ok.ensures.lines.handed;
-      labels = c.in-Ok.ensures.lines.labels;
-      text = c.in-Ok.ensures.lines.text;
+      worker = c.in-Ok.run'.worker;
+      lines = c.in-Ok.ensures.lines;
       last = c.in-Ok.run'.roller;
       number = c.in-Ok.run'.number;
       runs = rw start at c.in-Ok.ensures.runs;
@@ -28,4 +25,4 @@ pub returns-in-Err-clause-ok : goal.returns-in-Err-clause-ok
 returns-in-Err-clause-ok c =
     let fits : FitsSigned w64 c.args.start = search rules in
     let start = to_z-of_z w64 c.args.start fits in
-    tells_refusal _ _ _ _ (queued c.args.queueing.limit c.args.queueing.lossy c.args.steps.now) _ _ (rw start at c.in-Err.ensures.err) c.tell_refusal.ensures.ok
+    refused_page _ _ _ _ (queued c.args.queueing.limit c.args.queueing.lossy c.args.steps.now) _ _ (rw start at c.in-Err.ensures.err) c.play_refusal.ensures.ok

@@ -2,7 +2,7 @@ use Rattle.std.proofs.Common.{FitsSigned, rules}
 use Rattle.std.specs.Int.{w64}
 use Rattle.std.proofs.lemmas.Int.{to_z-of_z}
 use Rattle.rollplay_script.specs.Script.{rolling}
-use Rattle.rollplay_core.proofs.PlayLemmas.{tells_refusal}
+use Rattle.rollplay_core.proofs.PlayLemmas.{refused_page}
 use Rattle.rollplay_core.proofs.play.play_rolling.Goals as goal
 
 pub returns-in-Ok-print_run-clause-ok : goal.returns-in-Ok-print_run-clause-ok
@@ -22,4 +22,4 @@ pub returns-in-Err-clause-ok : goal.returns-in-Err-clause-ok
 returns-in-Err-clause-ok c =
     let fits : FitsSigned w64 c.args.start = search rules in
     let start = to_z-of_z w64 c.args.start fits in
-    tells_refusal _ _ _ _ (rolling c.args.steps.now) _ _ (rw start at c.in-Err.ensures.err) c.tell_refusal.ensures.ok
+    refused_page _ _ _ _ (rolling c.args.steps.now) _ _ (rw start at c.in-Err.ensures.err) c.play_refusal.ensures.ok
