@@ -23,9 +23,9 @@ ghost use Rattle.appender_non_blocking.specs.Counted.{after_try};
 use super::counted::CountedSender;
 use super::guard::end;
 use super::shared::Shared;
+use appender_channel::books::{Done, FourBooks};
+use appender_channel::state::Counted;
 use appender_queue::queue::Shut;
-use appender_state::books::{Done, FourBooks};
-use appender_state::state::Counted;
 use std::alloc::Global;
 use std::fmt;
 use std::fmt::{Debug, Formatter};
@@ -102,7 +102,7 @@ impl<A: Ledger, H: Ledger, S: Ledger, C: Ledger, R: Wait + Clock + Print + Drop>
     for CountedGuard<A, H, S, C, R> {
     ghost use Rattle.std.specs.Prelude.{◌≡◌};
     ghost use Rattle.appender_non_blocking.specs.Account.{Guard};
-    ghost use Rattle.appender_state.specs.Tally.{one_if};
+    ghost use Rattle.appender_channel.specs.Tally.{one_if};
 
     ghost Value = { Guard };
 

@@ -8,7 +8,7 @@ use super::guard::WorkerGuard;
 use super::sender::{Local, NonBlocking};
 use super::shared::Shared;
 use super::worker::serve;
-use appender_state::books::{Done, FourBooks, NoBooks, Pass};
+use appender_channel::books::{Done, FourBooks, NoBooks, Pass};
 use std::alloc::{AllocError, Global};
 use std::io::Write;
 use std::marker::Model;

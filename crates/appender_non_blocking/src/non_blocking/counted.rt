@@ -7,8 +7,8 @@ ghost use Rattle.appender_non_blocking.specs.Counted.{after_line};
 
 use super::sender::{Local, Sent, copy_of, send};
 use super::shared::Shared;
-use appender_state::books::{FourBooks, SenderShare};
-use appender_state::state::Counted;
+use appender_channel::books::{FourBooks, SenderShare};
+use appender_channel::state::Counted;
 use std::alloc::{AllocError, Global};
 use std::fmt::{Debug, Formatter};
 use std::io::ErrorKind;

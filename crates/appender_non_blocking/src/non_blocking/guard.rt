@@ -3,9 +3,9 @@ ghost use Rattle.std.specs.Prelude.{◌≡◌};
 
 use super::shared::Shared;
 use appender_base::sync::Backoff;
+use appender_channel::books::{Books, NoBooks};
+use appender_channel::state::Counted;
 use appender_queue::queue::Shut;
-use appender_state::books::{Books, NoBooks};
-use appender_state::state::Counted;
 use std::alloc::Global;
 use std::fmt;
 use std::fmt::{Debug, Formatter};

@@ -1,12 +1,12 @@
 // What senders, guard and worker share.
 ghost use Rattle.std.specs.Prelude.{◌≡◌, ◌≢◌, ◌+◌};
-ghost use Rattle.appender_state.specs.Tally.{new_tally};
+ghost use Rattle.appender_channel.specs.Tally.{new_tally};
 
 use appender_base::sync;
 use appender_base::sync::Backoff;
+use appender_channel::books::{Books, Done, FourBooks};
+use appender_channel::state::{Counted, State, Wakeups};
 use appender_queue::queue::{Counts, Shut};
-use appender_state::books::{Books, Done, FourBooks};
-use appender_state::state::{Counted, State, Wakeups};
 use crossbeam_utils::CachePadded;
 use std::alloc::{AllocError, Global};
 use std::sync::atomic::AtomicUsize;

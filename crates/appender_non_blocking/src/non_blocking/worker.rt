@@ -1,14 +1,14 @@
 // What the worker's thread does.
 ghost use Rattle.std.specs.Prelude.{◌≡◌, true};
-ghost use Rattle.appender_state.specs.Cases.{OnLine, OnEnd, OnEmpty};
+ghost use Rattle.appender_channel.specs.Cases.{OnLine, OnEnd, OnEmpty};
 ghost use Rattle.appender_worker.specs.Core.{after_flushed, is_flushing};
 
 use super::shared::Shared;
 use appender_base::sync::{Backoff, yield_for};
+use appender_channel::books::Books;
+use appender_channel::pace::{EMPTY_TURNS, LOOKS};
+use appender_channel::state::TakeRequest;
 use appender_queue::queue::Taken;
-use appender_state::books::Books;
-use appender_state::pace::{EMPTY_TURNS, LOOKS};
-use appender_state::state::TakeRequest;
 use appender_worker::worker::{Want, WorkerCore};
 use std::io::Write;
 use std::sync::Wait;

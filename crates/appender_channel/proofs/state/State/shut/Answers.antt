@@ -1,8 +1,8 @@
 use Rattle.std.proofs.Common.{◌≡◌, inl, inr, rules, subst, sym}
 use Rattle.appender_queue.specs.QueueChanges.{ShutLeaves}
-use Rattle.appender_state.specs.Tally.{tally_of}
-use Rattle.appender_state.proofs.state.State.shut.Goals.{in-Sent, in-Already}
-use Rattle.appender_state.proofs.state.State.shut.Goals as goal
+use Rattle.appender_channel.specs.Tally.{tally_of}
+use Rattle.appender_channel.proofs.state.State.shut.Goals.{in-Sent, in-Already}
+use Rattle.appender_channel.proofs.state.State.shut.Goals as goal
 
 -- only a shutdown that was sent changes queue and books
 pub invariant_of-self : goal.invariant_of-self

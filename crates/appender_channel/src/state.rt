@@ -19,7 +19,7 @@ ghost use Rattle.std.specs.Prelude.{
 ghost use Rattle.appender_queue.specs.Queue.{IsLawful, has_room, last_ticket_of};
 ghost use Rattle.appender_queue.specs.QueueChanges.{OfferFromLeaves};
 ghost use Rattle.appender_queue.specs.QueueReplies.{offer_reply};
-ghost use Rattle.appender_state.specs.Offers.{after_offer_at};
+ghost use Rattle.appender_channel.specs.Offers.{after_offer_at};
 
 use crate::books::{Books, Done, FourBooks};
 use crate::pace::{MOST_BYTES, MOST_SPARES, Pace};
@@ -84,9 +84,9 @@ pub struct State<B: Books> {
 
 impl<B: Books> Model for State<B> {
     ghost use Rattle.std.specs.Prelude.{◌≡◌, ◌<◌, true, false, not, ◌&&◌};
-    ghost use Rattle.appender_state.specs.Quiet.{IsQuiet};
-    ghost use Rattle.appender_state.specs.Tally.{tally_of};
-    ghost use Rattle.appender_state.specs.Held.{Held};
+    ghost use Rattle.appender_channel.specs.Quiet.{IsQuiet};
+    ghost use Rattle.appender_channel.specs.Tally.{tally_of};
+    ghost use Rattle.appender_channel.specs.Held.{Held};
     ghost use Rattle.appender_queue.specs.Queue.{IsLawful, has_room};
 
     ghost Value = { Held };
@@ -167,10 +167,10 @@ fn offer_at(queue: &mut LineQueue, place: Option<usize>, line: Vec<u8>) -> Resul
 
 impl<B: Books> State<B> {
     ghost use Rattle.std.specs.Prelude.{◌+◌, ◌^◌, ◌≢◌, min, IsSome, IsNone, OnOk, OnErr, IfOk};
-    ghost use Rattle.appender_state.specs.Held.{after_waiting, WakesSender, Wakes};
-    ghost use Rattle.appender_state.specs.Offers.{Offers};
-    ghost use Rattle.appender_state.specs.Tally.{new_tally};
-    ghost use Rattle.appender_state.specs.Cases.{OnLine, OnEnd, OnEmpty};
+    ghost use Rattle.appender_channel.specs.Held.{after_waiting, WakesSender, Wakes};
+    ghost use Rattle.appender_channel.specs.Offers.{Offers};
+    ghost use Rattle.appender_channel.specs.Tally.{new_tally};
+    ghost use Rattle.appender_channel.specs.Cases.{OnLine, OnEnd, OnEmpty};
     ghost use Rattle.appender_queue.specs.Queue.{fresh_with, has_room, left_of};
     ghost use Rattle.appender_queue.specs.QueueCalls.{Shuts, Takes, AddsSender, DropsSender};
 

@@ -1,8 +1,8 @@
 use Rattle.std.proofs.Common.{◌+◌, ◌^◌, ◌<◌, rules, subst, sym}
 use Rattle.appender_queue.specs.QueueChanges.{OfferFromLeaves}
-use Rattle.appender_state.specs.Tally.{tally_of, with_line}
-use Rattle.appender_state.proofs.state.State.offer.Goals.{in-Ok, in-Err}
-use Rattle.appender_state.proofs.state.State.offer.Goals as goal
+use Rattle.appender_channel.specs.Tally.{tally_of, with_line}
+use Rattle.appender_channel.proofs.state.State.offer.Goals.{in-Ok, in-Err}
+use Rattle.appender_channel.proofs.state.State.offer.Goals as goal
 
 -- an accepted line is one more on the books, and a refused one leaves the queue as it was, but for the count of dropped
 -- lines

@@ -1,7 +1,7 @@
 -- One offer under the lock.
 use Rattle.std.specs.Prelude.{◌≡◌, ℕ, List, Option, Some, None, Result, Ok, Err, Vec}
 use Rattle.std.specs.declared.alloc.Global.{Global}
-use Rattle.appender_state.specs.declared.pace.Pace.{Pace}
+use Rattle.appender_channel.specs.declared.pace.Pace.{Pace}
 use Rattle.appender_queue.specs.Queue.{Queue, after_offer, after_offer_from}
 use Rattle.appender_queue.specs.QueueReplies.{offer_reply}
 use Rattle.appender_queue.specs.declared.queue.Refused.{Refused}

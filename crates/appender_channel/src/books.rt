@@ -1,6 +1,6 @@
 //! Counts of a queue that ledgers check, and who may count.
 ghost use Rattle.std.specs.Prelude.{◌≡◌, ℕ, ◌+◌, ◌^◌, ◌<◌, Option, Some, None, IfSome};
-ghost use Rattle.appender_state.specs.Tally.{
+ghost use Rattle.appender_channel.specs.Tally.{
   Tally,
   with_line,
   with_handed,
