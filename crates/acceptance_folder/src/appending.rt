@@ -2,7 +2,7 @@
 
 use crate::expect::{expect_eq, expect_eq_of, expect_shown_start};
 use crate::scene::{
-    ELEVEN, Host, START, TWELVE, TestClock, at, clear, expect_bytes, expect_files,
+    ELEVEN, FilesAndAbort, START, TWELVE, TestClock, at, clear, expect_bytes, expect_files,
     expect_shown_appender, expect_target, expect_text, expect_write, folder_at, fresh,
     fresh_current, hourly_log, names_in, open_appender, place_of,
 };
@@ -34,7 +34,7 @@ fn say_hello(rt: &impl Abort, opened: Result<impl Write + Drop, InitError>) {
 static ROTATIONS: [&str; 5] = ["minutely", "hourly", "daily", "weekly", "never"];
 
 // A log of this rotation at a path.
-fn say_hello_at<R: Host + time::Clock>(rt: R, rotation: &str, path: &str) {
+fn say_hello_at<R: FilesAndAbort + time::Clock>(rt: R, rotation: &str, path: &str) {
     let opened = match rotation {
         "minutely" => minutely(rt, path, "app"),
         "hourly" => hourly(rt, path, "app"),
@@ -46,14 +46,14 @@ fn say_hello_at<R: Host + time::Clock>(rt: R, rotation: &str, path: &str) {
 }
 
 // A log of each rotation, each in a directory of its own.
-fn say_hello_to_each<R: Host + time::Clock>(rt: R, directory: &str) {
+fn say_hello_to_each<R: FilesAndAbort + time::Clock>(rt: R, directory: &str) {
     for rotation in &ROTATIONS {
         say_hello_at(rt, rotation, at(&rt, directory, rotation).as_str());
     }
 }
 
 // Checks that one file alone is there, which reads as `Hello`, and answers its name.
-fn expect_hello(rt: &impl Host, directory: &str) -> String {
+fn expect_hello(rt: &impl FilesAndAbort, directory: &str) -> String {
     let mut names = names_in(rt, directory);
     expect_eq_of(rt, directory, names.len(), 1);
     let name = names.pop().expect(rt, "a name");
@@ -68,7 +68,7 @@ fn expect_name(rt: &impl Abort, rotation: &str, name: &str) {
 }
 
 // Checks that each log is one file.
-fn expect_each(rt: &impl Host, directory: &str) {
+fn expect_each(rt: &impl FilesAndAbort, directory: &str) {
     for rotation in &ROTATIONS {
         let name = expect_hello(rt, at(rt, directory, rotation).as_str());
         expect_name(rt, rotation, name.as_str());
@@ -76,7 +76,7 @@ fn expect_each(rt: &impl Host, directory: &str) {
 }
 
 // Tells whether all logs were written within one minute, and checks them if so.
-fn is_within_a_minute<R: Host + time::Clock>(rt: R, directory: &str) -> bool {
+fn is_within_a_minute<R: FilesAndAbort + time::Clock>(rt: R, directory: &str) -> bool {
     let before = minute(rt);
     say_hello_to_each(rt, directory);
     let within = minute(rt) == before;
@@ -88,7 +88,7 @@ fn is_within_a_minute<R: Host + time::Clock>(rt: R, directory: &str) -> bool {
 }
 
 // Writes a log of each rotation, and once more where a minute ended in between.
-fn expect_rotations<R: Host + time::Clock>(rt: R, place: io::Result<String>) {
+fn expect_rotations<R: FilesAndAbort + time::Clock>(rt: R, place: io::Result<String>) {
     let directory = fresh(&rt, place);
     for _ in 0..3 {
         if is_within_a_minute(rt, directory.as_str()) {
@@ -104,7 +104,7 @@ fn a_log_of_each_rotation_is_one_file(rt: HostRuntime) {
 }
 
 // What is done with an appender.
-enum Step {
+enum AppenderStep {
     // A line is written when the clock tells this.
     Put(i64, &'static str),
     // The clock tells this, and one call of `write` takes so many of these bytes.
@@ -125,32 +125,32 @@ fn flush(rt: &impl Abort, writer: &mut impl Write) {
 }
 
 // Takes a step.
-fn take<S: Folder, R: Host>(
+fn take<S: Folder, R: FilesAndAbort>(
     rt: &R,
     appender: &mut RollingFileAppender<S, &TestClock, R>,
     clock: &TestClock,
-    step: &Step,
+    step: &AppenderStep,
 ) {
     match *step {
-        Step::Put(moment, line) => {
+        AppenderStep::Put(moment, line) => {
             clock.set(moment);
             put(rt, appender, line);
         }
-        Step::Write(moment, bytes, wanted) => {
+        AppenderStep::Write(moment, bytes, wanted) => {
             clock.set(moment);
             expect_write(rt, appender, bytes, wanted);
         }
-        Step::Flush => flush(rt, appender),
-        Step::Reads(wanted) => expect_eq(rt, clock.reads(), wanted),
+        AppenderStep::Flush => flush(rt, appender),
+        AppenderStep::Reads(wanted) => expect_eq(rt, clock.reads(), wanted),
     }
 }
 
 // Takes these steps.
-fn take_all<S: Folder, R: Host>(
+fn take_all<S: Folder, R: FilesAndAbort>(
     rt: &R,
     appender: &mut RollingFileAppender<S, &TestClock, R>,
     clock: &TestClock,
-    steps: &[Step],
+    steps: &[AppenderStep],
 ) {
     for step in steps {
         take(rt, appender, clock, step);
@@ -160,10 +160,10 @@ fn take_all<S: Folder, R: Host>(
 // Takes these steps with an appender that is opened at 10:01, checks how many calls of its folder
 // fail, and answers that.
 fn write_log<S: Folder>(
-    rt: impl Host,
+    rt: impl FilesAndAbort,
     builder: &Builder,
     folder: S,
-    steps: &[Step],
+    steps: &[AppenderStep],
     failures: u64,
 ) -> S {
     let clock = TestClock::new(START);
@@ -175,22 +175,33 @@ fn write_log<S: Folder>(
 }
 
 // Takes these steps with an appender at a path, and checks how many calls of its folder fail.
-fn write_at(rt: &impl Host, builder: &Builder, path: &str, steps: &[Step], failures: u64) {
+fn write_at(
+    rt: &impl FilesAndAbort,
+    builder: &Builder,
+    path: &str,
+    steps: &[AppenderStep],
+    failures: u64,
+) {
     write_log(*rt, builder, folder_at(*rt, path), steps, failures);
 }
 
 // Takes these steps in memory, where no call fails, and checks which files come of them.
-fn write_in_memory(rt: &impl Host, builder: &Builder, steps: &[Step], files: &[(&str, &str)]) {
+fn write_in_memory(
+    rt: &impl FilesAndAbort,
+    builder: &Builder,
+    steps: &[AppenderStep],
+    files: &[(&str, &str)],
+) {
     let folder = write_log(*rt, builder, MemoryFolder::new(rt.alloc()), steps, 0);
     expect_bytes(rt, &folder, files);
 }
 
 // Takes these steps in a fresh directory, where no call fails, and checks which files come of them.
 fn write_in(
-    rt: &impl Host,
+    rt: &impl FilesAndAbort,
     place: io::Result<String>,
     builder: &Builder,
-    steps: &[Step],
+    steps: &[AppenderStep],
     files: &[(&str, &str)],
 ) {
     let directory = fresh(rt, place);
@@ -201,17 +212,17 @@ fn write_in(
 }
 
 // A byte at 11:00 and one a second before.
-static ACROSS_ELEVEN: [Step; 4] = [
-    Step::Write(ELEVEN, b"a", 1),
-    Step::Write(ELEVEN - 1, b"b", 1),
-    Step::Flush,
-    Step::Reads(3),
+static ACROSS_ELEVEN: [AppenderStep; 4] = [
+    AppenderStep::Write(ELEVEN, b"a", 1),
+    AppenderStep::Write(ELEVEN - 1, b"b", 1),
+    AppenderStep::Flush,
+    AppenderStep::Reads(3),
 ];
 
 static BOTH_BYTES: [(&str, &str); 2] = [("app.2020-02-01-10", ""), ("app.2020-02-01-11", "ab")];
 
 // Writes both bytes in memory.
-fn write_both_bytes(rt: &impl Host) {
+fn write_both_bytes(rt: &impl FilesAndAbort) {
     write_in_memory(rt, &hourly_log(rt, "app"), &ACROSS_ELEVEN, &BOTH_BYTES);
 }
 
@@ -221,12 +232,12 @@ fn each_write_reads_the_clock_once(rt: HostRuntime) {
 }
 
 // Two lines, and an hour later two more.
-static TWO_HOURS: [Step; 5] = [
-    Step::Put(START, "file 1\n"),
-    Step::Put(START, "file 1\n"),
-    Step::Put(START + 3_600, "file 2\n"),
-    Step::Put(START + 3_600, "file 2\n"),
-    Step::Flush,
+static TWO_HOURS: [AppenderStep; 5] = [
+    AppenderStep::Put(START, "file 1\n"),
+    AppenderStep::Put(START, "file 1\n"),
+    AppenderStep::Put(START + 3_600, "file 2\n"),
+    AppenderStep::Put(START + 3_600, "file 2\n"),
+    AppenderStep::Flush,
 ];
 
 static TWO_FILES: [(&str, &str); 2] = [
@@ -235,7 +246,7 @@ static TWO_FILES: [(&str, &str); 2] = [
 ];
 
 // Writes to two hours in a fresh directory.
-fn write_two_hours(rt: &impl Host, place: io::Result<String>) {
+fn write_two_hours(rt: &impl FilesAndAbort, place: io::Result<String>) {
     let builder = hourly_log(rt, "test_make_writer");
     write_in(rt, place, &builder, &TWO_HOURS, &TWO_FILES);
 }
@@ -246,16 +257,16 @@ fn the_next_hour_goes_to_the_next_file(rt: HostRuntime) {
 }
 
 // Two lines in each of three hours.
-static THREE_HOURS: [Step; 9] = [
-    Step::Put(START, "file 1\n"),
-    Step::Put(START, "file 1\n"),
-    Step::Flush,
-    Step::Put(ELEVEN, "file 2\n"),
-    Step::Put(ELEVEN, "file 2\n"),
-    Step::Flush,
-    Step::Put(TWELVE, "file 3\n"),
-    Step::Put(TWELVE, "file 3\n"),
-    Step::Flush,
+static THREE_HOURS: [AppenderStep; 9] = [
+    AppenderStep::Put(START, "file 1\n"),
+    AppenderStep::Put(START, "file 1\n"),
+    AppenderStep::Flush,
+    AppenderStep::Put(ELEVEN, "file 2\n"),
+    AppenderStep::Put(ELEVEN, "file 2\n"),
+    AppenderStep::Flush,
+    AppenderStep::Put(TWELVE, "file 3\n"),
+    AppenderStep::Put(TWELVE, "file 3\n"),
+    AppenderStep::Flush,
 ];
 
 static KEPT: [(&str, &str); 2] = [
@@ -264,7 +275,7 @@ static KEPT: [(&str, &str); 2] = [
 ];
 
 // Writes to three hours in memory and in a fresh directory, where two files are kept.
-fn write_three_hours(rt: &impl Host, place: io::Result<String>) {
+fn write_three_hours(rt: &impl FilesAndAbort, place: io::Result<String>) {
     let builder = hourly_log(rt, "test_max_log_files").max_log_files(2);
     write_in_memory(rt, &builder, &THREE_HOURS, &KEPT);
     write_in(rt, place, &builder, &THREE_HOURS, &KEPT);
@@ -276,10 +287,10 @@ fn two_files_are_kept(rt: HostRuntime) {
 }
 
 // A line in each of two hours.
-static LINE_AN_HOUR: [Step; 3] = [
-    Step::Put(START, "file 1\n"),
-    Step::Put(ELEVEN, "file 2\n"),
-    Step::Flush,
+static LINE_AN_HOUR: [AppenderStep; 3] = [
+    AppenderStep::Put(START, "file 1\n"),
+    AppenderStep::Put(ELEVEN, "file 2\n"),
+    AppenderStep::Flush,
 ];
 
 const NEWEST: &str = "test_latest_symlink.2020-02-01-11";
@@ -291,14 +302,14 @@ static LINKED: [(&str, &str); 3] = [
 ];
 
 // A log with a link.
-fn linked_log(rt: &impl Host) -> Builder {
+fn linked_log(rt: &impl FilesAndAbort) -> Builder {
     hourly_log(rt, "test_latest_symlink")
         .latest_symlink(rt.alloc(), "latest.log")
         .expect(rt, "memory")
 }
 
 // Writes a log with a link at a path, and checks what then stands in a directory.
-fn expect_linked(rt: &impl Host, path: &str, directory: &str) {
+fn expect_linked(rt: &impl FilesAndAbort, path: &str, directory: &str) {
     // At first there is neither the directory nor a link to remove.
     write_at(rt, &linked_log(rt), path, &LINE_AN_HOUR, 2);
     expect_target(rt, directory, "latest.log", NEWEST);
@@ -306,7 +317,7 @@ fn expect_linked(rt: &impl Host, path: &str, directory: &str) {
 }
 
 // The same where the path is that of the directory.
-fn expect_linked_whole(rt: &impl Host, directory: &str) {
+fn expect_linked_whole(rt: &impl FilesAndAbort, directory: &str) {
     expect_linked(rt, directory, directory);
 }
 
@@ -315,7 +326,7 @@ static RELATIVE: [(&str, &str); 2] = [("relative", "relative"), ("./deep/logs", 
 
 // Writes logs with links at a whole path and at two relative ones, which begin at the current
 // directory.
-fn expect_links(rt: &(impl Host + Env), place: io::Result<String>) {
+fn expect_links(rt: &(impl FilesAndAbort + Env), place: io::Result<String>) {
     let current = fresh_current(rt, place);
     let current = current.as_str();
     expect_linked_whole(rt, at(rt, current, "whole").as_str());
@@ -331,7 +342,7 @@ fn the_link_leads_to_the_newest_file(rt: HostRuntime) {
 }
 
 // Shows an appender and the clock that one is given.
-fn expect_appender_and_clock_shown<R: Host + Wait + time::Clock + Debug>(rt: R) {
+fn expect_appender_and_clock_shown<R: FilesAndAbort + Wait + time::Clock + Debug>(rt: R) {
     expect_shown_appender(
         rt,
         &hourly_log(&rt, "app"),

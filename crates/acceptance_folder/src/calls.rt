@@ -2,8 +2,8 @@
 
 use crate::expect::{expect_eq, expect_eq_of};
 use crate::scene::{
-    Entry, Host, at, clear, expect_entries, expect_kind, expect_target, expect_text, fill, fresh,
-    fresh_current, kind_of_error, place_of,
+    Entry, FilesAndAbort, at, clear, expect_entries, expect_kind, expect_target, expect_text, fill,
+    fresh, fresh_current, kind_of_error, place_of,
 };
 use crate::swapping::Swapping;
 use appender_folder::folder::DirFolder;
@@ -56,7 +56,7 @@ fn expect_listed<S: Folder>(rt: &impl Abort, folder: &mut S, wanted: usize) {
 }
 
 // Makes a link and removes it again.
-fn link_to<S: Folder>(rt: &impl Host, folder: &mut S, directory: &str, target: &str) {
+fn link_to<S: Folder>(rt: &impl FilesAndAbort, folder: &mut S, directory: &str, target: &str) {
     folder.make_link("link", target).expect(rt, "a link");
     expect_target(rt, directory, "link", target);
     folder.remove_link("link").expect(rt, "a link");
@@ -90,7 +90,7 @@ fn expect_entry(rt: &impl Abort, entry: &Listed, tells_creation: bool) {
 }
 
 // What each entry of a folder of every kind is listed as.
-fn expect_kinds<S: Folder>(rt: &impl Host, folder: &mut S, directory: &str) {
+fn expect_kinds<S: Folder>(rt: &impl FilesAndAbort, folder: &mut S, directory: &str) {
     let tells_creation = fs::metadata(rt, directory)
         .expect(rt, "a directory")
         .created()
@@ -103,7 +103,7 @@ fn expect_kinds<S: Folder>(rt: &impl Host, folder: &mut S, directory: &str) {
 }
 
 // A step of a test with a folder, which is a directory or stands in it, and what it must come to.
-enum Step {
+enum FolderStep {
     // These entries are made in the directory.
     Fill(&'static [Entry]),
     // The directory is removed.
@@ -135,27 +135,34 @@ enum Step {
 }
 
 // Takes a step.
-fn take<S: Folder>(rt: &impl Host, folder: &mut S, directory: &str, step: &Step) {
+fn take<S: Folder>(rt: &impl FilesAndAbort, folder: &mut S, directory: &str, step: &FolderStep) {
     match *step {
-        Step::Fill(entries) => fill(rt, directory, entries),
-        Step::Clear => clear(rt, directory),
-        Step::MakeFolder => expect_kind(rt, folder.make_folder(), None),
-        Step::NoFolder => expect_eq(rt, folder.make_folder().is_err(), true),
-        Step::Refused(calls, names, wanted) => expect_refusals(rt, folder, calls, names, wanted),
-        Step::Append(name, bytes, wanted) => append_to(rt, folder, name, bytes, wanted),
-        Step::Remove(name) => expect_kind(rt, folder.remove(name), None),
-        Step::Link(target) => link_to(rt, folder, directory, target),
-        Step::Lists(wanted) => expect_listed(rt, folder, wanted),
-        Step::Kinds => expect_kinds(rt, folder, directory),
-        Step::NoList(wanted) => expect_kind(rt, folder.list(), Some(wanted)),
-        Step::Failed(wanted) => expect_eq_of(rt, directory, folder.failures(), wanted),
-        Step::Reads(name, text) => expect_text(rt, directory, name, text),
-        Step::Holds(entries) => expect_entries(rt, directory, entries),
+        FolderStep::Fill(entries) => fill(rt, directory, entries),
+        FolderStep::Clear => clear(rt, directory),
+        FolderStep::MakeFolder => expect_kind(rt, folder.make_folder(), None),
+        FolderStep::NoFolder => expect_eq(rt, folder.make_folder().is_err(), true),
+        FolderStep::Refused(calls, names, wanted) => expect_refusals(
+            rt, folder, calls, names, wanted,
+        ),
+        FolderStep::Append(name, bytes, wanted) => append_to(rt, folder, name, bytes, wanted),
+        FolderStep::Remove(name) => expect_kind(rt, folder.remove(name), None),
+        FolderStep::Link(target) => link_to(rt, folder, directory, target),
+        FolderStep::Lists(wanted) => expect_listed(rt, folder, wanted),
+        FolderStep::Kinds => expect_kinds(rt, folder, directory),
+        FolderStep::NoList(wanted) => expect_kind(rt, folder.list(), Some(wanted)),
+        FolderStep::Failed(wanted) => expect_eq_of(rt, directory, folder.failures(), wanted),
+        FolderStep::Reads(name, text) => expect_text(rt, directory, name, text),
+        FolderStep::Holds(entries) => expect_entries(rt, directory, entries),
     }
 }
 
 // Takes these steps with a folder.
-fn take_all<S: Folder>(rt: &impl Host, mut folder: S, directory: &str, steps: &[Step]) {
+fn take_all<S: Folder>(
+    rt: &impl FilesAndAbort,
+    mut folder: S,
+    directory: &str,
+    steps: &[FolderStep],
+) {
     for step in steps {
         take(rt, &mut folder, directory, step);
     }
@@ -163,18 +170,18 @@ fn take_all<S: Folder>(rt: &impl Host, mut folder: S, directory: &str, steps: &[
 
 // Takes these steps with the folder at a path of a file system.
 fn take_at<F: Files + AllocGlobal + Eprint + Clone + Drop>(
-    rt: &impl Host,
+    rt: &impl FilesAndAbort,
     files: F,
     path: &str,
     directory: &str,
-    steps: &[Step],
+    steps: &[FolderStep],
 ) {
     let folder = DirFolder::new(files, path).expect(rt, "memory");
     take_all(rt, folder, directory, steps);
 }
 
 // Takes these steps with the folder at an entry of a fresh directory.
-fn take_in(rt: &impl Host, place: io::Result<String>, entry: &str, steps: &[Step]) {
+fn take_in(rt: &impl FilesAndAbort, place: io::Result<String>, entry: &str, steps: &[FolderStep]) {
     let directory = fresh(rt, place);
     let directory = directory.as_str();
     take_at(rt, *rt, at(rt, directory, entry).as_str(), directory, steps);
@@ -182,13 +189,13 @@ fn take_in(rt: &impl Host, place: io::Result<String>, entry: &str, steps: &[Step
 }
 
 // Names that are not those of entries of `inside`.
-static LEAVING: [Step; 5] = [
-    Step::Fill(&[
+static LEAVING: [FolderStep; 5] = [
+    FolderStep::Fill(&[
         Entry::File("outside", "kept"),
         Entry::Link("link", "outside"),
         Entry::Folder("inside"),
     ]),
-    Step::Refused(
+    FolderStep::Refused(
         &[Call::Open, Call::Remove, Call::RemoveLink, Call::MakeLink],
         &[
             "",
@@ -203,9 +210,9 @@ static LEAVING: [Step; 5] = [
         ],
         ErrorKind::InvalidInput,
     ),
-    Step::Failed(36),
-    Step::Lists(0),
-    Step::Holds(&[
+    FolderStep::Failed(36),
+    FolderStep::Lists(0),
+    FolderStep::Holds(&[
         Entry::File("outside", "kept"),
         Entry::Link("link", "outside"),
         Entry::Folder("inside"),
@@ -218,28 +225,28 @@ fn a_name_that_leaves_the_folder_is_refused(rt: HostRuntime) {
 }
 
 // Links, also one that leads to a file, and a folder are neither opened nor removed.
-static PLAIN_FILES: [Step; 7] = [
-    Step::Fill(&[
+static PLAIN_FILES: [FolderStep; 7] = [
+    FolderStep::Fill(&[
         Entry::Link("link", "file"),
         Entry::Link("dangling", "nothing"),
         Entry::Folder("sub"),
         Entry::File("file", "text"),
     ]),
-    Step::Refused(
+    FolderStep::Refused(
         &[Call::Open, Call::Remove],
         &["link", "dangling", "sub"],
         ErrorKind::AlreadyExists,
     ),
-    Step::Refused(&[Call::Remove], &["absent"], ErrorKind::NotFound),
-    Step::Failed(7),
-    Step::Holds(&[
+    FolderStep::Refused(&[Call::Remove], &["absent"], ErrorKind::NotFound),
+    FolderStep::Failed(7),
+    FolderStep::Holds(&[
         Entry::Link("link", "file"),
         Entry::Link("dangling", "nothing"),
         Entry::Folder("sub"),
         Entry::File("file", "text"),
     ]),
-    Step::Remove("file"),
-    Step::Holds(&[
+    FolderStep::Remove("file"),
+    FolderStep::Holds(&[
         Entry::Link("link", "file"),
         Entry::Link("dangling", "nothing"),
         Entry::Folder("sub"),
@@ -252,20 +259,20 @@ fn plain_files_alone_are_opened_and_removed(rt: HostRuntime) {
 }
 
 // A file and a folder are not removed as links, and no link takes their place.
-static LINKS: [Step; 9] = [
-    Step::Fill(&[Entry::File("file", "text"), Entry::Folder("sub")]),
-    Step::Refused(
+static LINKS: [FolderStep; 9] = [
+    FolderStep::Fill(&[Entry::File("file", "text"), Entry::Folder("sub")]),
+    FolderStep::Refused(
         &[Call::RemoveLink, Call::MakeLink],
         &["file", "sub"],
         ErrorKind::AlreadyExists,
     ),
-    Step::Refused(&[Call::RemoveLink], &["absent"], ErrorKind::NotFound),
-    Step::Link("file"),
-    Step::Link("sub"),
-    Step::Link("nothing"),
-    Step::Link("../elsewhere"),
-    Step::Failed(5),
-    Step::Holds(&[Entry::File("file", "text"), Entry::Folder("sub")]),
+    FolderStep::Refused(&[Call::RemoveLink], &["absent"], ErrorKind::NotFound),
+    FolderStep::Link("file"),
+    FolderStep::Link("sub"),
+    FolderStep::Link("nothing"),
+    FolderStep::Link("../elsewhere"),
+    FolderStep::Failed(5),
+    FolderStep::Holds(&[Entry::File("file", "text"), Entry::Folder("sub")]),
 ];
 
 #[test]
@@ -274,13 +281,13 @@ fn links_alone_are_removed_as_links(rt: HostRuntime) {
 }
 
 // A file that stands, and one that the first append to it makes.
-static APPENDS: [Step; 6] = [
-    Step::Fill(&[Entry::File("standing", "one")]),
-    Step::Append("standing", b"two", 3),
-    Step::Append("made", b"three", 5),
-    Step::Append("made", b"", 0),
-    Step::Failed(0),
-    Step::Holds(&[
+static APPENDS: [FolderStep; 6] = [
+    FolderStep::Fill(&[Entry::File("standing", "one")]),
+    FolderStep::Append("standing", b"two", 3),
+    FolderStep::Append("made", b"three", 5),
+    FolderStep::Append("made", b"", 0),
+    FolderStep::Failed(0),
+    FolderStep::Holds(&[
         Entry::File("standing", "onetwo"),
         Entry::File("made", "three"),
     ]),
@@ -292,31 +299,31 @@ fn appends_go_behind_what_stands(rt: HostRuntime) {
 }
 
 // The second time the folder is there already.
-static MADE_TWICE: [Step; 6] = [
-    Step::MakeFolder,
-    Step::Append("file", b"x", 1),
-    Step::MakeFolder,
-    Step::Append("file", b"x", 1),
-    Step::Reads("file", "xx"),
-    Step::Failed(0),
+static MADE_TWICE: [FolderStep; 6] = [
+    FolderStep::MakeFolder,
+    FolderStep::Append("file", b"x", 1),
+    FolderStep::MakeFolder,
+    FolderStep::Append("file", b"x", 1),
+    FolderStep::Reads("file", "xx"),
+    FolderStep::Failed(0),
 ];
 
 // A file has the folder's name.
-static NOT_MADE: [Step; 3] = [
-    Step::Fill(&[Entry::File("plain", "text")]),
-    Step::NoFolder,
-    Step::Reads("plain", "text"),
+static NOT_MADE: [FolderStep; 3] = [
+    FolderStep::Fill(&[Entry::File("plain", "text")]),
+    FolderStep::NoFolder,
+    FolderStep::Reads("plain", "text"),
 ];
 
 // Makes a folder at a path twice.
-fn make_twice(rt: &impl Host, path: &str) {
+fn make_twice(rt: &impl FilesAndAbort, path: &str) {
     take_at(rt, *rt, path, path, &MADE_TWICE);
 }
 
 static WITH_PARENTS: [&str; 4] = ["a/b/c", "a/b/d/", "a", "e//f"];
 
 // Makes folders in a fresh directory, whose parents are not there yet.
-fn make_with_parents(rt: &impl Host, place: io::Result<String>) {
+fn make_with_parents(rt: &impl FilesAndAbort, place: io::Result<String>) {
     let directory = fresh(rt, place);
     let directory = directory.as_str();
     for path in &WITH_PARENTS {
@@ -332,10 +339,10 @@ fn a_folder_is_made_with_its_parents(rt: HostRuntime) {
 }
 
 // A byte more in the only file.
-static ONE_MORE: [Step; 3] = [
-    Step::MakeFolder,
-    Step::Append("file", b"x", 1),
-    Step::Lists(1),
+static ONE_MORE: [FolderStep; 3] = [
+    FolderStep::MakeFolder,
+    FolderStep::Append("file", b"x", 1),
+    FolderStep::Lists(1),
 ];
 
 static CURRENT: [&str; 3] = ["", ".", "./"];
@@ -344,7 +351,7 @@ static CURRENT: [&str; 3] = ["", ".", "./"];
 static THREE_MORE: [Entry; 1] = [Entry::File("file", "xxx")];
 
 // Writes to a file of the current directory by three of its paths.
-fn append_in_current(rt: &(impl Host + Env), place: io::Result<String>) {
+fn append_in_current(rt: &(impl FilesAndAbort + Env), place: io::Result<String>) {
     let current = fresh_current(rt, place);
     let current = current.as_str();
     for path in &CURRENT {
@@ -360,18 +367,18 @@ fn an_empty_path_is_the_current_directory(rt: HostRuntime) {
 }
 
 // An empty folder, one of every kind of entry, and one that is gone.
-static LISTING: [Step; 6] = [
-    Step::Lists(0),
-    Step::Fill(&[
+static LISTING: [FolderStep; 6] = [
+    FolderStep::Lists(0),
+    FolderStep::Fill(&[
         Entry::File("file", "text"),
         Entry::Link("link", "file"),
         Entry::Link("dangling", "nothing"),
         Entry::Folder("sub"),
     ]),
-    Step::Kinds,
-    Step::Clear,
-    Step::NoList(ErrorKind::NotFound),
-    Step::Failed(1),
+    FolderStep::Kinds,
+    FolderStep::Clear,
+    FolderStep::NoList(ErrorKind::NotFound),
+    FolderStep::Failed(1),
 ];
 
 #[test]
@@ -380,17 +387,17 @@ fn a_listing_tells_kinds_and_creation(rt: HostRuntime) {
 }
 
 // The link is in place of `log` at the first opening alone.
-static SWAPPED: [Step; 5] = [
-    Step::Fill(&[Entry::File("victim", "kept"), Entry::File("log", "text")]),
-    Step::Refused(&[Call::Open], &["log"], ErrorKind::AlreadyExists),
-    Step::Append("log", b"new", 3),
-    Step::Failed(1),
-    Step::Holds(&[Entry::File("victim", "kept"), Entry::File("log", "new")]),
+static SWAPPED: [FolderStep; 5] = [
+    FolderStep::Fill(&[Entry::File("victim", "kept"), Entry::File("log", "text")]),
+    FolderStep::Refused(&[Call::Open], &["log"], ErrorKind::AlreadyExists),
+    FolderStep::Append("log", b"new", 3),
+    FolderStep::Failed(1),
+    FolderStep::Holds(&[Entry::File("victim", "kept"), Entry::File("log", "new")]),
 ];
 
 // Opens and writes to a file of a fresh directory by these files.
 fn open_swapped<F: Files + AllocGlobal + Eprint + Clone + Drop>(
-    rt: &impl Host,
+    rt: &impl FilesAndAbort,
     files: F,
     place: io::Result<String>,
 ) {

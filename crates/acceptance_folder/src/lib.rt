@@ -1,5 +1,4 @@
-//! Tests of the log writers over real folders, and of an appender that threads share: these end by
-//! themselves, and pass however its threads are scheduled.
+//! Tests of the log writers over real folders, where other processes may change them.
 #![tactic(auto)]
 
 #[cfg(test)]
@@ -9,22 +8,10 @@ mod calls;
 #[cfg(test)]
 mod expect;
 #[cfg(test)]
-mod hundred_hours;
-#[cfg(test)]
-mod limited;
-#[cfg(test)]
-mod log_sink;
-#[cfg(test)]
-mod looks;
-#[cfg(test)]
 mod other_processes;
 #[cfg(test)]
 mod scene;
 #[cfg(test)]
-mod shared;
-#[cfg(test)]
 mod swapping;
-#[cfg(test)]
-mod threads;
 #[cfg(test)]
 mod two_logs;

@@ -1,7 +1,9 @@
 // What another process may do to the files of a log: a second name for one, or another name or file in its place.
 
 use crate::expect::{expect_eq, expect_eq_of};
-use crate::scene::{Host, at, clear, expect_text, folder_at, fresh, kind_of_error, place_of};
+use crate::scene::{
+    FilesAndAbort, at, clear, expect_text, folder_at, fresh, kind_of_error, place_of,
+};
 use appender_store::store::Folder;
 use std::fs;
 use std::io::ErrorKind;
@@ -36,7 +38,7 @@ enum Deed {
     Links,
 }
 
-fn do_deed(rt: &impl Host, directory: &str, deed: Deed) {
+fn do_deed(rt: &impl FilesAndAbort, directory: &str, deed: Deed) {
     let (log, moved) = (at(rt, directory, "log"), at(rt, directory, "moved"));
     let done = match deed {
         Deed::Nothing => Ok(()),
@@ -63,7 +65,7 @@ static DEEDS: [(Deed, bool); 5] = [
 ];
 
 // Opens a file, lets the deed be done, and answers whether the name still leads to it.
-fn is_named_after<R: Host>(rt: R, directory: &str, deed: Deed) -> bool {
+fn is_named_after<R: FilesAndAbort>(rt: R, directory: &str, deed: Deed) -> bool {
     fs::create_dir(&rt, directory).expect(&rt, "a directory");
     let mut folder = folder_at(rt, directory);
     let file = folder.open("log").expect(&rt, "a file");

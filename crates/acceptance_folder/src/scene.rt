@@ -56,9 +56,9 @@ impl Clock for TestClock {
 }
 
 /// What the tests ask of their runtime. What a helper can't get ends the test.
-pub(crate) trait Host: Files + AllocGlobal + Eprint + Abort + Copy + Drop {}
+pub(crate) trait FilesAndAbort: Files + AllocGlobal + Eprint + Abort + Copy + Drop {}
 
-impl<R: Files + AllocGlobal + Eprint + Abort + Copy + Drop> Host for R {}
+impl<R: Files + AllocGlobal + Eprint + Abort + Copy + Drop> FilesAndAbort for R {}
 
 /// Where a directory of the test's own lies.
 pub(crate) fn place_of(rt: HostRuntime, test: &str) -> io::Result<String> {
@@ -69,7 +69,7 @@ pub(crate) fn place_of(rt: HostRuntime, test: &str) -> io::Result<String> {
 }
 
 /// The directory at a place, made anew.
-pub(crate) fn fresh(rt: &impl Host, place: io::Result<String>) -> String {
+pub(crate) fn fresh(rt: &impl FilesAndAbort, place: io::Result<String>) -> String {
     let path = place.expect(rt, "a place");
     clear(rt, path.as_str());
     fs::create_dir(rt, path.as_str()).expect(rt, "a directory");
@@ -77,14 +77,14 @@ pub(crate) fn fresh(rt: &impl Host, place: io::Result<String>) -> String {
 }
 
 /// The same, which becomes the current directory.
-pub(crate) fn fresh_current(rt: &(impl Host + Env), place: io::Result<String>) -> String {
+pub(crate) fn fresh_current(rt: &(impl FilesAndAbort + Env), place: io::Result<String>) -> String {
     let path = fresh(rt, place);
     env::set_current_dir(rt, path.as_str()).expect(rt, "a directory");
     path
 }
 
 /// Removes a directory of a test, if it is there.
-pub(crate) fn clear(rt: &impl Host, path: &str) {
+pub(crate) fn clear(rt: &impl FilesAndAbort, path: &str) {
     match fs::remove_dir_all(rt, path) {
         Err(fault) if fault.kind() != ErrorKind::NotFound => rt.panic(fault),
         _ => {}
@@ -92,17 +92,17 @@ pub(crate) fn clear(rt: &impl Host, path: &str) {
 }
 
 // A copy of a text.
-fn copy_of(rt: &impl Host, text: &str) -> String {
+fn copy_of(rt: &impl FilesAndAbort, text: &str) -> String {
     String::from_str(rt.alloc(), text).expect(rt, "memory")
 }
 
 /// The path of an entry.
-pub(crate) fn at(rt: &impl Host, directory: &str, name: &str) -> String {
+pub(crate) fn at(rt: &impl FilesAndAbort, directory: &str, name: &str) -> String {
     format!(in rt.alloc(); "{directory}/{name}").expect(rt, "memory")
 }
 
 /// The folder at a path.
-pub(crate) fn folder_at<R: Host>(rt: R, path: &str) -> DirFolder<R> {
+pub(crate) fn folder_at<R: FilesAndAbort>(rt: R, path: &str) -> DirFolder<R> {
     DirFolder::new(rt, path).expect(&rt, "memory")
 }
 
@@ -123,14 +123,14 @@ impl Entry {
 }
 
 /// Makes these entries.
-pub(crate) fn fill(rt: &impl Host, directory: &str, entries: &[Entry]) {
+pub(crate) fn fill(rt: &impl FilesAndAbort, directory: &str, entries: &[Entry]) {
     for entry in entries {
         make(rt, at(rt, directory, entry.name()).as_str(), entry);
     }
 }
 
 // Makes an entry at a path.
-fn make(rt: &impl Host, path: &str, entry: &Entry) {
+fn make(rt: &impl FilesAndAbort, path: &str, entry: &Entry) {
     let made = match *entry {
         Entry::File(_, text) => fs::write(rt, path, text),
         Entry::Link(_, target) => symlink(rt, target, path),
@@ -140,7 +140,7 @@ fn make(rt: &impl Host, path: &str, entry: &Entry) {
 }
 
 /// Checks that a directory has exactly these entries.
-pub(crate) fn expect_entries(rt: &impl Host, directory: &str, wanted: &[Entry]) {
+pub(crate) fn expect_entries(rt: &impl FilesAndAbort, directory: &str, wanted: &[Entry]) {
     expect_count(rt, directory, wanted.len());
     for entry in wanted {
         match *entry {
@@ -154,24 +154,24 @@ pub(crate) fn expect_entries(rt: &impl Host, directory: &str, wanted: &[Entry]) 
 }
 
 /// What can be read under a name, through links too.
-pub(crate) fn text_of(rt: &impl Host, directory: &str, name: &str) -> String {
+pub(crate) fn text_of(rt: &impl FilesAndAbort, directory: &str, name: &str) -> String {
     fs::read_to_string(rt, at(rt, directory, name)).expect(rt, "a text")
 }
 
 /// Checks what can be read under a name, through links too.
-pub(crate) fn expect_text(rt: &impl Host, directory: &str, name: &str, wanted: &str) {
+pub(crate) fn expect_text(rt: &impl FilesAndAbort, directory: &str, name: &str, wanted: &str) {
     let text = text_of(rt, directory, name);
     expect_eq_of(rt, name, text.as_str(), wanted);
 }
 
 /// Checks what a link says.
-pub(crate) fn expect_target(rt: &impl Host, directory: &str, name: &str, wanted: &str) {
+pub(crate) fn expect_target(rt: &impl FilesAndAbort, directory: &str, name: &str, wanted: &str) {
     let target = fs::read_link(rt, at(rt, directory, name)).expect(rt, "a link");
     expect_eq_of(rt, name, target.as_str(), wanted);
 }
 
 /// The names of a directory, sorted.
-pub(crate) fn names_in(rt: &impl Host, directory: &str) -> Vec<String> {
+pub(crate) fn names_in(rt: &impl FilesAndAbort, directory: &str) -> Vec<String> {
     let mut names = Vec::new(rt.alloc());
     for entry in fs::read_dir(rt, directory).expect(rt, "a directory") {
         let entry = entry.expect(rt, "an entry");
@@ -184,13 +184,13 @@ pub(crate) fn names_in(rt: &impl Host, directory: &str) -> Vec<String> {
 }
 
 /// Checks how many entries a directory has.
-pub(crate) fn expect_count(rt: &impl Host, directory: &str, wanted: usize) {
+pub(crate) fn expect_count(rt: &impl FilesAndAbort, directory: &str, wanted: usize) {
     let names = names_in(rt, directory);
     expect_eq_of(rt, &names, names.len(), wanted);
 }
 
 /// Checks that a directory has exactly these entries, which read as these texts.
-pub(crate) fn expect_files(rt: &impl Host, directory: &str, wanted: &[(&str, &str)]) {
+pub(crate) fn expect_files(rt: &impl FilesAndAbort, directory: &str, wanted: &[(&str, &str)]) {
     expect_count(rt, directory, wanted.len());
     for (name, text) in wanted {
         expect_text(rt, directory, name, text);
@@ -215,7 +215,7 @@ pub(crate) fn expect_held(rt: &impl Abort, folder: &MemoryFolder, name: &str, wa
 }
 
 /// A builder of an hourly log.
-pub(crate) fn hourly_log(rt: &impl Host, prefix: &str) -> Builder {
+pub(crate) fn hourly_log(rt: &impl FilesAndAbort, prefix: &str) -> Builder {
     Builder::new()
         .rotation(Rotation::HOURLY)
         .filename_prefix(rt.alloc(), prefix)
@@ -223,7 +223,7 @@ pub(crate) fn hourly_log(rt: &impl Host, prefix: &str) -> Builder {
 }
 
 /// An appender that has to be opened.
-pub(crate) fn open_appender<S: Folder, C: Clock, R: Host>(
+pub(crate) fn open_appender<S: Folder, C: Clock, R: FilesAndAbort>(
     rt: R,
     builder: &Builder,
     folder: S,
@@ -241,14 +241,18 @@ pub(crate) fn expect_write(rt: &impl Abort, writer: &mut impl Write, bytes: &[u8
 }
 
 /// Checks what an appender shows that is opened in memory at 10:01, and a writer of it.
-pub(crate) fn expect_shown_appender<R: Host + Wait>(rt: R, builder: &Builder, wanted: &str) {
+pub(crate) fn expect_shown_appender<R: FilesAndAbort + Wait>(
+    rt: R,
+    builder: &Builder,
+    wanted: &str,
+) {
     let clock = TestClock::new(START);
     let appender = open_appender(rt, builder, MemoryFolder::new(rt.alloc()), &clock);
     expect_appender_and_writer_shown(&rt, &appender, wanted);
 }
 
 // Checks what an appender shows, and a writer of it.
-fn expect_appender_and_writer_shown<S: Folder, C: Clock, R: Host + Wait>(
+fn expect_appender_and_writer_shown<S: Folder, C: Clock, R: FilesAndAbort + Wait>(
     rt: &R,
     appender: &RollingFileAppender<S, C, R>,
     wanted: &str,

@@ -1,19 +1,20 @@
 // Limits of a queue, and how its worker ends.
-use crate::gate::{Gate, Host, new_gate};
-use crate::scene::{Queue, Step, play, play_over};
+use crate::scene::{Queue, WorkerStep, play, play_over};
+use acceptance_gate::{Gate, new_gate};
 use appender_non_blocking::non_blocking::Closing;
+use program_input::Host;
 use std::io;
 use std::io::{ErrorKind, Write};
 use std::process::Abort;
 
 // A queue of no line takes one while its worker waits.
-static ONE_BY_ONE: [Step; 6] = [
-    Step::Takes(b"a"),
-    Step::Takes(b"b"),
-    Step::Takes(b"c"),
-    Step::Comes(3),
-    Step::Came(b"a|b|c|"),
-    Step::Dropped(0),
+static ONE_BY_ONE: [WorkerStep; 6] = [
+    WorkerStep::Takes(b"a"),
+    WorkerStep::Takes(b"b"),
+    WorkerStep::Takes(b"c"),
+    WorkerStep::Comes(3),
+    WorkerStep::Came(b"a|b|c|"),
+    WorkerStep::Dropped(0),
 ];
 
 #[test]
@@ -22,16 +23,16 @@ fn a_queue_of_no_line_keeps_the_order(rt: HostRuntime) {
 }
 
 // The shutdown finds no room. The worker ends after the last sender, by two flushes.
-static NO_ROOM_FOR_THE_SHUTDOWN: [Step; 9] = [
-    Step::Takes(b"g"),
-    Step::IsHeld,
-    Step::Takes(b"a"),
-    Step::Closes(Closing::Full),
-    Step::Opens,
-    Step::DropsSender,
-    Step::Comes(2),
-    Step::Came(b"g|a|"),
-    Step::FlushesCome(2),
+static NO_ROOM_FOR_THE_SHUTDOWN: [WorkerStep; 9] = [
+    WorkerStep::Takes(b"g"),
+    WorkerStep::IsHeld,
+    WorkerStep::Takes(b"a"),
+    WorkerStep::Closes(Closing::Full),
+    WorkerStep::Opens,
+    WorkerStep::DropsSender,
+    WorkerStep::Comes(2),
+    WorkerStep::Came(b"g|a|"),
+    WorkerStep::FlushesCome(2),
 ];
 
 #[test]
@@ -40,13 +41,13 @@ fn a_worker_without_a_shutdown_ends_after_its_senders(rt: HostRuntime) {
 }
 
 // The shutdown is sent, and the worker is not done within a second.
-static STILL_GOING_ON: [Step; 6] = [
-    Step::Takes(b"g"),
-    Step::IsHeld,
-    Step::Closes(Closing::Pending),
-    Step::Opens,
-    Step::FlushesCome(2),
-    Step::Came(b"g|"),
+static STILL_GOING_ON: [WorkerStep; 6] = [
+    WorkerStep::Takes(b"g"),
+    WorkerStep::IsHeld,
+    WorkerStep::Closes(Closing::Pending),
+    WorkerStep::Opens,
+    WorkerStep::FlushesCome(2),
+    WorkerStep::Came(b"g|"),
 ];
 
 #[test]
@@ -55,12 +56,12 @@ fn a_guard_reports_a_worker_that_goes_on(rt: HostRuntime) {
     play(rt, Queue::Waiting(2), b"g", &STILL_GOING_ON);
 }
 
-static ENDS: [Step; 5] = [
-    Step::Takes(b"a"),
-    Step::Takes(b"b"),
-    Step::Closes(Closing::Done { left: 0 }),
-    Step::Came(b"a|b|"),
-    Step::LastFlushes(2),
+static ENDS: [WorkerStep; 5] = [
+    WorkerStep::Takes(b"a"),
+    WorkerStep::Takes(b"b"),
+    WorkerStep::Closes(Closing::Done { left: 0 }),
+    WorkerStep::Came(b"a|b|"),
+    WorkerStep::LastFlushes(2),
 ];
 
 #[test]
@@ -91,27 +92,27 @@ impl<R: Host> Write for Interrupted<R> {
 }
 
 // Plays the steps over a writer that is interrupted so often.
-fn play_interrupted<R: Host + Abort>(rt: R, times: u32, steps: &[Step]) {
+fn play_interrupted<R: Host + Abort>(rt: R, times: u32, steps: &[WorkerStep]) {
     let (gate, seen) = new_gate(rt, b"").expect(&rt, "memory");
     let writer = Interrupted { gate, left: times };
     play_over(rt, Queue::Waiting(4), writer, seen, steps);
 }
 
-static FIRST_IS_GIVEN_UP: [Step; 6] = [
-    Step::Takes(b"1"),
-    Step::Takes(b"2"),
-    Step::Closes(Closing::Done { left: 0 }),
-    Step::Came(b"2|"),
-    Step::HasCome(1),
-    Step::Dropped(0),
+static FIRST_IS_GIVEN_UP: [WorkerStep; 6] = [
+    WorkerStep::Takes(b"1"),
+    WorkerStep::Takes(b"2"),
+    WorkerStep::Closes(Closing::Done { left: 0 }),
+    WorkerStep::Came(b"2|"),
+    WorkerStep::HasCome(1),
+    WorkerStep::Dropped(0),
 ];
 
-static NONE_IS_LOST: [Step; 5] = [
-    Step::Takes(b"1"),
-    Step::Takes(b"2"),
-    Step::Closes(Closing::Done { left: 0 }),
-    Step::Came(b"1|2|"),
-    Step::Dropped(0),
+static NONE_IS_LOST: [WorkerStep; 5] = [
+    WorkerStep::Takes(b"1"),
+    WorkerStep::Takes(b"2"),
+    WorkerStep::Closes(Closing::Done { left: 0 }),
+    WorkerStep::Came(b"1|2|"),
+    WorkerStep::Dropped(0),
 ];
 
 #[test]
@@ -138,12 +139,12 @@ impl<R: Host> Write for Unflushed<R> {
 }
 
 // The faults of its two flushes don't keep the worker from its end.
-static FLUSHES_FAIL: [Step; 5] = [
-    Step::Takes(b"a"),
-    Step::Closes(Closing::Done { left: 0 }),
-    Step::Came(b"a|"),
-    Step::LastFlushes(2),
-    Step::Dropped(0),
+static FLUSHES_FAIL: [WorkerStep; 5] = [
+    WorkerStep::Takes(b"a"),
+    WorkerStep::Closes(Closing::Done { left: 0 }),
+    WorkerStep::Came(b"a|"),
+    WorkerStep::LastFlushes(2),
+    WorkerStep::Dropped(0),
 ];
 
 #[test]

@@ -1,21 +1,13 @@
-//! Tests of the non-blocking writer, of counted senders and their account: they end by themselves, and
-//! pass however the threads are scheduled.
+//! Tests of the non-blocking writer and its worker's thread. They end by themselves, and pass however the threads are
+//! scheduled.
 #![tactic(auto)]
 
-#[cfg(test)]
-mod counted;
-#[cfg(test)]
-mod counted_crowd;
-#[cfg(test)]
-mod counted_ends;
 #[cfg(test)]
 mod crowds;
 #[cfg(test)]
 mod endings;
 #[cfg(test)]
 mod expect;
-#[cfg(test)]
-mod gate;
 #[cfg(test)]
 mod lines;
 #[cfg(test)]
@@ -26,5 +18,3 @@ mod plain_ends;
 mod scene;
 #[cfg(test)]
 mod whole_lines;
-#[cfg(test)]
-mod work;

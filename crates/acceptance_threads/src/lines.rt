@@ -1,27 +1,28 @@
 // What becomes of lines.
 use crate::expect::{debug_text, expect_eq};
-use crate::gate::{Gate, Host, new_gate};
-use crate::scene::{Queue, Step, expect_taken, play, play_over};
+use crate::scene::{Queue, WorkerStep, expect_taken, play, play_over};
+use acceptance_gate::{Gate, new_gate};
 use appender_non_blocking::non_blocking::{
     Closing, DEFAULT_BUFFERED_LINES_LIMIT, NonBlocking, NonBlockingBuilder, non_blocking,
 };
+use program_input::Host;
 use std::io::{ErrorKind, Write};
 use std::process::Abort;
 use std::test::Fail;
 use std::{fs, io};
 
-static DROPS: [Step; 10] = [
-    Step::Takes(b"g"),
-    Step::IsHeld,
-    Step::Takes(b"a"),
-    Step::Takes(b"b"),
-    Step::Dropped(1),
-    Step::Opens,
-    Step::Closes(Closing::Done { left: 0 }),
-    Step::Came(b"g|a|"),
+static DROPS: [WorkerStep; 10] = [
+    WorkerStep::Takes(b"g"),
+    WorkerStep::IsHeld,
+    WorkerStep::Takes(b"a"),
+    WorkerStep::Takes(b"b"),
+    WorkerStep::Dropped(1),
+    WorkerStep::Opens,
+    WorkerStep::Closes(Closing::Done { left: 0 }),
+    WorkerStep::Came(b"g|a|"),
     // Of three lines that were offered two came.
-    Step::HasCome(2),
-    Step::Dropped(1),
+    WorkerStep::HasCome(2),
+    WorkerStep::Dropped(1),
 ];
 
 #[test]
@@ -30,14 +31,14 @@ fn a_lossy_queue_drops_what_finds_no_room(rt: HostRuntime) {
 }
 
 // The writer is in the first line until the write of the second one has answered.
-static HOLDS_NO_SENDER: [Step; 7] = [
-    Step::Takes(b"1"),
-    Step::IsHeld,
-    Step::Takes(b"2"),
-    Step::Opens,
-    Step::DropsGuard,
-    Step::Came(b"1|2|"),
-    Step::LastFlushes(2),
+static HOLDS_NO_SENDER: [WorkerStep; 7] = [
+    WorkerStep::Takes(b"1"),
+    WorkerStep::IsHeld,
+    WorkerStep::Takes(b"2"),
+    WorkerStep::Opens,
+    WorkerStep::DropsGuard,
+    WorkerStep::Came(b"1|2|"),
+    WorkerStep::LastFlushes(2),
 ];
 
 #[test]
@@ -45,18 +46,18 @@ fn a_held_writer_holds_no_sender(rt: HostRuntime) {
     play(rt, Queue::Waiting(4), b"1", &HOLDS_NO_SENDER);
 }
 
-static KEEPS_WAITING: [Step; 11] = [
-    Step::Takes(b"Hello"),
-    Step::IsHeld,
-    Step::Takes(b", World"),
-    Step::WritesInThread(b"!"),
-    Step::HasCome(1),
-    Step::Dropped(0),
-    Step::Opens,
-    Step::ThreadsEnd(1),
-    Step::Closes(Closing::Done { left: 0 }),
-    Step::Came(b"Hello|, World|!|"),
-    Step::Dropped(0),
+static KEEPS_WAITING: [WorkerStep; 11] = [
+    WorkerStep::Takes(b"Hello"),
+    WorkerStep::IsHeld,
+    WorkerStep::Takes(b", World"),
+    WorkerStep::WritesInThread(b"!"),
+    WorkerStep::HasCome(1),
+    WorkerStep::Dropped(0),
+    WorkerStep::Opens,
+    WorkerStep::ThreadsEnd(1),
+    WorkerStep::Closes(Closing::Done { left: 0 }),
+    WorkerStep::Came(b"Hello|, World|!|"),
+    WorkerStep::Dropped(0),
 ];
 
 #[test]
@@ -64,13 +65,13 @@ fn a_full_queue_keeps_its_sender_waiting(rt: HostRuntime) {
     play(rt, Queue::Waiting(1), b"Hello", &KEEPS_WAITING);
 }
 
-static EVERY_THREAD: [Step; 6] = [
-    Step::WritesInTenThreads(b"Hello"),
-    Step::ThreadsEnd(10),
-    Step::Comes(10),
-    Step::Dropped(0),
-    Step::DropsGuard,
-    Step::Came(b"Hello|Hello|Hello|Hello|Hello|Hello|Hello|Hello|Hello|Hello|"),
+static EVERY_THREAD: [WorkerStep; 6] = [
+    WorkerStep::WritesInTenThreads(b"Hello"),
+    WorkerStep::ThreadsEnd(10),
+    WorkerStep::Comes(10),
+    WorkerStep::Dropped(0),
+    WorkerStep::DropsGuard,
+    WorkerStep::Came(b"Hello|Hello|Hello|Hello|Hello|Hello|Hello|Hello|Hello|Hello|"),
 ];
 
 #[test]
@@ -78,11 +79,11 @@ fn every_thread_gets_its_line_through(rt: HostRuntime) {
     play(rt, Queue::Default, b"", &EVERY_THREAD);
 }
 
-static EVERY_BYTE: [Step; 4] = [
-    Step::TakesEveryByte,
-    Step::Flushes,
-    Step::Closes(Closing::Done { left: 0 }),
-    Step::EveryByteCame,
+static EVERY_BYTE: [WorkerStep; 4] = [
+    WorkerStep::TakesEveryByte,
+    WorkerStep::Flushes,
+    WorkerStep::Closes(Closing::Done { left: 0 }),
+    WorkerStep::EveryByteCame,
 ];
 
 #[test]
@@ -91,15 +92,15 @@ fn every_byte_comes_as_it_was(rt: HostRuntime) {
 }
 
 // The shutdown stands before the lines that come later, though the queue takes them.
-static BEHIND_THE_SHUTDOWN: [Step; 8] = [
-    Step::Takes(b"g"),
-    Step::IsHeld,
-    Step::Closes(Closing::Pending),
-    Step::Takes(b"late"),
-    Step::Dropped(0),
-    Step::Opens,
-    Step::TakesUntilOneIsDropped(b"later"),
-    Step::Came(b"g|"),
+static BEHIND_THE_SHUTDOWN: [WorkerStep; 8] = [
+    WorkerStep::Takes(b"g"),
+    WorkerStep::IsHeld,
+    WorkerStep::Closes(Closing::Pending),
+    WorkerStep::Takes(b"late"),
+    WorkerStep::Dropped(0),
+    WorkerStep::Opens,
+    WorkerStep::TakesUntilOneIsDropped(b"later"),
+    WorkerStep::Came(b"g|"),
 ];
 
 #[test]
@@ -107,18 +108,18 @@ fn lines_behind_the_shutdown_are_not_written(rt: HostRuntime) {
     play(rt, Queue::Default, b"g", &BEHIND_THE_SHUTDOWN);
 }
 
-static CLOSED_AND_LOSSY: [Step; 4] = [
-    Step::Closes(Closing::Done { left: 0 }),
-    Step::Takes(b"late"),
-    Step::Dropped(1),
-    Step::HasCome(0),
+static CLOSED_AND_LOSSY: [WorkerStep; 4] = [
+    WorkerStep::Closes(Closing::Done { left: 0 }),
+    WorkerStep::Takes(b"late"),
+    WorkerStep::Dropped(1),
+    WorkerStep::HasCome(0),
 ];
 
-static CLOSED: [Step; 4] = [
-    Step::Closes(Closing::Done { left: 0 }),
-    Step::Refuses(b"late"),
-    Step::Dropped(0),
-    Step::HasCome(0),
+static CLOSED: [WorkerStep; 4] = [
+    WorkerStep::Closes(Closing::Done { left: 0 }),
+    WorkerStep::Refuses(b"late"),
+    WorkerStep::Dropped(0),
+    WorkerStep::HasCome(0),
 ];
 
 #[test]
@@ -130,14 +131,14 @@ fn a_closed_queue_takes_no_line(rt: HostRuntime) {
 
 // The guard finds no room for the shutdown, and says so. The worker ends with its last sender, and leaves
 // no line behind.
-static STAYS_FULL: [Step; 7] = [
-    Step::Takes(b"g"),
-    Step::IsHeld,
-    Step::Takes(b"a"),
-    Step::Closes(Closing::Full),
-    Step::Opens,
-    Step::DropsSender,
-    Step::Comes(2),
+static STAYS_FULL: [WorkerStep; 7] = [
+    WorkerStep::Takes(b"g"),
+    WorkerStep::IsHeld,
+    WorkerStep::Takes(b"a"),
+    WorkerStep::Closes(Closing::Full),
+    WorkerStep::Opens,
+    WorkerStep::DropsSender,
+    WorkerStep::Comes(2),
 ];
 
 #[test]
@@ -180,7 +181,7 @@ fn expect_limit_shown<R: Host + Abort>(rt: R) {
     expect_eq(&rt, DEFAULT_BUFFERED_LINES_LIMIT, 128_000);
 }
 
-static SHOWN: [Step; 1] = [Step::CanBeShown];
+static SHOWN: [WorkerStep; 1] = [WorkerStep::CanBeShown];
 
 #[test]
 fn all_types_can_be_shown(rt: HostRuntime) {
@@ -208,19 +209,23 @@ impl<R: Host> Write for Naming<R> {
 }
 
 // Plays the steps over a writer that tells the worker's name.
-fn play_named<R: Host + Abort>(rt: R, files: HostRuntime, queue: Queue, steps: &[Step]) {
+fn play_named<R: Host + Abort>(rt: R, files: HostRuntime, queue: Queue, steps: &[WorkerStep]) {
     let (gate, seen) = new_gate(rt, b"").expect(&rt, "memory");
     play_over(rt, queue, Naming { files, gate }, seen, steps);
 }
 
 // The system keeps the first fifteen bytes of a name.
-static DEFAULT_NAME: [Step; 3] = [
-    Step::Takes(b"1"),
-    Step::Comes(1),
-    Step::Came(b"tracing-appende|"),
+static DEFAULT_NAME: [WorkerStep; 3] = [
+    WorkerStep::Takes(b"1"),
+    WorkerStep::Comes(1),
+    WorkerStep::Came(b"tracing-appende|"),
 ];
 
-static NAME: [Step; 3] = [Step::Takes(b"1"), Step::Comes(1), Step::Came(b"auditor|")];
+static NAME: [WorkerStep; 3] = [
+    WorkerStep::Takes(b"1"),
+    WorkerStep::Comes(1),
+    WorkerStep::Came(b"auditor|"),
+];
 
 #[test]
 fn the_worker_has_its_name(rt: HostRuntime) {

@@ -1,9 +1,10 @@
 // Records of the crate `log` through the queue: each is one line.
 use crate::expect::expect_eq;
-use crate::gate::{Host, Seen, new_gate};
+use acceptance_gate::{Seen, new_gate};
 use appender_log::LogSink;
 use appender_non_blocking::non_blocking::{Closing, NonBlocking, NonBlockingBuilder, WorkerGuard};
 use log::{Level, Log, Logged, info};
+use program_input::Host;
 use std::io::Write;
 use std::process::Abort;
 use std::test::Fail;

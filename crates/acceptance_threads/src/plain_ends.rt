@@ -1,7 +1,8 @@
 // When the worker of plain senders ends, and how many lines its queue takes.
 use crate::expect::expect_eq;
-use crate::gate::{Gate, Host, new_gate};
+use acceptance_gate::{Gate, new_gate};
 use appender_non_blocking::non_blocking::{Closing, NonBlocking, NonBlockingBuilder};
+use program_input::Host;
 use std::io::Write;
 use std::sync::Wait;
 use std::test::Fail;

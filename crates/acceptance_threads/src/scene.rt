@@ -1,11 +1,12 @@
 // Plays a list of steps over a worker, its sender and its guard. A test is such a list: a proof over a
 // scene is shorter than one over all that it holds.
 use crate::expect::{expect_eq, expect_shown, expect_text, put};
-use crate::gate::{Host, Seen, new_gate};
+use acceptance_gate::{Seen, new_gate};
 use appender_base::make_writer::MakeWriter;
 use appender_non_blocking::non_blocking::{
     Closing, ErrorCounter, NonBlocking, NonBlockingBuilder, WorkerGuard,
 };
+use program_input::Host;
 use std::alloc::{AllocError, Global};
 use std::io::{ErrorKind, Write};
 use std::process::Abort;
@@ -16,7 +17,7 @@ use std::{io, thread};
 
 /// What a test does next, or what then is so.
 #[derive(Clone, Copy)]
-pub(crate) enum Step {
+pub(crate) enum WorkerStep {
     /// The sender writes a line, which is taken whole.
     Takes(&'static [u8]),
     /// As `Takes`, a line of each byte once.
@@ -94,7 +95,12 @@ struct Scene<R: Host> {
 }
 
 /// Plays the steps over a gate that holds this line.
-pub(crate) fn play<R: Host + Abort>(rt: R, queue: Queue, held: &'static [u8], steps: &[Step]) {
+pub(crate) fn play<R: Host + Abort>(
+    rt: R,
+    queue: Queue,
+    held: &'static [u8],
+    steps: &[WorkerStep],
+) {
     let (gate, seen) = new_gate(rt, held).expect(&rt, "memory");
     play_over(rt, queue, gate, seen, steps);
 }
@@ -105,7 +111,7 @@ pub(crate) fn play_over<R: Host + Abort, W: Write + Send + Drop + 'static>(
     queue: Queue,
     writer: W,
     seen: Arc<Seen, Global>,
-    steps: &[Step],
+    steps: &[WorkerStep],
 ) {
     let (sender, guard) = start(rt, queue, writer).expect(&rt, "a worker");
     let mut scene = Scene {
@@ -168,29 +174,29 @@ fn every_byte(alloc: Global, end: &[u8]) -> Result<Vec<u8>, AllocError> {
 }
 
 impl<R: Host + Abort> Scene<R> {
-    fn plays(&mut self, step: Step) {
+    fn plays(&mut self, step: WorkerStep) {
         match step {
-            Step::Takes(line) => self.takes(line),
-            Step::TakesEveryByte => self.takes_every_byte(),
-            Step::TakesUntilOneIsDropped(line) => self.takes_until_one_is_dropped(line),
-            Step::Refuses(line) => self.refuses(line),
-            Step::Flushes => self.flushes(),
-            Step::WritesInThread(line) => self.writes_in_thread(line),
-            Step::WritesInTenThreads(line) => self.writes_in_ten_threads(line),
-            Step::ThreadsEnd(count) => self.threads_end(count),
-            Step::IsHeld => self.is_held(),
-            Step::Opens => self.opens(),
-            Step::Closes(wanted) => self.closes(wanted),
-            Step::DropsGuard => self.drops_guard(),
-            Step::DropsSender => self.drops_sender(),
-            Step::Comes(count) => self.comes(count),
-            Step::HasCome(count) => self.has_come(count),
-            Step::Came(lines) => self.expect_lines(lines),
-            Step::EveryByteCame => self.every_byte_came(),
-            Step::LastFlushes(least) => self.last_flushes(least),
-            Step::FlushesCome(count) => self.flushes_come(count),
-            Step::Dropped(count) => self.expect_dropped(count),
-            Step::CanBeShown => self.can_be_shown(),
+            WorkerStep::Takes(line) => self.takes(line),
+            WorkerStep::TakesEveryByte => self.takes_every_byte(),
+            WorkerStep::TakesUntilOneIsDropped(line) => self.takes_until_one_is_dropped(line),
+            WorkerStep::Refuses(line) => self.refuses(line),
+            WorkerStep::Flushes => self.flushes(),
+            WorkerStep::WritesInThread(line) => self.writes_in_thread(line),
+            WorkerStep::WritesInTenThreads(line) => self.writes_in_ten_threads(line),
+            WorkerStep::ThreadsEnd(count) => self.threads_end(count),
+            WorkerStep::IsHeld => self.is_held(),
+            WorkerStep::Opens => self.opens(),
+            WorkerStep::Closes(wanted) => self.closes(wanted),
+            WorkerStep::DropsGuard => self.drops_guard(),
+            WorkerStep::DropsSender => self.drops_sender(),
+            WorkerStep::Comes(count) => self.comes(count),
+            WorkerStep::HasCome(count) => self.has_come(count),
+            WorkerStep::Came(lines) => self.expect_lines(lines),
+            WorkerStep::EveryByteCame => self.every_byte_came(),
+            WorkerStep::LastFlushes(least) => self.last_flushes(least),
+            WorkerStep::FlushesCome(count) => self.flushes_come(count),
+            WorkerStep::Dropped(count) => self.expect_dropped(count),
+            WorkerStep::CanBeShown => self.can_be_shown(),
         }
     }
 

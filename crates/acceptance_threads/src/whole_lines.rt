@@ -1,7 +1,8 @@
 // One call of `write_all` is one line, whatever its length.
 use crate::expect::expect_text;
-use crate::gate::{Host, new_gate};
+use acceptance_gate::new_gate;
 use appender_non_blocking::non_blocking::{Closing, NonBlocking, NonBlockingBuilder, WorkerGuard};
+use program_input::Host;
 use std::alloc::{AllocError, Global};
 use std::io;
 use std::io::{ErrorKind, Write};

@@ -26,18 +26,18 @@ pub enum Call {
 
 /// What a call that fails answers.
 #[derive(Clone, Copy)]
-pub enum Fault {
+pub enum DiskFault {
     /// An error of this kind.
     Kind(ErrorKind),
     /// The system's error of this number.
     Number(i32),
 }
 
-impl Fault {
+impl DiskFault {
     pub(crate) fn error(self) -> Error {
         match self {
-            Fault::Kind(kind) => Error::from(kind),
-            Fault::Number(number) => Error::from_raw_os_error(number),
+            DiskFault::Kind(kind) => Error::from(kind),
+            DiskFault::Number(number) => Error::from_raw_os_error(number),
         }
     }
 }
@@ -150,7 +150,7 @@ pub struct Disk {
     /// Each call of this sort fails.
     pub fails_each: Cell<Option<Call>>,
     /// What a call that fails answers.
-    pub fault: Cell<Fault>,
+    pub fault: Cell<DiskFault>,
     /// The most bytes that one write takes.
     pub takes: Cell<Option<usize>>,
     /// How many bytes there is room for.
@@ -181,7 +181,7 @@ impl Disk {
             alloc,
             fails_at: Cell::new(None),
             fails_each: Cell::new(None),
-            fault: Cell::new(Fault::Kind(ErrorKind::PermissionDenied)),
+            fault: Cell::new(DiskFault::Kind(ErrorKind::PermissionDenied)),
             takes: Cell::new(None),
             room: Cell::new(None),
             link_comes: Cell::new(None),

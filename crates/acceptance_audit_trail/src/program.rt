@@ -1,0 +1,279 @@
+// The whole program over a real folder; its lines over folders in memory, and several sources.
+use crate::expect::expect_eq;
+use audit_trail_core::trail::{Fault, keep, tell};
+use std::io::{Read, Write};
+use std::process::Abort;
+use std::rt::{Files, Runtime};
+use std::test::Fail;
+use std::{env, fs, io, process};
+use tracing_appender::rolling::InitError;
+
+// An input that can't be read.
+#[derive(Drop)]
+struct Broken;
+
+impl Read for Broken {
+    fn read(&mut self, _buf: &mut [u8]) -> io::Result<usize> {
+        Err(io::Error::from(io::ErrorKind::PermissionDenied))
+    }
+}
+
+// A path of this test's own, where nothing stands.
+pub(crate) fn fresh(rt: &HostRuntime, name: &str) -> io::Result<String> {
+    let parent = env::temp_dir(rt)?;
+    let id = process::id(rt.process());
+    let path = format!(in rt.alloc(); "{}/audit_trail_{id}_{name}", parent.as_str())?;
+    let _ = fs::remove_dir_all(rt, path.as_str());
+    Ok(path)
+}
+
+// Runs the program, and compares the status and what it tells.
+fn check<R: Runtime + AllocGlobal + Abort, I: Read + Drop>(
+    rt: &R,
+    arguments: &[String],
+    mut input: I,
+    status: u8,
+    told: &str,
+) {
+    let mut errors = Vec::new(rt.alloc());
+    let kept = keep(rt, arguments, &mut input, &mut errors);
+    expect_eq(rt, errors.as_slice(), told.as_bytes());
+    expect_eq(rt, kept.err().unwrap_or(0), status);
+}
+
+// What is asked of the runtime where a test looks at the disk.
+pub(crate) trait FilesAndAbort: Files + AllocGlobal + Abort + Copy + Drop {}
+
+impl<R: Files + AllocGlobal + Abort + Copy + Drop> FilesAndAbort for R {}
+
+// The path of the link to the newest log.
+pub(crate) fn latest(rt: &impl FilesAndAbort, directory: &str) -> String {
+    format!(in rt.alloc(); "{directory}/latest.log").expect(rt, "memory")
+}
+
+// What the newest log holds.
+pub(crate) fn newest_text(rt: &impl FilesAndAbort, directory: &str) -> String {
+    fs::read_to_string(rt, latest(rt, directory)).expect(rt, "a log")
+}
+
+// Checks what the newest log holds, and that it is the log of a day.
+pub(crate) fn check_newest(rt: &impl FilesAndAbort, directory: &str, wanted: &str) {
+    expect_eq(rt, newest_text(rt, directory).as_str(), wanted);
+    let target = fs::read_link(rt, latest(rt, directory)).expect(rt, "a link");
+    expect_eq(rt, target.as_str().len(), "audit.2020-02-01.log".len());
+}
+
+// Removes a folder of a test.
+pub(crate) fn clear(rt: &impl FilesAndAbort, directory: &str) {
+    fs::remove_dir_all(rt, directory).expect(rt, "a folder");
+}
+
+#[test]
+fn keeps_all_lines_of_all_runs(rt: HostRuntime) -> Result<(), Fail> {
+    let arguments = Vec::from_array(rt.alloc(), [fresh(&rt, "runs")?])?;
+    check(
+        &rt,
+        arguments.as_slice(),
+        b"first\n\nlast".as_slice(),
+        0,
+        "",
+    );
+    check(&rt, arguments.as_slice(), b"".as_slice(), 0, "");
+    check(&rt, arguments.as_slice(), b"again\n\n".as_slice(), 0, "");
+    let directory = arguments[0].as_str();
+    check_newest(&rt, directory, "first\n\nlast\nagain\n\n");
+    clear(&rt, directory);
+    Ok(())
+}
+
+#[test]
+fn tells_its_usage(rt: HostRuntime) -> Result<(), Fail> {
+    check(
+        &rt,
+        &[],
+        b"a\n".as_slice(),
+        2,
+        "usage: audit_trail DIRECTORY [SOURCE..]\n",
+    );
+    Ok(())
+}
+
+// What the system says of arguments, and what the program makes of it.
+static ARGUMENTS: [(io::ErrorKind, &str, u8); 2] = [
+    (io::ErrorKind::InvalidData, "an argument is not UTF-8\n", 2),
+    (io::ErrorKind::OutOfMemory, "no memory\n", 3),
+];
+
+#[test]
+fn tells_arguments_that_are_not_read(rt: HostRuntime) {
+    for (kind, told, status) in &ARGUMENTS {
+        let mut errors = Vec::new(rt.alloc());
+        let fault = Fault::Argument.unless_memory(*kind);
+        expect_eq(&rt, tell(&fault, &mut errors), *status);
+        expect_eq(&rt, errors.as_slice(), told.as_bytes());
+    }
+}
+
+#[test]
+fn tells_a_folder_that_is_none(rt: HostRuntime) -> Result<(), Fail> {
+    let arguments = Vec::from_array(rt.alloc(), [fresh(&rt, "file")?])?;
+    let path = arguments[0].as_str();
+    fs::write(&rt, path, "here")?;
+    let told = "failed to create log directory: File exists (os error 17)\n";
+    check(&rt, arguments.as_slice(), b"a\n".as_slice(), 1, told);
+    expect_eq(&rt, fs::read_to_string(&rt, path)?.as_str(), "here");
+    fs::remove_file(&rt, path)?;
+    Ok(())
+}
+
+#[test]
+fn tells_an_input_that_is_not_read(rt: HostRuntime) -> Result<(), Fail> {
+    let arguments = Vec::from_array(rt.alloc(), [fresh(&rt, "read")?])?;
+    let told = "read failed: permission denied\n";
+    check(&rt, arguments.as_slice(), Broken, 1, told);
+    clear(&rt, arguments[0].as_str());
+    Ok(())
+}
+
+// Two lines, and then, unless it ends there, one that never does.
+#[derive(Drop)]
+pub(crate) struct Given {
+    left: &'static [u8],
+    ends: bool,
+}
+
+impl Given {
+    pub(crate) fn new(ends: bool) -> Given {
+        Given {
+            left: b"x\ny\n",
+            ends,
+        }
+    }
+}
+
+impl Read for Given {
+    fn read(&mut self, buf: &mut [u8]) -> io::Result<usize> {
+        if self.ends || !self.left.is_empty() {
+            return self.left.read(buf);
+        }
+        for byte in buf.iter_mut() {
+            *byte = b'z';
+        }
+        Ok(buf.len())
+    }
+}
+
+#[test]
+fn tells_a_line_that_never_ends(rt: HostRuntime) -> Result<(), Fail> {
+    let arguments = Vec::from_array(rt.alloc(), [fresh(&rt, "endless")?])?;
+    let told = "read failed: line too long\n";
+    check(&rt, arguments.as_slice(), Given::new(false), 1, told);
+    let directory = arguments[0].as_str();
+    check_newest(&rt, directory, "x\ny\n");
+    clear(&rt, directory);
+    Ok(())
+}
+
+// What the system says of an opening, and what the program makes of it.
+static OPENINGS: [(io::ErrorKind, &str, u8); 2] = [
+    (
+        io::ErrorKind::NotFound,
+        "failed to create log file: entity not found\n",
+        1,
+    ),
+    (io::ErrorKind::OutOfMemory, "no memory\n", 3),
+];
+
+#[test]
+fn tells_logs_that_are_not_opened(rt: HostRuntime) {
+    for (kind, told, status) in &OPENINGS {
+        let mut errors = Vec::new(rt.alloc());
+        let fault = Fault::from(InitError::File(io::Error::from(*kind)));
+        expect_eq(&rt, tell(&fault, &mut errors), *status);
+        expect_eq(&rt, errors.as_slice(), told.as_bytes());
+    }
+}
+
+#[test]
+fn ends_a_part_of_a_line_that_another_run_left(rt: HostRuntime) -> Result<(), Fail> {
+    let arguments = Vec::from_array(rt.alloc(), [fresh(&rt, "part")?])?;
+    let directory = arguments[0].as_str();
+    check(&rt, arguments.as_slice(), b"first\n".as_slice(), 0, "");
+    fs::write(&rt, latest(&rt, directory), "first\npar")?;
+    check(&rt, arguments.as_slice(), b"last\n".as_slice(), 0, "");
+    check_newest(&rt, directory, "first\npar\nlast\n");
+    clear(&rt, directory);
+    Ok(())
+}
+
+// What happens to the log file while it is written to.
+#[derive(Clone, Copy)]
+pub(crate) enum Harm {
+    Removed,
+    Renamed,
+    Replaced,
+}
+
+// Two lines, and between them harm to the newest log file of a folder.
+#[derive(Drop)]
+pub(crate) struct Harming {
+    rt: HostRuntime,
+    directory: String,
+    harm: Harm,
+    reads: u32,
+}
+
+impl Harming {
+    pub(crate) fn new(rt: HostRuntime, directory: &str, harm: Harm) -> io::Result<Harming> {
+        Ok(Harming {
+            rt,
+            directory: String::from_str(rt.alloc(), directory)?,
+            harm,
+            reads: 0,
+        })
+    }
+
+    fn harm(&self) -> io::Result<()> {
+        let rt = &self.rt;
+        let link = format!(in rt.alloc(); "{}/latest.log", self.directory)?;
+        let target = fs::read_link(rt, link)?;
+        let path = format!(in rt.alloc(); "{}/{}", self.directory, target.as_str())?;
+        if matches!(self.harm, Harm::Renamed) {
+            let other = format!(in rt.alloc(); "{}/other", self.directory)?;
+            return fs::rename(rt, path, other);
+        }
+        fs::remove_file(rt, path.as_str())?;
+        if matches!(self.harm, Harm::Replaced) {
+            fs::write(rt, path, "")?;
+        }
+        Ok(())
+    }
+}
+
+impl Read for Harming {
+    fn read(&mut self, buf: &mut [u8]) -> io::Result<usize> {
+        self.reads = self.reads.saturating_add(1);
+        let mut line: &[u8] = match self.reads {
+            1 => b"first\n",
+            2 => b"last\n",
+            _ => b"",
+        };
+        if self.reads == 2 {
+            self.harm()?;
+        }
+        line.read(buf)
+    }
+}
+
+#[test]
+fn tells_a_log_that_is_gone(rt: HostRuntime) -> Result<(), Fail> {
+    let faults = "log files not found again: 1\n";
+    for harm in [Harm::Removed, Harm::Renamed, Harm::Replaced] {
+        let arguments = Vec::from_array(rt.alloc(), [fresh(&rt, "gone")?])?;
+        let directory = arguments[0].as_str();
+        let input = Harming::new(rt, directory, harm)?;
+        check(&rt, arguments.as_slice(), input, 1, faults);
+        clear(&rt, directory);
+    }
+    Ok(())
+}

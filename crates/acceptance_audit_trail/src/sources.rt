@@ -1,0 +1,397 @@
+// Several sources: over a real folder, and over logs and sources of these tests.
+use crate::expect::expect_eq;
+use crate::lines::{Disturbed, TestLog, try_open};
+use crate::program::{Given, Harm, Harming, clear, fresh, latest, newest_text};
+use audit_trail_core::gather::{Trails, keep_all};
+use audit_trail_core::trail::{Fault, open_trail};
+use program_input::Host;
+use std::alloc::{AllocError, Global};
+use std::io::{Read, Write};
+use std::os::unix::fs::symlink;
+use std::process::Abort;
+use std::sync::Arc;
+use std::sync::atomic::AtomicU64;
+use std::test::Fail;
+use std::{fs, io};
+use tracing_appender::rolling::InitError;
+use tracing_appender::store::MemoryFolder;
+
+// What the system says of a file that isn't there.
+const LACKING: &str = "No such file or directory (os error 2)";
+
+// A file of this test's own, with this content.
+fn source(rt: &HostRuntime, name: &str, content: &str) -> io::Result<String> {
+    let path = fresh(rt, name)?;
+    fs::write(rt, path.as_str(), content)?;
+    Ok(path)
+}
+
+// Two sources that can be read, and after each of them one that can't.
+fn sources(rt: &HostRuntime) -> io::Result<[String; 4]> {
+    let first = source(rt, "source_1", "a 1\na 2\na 3")?;
+    let second = source(rt, "source_2", "b 1\n\n")?;
+    let (lacks, fails) = (fresh(rt, "nothing")?, fresh(rt, "no_more")?);
+    Ok([first, lacks, second, fails])
+}
+
+// What the program tells of the two that can't be read.
+fn faults_of(alloc: Global, sources: &[String; 4]) -> Result<String, AllocError> {
+    let [_, lacks, _, fails] = sources;
+    format!(in alloc; "{lacks}: read failed: {LACKING}\n{fails}: read failed: {LACKING}\n")
+}
+
+// Runs the program over these sources, and checks what it tells.
+fn check_account<R: Host + Abort, T: Trails>(
+    rt: R,
+    trails: &T,
+    directory: &str,
+    sources: &[String],
+    account: &str,
+    faults: &str,
+) {
+    let (mut output, mut errors) = (Vec::new(rt.alloc()), Vec::new(rt.alloc()));
+    let status = keep_all(rt, trails, directory, sources, &mut output, &mut errors);
+    expect_eq(&rt, output.as_slice(), account.as_bytes());
+    expect_eq(&rt, errors.as_slice(), faults.as_bytes());
+    expect_eq(&rt, status, 1);
+}
+
+// The lines that begin so, in their order, with a bar behind each.
+fn lines_of(rt: &(impl AllocGlobal + Abort), text: &str, begin: &str) -> String {
+    let mut found = String::new(rt.alloc());
+    for line in text.lines() {
+        if line.starts_with(begin) {
+            found.push_str(line).expect(rt, "memory");
+            found.push('|').expect(rt, "memory");
+        }
+    }
+    found
+}
+
+// Checks what the log holds: the lines of one source stand in their order.
+fn check_written(rt: &(impl AllocGlobal + Abort), written: &str) {
+    expect_eq(rt, written.len(), 17);
+    for (begin, wanted) in [("a", "a 1|a 2|a 3|"), ("b", "b 1|")] {
+        expect_eq(rt, lines_of(rt, written, begin).as_str(), wanted);
+    }
+    let all = lines_of(rt, written, "");
+    expect_eq(rt, all.len(), "a 1|a 2|a 3|b 1||".len());
+}
+
+#[test]
+fn gives_an_account_of_all_sources(rt: HostRuntime) -> Result<(), Fail> {
+    let directory = fresh(&rt, "sources")?;
+    let sources = sources(&rt)?;
+    let faults = faults_of(rt.alloc(), &sources)?;
+    check_account(
+        rt,
+        &rt,
+        directory.as_str(),
+        sources.as_slice(),
+        "accepted 5 handed 5 left 0 dropped 0\n",
+        faults.as_str(),
+    );
+    check_written(&rt, newest_text(&rt, directory.as_str()).as_str());
+    fs::remove_file(&rt, sources[0].as_str())?;
+    fs::remove_file(&rt, sources[2].as_str())?;
+    clear(&rt, directory.as_str());
+    Ok(())
+}
+
+// A log that takes a byte at a time, and so many bytes in all.
+#[derive(Drop)]
+struct Filling {
+    room: u32,
+}
+
+impl Write for Filling {
+    fn write(&mut self, buf: &[u8]) -> io::Result<usize> {
+        if self.room == 0 {
+            return Err(io::Error::from(io::ErrorKind::StorageFull));
+        }
+        self.room -= 1;
+        Ok(buf.len().min(1))
+    }
+
+    fn flush(&mut self) -> io::Result<()> {
+        Ok(())
+    }
+}
+
+// A log with room for so many bytes, and sources of two lines of two bytes, of which one never ends.
+#[derive(Drop)]
+struct Narrow {
+    room: u32,
+}
+
+impl Trails for Narrow {
+    type Log = Filling;
+
+    type Source = Given;
+
+    fn open_trail(
+        &self,
+        _directory: &str,
+        _gone: Arc<AtomicU64, Global>,
+    ) -> Result<Filling, InitError> {
+        Ok(Filling { room: self.room })
+    }
+
+    fn open_source(&self, _log: &Filling, path: &str) -> Result<Given, Fault> {
+        Ok(Given::new(path != "endless"))
+    }
+}
+
+// Runs the program over two sources of such, and checks what it tells.
+fn check_narrow<R: Host + Abort>(
+    rt: R,
+    room: u32,
+    first: &str,
+    faults: &str,
+) -> Result<(), AllocError> {
+    let (first, second) = (
+        String::from_str(rt.alloc(), first)?,
+        String::from_str(rt.alloc(), "short")?,
+    );
+    let account = "accepted 4 handed 4 left 0 dropped 0\n";
+    check_account(rt, &Narrow { room }, "", &[first, second], account, faults);
+    Ok(())
+}
+
+#[test]
+fn tells_lines_that_found_no_room(rt: HostRuntime) -> Result<(), Fail> {
+    Ok(check_narrow(rt, 7, "long", "lines not written whole: 1\n")?)
+}
+
+#[test]
+fn a_line_that_never_ends_keeps_no_other_from_the_log(rt: HostRuntime) -> Result<(), Fail> {
+    let faults = "endless: read failed: line too long\n";
+    Ok(check_narrow(rt, 8, "endless", faults)?)
+}
+
+// The account of so many lines, all of which were handed to the log.
+fn account_of(alloc: Global, lines: u64) -> Result<String, AllocError> {
+    format!(in alloc; "accepted {lines} handed {lines} left 0 dropped 0\n")
+}
+
+// Trails whose sources harm the log file.
+#[derive(Drop)]
+struct Harmed<T: Drop> {
+    rt: HostRuntime,
+    trails: T,
+    directory: String,
+}
+
+impl<T: Trails + Drop> Trails for Harmed<T> {
+    type Log = T::Log;
+
+    type Source = Harming;
+
+    fn open_trail(
+        &self,
+        directory: &str,
+        gone: Arc<AtomicU64, Global>,
+    ) -> Result<T::Log, InitError> {
+        self.trails.open_trail(directory, gone)
+    }
+
+    fn open_source(&self, _log: &T::Log, _path: &str) -> Result<Harming, Fault> {
+        Ok(Harming::new(self.rt, self.directory.as_str(), Harm::Removed)?)
+    }
+}
+
+#[test]
+fn tells_a_log_that_is_gone(rt: HostRuntime) -> Result<(), Fail> {
+    let alloc = rt.alloc();
+    let directory = fresh(&rt, "harmed")?;
+    let trails = Harmed {
+        rt,
+        trails: rt,
+        directory: directory.clone()?,
+    };
+    let (account, faults) = (account_of(alloc, 2)?, "log files not found again: 1\n");
+    let paths = [String::from_str(alloc, "any")?];
+    check_account(
+        rt,
+        &trails,
+        directory.as_str(),
+        &paths,
+        account.as_str(),
+        faults,
+    );
+    clear(&rt, directory.as_str());
+    Ok(())
+}
+
+#[test]
+fn ends_a_part_of_a_line_that_another_run_left(rt: HostRuntime) -> Result<(), Fail> {
+    let alloc = rt.alloc();
+    let directory = fresh(&rt, "cut")?;
+    let lacks = fresh(&rt, "lacking")?;
+    let faults = format!(in alloc; "{lacks}: read failed: {LACKING}\n")?;
+    let paths = [source(&rt, "after_cut", "next\n")?, lacks];
+    for (left, wanted) in [("a\n", "a\nnext\n"), ("a\npar", "a\npar\nnext\n")] {
+        open_trail(&rt, directory.as_str(), Arc::new(alloc, AtomicU64::new(0))?)?;
+        fs::write(&rt, latest(&rt, directory.as_str()), left)?;
+        let account = account_of(alloc, 1)?;
+        check_account(
+            rt,
+            &rt,
+            directory.as_str(),
+            &paths,
+            account.as_str(),
+            faults.as_str(),
+        );
+        expect_eq(&rt, newest_text(&rt, directory.as_str()).as_str(), wanted);
+    }
+    fs::remove_file(&rt, paths[0].as_str())?;
+    clear(&rt, directory.as_str());
+    Ok(())
+}
+
+// Sources that are in the log's folder: the newest log by its link, and by a link to that; another file, and
+// that by a link to the folder. Behind them stand both links.
+fn own_sources(rt: &HostRuntime, directory: &str) -> io::Result<[String; 6]> {
+    let alloc = rt.alloc();
+    let newest = format!(in alloc; "{directory}/latest.log")?;
+    let other = format!(in alloc; "{directory}/other")?;
+    fs::write(rt, other.as_str(), "other\n")?;
+    let (link, folder) = (fresh_link(rt, "link")?, fresh_link(rt, "to_folder")?);
+    symlink(rt, newest.as_str(), link.as_str())?;
+    symlink(rt, directory, folder.as_str())?;
+    let through = format!(in alloc; "{folder}/other")?;
+    Ok([newest, link.clone()?, other, through, link, folder])
+}
+
+// A path of this test's own, where no link stands.
+fn fresh_link(rt: &HostRuntime, name: &str) -> io::Result<String> {
+    let path = fresh(rt, name)?;
+    let _ = fs::remove_file(rt, path.as_str());
+    Ok(path)
+}
+
+#[test]
+fn refuses_sources_in_the_folder_of_the_log(rt: HostRuntime) -> Result<(), Fail> {
+    let alloc = rt.alloc();
+    let directory = fresh(&rt, "own")?;
+    open_trail(&rt, directory.as_str(), Arc::new(alloc, AtomicU64::new(0))?)?;
+    let own = own_sources(&rt, directory.as_str())?;
+    let (mut paths, mut faults) = (Vec::new(alloc), String::new(alloc));
+    for path in &own.as_slice()[..4] {
+        let told = format!(in alloc; "{path}: source in the log directory\n")?;
+        faults.push_str(told.as_str())?;
+        paths.push(path.clone()?)?;
+    }
+    let good = source(&rt, "good", "a\nb\n")?;
+    paths.push(good.clone()?)?;
+    let account = account_of(alloc, 2)?;
+    check_account(
+        rt,
+        &rt,
+        directory.as_str(),
+        paths.as_slice(),
+        account.as_str(),
+        faults.as_str(),
+    );
+    expect_eq(&rt, newest_text(&rt, directory.as_str()).as_str(), "a\nb\n");
+    for link in &own.as_slice()[4..] {
+        fs::remove_file(&rt, link.as_str())?;
+    }
+    fs::remove_file(&rt, good)?;
+    clear(&rt, directory.as_str());
+    Ok(())
+}
+
+// The log's own file is known by any name.
+#[test]
+fn knows_the_file_of_the_log(rt: HostRuntime) -> Result<(), Fail> {
+    let alloc = rt.alloc();
+    let (directory, hard) = (fresh(&rt, "known")?, fresh_link(&rt, "hard")?);
+    let trail = open_trail(&rt, directory.as_str(), Arc::new(alloc, AtomicU64::new(0))?)?;
+    let named = format!(in alloc; "{directory}/{}", trail.log().open_name())?;
+    fs::hard_link(&rt, named, hard.as_str())?;
+    for (path, wanted) in [(hard.as_str(), true), ("/dev/null", false)] {
+        let file = fs::File::open(&rt, path)?;
+        let owns = trail.watch().owns(trail.log().open_file(), &file, path)?;
+        expect_eq(&rt, owns, wanted);
+    }
+    fs::remove_file(&rt, hard)?;
+    clear(&rt, directory.as_str());
+    Ok(())
+}
+
+// A log over a folder in memory, of whose first line one byte is taken.
+#[derive(Drop)]
+struct Cutting {
+    alloc: Global,
+}
+
+impl Trails for Cutting {
+    type Log = TestLog;
+
+    type Source = Given;
+
+    fn open_trail(
+        &self,
+        _directory: &str,
+        _gone: Arc<AtomicU64, Global>,
+    ) -> Result<TestLog, InitError> {
+        let mut folder = MemoryFolder::new(self.alloc);
+        folder.short_append(2, 1)?;
+        folder.fail_call(3)?;
+        let interrupts = false;
+        try_open(self.alloc, Disturbed { folder, interrupts }, 60, "")
+    }
+
+    fn open_source(&self, _log: &TestLog, _path: &str) -> Result<Given, Fault> {
+        Ok(Given::new(true))
+    }
+}
+
+#[test]
+fn a_line_cut_short_is_lost(rt: HostRuntime) -> Result<(), Fail> {
+    let alloc = rt.alloc();
+    let paths = [String::from_str(alloc, "any")?];
+    let (account, faults) = (account_of(alloc, 2)?, "lines not written whole: 1\n");
+    check_account(rt, &Cutting { alloc }, "", &paths, account.as_str(), faults);
+    Ok(())
+}
+
+// An output that takes nothing.
+#[derive(Drop)]
+struct Full;
+
+impl Write for Full {
+    fn write(&mut self, _buf: &[u8]) -> io::Result<usize> {
+        Err(io::Error::from(io::ErrorKind::StorageFull))
+    }
+
+    fn flush(&mut self) -> io::Result<()> {
+        Ok(())
+    }
+}
+
+#[test]
+fn tells_an_account_that_is_not_written(rt: HostRuntime) -> Result<(), Fail> {
+    let mut errors = Vec::new(rt.alloc());
+    let paths = [String::from_str(rt.alloc(), "short")?];
+    let trails = Narrow { room: 4 };
+    let status = keep_all(rt, &trails, "", &paths, &mut Full, &mut errors);
+    let told = b"account not written: no storage space\n".as_slice();
+    expect_eq(&rt, errors.as_slice(), told);
+    expect_eq(&rt, status, 1);
+    Ok(())
+}
+
+#[test]
+fn tells_nothing_if_all_is_written(rt: HostRuntime) -> Result<(), Fail> {
+    let (mut output, mut errors) = (Vec::new(rt.alloc()), Vec::new(rt.alloc()));
+    let paths = [String::from_str(rt.alloc(), "short")?];
+    let trails = Narrow { room: 4 };
+    let status = keep_all(rt, &trails, "", &paths, &mut output, &mut errors);
+    expect_eq(&rt, status, 0);
+    expect_eq(&rt, errors.as_slice(), b"".as_slice());
+    let account = account_of(rt.alloc(), 2)?;
+    expect_eq(&rt, output.as_slice(), account.as_str().as_bytes());
+    Ok(())
+}

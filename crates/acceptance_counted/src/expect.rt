@@ -1,0 +1,52 @@
+// What these tests compare: a call of these makes a proof shorter than `assert_eq!` or `format!` does.
+use acceptance_gate::Seen;
+use program_input::Host;
+use std::alloc::AllocError;
+use std::fmt::Debug;
+use std::process::Abort;
+
+/// Ends the test where a value isn't the wanted one.
+pub(crate) fn expect_eq<T: Copy + PartialEq + Debug>(rt: &impl Abort, got: T, wanted: T) {
+    assert!(rt; got == wanted, "{got:?} where {wanted:?} is wanted");
+}
+
+/// The same, and tells of what it is the value: a name, or the row of a table.
+pub(crate) fn expect_eq_of<P: Copy + Debug, T: Copy + PartialEq + Debug>(
+    rt: &impl Abort,
+    place: P,
+    got: T,
+    wanted: T,
+) {
+    assert!(rt;
+        got == wanted,
+        "{place:?}: {got:?} where {wanted:?} is wanted"
+    );
+}
+
+/// Ends the test where the `Debug` text of a value isn't the wanted one.
+pub(crate) fn expect_shown<T: Copy + Debug>(
+    rt: &(impl AllocGlobal + Abort),
+    value: T,
+    wanted: &str,
+) {
+    expect_eq(rt, debug_text(rt, value).as_str(), wanted);
+}
+
+/// The `Debug` text of a value.
+pub(crate) fn debug_text<T: Copy + Debug>(rt: &(impl AllocGlobal + Abort), value: T) -> String {
+    format!(in rt.alloc(); "{value:?}").expect(rt, "memory")
+}
+
+/// Ends the test where other lines came.
+pub(crate) fn expect_text<R: Host + Abort>(rt: R, seen: &Seen, wanted: &[u8]) {
+    let text = seen.text(&rt).expect(&rt, "memory");
+    expect_eq(&rt, text.as_slice(), wanted);
+}
+
+/// Puts a value behind the others. Ends the test where there is no memory.
+pub(crate) fn put<T: Drop>(rt: &impl Abort, values: &mut Vec<T>, value: T) {
+    values
+        .push(value)
+        .map_err(AllocError::from)
+        .expect(rt, "memory");
+}

@@ -1,0 +1,168 @@
+// Full disks, short writes, links that come in between, and a folder that goes.
+
+use crate::expect::{AllocAndAbort, expect_eq_of, pair_text};
+use crate::runs::{DiskStep, Outcome};
+use crate::scene::{ELEVEN, START, TWELVE, disk_of, expect_texts, put_file, write_log};
+use fake_files::disk::{Call, Disk};
+
+// A disk that holds `other.txt` alone.
+fn kept_disk(rt: &impl AllocAndAbort) -> Disk {
+    disk_of(rt, &[("other.txt", "kept")])
+}
+
+// Writes a log without a link on such a disk, and answers what came of it.
+fn write_unlinked(rt: &impl AllocAndAbort, steps: &[DiskStep]) -> Outcome {
+    write_log(rt, &kept_disk(rt), 0, "", steps)
+}
+
+// Steps with what they answer, the files at the end, and what is told.
+static WRITES: [(&[DiskStep], &str, &str, &str); 5] = [
+    // A disk that is full takes what there is room for, and more once there is room again.
+    (
+        &[
+            DiskStep::Room(4),
+            DiskStep::Put(START, "one"),
+            DiskStep::Put(START, "two"),
+            DiskStep::Put(START, "three"),
+            DiskStep::Put(START, ""),
+            DiskStep::Flush,
+            DiskStep::Room(9),
+            DiskStep::Put(START, "four"),
+        ],
+        "open\nnone ok 3\nnone ok 1\nnone err\nnone ok 0\nok\nnone ok 4\n",
+        "app.2020-02-01-10 onetfour\nother.txt kept\n",
+        "failures 1\n",
+    ),
+    // So it is at a boundary.
+    (
+        &[
+            DiskStep::Room(0),
+            DiskStep::Put(ELEVEN, "one"),
+            DiskStep::Room(9),
+            DiskStep::Put(ELEVEN, "two"),
+        ],
+        "open\nopened err\nnone ok 3\n",
+        "app.2020-02-01-10 \napp.2020-02-01-11 two\nother.txt kept\n",
+        "failures 1\n",
+    ),
+    // A short write is no failure.
+    (
+        &[
+            DiskStep::Take(2),
+            DiskStep::Put(START, "hello"),
+            DiskStep::Take(0),
+            DiskStep::Put(START, "hello"),
+            DiskStep::Take(5),
+            DiskStep::Put(START, "hello"),
+            DiskStep::Take(6),
+            DiskStep::Put(START, "hello"),
+        ],
+        "open\nnone ok 2\nnone ok 0\nnone ok 5\nnone ok 5\n",
+        "app.2020-02-01-10 hehellohello\nother.txt kept\n",
+        "failures 0\n",
+    ),
+    // Where the folder goes, lines go to the open file until the boundary makes the folder again.
+    (
+        &[
+            DiskStep::Put(START, "one"),
+            DiskStep::RemoveFolder,
+            DiskStep::Put(START, "two"),
+            DiskStep::Flush,
+            DiskStep::Put(ELEVEN, "three"),
+        ],
+        "open\nnone ok 3\nnone ok 3\nok\nopened ok 5\n",
+        "app.2020-02-01-11 three\n",
+        "failures 1\n",
+    ),
+    // It can't be made before the boundary after the next.
+    (
+        &[
+            DiskStep::RemoveFolder,
+            DiskStep::Fail(Some(Call::CreateDir)),
+            DiskStep::Put(ELEVEN, "one"),
+            DiskStep::Fail(None),
+            DiskStep::Put(ELEVEN, "two"),
+            DiskStep::Put(TWELVE, "three"),
+        ],
+        "open\nfailed ok 3\nnone ok 3\nopened ok 5\n",
+        "app.2020-02-01-12 three\n",
+        "Couldn't create writer for logs: failed to create log directory: permission denied\nfailures 3\n",
+    ),
+];
+
+// Behind what the disk held at first stands what puts counted.
+fn expect_counted(rt: &impl AllocAndAbort, outcome: &Outcome, of: &[DiskStep]) {
+    let counted = pair_text(rt, "kept", outcome.counted.as_str());
+    expect_eq_of(rt, of, outcome.appended.as_str(), counted.as_str());
+}
+
+#[test]
+fn what_is_counted_stands(rt: HostRuntime) {
+    for (steps, answers, files, printed) in &WRITES {
+        let outcome = write_unlinked(&rt, steps);
+        expect_texts(&rt, &outcome, (*answers, *files, *printed), steps);
+        expect_counted(&rt, &outcome, steps);
+    }
+}
+
+const LOG: &str = "app.2020-02-01-10";
+
+const NEXT: &str = "app.2020-02-01-11";
+
+const REFUSED: &str = "failed to create log file: not a plain file\n";
+
+const LINKED: &str = "app.2020-02-01-10 -> other.txt\nother.txt kept\n";
+
+// Whether the log stands at first, the call before which a name becomes a link to `other.txt` and
+// that name; the answers, the files, and what is told.
+static LINKS: [(bool, usize, &str, &str, &str, &str); 6] = [
+    // Before the look at the name, and between look and opening.
+    (false, 1, LOG, REFUSED, LINKED, "failures 2\n"),
+    (false, 2, LOG, REFUSED, LINKED, "failures 2\n"),
+    (true, 2, LOG, REFUSED, LINKED, "failures 2\n"),
+    // Between the opening and the second look.
+    (true, 4, LOG, REFUSED, LINKED, "failures 2\n"),
+    // At a boundary, whose line goes to the last file then.
+    (
+        false,
+        5,
+        NEXT,
+        "open\nnone ok 3\nfailed ok 3\n",
+        "app.2020-02-01-10 onetwo\napp.2020-02-01-11 -> other.txt\nother.txt kept\n",
+        "Couldn't create writer for logs: failed to create log file: not a plain file\nfailures 2\n",
+    ),
+    // Once the file is open its name means nothing.
+    (
+        false,
+        3,
+        LOG,
+        "open\nnone ok 3\nopened ok 3\n",
+        "app.2020-02-01-10 -> other.txt\napp.2020-02-01-11 two\nother.txt kept\n",
+        "failures 0\n",
+    ),
+];
+
+static TWO_LINES: [DiskStep; 2] = [DiskStep::Put(START, "one"), DiskStep::Put(ELEVEN, "two")];
+
+// Writes two lines where this name becomes a link before this call.
+fn write_linked(rt: &impl AllocAndAbort, stands: bool, call: usize, name: &'static str) -> Outcome {
+    let disk = kept_disk(rt);
+    if stands {
+        put_file(rt, &disk, LOG.as_bytes(), "x");
+    }
+    disk.link_comes.set(Some((call, name, "other.txt")));
+    write_log(rt, &disk, 0, "", &TWO_LINES)
+}
+
+#[test]
+fn a_link_that_comes_in_between_is_not_followed(rt: HostRuntime) {
+    for (stands, call, name, answers, files, printed) in &LINKS {
+        let outcome = write_linked(&rt, *stands, *call, *name);
+        expect_texts(
+            &rt,
+            &outcome,
+            (*answers, *files, *printed),
+            &(*call, *stands),
+        );
+    }
+}

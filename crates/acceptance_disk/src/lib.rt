@@ -1,0 +1,26 @@
+//! Tests of logs over a disk in memory whose calls fail as a test chooses, and that a disk comes to hold what a
+//! folder in memory does.
+#![tactic(auto)]
+
+#[cfg(test)]
+mod expect;
+#[cfg(test)]
+mod faults;
+#[cfg(test)]
+mod listings;
+#[cfg(test)]
+mod logs;
+#[cfg(test)]
+mod notices;
+#[cfg(test)]
+mod openings;
+#[cfg(test)]
+mod others;
+#[cfg(test)]
+mod runs;
+#[cfg(test)]
+mod scene;
+#[cfg(test)]
+mod scripts;
+#[cfg(test)]
+mod turns;

@@ -1,0 +1,123 @@
+// What other processes do to the folder of a log, and what a log file's owner may do with it.
+
+use crate::expect::{AllocAndAbort, expect_eq, expect_eq_of};
+use crate::runs::{DiskStep, Outcome, folder_of};
+use crate::scene::{ELEVEN, START, disk_of, expect_texts, write_log};
+use fake_files::disk::{Call, Disk};
+use std::io::ErrorKind;
+use tracing_appender::store::Folder;
+
+const LOG: &str = "app.2020-02-01-10";
+
+static TWO_LINES: [DiskStep; 2] = [DiskStep::Put(START, "one"), DiskStep::Put(ELEVEN, "two")];
+
+const NEW_LINK: &str =
+    "app.2020-02-01-10 one\napp.2020-02-01-11 two\nlatest.log -> app.2020-02-01-11\n";
+
+const OTHER_LINK: &str = "app.2020-02-01-10 onetwo\napp.2020-02-01-11 \nlatest.log -> other\n";
+
+// The target of the link that another process makes just before the call that makes it; the answers, the
+// files, and what is told.
+static LINKS: [(&str, &str, &str, &str); 2] = [
+    // It is the wanted one.
+    (
+        "app.2020-02-01-11",
+        "open\nnone ok 3\nopened ok 3\n",
+        NEW_LINK,
+        "failures 1\n",
+    ),
+    (
+        "other",
+        "open\nnone ok 3\nfailed ok 3\n",
+        OTHER_LINK,
+        "Couldn't create writer for logs: failed to create symlink to latest log file: entity already exists\nfailures 2\n",
+    ),
+];
+
+// Writes two lines to a log with a link, which another process makes at the boundary.
+fn write_with_link(rt: &impl AllocAndAbort, target: &'static str) -> Outcome {
+    let disk = Disk::new(rt.alloc());
+    // The calls of the opening are 1 to 4, the first line's is 5; at the boundary two open the file, and two
+    // remove the link.
+    disk.link_comes.set(Some((10, "latest.log", target)));
+    write_log(rt, &disk, 0, "latest.log", &TWO_LINES)
+}
+
+#[test]
+fn a_link_that_is_as_wanted_is_taken(rt: HostRuntime) {
+    for (target, answers, files, printed) in &LINKS {
+        let outcome = write_with_link(&rt, *target);
+        expect_texts(&rt, &outcome, (*answers, *files, *printed), target);
+    }
+}
+
+// Writes two lines to a log that is there already, where a pipe comes in its place between look and
+// opening, or no file may be read.
+fn write_standing(rt: &impl AllocAndAbort, pipe_comes: bool) -> Outcome {
+    let disk = disk_of(rt, &[(LOG, "x")]);
+    if pipe_comes {
+        disk.pipe_comes.set(Some((2, LOG)));
+    }
+    disk.hides_bytes.set(!pipe_comes);
+    let outcome = write_log(rt, &disk, 0, "", &TWO_LINES);
+    expect_eq(rt, disk.waits(), 0);
+    outcome
+}
+
+#[test]
+fn a_pipe_that_comes_in_between_is_refused_and_not_waited_for(rt: HostRuntime) {
+    let wanted = (
+        "failed to create log file: not a plain file\n",
+        "app.2020-02-01-10|\n",
+        "failures 2\n",
+    );
+    expect_texts(&rt, &write_standing(&rt, true), wanted, &"a pipe");
+}
+
+#[test]
+fn a_log_that_may_not_be_read_is_written(rt: HostRuntime) {
+    let wanted = (
+        "open\nnone ok 3\nopened ok 3\n",
+        "app.2020-02-01-10 xone\napp.2020-02-01-11 two\n",
+        "failures 0\n",
+    );
+    expect_texts(&rt, &write_standing(&rt, false), wanted, &"a file");
+}
+
+// Flushes a file of a folder, which syncs or doesn't, and answers the error's kind and how often the disk
+// synced.
+fn flush_once(
+    rt: &impl AllocAndAbort,
+    syncs: bool,
+    fails: Option<Call>,
+) -> (Option<ErrorKind>, usize) {
+    let disk = Disk::new(rt.alloc());
+    let folder = folder_of(rt, &disk);
+    let mut folder = if syncs { folder.synced() } else { folder };
+    let mut file = folder.open(LOG).expect(rt, "a file");
+    disk.fails_each.set(fails);
+    let flushed = folder.flush(&mut file);
+    expect_eq(rt, folder.failures(), flushed.is_err() as u64);
+    (flushed.err().map(|fault| fault.kind()), disk.syncs())
+}
+
+// Whether the folder syncs, and the call that fails; the error's kind, and how often the disk synced.
+static FLUSHES: [(bool, Option<Call>, Option<ErrorKind>, usize); 4] = [
+    (false, None, None, 0),
+    (true, None, None, 1),
+    (true, Some(Call::Sync), Some(ErrorKind::PermissionDenied), 0),
+    (
+        true,
+        Some(Call::Flush),
+        Some(ErrorKind::PermissionDenied),
+        0,
+    ),
+];
+
+#[test]
+fn a_flush_syncs_where_that_was_asked_for(rt: HostRuntime) {
+    for (syncs, fails, kind, count) in &FLUSHES {
+        let flushed = flush_once(&rt, *syncs, *fails);
+        expect_eq_of(&rt, (*syncs, *fails), flushed, (*kind, *count));
+    }
+}

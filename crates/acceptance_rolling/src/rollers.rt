@@ -1,0 +1,133 @@
+// What a roller and a builder tell, and bodies that names don't lead to any more.
+
+use crate::expect::{AllocAndAbort, expect_eq, expect_eq_of, expect_shown};
+use crate::logs::{expect_count, folder_with, hourly_log};
+use std::process::Abort;
+use tracing_appender::rolling::{Builder, InitError, Roller, Switch};
+use tracing_appender::store::MemoryFolder;
+
+// 2020-02-01 10:01:00.
+const START: i64 = 1_580_551_260;
+
+const ELEVEN: i64 = 1_580_554_800;
+
+const TWELVE: i64 = 1_580_558_400;
+
+// A builder of an hourly log that keeps all files, whose names have this suffix.
+fn with_suffix(rt: &impl AllocAndAbort, suffix: &str) -> Builder {
+    let builder = hourly_log(rt, 0, "").filename_suffix(rt.alloc(), suffix);
+    builder.expect(rt, "memory")
+}
+
+fn open_roller(
+    rt: &impl AllocAndAbort,
+    builder: &Builder,
+    folder: MemoryFolder,
+) -> Roller<MemoryFolder> {
+    match Roller::open(rt.alloc(), builder, folder, START) {
+        Ok(roller) => roller,
+        Err((error, _folder)) => rt.panic(error),
+    }
+}
+
+// Moments, and whether the second file is due then.
+static DUE: [(i64, bool); 3] = [(ELEVEN, true), (ELEVEN - 1, false), (i64::MAX, false)];
+
+// Checks what is open at first, and when the next file is due.
+fn expect_first(rt: &impl Abort, roller: &Roller<MemoryFolder>) {
+    expect_eq(rt, roller.open_name(), "app.2020-02-01-10.log");
+    expect_eq(rt, roller.boundary(), Some(ELEVEN));
+    for (moment, due) in &DUE {
+        expect_eq_of(rt, moment, roller.due(*moment), *due);
+    }
+}
+
+// Opens the next file, and writes a line to it.
+fn write_at_twelve(rt: &impl Abort, roller: &mut Roller<MemoryFolder>) {
+    expect_eq(rt, roller.see(TWELVE), Switch::Opened);
+    expect_eq(rt, roller.open_name(), "app.2020-02-01-12.log");
+    expect_eq(rt, roller.write(b"line\n").expect(rt, "a write"), 5);
+    roller.flush().expect(rt, "a flush");
+}
+
+// Opens a log in an empty folder, and writes its second file.
+fn write_second(rt: &impl AllocAndAbort) -> MemoryFolder {
+    let builder = with_suffix(rt, "log");
+    let mut roller = open_roller(rt, &builder, MemoryFolder::new(rt.alloc()));
+    expect_first(rt, &roller);
+    write_at_twelve(rt, &mut roller);
+    roller.into_folder()
+}
+
+#[test]
+fn a_roller_tells_what_is_open(rt: HostRuntime) {
+    let folder = write_second(&rt);
+    expect_eq(
+        &rt,
+        folder.bytes("app.2020-02-01-12.log"),
+        Some(b"line\n".as_slice()),
+    );
+}
+
+// Checks the name that an hourly log begins with.
+fn expect_first_name(rt: &impl AllocAndAbort) {
+    let names = with_suffix(rt, "log").names(rt.alloc()).expect(rt, "names");
+    let name = names.file_name(START).expect(rt, "memory");
+    expect_eq(rt, name.as_str(), "app.2020-02-01-10.log");
+}
+
+// Checks that no names have this suffix.
+fn expect_refused(rt: &impl AllocAndAbort, suffix: &str) {
+    let names = with_suffix(rt, suffix).names(rt.alloc());
+    let is_refused = matches!(names, Err(InitError::Name));
+    expect_eq(rt, is_refused, true);
+}
+
+#[test]
+fn a_builder_gives_its_names(rt: HostRuntime) {
+    expect_first_name(&rt);
+    expect_refused(&rt, "a/b");
+    expect_shown(&rt, &Builder::default());
+}
+
+// The bodies of a folder, from the first one on.
+fn expect_bodies(rt: &impl Abort, folder: &MemoryFolder, wanted: &[&[u8]]) {
+    let mut number = 0usize;
+    for body in wanted {
+        expect_eq_of(rt, number, folder.body(number), Some(*body));
+        number = number.saturating_add(1);
+    }
+    expect_eq(rt, folder.body(number), None);
+}
+
+// A folder with a log file, in which two calls fail.
+fn failing_folder(rt: &impl AllocAndAbort) -> MemoryFolder {
+    let mut folder = folder_with(rt, &[("app.2020-02-01-10", "x")]);
+    // Calls 1 to 3 list, remove and open; calls 4 to 8 list, remove, open, make and open.
+    folder.fail_call(6).expect(rt, "memory");
+    folder.fail_call(8).expect(rt, "memory");
+    folder
+}
+
+// Writes a line for which no file can be opened.
+fn write_at_eleven(rt: &impl Abort, roller: &mut Roller<MemoryFolder>) {
+    let (switch, taken) = roller.put(ELEVEN, b"y");
+    expect_eq(rt, switch, Switch::Failed);
+    expect_eq(rt, taken.expect(rt, "a write"), 1);
+}
+
+// Opens a log that keeps one file in such a folder, and writes to it at eleven.
+fn write_failing(rt: &impl AllocAndAbort) -> MemoryFolder {
+    let mut roller = open_roller(rt, &hourly_log(rt, 1, ""), failing_folder(rt));
+    // The restart that keeps one file began anew.
+    expect_bodies(rt, roller.folder(), &[b"x", b""]);
+    write_at_eleven(rt, &mut roller);
+    roller.into_folder()
+}
+
+#[test]
+fn bodies_stay_without_a_name(rt: HostRuntime) {
+    let folder = write_failing(&rt);
+    expect_count(&rt, &folder, 0);
+    expect_bodies(&rt, &folder, &[b"x", b"y"]);
+}

@@ -1,0 +1,110 @@
+// Whole scripts with a queue, played through memory.
+use crate::expect::{expect_eq, expect_eq_of};
+use crate::program::check_each;
+use rollplay_core::play::play;
+use rollplay_rows::QUEUED;
+use std::alloc::Global;
+use std::process::Abort;
+use std::test::Fail;
+
+#[test]
+fn plays_behind_a_queue(rt: HostRuntime) {
+    check_each(&rt, rt.alloc(), &QUEUED, 0);
+}
+
+// What the lines of an output come to.
+#[derive(Clone, Copy, Debug, PartialEq, Eq)]
+struct Sums {
+    // Bytes that writes took.
+    written: usize,
+    // Bytes that lie in files.
+    stored: usize,
+    // Whether the worker has ended.
+    ended: bool,
+}
+
+// The number that stands before the first space, or 0.
+fn number_at(text: &str) -> usize {
+    let (word, _) = text.split_once(' ').unwrap_or((text, ""));
+    word.parse::<usize>().unwrap_or(0)
+}
+
+// What stands behind the first word, or nothing.
+fn behind_word(text: &str) -> &str {
+    let (_, rest) = text.split_once(' ').unwrap_or((text, ""));
+    rest
+}
+
+fn sums_of(output: &str) -> Sums {
+    let mut sums = Sums {
+        written: 0,
+        stored: 0,
+        ended: false,
+    };
+    let mut rest = output;
+    for _ in 0..output.len() {
+        let (line, behind) = rest.split_once('\n').unwrap_or((rest, ""));
+        if line.starts_with("wrote ") {
+            let answer = behind_word(behind_word(line));
+            sums.written = sums.written.saturating_add(number_at(behind_word(answer)));
+        }
+        if line.starts_with("file ") {
+            let length = number_at(behind_word(behind_word(line)));
+            sums.stored = sums.stored.saturating_add(length);
+        }
+        if line == "ended" {
+            sums.ended = true;
+        }
+        rest = behind;
+    }
+    sums
+}
+
+// Three lines are offered and the shutdown is sent, in a folder that isn't there at first, and an hour ends between.
+const THREE_LINES: &str =
+    "rotation hourly\nprefix app\nlink latest\nqueue 2 lossy\nstart 1580551260\noffer 1 a\noffer 2 bc\nwork 1580551260\nwork 1580551260\nwork 1580551260\nwork 1580554800\nwork 0\nwork 0\noffer 1 def\nshut\nwork 0\nwork 1580554801\nwork 0\nwork 0\nwork 0\nwork 0\nwork 0\n";
+
+// Plays that script where a call of the folder fails, and gives the status and the output.
+fn play_failing(alloc: Global, call: usize) -> Result<(u8, Vec<u8>), Fail> {
+    let script = format!(in alloc; "absent\nfail {call}\n{THREE_LINES}")?;
+    let mut input = script.as_bytes();
+    let mut printed = Vec::new(alloc);
+    let mut told = Vec::new(alloc);
+    let status = play(alloc, &mut input, &mut printed, &mut told);
+    Ok((status, printed))
+}
+
+// Plays that script where a call fails, checks what stands in files and how it ends, and answers whether
+// no log was opened.
+fn check_failing(rt: &(impl AllocGlobal + Abort), call: usize) -> Result<bool, Fail> {
+    let (status, printed) = play_failing(rt.alloc(), call)?;
+    let output = String::from_utf8(printed)?;
+    let output = output.as_str();
+    let sums = sums_of(output);
+    expect_eq_of(rt, call, sums.written, sums.stored);
+    let refused = output.starts_with("init error ");
+    expect_eq_of(rt, call, status, u8::from(refused));
+    let ends = sums.ended && output.ends_with("\ncounts 3 3 0 0 0\n");
+    expect_eq_of(rt, call, ends, !refused);
+    Ok(refused)
+}
+
+#[test]
+fn loses_no_written_byte_where_a_call_fails(rt: HostRuntime) -> Result<(), Fail> {
+    let mut refused = 0usize;
+    for call in 1..30usize {
+        if check_failing(&rt, call)? {
+            refused = refused.saturating_add(1);
+        }
+    }
+    // The folder could not be made, the file not opened, the link not made.
+    expect_eq(&rt, refused, 3);
+    // No call has the last of these numbers.
+    let (_, printed) = play_failing(rt.alloc(), 29)?;
+    expect_eq(
+        &rt,
+        sums_of(String::from_utf8(printed)?.as_str()).written,
+        6,
+    );
+    Ok(())
+}

@@ -1,0 +1,8 @@
+// What these tests compare: a call of these makes a proof shorter than `assert_eq!` or `format!` does.
+use std::fmt::Debug;
+use std::process::Abort;
+
+/// Ends the test where a value isn't the wanted one.
+pub(crate) fn expect_eq<T: Copy + PartialEq + Debug>(rt: &impl Abort, got: T, wanted: T) {
+    assert!(rt; got == wanted, "{got:?} where {wanted:?} is wanted");
+}
