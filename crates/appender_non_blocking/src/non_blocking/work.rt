@@ -25,7 +25,7 @@ use std::thread::Threads;
 use std::time::Clock;
 use std::{io, thread};
 
-/// A `CountedSender` without the names of its ledgers.
+/// A sender that counts, as `CountedSender` does, without the names of its ledgers.
 pub trait LineSender {
     /// What it has counted.
     ghost sums: { Self → Sums };
@@ -36,11 +36,11 @@ pub trait LineSender {
         ensures waiting { (sums self.old).lossy ≡ false → result ≢ Ok Sent.Dropped }
         ensures kind { IfErr result (λ e. IsRefusal (sums self.old).lossy (error_kind e)) };
 
-    /// How many lines this sender was told are queued.
+    /// Returns the number of lines of this sender that were queued.
     fn queued(&self) -> u64
         ensures { result ≡ (sums self.now).queued };
 
-    /// How many lines of this sender were dropped, at most `usize::MAX`.
+    /// Returns the number of lines of this sender that were dropped, at most `usize::MAX`.
     fn dropped(&self) -> usize
         ensures { result ≡ (sums self.now).dropped };
 
