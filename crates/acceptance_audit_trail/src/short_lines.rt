@@ -1,6 +1,6 @@
 // Lines about the greatest length, over readers that give them in pieces of any size.
 use crate::expect::expect_eq_of;
-use program_input::{LONGEST_LINE, ShortLines, read_line};
+use program_io::{LONGEST_LINE, ShortLines, read_line};
 use std::io;
 use std::io::{BufReader, ErrorKind, Read};
 use std::process::Abort;

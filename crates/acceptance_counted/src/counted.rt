@@ -8,7 +8,7 @@ use acceptance_gate::{Gate, Seen, new_gate};
 use appender_non_blocking::non_blocking::{
     Account, Blanks, CountedGuard, CountedSender, NonBlockingBuilder, Sent, Shut, Unsettled,
 };
-use program_input::Host;
+use program_io::Host;
 use std::alloc::{AllocError, Global};
 use std::io;
 use std::marker::Brand;

@@ -3,7 +3,7 @@ use crate::counted::TicketSender;
 use crate::expect::{expect_eq, put};
 use acceptance_gate::Seen;
 use appender_non_blocking::non_blocking::Sent;
-use program_input::Host;
+use program_io::Host;
 use std::alloc::{AllocError, Global};
 use std::process::Abort;
 use std::thread::JoinHandle;

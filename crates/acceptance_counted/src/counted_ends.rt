@@ -6,7 +6,7 @@ use crate::counted::TicketSender;
 use crate::expect::{expect_eq, expect_text};
 use acceptance_gate::{Gate, Seen, new_gate};
 use appender_non_blocking::non_blocking::{Blanks, CountedGuard, NonBlockingBuilder, Sent, Shut};
-use program_input::Host;
+use program_io::Host;
 use std::io::{ErrorKind, Write};
 use std::marker::Brand;
 use std::process::Abort;

@@ -2,7 +2,7 @@
 use crate::expect::{expect_eq, expect_eq_of};
 use appender_non_blocking::non_blocking::{Closing, NonBlocking, NonBlockingBuilder};
 use appender_worker::worker::{CountingWriter, LineCounts};
-use program_input::Host;
+use program_io::Host;
 use std::alloc::AllocError;
 use std::io::{ErrorKind, Write};
 use std::process::Abort;

@@ -1,6 +1,6 @@
 // The whole program over a real folder.
 use crate::expect::expect_eq;
-use program_input::Host;
+use program_io::Host;
 use rolltee_core::tee::{Logs, tee};
 use std::alloc::{AllocError, Global};
 use std::io::{Read, Write};

@@ -1,7 +1,7 @@
 // Many senders: none is left asleep while there is room, or once the queue is closed.
 use crate::expect::{expect_eq, put};
 use appender_non_blocking::non_blocking::{Closing, NonBlocking, NonBlockingBuilder, WorkerGuard};
-use program_input::Host;
+use program_io::Host;
 use std::alloc::Global;
 use std::io::Write;
 use std::process::Abort;

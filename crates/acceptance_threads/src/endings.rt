@@ -2,7 +2,7 @@
 use crate::scene::{Queue, WorkerStep, play, play_over};
 use acceptance_gate::{Gate, new_gate};
 use appender_non_blocking::non_blocking::Closing;
-use program_input::Host;
+use program_io::Host;
 use std::io;
 use std::io::{ErrorKind, Write};
 use std::process::Abort;

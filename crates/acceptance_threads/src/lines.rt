@@ -5,7 +5,7 @@ use acceptance_gate::{Gate, new_gate};
 use appender_non_blocking::non_blocking::{
     Closing, DEFAULT_BUFFERED_LINES_LIMIT, NonBlocking, NonBlockingBuilder, non_blocking,
 };
-use program_input::Host;
+use program_io::Host;
 use std::io::{ErrorKind, Write};
 use std::process::Abort;
 use std::test::Fail;

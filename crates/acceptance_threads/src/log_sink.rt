@@ -4,7 +4,7 @@ use acceptance_gate::{Seen, new_gate};
 use appender_log::LogSink;
 use appender_non_blocking::non_blocking::{Closing, NonBlocking, NonBlockingBuilder, WorkerGuard};
 use log::{Level, Log, Logged, info};
-use program_input::Host;
+use program_io::Host;
 use std::io::Write;
 use std::process::Abort;
 use std::test::Fail;

@@ -2,7 +2,7 @@
 use crate::expect::expect_eq;
 use acceptance_gate::{Gate, new_gate};
 use appender_non_blocking::non_blocking::{Closing, NonBlocking, NonBlockingBuilder};
-use program_input::Host;
+use program_io::Host;
 use std::io::Write;
 use std::sync::Wait;
 use std::test::Fail;

@@ -6,7 +6,7 @@ use appender_base::make_writer::MakeWriter;
 use appender_non_blocking::non_blocking::{
     Closing, ErrorCounter, NonBlocking, NonBlockingBuilder, WorkerGuard,
 };
-use program_input::Host;
+use program_io::Host;
 use std::alloc::{AllocError, Global};
 use std::io::{ErrorKind, Write};
 use std::process::Abort;

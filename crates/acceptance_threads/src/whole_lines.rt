@@ -2,7 +2,7 @@
 use crate::expect::expect_text;
 use acceptance_gate::new_gate;
 use appender_non_blocking::non_blocking::{Closing, NonBlocking, NonBlockingBuilder, WorkerGuard};
-use program_input::Host;
+use program_io::Host;
 use std::alloc::{AllocError, Global};
 use std::io;
 use std::io::{ErrorKind, Write};

@@ -6,10 +6,10 @@
 
 use audit_trail_core::trail::Fault;
 use audit_trail_core::{gather, trail};
-use program_input::options::{Request, request_of};
-use program_input::report::print;
-use program_input::streams::fill_streams;
-use program_input::{Host, arguments};
+use program_io::options::{Request, request_of};
+use program_io::report::print;
+use program_io::streams::fill_streams;
+use program_io::{Host, arguments};
 use std::process::ExitCode;
 
 static HELP: &str = concat!(
@@ -23,8 +23,9 @@ static HELP: &str = concat!(
     "             the account of all their lines is printed\n",
     "  --         ends the options: the words after it are arguments\n",
     "\n",
-    "Status: 0 if every line was written; 1 if no log was opened, an input not read or a\n",
-    "line not written whole; 2 if the arguments are wrong; 3 if memory was refused.\n",
+    "Status: 0 if every line was written; 1 if no log was opened, an input not read, a line\n",
+    "not written whole, or a log file not found again: removed, renamed or replaced while\n",
+    "it was written to; 2 if the arguments are wrong; 3 if memory was refused.\n",
     "\n",
     "It ends at the end of its input. It catches no signal: INT or TERM ends it at once,\n",
     "and what it read and did not write is lost: up to 8 KiB of standard input, or lines\n",

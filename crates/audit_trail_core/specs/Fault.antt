@@ -7,7 +7,7 @@ use Rattle.std.specs.declared.io.ErrorKind.{ErrorKind}
 use Rattle.std.specs.declared.io.ErrorKind.TheVariants.{OutOfMemory}
 use Rattle.appender_names.specs.declared.error.InitError.{InitError}
 use Rattle.appender_names.specs.declared.error.InitError.TheVariants.{Directory, File, Symlink, Memory as NoRoom}
-use Rattle.program_input.specs.Report.{AppendsBeginning}
+use Rattle.program_io.specs.Report.{AppendsBeginning}
 use Rattle.audit_trail_core.specs.declared.trail.Fault.{Fault}
 use Rattle.audit_trail_core.specs.declared.trail.Fault.TheVariants.{Usage, Argument, Open, Read, Write, Cut, Lost, Gone, Own, Account, Thread, Unsettled, Memory}
 

@@ -12,7 +12,7 @@ use Rattle.appender_rolling.specs.declared.rolling.clock.Clock.{Ghosts as Readin
 use Rattle.appender_rolling.specs.Appender.{Appending, FlushesNow, OpensSome, SeesNow}
 use Rattle.appender_rolling.specs.Config.{Config}
 use Rattle.appender_rolling.specs.Roller.{WritesSoFar}
-use Rattle.program_input.specs.Line.{ended}
+use Rattle.program_io.specs.Line.{ended}
 
 -- the log of a trail: a log, and whether its open file may end with a part of a line
 pub record Trailing (S F C : Type 0) : Type 0 where

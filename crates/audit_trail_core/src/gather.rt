@@ -4,7 +4,7 @@ ghost use Rattle.appender_non_blocking.specs.Account.{AreBlanksOf};
 ghost use Rattle.audit_trail_core.specs.Fault.{status_of, TellsStatus};
 
 use crate::trail::{Fault, TrailLog, open_trail, tell, zero};
-use program_input::{Host, ShortLines, end_line, read_line};
+use program_io::{Host, ShortLines, end_line, read_line};
 use std::alloc::{AllocError, Global};
 use std::fs::File;
 use std::io::{BufRead, BufReader, Read, Write};

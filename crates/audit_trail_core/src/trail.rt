@@ -9,8 +9,8 @@ ghost use Rattle.audit_trail_core.specs.declared.trail.Fault.TheVariants.{Accoun
 
 use crate::lines::{LineFault, LineLog};
 use crate::watch::{DirWatch, Watch};
-use program_input::report::report;
-use program_input::{ShortLines, end_line, read_line};
+use program_io::report::report;
+use program_io::{ShortLines, end_line, read_line};
 use std::alloc::{AllocError, Global};
 use std::io::{BufRead, BufReader, ErrorKind, Read, Write};
 use std::rt::Runtime;

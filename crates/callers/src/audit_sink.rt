@@ -1,7 +1,7 @@
 //! An audit sink: lines for a log, and the account of all of them.
 ghost use Rattle.std.specs.Prelude.{◌≡◌, length, IfOk};
 
-use program_input::Host;
+use program_io::Host;
 use std::io;
 use std::io::Write;
 use tracing_appender::non_blocking::{Account, CountedWork, LineSender, NonBlockingBuilder};

@@ -3,7 +3,7 @@ ghost use Rattle.std.specs.Prelude.{◌≡◌, IfOk};
 
 use appender_log::LogSink;
 use log::{Level, Log, Logged, info};
-use program_input::Host;
+use program_io::Host;
 use std::alloc::AllocError;
 use std::io;
 use std::io::Write;

@@ -3,7 +3,7 @@ ghost use Rattle.std.specs.Prelude.{◌≡◌, ◌≤◌, ◌↔◌, ◌+◌, �
 ghost use Rattle.std.specs.Io.KnownBytes.{Appends};
 ghost use Rattle.callers.specs.Supervisor.{HasLines};
 
-use program_input::{Host, read_line};
+use program_io::{Host, read_line};
 use std::alloc::Global;
 use std::io;
 use std::io::{BufRead, Write};

@@ -2,10 +2,10 @@
 //! and prints what each step answered and what the folder holds at the end.
 #![tactic(auto)]
 
-use program_input::arguments;
-use program_input::options::{Request, request_of};
-use program_input::report::{print, report};
-use program_input::streams::fill_streams;
+use program_io::arguments;
+use program_io::options::{Request, request_of};
+use program_io::report::{print, report};
+use program_io::streams::fill_streams;
 use rollplay_core::play;
 use std::io::ErrorKind;
 use std::process::ExitCode;

@@ -26,7 +26,7 @@ use Rattle.rollplay_core.specs.declared.play.Opening.{Opening}
 use Rattle.rollplay_core.specs.declared.play.Opening.TheVariants.{Opened, Refused}
 use Rattle.rollplay_core.specs.declared.play.Failure.{Failure}
 use Rattle.rollplay_core.specs.declared.play.Failure.TheVariants.{Line, Script, Read, Write, Memory}
-use Rattle.program_input.specs.Report.{AppendsBeginning}
+use Rattle.program_io.specs.Report.{AppendsBeginning}
 use Rattle.rollplay_script.specs.declared.script.ScriptError.{ScriptError}
 use Rattle.rollplay_script.specs.declared.script.ScriptError.TheVariants.{Fault, Memory as OutOfMemory}
 use Rattle.rollplay_core.specs.Page.{line_of, run_page, queued_page, refusal_page}

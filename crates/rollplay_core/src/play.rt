@@ -5,12 +5,12 @@ ghost use Rattle.std.specs.Io.KnownBytes.{Keeps, Appends};
 ghost use Rattle.appender_store.specs.MemoryView.{state_of};
 ghost use Rattle.rollplay_core.specs.Play.{IsPlayPage, IsGiven, Prints, IsOfReading, Fails, Reports, words_of};
 ghost use Rattle.rollplay_core.specs.Play.{status_of, IsRefusalPage};
-ghost use Rattle.program_input.specs.Report.{AppendsBeginning};
+ghost use Rattle.program_io.specs.Report.{AppendsBeginning};
 ghost use Rattle.rollplay_script.specs.Draft.{plan_of};
 ghost use Rattle.rollplay_script.specs.Script.{rolling, queued};
 
 use crate::page;
-use program_input::report::report;
+use program_io::report::report;
 use rollplay_script::line::Queueing;
 use rollplay_script::script::{LONGEST, Plan, Script, ScriptError};
 use std::alloc::Global;

@@ -2,10 +2,10 @@
 //! of UTC: `rolltee ROTATION DIR PREFIX`. One thread reads the lines, and another writes them.
 #![tactic(auto)]
 
-use program_input::options::{Request, request_of};
-use program_input::report::print;
-use program_input::streams::fill_streams;
-use program_input::{Host, arguments};
+use program_io::options::{Request, request_of};
+use program_io::report::print;
+use program_io::streams::fill_streams;
+use program_io::{Host, arguments};
 use rolltee_core::tee;
 use rolltee_core::tee::Fault;
 use std::process::ExitCode;

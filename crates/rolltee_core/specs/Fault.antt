@@ -2,12 +2,12 @@
 use Rattle.std.specs.Prelude.{◌≡◌, ℕ, List, [], ◌∷◌, ◌++◌, Option, None, Some, IfSome, String, string_bytes, codes}
 use Rattle.std.specs.declared.alloc.Global.{Global}
 use Rattle.appender_names.specs.RotationText.{IsNoRotation}
-use Rattle.program_input.specs.Report.{AppendsBeginning}
+use Rattle.program_io.specs.Report.{AppendsBeginning}
 use Rattle.std.specs.declared.io.ErrorKind.{ErrorKind}
 use Rattle.std.specs.declared.io.ErrorKind.TheVariants.{OutOfMemory}
 use Rattle.std.specs.IoError.{error_kind}
-use Rattle.program_input.specs.declared.CopyFault.{CopyFault}
-use Rattle.program_input.specs.declared.CopyFault.TheVariants.{Read as Failed, Write as Refused, Cut}
+use Rattle.program_io.specs.declared.CopyFault.{CopyFault}
+use Rattle.program_io.specs.declared.CopyFault.TheVariants.{Read as Failed, Write as Refused, Cut}
 use Rattle.rolltee_core.specs.declared.tee.Fault.{Fault}
 use Rattle.rolltee_core.specs.declared.tee.Fault.TheVariants.{Usage, Open, Thread, Read, Write, Pending, Full, Memory}
 

@@ -5,8 +5,8 @@ ghost use Rattle.std.specs.IoError.{error_kind};
 ghost use Rattle.rolltee_core.specs.Fault.{status_of, unless_memory, words_of, HasNoFolder, NamesNoRotation, Tells};
 ghost use Rattle.appender_names.specs.RotationText.{IsNoRotation};
 
-use program_input::report::report;
-use program_input::{CopyFault, Host, copy_lines};
+use program_io::report::report;
+use program_io::{CopyFault, Host, copy_lines};
 use std::alloc::{AllocError, Global};
 use std::io;
 use std::io::{BufReader, ErrorKind, Read, Write};

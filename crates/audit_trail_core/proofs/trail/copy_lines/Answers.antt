@@ -1,5 +1,5 @@
 use Rattle.std.proofs.Common.{MutBor, ap, ◌∙◌}
-use Rattle.program_input.specs.declared.ShortLines.{ShortLines}
+use Rattle.program_io.specs.declared.ShortLines.{ShortLines}
 use Rattle.audit_trail_core.proofs.Runs.{buffers_all, if_ok_by}
 use Rattle.audit_trail_core.proofs.trail.copy_lines.Goals as goal
 

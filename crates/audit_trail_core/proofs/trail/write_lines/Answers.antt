@@ -1,7 +1,7 @@
 use Rattle.std.proofs.Common.{◌≡◌, ℕ, List, [], refl, subst, ◌∙◌, ap, suc, Ok}
 use Rattle.std.specs.Io.BufRead.{take_through, drop_through}
 use Rattle.std.specs.Io.KnownBytes.{IsAtEnd}
-use Rattle.program_input.specs.Line.{ended}
+use Rattle.program_io.specs.Line.{ended}
 use Rattle.audit_trail_core.specs.Trail.{PutsLine, PutsLines}
 use Rattle.audit_trail_core.proofs.trail.write_lines.Goals as goal
 

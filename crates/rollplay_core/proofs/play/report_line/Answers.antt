@@ -2,7 +2,7 @@ use Rattle.std.proofs.Common.{[], ◌∷◌, ◌++◌, OnOk, ap, sym, subst, ◌
 use Rattle.std.specs.Prelude.{codes}
 use Rattle.std.specs.Fmt.{decimal}
 use Rattle.std.specs.Io.KnownBytes.{Appends}
-use Rattle.program_input.specs.Report.{AppendsBeginning}
+use Rattle.program_io.specs.Report.{AppendsBeginning}
 use Rattle.rollplay_core.proofs.Written.{text_is}
 use Rattle.rollplay_core.proofs.play.report_line.Goals as goal
 

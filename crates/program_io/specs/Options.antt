@@ -2,10 +2,10 @@
 use Rattle.std.specs.Prelude.{◌≡◌, ◌≢◌, ◌==◌, ◌⊎◌, ℕ, Bool, false, List, [], ◌∷◌, ◌++◌, None, Some, String, string_bytes, codes, slice_index_or}
 use Rattle.std.specs.List.{position, before_first, after_first}
 use Rattle.std.specs.declared.alloc.Global.{Global}
-use Rattle.program_input.specs.declared.options.Request.{Request}
-use Rattle.program_input.specs.declared.options.Request.TheVariants.{Help, Version, Run, Unknown}
-use Rattle.program_input.specs.declared.options.Meaning.{Meaning}
-use Rattle.program_input.specs.declared.options.Meaning.TheVariants.{Help as AsksHelp, Version as AsksVersion, End, Unknown as AsksUnknown}
+use Rattle.program_io.specs.declared.options.Request.{Request}
+use Rattle.program_io.specs.declared.options.Request.TheVariants.{Help, Version, Run, Unknown}
+use Rattle.program_io.specs.declared.options.Meaning.{Meaning}
+use Rattle.program_io.specs.declared.options.Meaning.TheVariants.{Help as AsksHelp, Version as AsksVersion, End, Unknown as AsksUnknown}
 
 abbrev pub begins_with_dash : List ℕ → Bool
 begins_with_dash [] = false

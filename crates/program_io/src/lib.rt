@@ -5,7 +5,7 @@
 ghost use Rattle.std.specs.Prelude.{◌≡◌, ◌≢◌, ℕ, List, [], Some, Ok, OnOk, OnErr, true, false};
 ghost use Rattle.std.specs.Io.BufRead.{take_through, drop_through};
 ghost use Rattle.std.specs.Io.KnownBytes.{Appends, IsAtEnd};
-ghost use Rattle.program_input.specs.Line.{ended};
+ghost use Rattle.program_io.specs.Line.{ended};
 
 pub mod options;
 pub mod report;

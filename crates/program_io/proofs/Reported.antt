@@ -3,7 +3,7 @@ use Rattle.std.proofs.Common.{◌≡◌, ℕ, ◌-◌, List, ◌++◌, Option, l
 use Rattle.std.proofs.Math.Seq.{take-append_seam}
 use Rattle.std.proofs.lemmas.List.{take_rest}
 use Rattle.std.specs.Io.KnownBytes.{Appends}
-use Rattle.program_input.specs.Report.{AppendsBeginning}
+use Rattle.program_io.specs.Report.{AppendsBeginning}
 
 -- what was done is a beginning
 pub begun : (old new : Option (List ℕ)) (words done rest : List ℕ) → words ≡ done ++ rest → Appends old new done → AppendsBeginning old new words

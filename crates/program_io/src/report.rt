@@ -2,7 +2,7 @@
 
 ghost use Rattle.std.specs.Prelude.{◌≡◌, ◌≢◌, ◌<◌, ◌≤◌, IfOk, OnOk, length};
 ghost use Rattle.std.specs.Io.KnownBytes.{Appends, WriteAppends};
-ghost use Rattle.program_input.specs.Report.{AppendsBeginning};
+ghost use Rattle.program_io.specs.Report.{AppendsBeginning};
 
 use std::io;
 use std::io::{ErrorKind, Write};

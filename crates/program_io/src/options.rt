@@ -1,6 +1,6 @@
 //! Options of a program.
 ghost use Rattle.std.specs.Prelude.{◌≡◌, position};
-ghost use Rattle.program_input.specs.Options.{begins_with_dash, is_dashed, means, IsRequest};
+ghost use Rattle.program_io.specs.Options.{begins_with_dash, is_dashed, means, IsRequest};
 
 /// What a program is asked to do.
 #[derive(Debug, Drop)]

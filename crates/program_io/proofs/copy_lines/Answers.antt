@@ -1,8 +1,8 @@
 use Rattle.std.proofs.Common.{[], refl, subst, sym, ◌∙◌, ap, Ok, Some, ◌++◌, append-nil, append_assoc}
 use Rattle.std.specs.Io.BufRead.{take_through, drop_through}
 use Rattle.std.specs.Io.KnownBytes.{Appends, IsAtEnd}
-use Rattle.program_input.proofs.Copied.{appends_nothing, appends_both, joined}
-use Rattle.program_input.proofs.copy_lines.Goals as goal
+use Rattle.program_io.proofs.Copied.{appends_nothing, appends_both, joined}
+use Rattle.program_io.proofs.copy_lines.Goals as goal
 
 pub loop-init : goal.loop-init
 loop-init g c = λ text told. ([], text, told, refl, appends_nothing (g.W.Write.contents c.args.writer.now))

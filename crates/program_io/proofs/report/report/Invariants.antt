@@ -1,6 +1,6 @@
 use Rattle.std.proofs.Common.{◌≡◌, ℕ, List, ◌++◌}
 use Rattle.std.specs.Io.KnownBytes.{Appends}
-use Rattle.program_input.proofs.report.report.Given as goal
+use Rattle.program_io.proofs.report.report.Given as goal
 
 -- what is no longer left was written
 abbrev pub invariant-loop : goal.invariant-loop

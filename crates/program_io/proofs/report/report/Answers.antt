@@ -1,7 +1,7 @@
 use Rattle.std.proofs.Common.{◌++◌, take}
 use Rattle.std.proofs.KnownBytes.{Appends-kept, Appends-trans}
-use Rattle.program_input.proofs.Reported.{begun, moves_front}
-use Rattle.program_input.proofs.report.report.Goals as goal
+use Rattle.program_io.proofs.Reported.{begun, moves_front}
+use Rattle.program_io.proofs.report.report.Goals as goal
 
 pub loop-preserved : goal.loop-preserved
 loop-preserved g c =

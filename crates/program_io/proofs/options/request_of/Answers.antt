@@ -1,6 +1,6 @@
 use Rattle.std.proofs.Common.{rules, ◌≡◌, ℕ, ◌+◌, List, ◌++◌, Bool, true, false, Option, None, Some, cond, nat_lt, length, take, drop, position, ap, sym, ◌∙◌, inr}
 use Rattle.std.specs.List.{position_or_len, before_first, after_first}
-use Rattle.program_input.proofs.options.request_of.Goals as goal
+use Rattle.program_io.proofs.options.request_of.Goals as goal
 
 some_if : (b : Bool) (m n : ℕ) → cond b (Some m) None ≡ Some n → m ≡ n
 some_if true m n e = cc
