@@ -1,6 +1,6 @@
 // The whole program over a real folder; its lines over folders in memory, and several sources.
 use crate::expect::expect_eq;
-use audit_trail_core::trail::{Fault, keep, tell};
+use audit_trail_core::trail::{Fault, keep, report_fault};
 use std::io::{Read, Write};
 use std::process::Abort;
 use std::rt::{Files, Runtime};
@@ -109,7 +109,7 @@ fn tells_arguments_that_are_not_read(rt: HostRuntime) {
     for (kind, told, status) in &ARGUMENTS {
         let mut errors = Vec::new(rt.alloc());
         let fault = Fault::Argument.unless_memory(*kind);
-        expect_eq(&rt, tell(&fault, &mut errors), *status);
+        expect_eq(&rt, report_fault(&fault, &mut errors), *status);
         expect_eq(&rt, errors.as_slice(), told.as_bytes());
     }
 }
@@ -189,7 +189,7 @@ fn tells_logs_that_are_not_opened(rt: HostRuntime) {
     for (kind, told, status) in &OPENINGS {
         let mut errors = Vec::new(rt.alloc());
         let fault = Fault::from(InitError::File(io::Error::from(*kind)));
-        expect_eq(&rt, tell(&fault, &mut errors), *status);
+        expect_eq(&rt, report_fault(&fault, &mut errors), *status);
         expect_eq(&rt, errors.as_slice(), told.as_bytes());
     }
 }

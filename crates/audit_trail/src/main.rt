@@ -45,7 +45,7 @@ fn main(rt: HostRuntime) -> ExitCode {
         Ok(arguments) => run(rt, &rt, request_of(arguments)),
         Err(fault) => {
             let fault = Fault::Argument.unless_memory(fault.kind());
-            trail::tell(&fault, &mut rt.stderr())
+            trail::report_fault(&fault, &mut rt.stderr())
         }
     };
     ExitCode::from(status)
@@ -57,7 +57,7 @@ fn run<R: Host>(rt: R, host: &HostRuntime, request: Request) -> u8 {
         Request::Help => print(&mut output, HELP, 1),
         Request::Version => print(&mut output, VERSION, 1),
         Request::Run(arguments) => keep(rt, host, arguments.as_slice()),
-        Request::Unknown => trail::tell(&Fault::Usage, &mut errors),
+        Request::Unknown => trail::report_fault(&Fault::Usage, &mut errors),
     }
 }
 
@@ -65,7 +65,7 @@ fn run<R: Host>(rt: R, host: &HostRuntime, request: Request) -> u8 {
 fn keep<R: Host>(rt: R, host: &HostRuntime, arguments: &[String]) -> u8 {
     let (mut output, mut errors) = (host.stdout(), host.stderr());
     match arguments {
-        [directory, ..] if directory.is_empty() => trail::tell(&Fault::Usage, &mut errors),
+        [directory, ..] if directory.is_empty() => trail::report_fault(&Fault::Usage, &mut errors),
         [directory, paths @ ..] if !paths.is_empty() => {
             let directory = directory.as_str();
             gather::keep_all(rt, host, directory, paths, &mut output, &mut errors)

@@ -35,29 +35,29 @@ module _ {S F C : Type 0} (kind : Ghosts S F) where
   -- what changes neither the content nor the open file
   pub whole_same : (old new : Appending S F C) → kind.content new.roller.folder ≡ kind.content old.roller.folder
       → kind.body new.roller.file ≡ kind.body old.roller.file → EndsWhole kind old → EndsWhole kind new
-  whole_same old new content file whole tells =
+  whole_same old new content file whole is_known =
       subst (λ c. EndsLine (body_at c (kind.body new.roller.file))) (sym content)
-      (subst (λ b. EndsLine (body_at (kind.content old.roller.folder) b)) (sym file) (whole tells))
+      (subst (λ b. EndsLine (body_at (kind.content old.roller.folder) b)) (sym file) (whole is_known))
 
   -- bytes with a newline at their end were added
   pub whole_after : (answers : List (Result ℕ Error)) (bytes : List ℕ) (old new : Appending S F C)
       → Adds kind answers bytes [] old new → ends_with_byte 10 bytes ≡ true → EndsWhole kind new
-  whole_after answers bytes old new adds ends tells =
+  whole_after answers bytes old new adds ends is_known =
       let taken = adds.so_far.taken in
       let same : taken ≡ bytes = sym (append-nil taken) ∙ sym adds.so_far.split in
-      subst (λ c. EndsLine (body_at c (kind.body new.roller.file))) (sym (adds.so_far.content tells))
+      subst (λ c. EndsLine (body_at c (kind.body new.roller.file))) (sym (adds.so_far.content is_known))
       (subst (λ b. EndsLine (body_at (after_append (kind.content old.roller.folder) (kind.body old.roller.file) taken) b)) (sym adds.so_far.stays.file)
       (ends_appended (kind.content old.roller.folder) (kind.body old.roller.file) taken (subst (λ xs. ends_with_byte 10 xs ≡ true) (sym same) ends)))
 
   -- none of the bytes were added
   pub whole_after_none : (answers : List (Result ℕ Error)) (bytes rest : List ℕ) (old new : Appending S F C)
       → (adds : Adds kind answers bytes rest old new) → length adds.so_far.taken ≡ 0 → EndsWhole kind old → EndsWhole kind new
-  whole_after_none answers bytes rest old new adds none whole tells =
+  whole_after_none answers bytes rest old new adds none whole is_known =
       let nothing = nil_from_length adds.so_far.taken none in
-      let content = adds.so_far.content tells
+      let content = adds.so_far.content is_known
       ∙ ap (λ xs. after_append (kind.content old.roller.folder) (kind.body old.roller.file) xs) nothing
       ∙ after_append_nothing (kind.content old.roller.folder) (kind.body old.roller.file) in
-      whole_same old new content adds.so_far.stays.file whole tells
+      whole_same old new content adds.so_far.stays.file whole is_known
 
 -- if it isn't so that it is not so
 pub is_so : (b : Bool) → not b ≡ false → b ≡ true

@@ -29,7 +29,7 @@ module _ {S F C : Type 0} (kind : Ghosts S F) where
         pieces = (refl, refl);
         taken = [];
         split = refl;
-        content = λ tells. sym (after_append_nothing (kind.content log.roller.folder) (kind.body log.roller.file));
+        content = λ is_known. sym (after_append_nothing (kind.content log.roller.folder) (kind.body log.roller.file));
         stays = record { config_is = refl; opened = refl; last = refl; boundary = refl; file = refl; noted = refl };
         room = omega arith;
       };

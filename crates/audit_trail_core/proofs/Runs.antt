@@ -32,8 +32,8 @@ if_ok_by (Err error) step p = tt
 pub buffers_all : {R A : Type 0} (remaining : R → Option (List ℕ)) (buffered : BufReader R A) (input : R) (text : List ℕ)
     → reader_inner buffered ≡ input → reader_buffer buffered ≡ [] → reader_capacity buffered ≡ 8192 → remaining input ≡ Some text
     → reader_remaining remaining buffered ≡ Some text
-buffers_all remaining buffered input text inner empty capacity told =
-    let behind = ap remaining inner ∙ told in
+buffers_all remaining buffered input text inner empty capacity reported =
+    let behind = ap remaining inner ∙ reported in
     let ahead = subst (λ bytes. prepend_known bytes (remaining buffered.inner) ≡ Some text) (sym empty) (ap (prepend_known []) behind) in
     subst (λ room. (if room == 0 then None else prepend_known (reader_buffer buffered) (remaining buffered.inner)) ≡ Some text)
     (sym capacity) ahead

@@ -1,4 +1,4 @@
--- Which fault is told, and what a process ends with.
+-- Faults as they are reported, and the status of a process.
 use Rattle.std.specs.Prelude.{◌≡◌, ◌⊎◌, ℕ, ◌==◌, if◌then◌else◌, List, [], ◌∷◌, ◌++◌, Option, None, Some, IfSome, codes}
 use Rattle.std.specs.Io.KnownBytes.{Keeps}
 use Rattle.std.specs.IoError.{error_kind}
@@ -55,11 +55,11 @@ words_of Memory = Some (codes "no memory" ++ (10 ∷ []))
 words_of fault = None
 
 -- the status is that of the fault, and a beginning of its words, if those are known, was added to the errors
-pub record Tells (fault : Fault) (status : ℕ) (errors_old errors_new : Option (List ℕ)) : Type 0 where
+pub record ReportsFault (fault : Fault) (status : ℕ) (errors_old errors_new : Option (List ℕ)) : Type 0 where
   pub status_is : status ≡ status_of fault
   pub words : IfSome (words_of fault) (AppendsBeginning errors_old errors_new)
 
 -- A status is that of a fault, or 0, and then nothing was added to the errors.
-pub record TellsStatus (status : ℕ) (errors_old errors_new : Option (List ℕ)) : Type 0 where
+pub record ReportsStatus (status : ℕ) (errors_old errors_new : Option (List ℕ)) : Type 0 where
   pub status_is : (status ≡ 0) ⊎ ((fault : Fault) × (status ≡ status_of fault))
   pub silent : status ≡ 0 → Keeps errors_old errors_new

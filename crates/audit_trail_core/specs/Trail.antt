@@ -1,4 +1,4 @@
--- What becomes of a line, and of a run. `kind` has what folders of one kind tell, and `time` what clocks do.
+-- The effects of a line and of a run. `kind` has the ghost members of a kind of folder, and `time` those of a kind of clock.
 use Rattle.std.specs.Prelude.{◌≡◌, ◌≢◌, ◌⊎◌, ℕ, ◌+◌, ◌≤◌, zero, suc, Bool, true, false, not, List, [], ◌∷◌, Ok, Err, Result, IsTrue, codes}
 use Rattle.std.specs.Io.BufRead.{take_through, drop_through, ends_with_byte}
 use Rattle.std.specs.declared.io.Error.{Error}
@@ -25,7 +25,7 @@ pub record Trailing (S F C : Type 0) : Type 0 where
 abbrev pub EndsLine : List ℕ → Type 0
 EndsLine bytes = (bytes ≡ []) ⊎ (ends_with_byte 10 bytes ≡ true)
 
--- the open file is empty or ends with a newline, if folders of this kind tell their content
+-- the open file is empty or ends with a newline, if the content of the folder is known
 abbrev pub EndsWhole : {S F C : Type 0} → Ghosts S F → Appending S F C → Type 0
 EndsWhole kind log = IsTrue kind.is_known → EndsLine (body_at (kind.content log.roller.folder) (kind.body log.roller.file))
 

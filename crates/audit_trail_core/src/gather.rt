@@ -1,9 +1,9 @@
 //! The lines of several sources in one log, and the account of them.
 ghost use Rattle.std.specs.Prelude.{◌≡◌, ◌⊎◌, ◌+◌, ◌≤◌, IfOk, vec_len};
 ghost use Rattle.appender_non_blocking.specs.Account.{AreBlanksOf};
-ghost use Rattle.audit_trail_core.specs.Fault.{status_of, TellsStatus};
+ghost use Rattle.audit_trail_core.specs.Fault.{status_of, ReportsStatus};
 
-use crate::trail::{Fault, TrailLog, open_trail, tell, zero};
+use crate::trail::{Fault, TrailLog, open_trail, report_fault, zero};
 use program_io::{Host, ShortLines, end_line, read_line};
 use std::alloc::{AllocError, Global};
 use std::fs::File;
@@ -19,26 +19,26 @@ use tracing_appender::non_blocking::{Account, Blanks, CountedSender, NonBlocking
 use tracing_appender::rolling::InitError;
 use tracing_appender::worker::CountingWriter;
 
-/// How many lines may wait to be written; behind them the sources wait.
+/// The greatest number of queued lines. If the queue is full, the sources wait.
 const WAITING_LINES: usize = 1024;
 
 /// Opens the trail and its sources: those of the file system, or a test's own.
 pub trait Trails {
-    /// A log that a thread can take over. Each of its writes is of a line, or of what it left of one.
+    /// A log that a thread can own. Each of its writes is of a line, or of the rest of one.
     type Log: Write + Send + Drop + 'static;
 
-    /// What lines are read from, by a thread.
+    /// An input that a thread can own.
     type Source: Read + Send + Drop + 'static;
 
-    /// The log of the day in a folder, which is made where it isn't there. By `gone` it counts the log
-    /// files that are not found again.
+    /// Opens the log of the day in a folder, which is made if it is absent. `gone` counts the log files that are not
+    /// found again.
     fn open_trail(
         &self,
         directory: &str,
         gone: Arc<AtomicU64, Global>,
     ) -> Result<Self::Log, InitError>;
 
-    /// The source of this path. `Fault::Own` if it is a file of the log's folder.
+    /// Opens the source of this path. `Fault::Own` if it is a file of the log's folder.
     fn open_source(&self, log: &Self::Log, path: &str) -> Result<Self::Source, Fault>;
 }
 
@@ -64,11 +64,10 @@ impl Trails for HostRuntime {
     }
 }
 
-/// Writes the lines of each source, which is a file, to the log of the day in a folder, and the account
-/// of all lines to `output`. A source that can't be read to its end keeps no other from it, and is told
-/// on `errors` with its path. So is how many lines the log didn't take whole, and how many log files were
-/// not found again. The answer is the status of the process, as of `trail::keep`: the greatest of those of
-/// all faults.
+/// Writes the lines of each source, which is a file, to the log of the day in a folder, and the account of all lines
+/// to `output`. A source that can't be read to its end is reported on `errors` with its path; the others are read. The
+/// numbers of lines that the log didn't take whole, and of log files that were not found again, are reported too.
+/// Returns the status of the process, as `trail::keep` has it: the greatest of those of all faults.
 pub fn keep_all<R: Host, T: Trails, O: Write, E: Write>(
     rt: R,
     trails: &T,
@@ -77,7 +76,7 @@ pub fn keep_all<R: Host, T: Trails, O: Write, E: Write>(
     output: &mut O,
     errors: &mut E,
 ) -> u8
-    ensures { TellsStatus result (E.contents errors.old) (E.contents errors.new) }
+    ensures { ReportsStatus result (E.contents errors.old) (E.contents errors.new) }
 {
     match open_watched(rt, trails, directory) {
         Ok((log, gone)) => {
@@ -85,7 +84,7 @@ pub fn keep_all<R: Host, T: Trails, O: Write, E: Write>(
             let ended = keep_sources(rt, log, sources, &gone, output, errors);
             greater(unopened, ended)
         }
-        Err(fault) => tell(&fault, errors),
+        Err(fault) => report_fault(&fault, errors),
     }
 }
 
@@ -100,8 +99,8 @@ fn open_watched<R: Host, T: Trails>(
     Ok((log, gone))
 }
 
-// Writes the lines of the sources that were opened, and the account of them, and tells the faults. The
-// answer is the greatest status of these.
+// Writes the lines of the sources that were opened, and their account, and reports the faults. Returns the greatest
+// status of these.
 fn keep_sources<
     R: Host,
     L: Write + Send + Drop + 'static,
@@ -109,18 +108,18 @@ fn keep_sources<
     O: Write,
     E: Write,
 >(rt: R, log: L, sources: Sources<'_, I>, gone: &AtomicU64, output: &mut O, errors: &mut E) -> u8
-    ensures { TellsStatus result (E.contents errors.old) (E.contents errors.new) }
+    ensures { ReportsStatus result (E.contents errors.old) (E.contents errors.new) }
 {
     let Sources { paths, inputs } = sources;
     match gather_counting(rt, log, inputs) {
         Ok((account, lost, sent)) => {
-            let ended = tell_ends(paths, sent, errors);
-            let lost = tell_lost(lost, errors);
-            let gone = tell_gone(gone.load(SeqCst), errors);
-            let told = tell_account(account, output, errors);
-            greater(greater(greater(ended, lost), gone), told)
+            let ended = report_ends(paths, sent, errors);
+            let lost = report_lost(lost, errors);
+            let gone = report_gone(gone.load(SeqCst), errors);
+            let reported = print_account(account, output, errors);
+            greater(greater(greater(ended, lost), gone), reported)
         }
-        Err(fault) => tell(&fault, errors),
+        Err(fault) => report_fault(&fault, errors),
     }
 }
 
@@ -132,7 +131,7 @@ fn greater(one: u8, other: u8) -> u8
     if one < other { other } else { one }
 }
 
-// Gathers the lines of the sources, and returns beside their account how many the log did not take whole.
+// Gathers the lines of the sources, and returns also how many the log did not take whole.
 fn gather_counting<L: Write + Send + Drop + 'static, I: Read + Send + Drop + 'static, R: Host>(
     rt: R,
     log: L,
@@ -143,26 +142,26 @@ fn gather_counting<L: Write + Send + Drop + 'static, I: Read + Send + Drop + 'st
     Ok((account, counts.lost(), sent))
 }
 
-// Tells of so many lines that were not written whole, if there are any, and answers the status of that.
-fn tell_lost<E: Write>(lost: u64, errors: &mut E) -> u8
-    ensures told { TellsStatus result (E.contents errors.old) (E.contents errors.new) }
+// Reports the number of lines that were not written whole, if there are any, and returns the status of that.
+fn report_lost<E: Write>(lost: u64, errors: &mut E) -> u8
+    ensures reported { ReportsStatus result (E.contents errors.old) (E.contents errors.new) }
     ensures none { result ≡ 0 → lost ≡ 0 }
 {
     if lost == 0 {
         return 0;
     }
-    tell(&Fault::Lost(lost), errors)
+    report_fault(&Fault::Lost(lost), errors)
 }
 
-// Tells of so many log files that were not found again, if there are any, and answers the status of that.
-fn tell_gone<E: Write>(gone: u64, errors: &mut E) -> u8
-    ensures told { TellsStatus result (E.contents errors.old) (E.contents errors.new) }
+// Reports the number of log files that were not found again, if there are any, and returns the status of that.
+fn report_gone<E: Write>(gone: u64, errors: &mut E) -> u8
+    ensures reported { ReportsStatus result (E.contents errors.old) (E.contents errors.new) }
     ensures none { result ≡ 0 → gone ≡ 0 }
 {
     if gone == 0 {
         return 0;
     }
-    tell(&Fault::Gone(gone), errors)
+    report_fault(&Fault::Gone(gone), errors)
 }
 
 // The sources that were opened, and the path of each.
@@ -173,7 +172,7 @@ struct Sources<'a, I: Drop> {
 }
 
 impl<'a, I: Drop> Sources<'a, I> {
-    // One source more. The error leaves them as they were.
+    // Adds a source. After an error they are as they were.
     fn push(&mut self, path: &'a str, input: I) -> Result<(), AllocError> {
         self.paths.push(path)?;
         if let Err(refused) = self.inputs.push(input) {
@@ -184,7 +183,7 @@ impl<'a, I: Drop> Sources<'a, I> {
     }
 }
 
-// The sources that can be opened. The others are told, and the answer is the greatest status of these.
+// Opens the sources. The others are reported. Returns also the greatest status of these.
 fn open_sources<'a, T: Trails, E: Write>(
     alloc: Global,
     trails: &T,
@@ -192,7 +191,7 @@ fn open_sources<'a, T: Trails, E: Write>(
     paths: &'a [String],
     errors: &mut E,
 ) -> (Sources<'a, T::Source>, u8)
-    ensures { TellsStatus result.1 (E.contents errors.old) (E.contents errors.new) }
+    ensures { ReportsStatus result.1 (E.contents errors.old) (E.contents errors.new) }
 {
     let mut sources = Sources {
         paths: Vec::new(alloc),
@@ -200,25 +199,25 @@ fn open_sources<'a, T: Trails, E: Write>(
     };
     let mut status = 0;
     for path in paths {
-        let told = open_or_tell(trails, log, path.as_str(), &mut sources, errors);
-        status = greater(status, told);
+        let reported = open_or_report(trails, log, path.as_str(), &mut sources, errors);
+        status = greater(status, reported);
     }
     (sources, status)
 }
 
-// Opens one source more, and answers 0, or tells why not, and answers the status of that.
-fn open_or_tell<'a, T: Trails, E: Write>(
+// Opens one source more and returns 0, or reports why not and returns the status of that.
+fn open_or_report<'a, T: Trails, E: Write>(
     trails: &T,
     log: &T::Log,
     path: &'a str,
     sources: &mut Sources<'a, T::Source>,
     errors: &mut E,
 ) -> u8
-    ensures { TellsStatus result (E.contents errors.old) (E.contents errors.new) }
+    ensures { ReportsStatus result (E.contents errors.old) (E.contents errors.new) }
 {
     match open_one(trails, log, path, sources) {
         Ok(()) => 0,
-        Err(fault) => tell_of(path, &fault, errors),
+        Err(fault) => report_source(path, &fault, errors),
     }
 }
 
@@ -233,23 +232,23 @@ fn open_one<'a, T: Trails>(
     Ok(())
 }
 
-// Tells of each source that was not sent to its end, and answers the greatest status of these.
-fn tell_ends<E: Write>(paths: Vec<&str>, sent: Vec<Result<(), Fault>>, errors: &mut E) -> u8
-    ensures { TellsStatus result (E.contents errors.old) (E.contents errors.new) }
+// Reports each source that was not sent to its end, and returns the greatest status of these.
+fn report_ends<E: Write>(paths: Vec<&str>, sent: Vec<Result<(), Fault>>, errors: &mut E) -> u8
+    ensures { ReportsStatus result (E.contents errors.old) (E.contents errors.new) }
 {
     let mut status = 0;
     for (path, sent) in paths.into_iter().zip(sent) {
         if let Err(fault) = sent {
-            let told = tell_of(path, &fault, errors);
-            status = greater(status, told);
+            let reported = report_source(path, &fault, errors);
+            status = greater(status, reported);
         }
     }
     status
 }
 
-// Writes the account, and answers the status of that. A fault is told.
-fn tell_account<O: Write, E: Write>(account: Account, output: &mut O, errors: &mut E) -> u8
-    ensures { TellsStatus result (E.contents errors.old) (E.contents errors.new) }
+// Writes the account, and returns the status of that. A fault is reported.
+fn print_account<O: Write, E: Write>(account: Account, output: &mut O, errors: &mut E) -> u8
+    ensures { ReportsStatus result (E.contents errors.old) (E.contents errors.new) }
 {
     let Account {
         accepted,
@@ -262,33 +261,33 @@ fn tell_account<O: Write, E: Write>(account: Account, output: &mut O, errors: &m
         "accepted {accepted} handed {handed} left {left} dropped {dropped}"
     ) {
         Ok(()) => 0,
-        Err(fault) => tell(&Fault::of_account(fault), errors),
+        Err(fault) => report_fault(&Fault::of_account(fault), errors),
     }
 }
 
-// Tells the fault of a source on `errors`, and answers its status.
-fn tell_of<E: Write>(path: &str, fault: &Fault, errors: &mut E) -> u8
+// Reports the fault of a source on `errors`, and returns its status.
+fn report_source<E: Write>(path: &str, fault: &Fault, errors: &mut E) -> u8
     ensures { result ≡ status_of fault.now }
 {
     let _ = write!(errors, "{path}: ");
-    tell(fault, errors)
+    report_fault(fault, errors)
 }
 
-/// The account of the lines of all sources, each read by a thread of its own if one can be made, and how
-/// the sending of each source ended. Every line that was queued was handed to the log, and none is left.
+/// Sends the lines of all sources, each read by a thread of its own if one can be made. Returns their account, and
+/// how the sending of each source ended. Every line that was queued was handed to the log, and none is left.
 pub fn gather<L: Write + Send + Drop + 'static, I: Read + Send + Drop + 'static, R: Host>(
     rt: R,
     log: L,
     sources: Vec<I>,
 ) -> Result<(Account, Vec<Result<(), Fault>>), Fault>
-    ensures handed { IfOk result (λ told. told.0.handed ≡ told.0.accepted) }
-    ensures left { IfOk result (λ told. told.0.left ≡ 0) }
+    ensures handed { IfOk result (λ gathered. gathered.0.handed ≡ gathered.0.accepted) }
+    ensures left { IfOk result (λ gathered. gathered.0.left ≡ 0) }
 {
     let blanks = Blanks::new(sources.len());
     gather_by::<Brand, Brand, Brand, Brand, L, I, R>(rt, log, sources, blanks)
 }
 
-// The same by these books: of accepted lines, of handed ones, of shutdowns and of closings.
+// The same by these ledgers.
 fn gather_by<
     A: Ledger + Send + Sync + 'static,
     H: Ledger + Send + Sync + 'static,
@@ -304,8 +303,8 @@ fn gather_by<
     blanks: Blanks,
 ) -> Result<(Account, Vec<Result<(), Fault>>), Fault>
     requires { AreBlanksOf A.Ledger H.Ledger S.Ledger C.Ledger (vec_len sources) blanks }
-    ensures handed { IfOk result (λ told. told.0.handed ≡ told.0.accepted) }
-    ensures left { IfOk result (λ told. told.0.left ≡ 0) }
+    ensures handed { IfOk result (λ gathered. gathered.0.handed ≡ gathered.0.accepted) }
+    ensures left { IfOk result (λ gathered. gathered.0.left ≡ 0) }
 {
     let (senders, guard) = NonBlockingBuilder::default()
         .lossy(false)
@@ -319,7 +318,7 @@ fn gather_by<
     }
 }
 
-// What a thread sends the lines of its source by. It spares the functions below the names of the books.
+// A counted sender without the names of its ledgers.
 trait LineSender {
     // Waits until the line is queued.
     fn send(&mut self, line: &[u8]) -> io::Result<()>;
@@ -340,8 +339,8 @@ enum Sending<S: Drop> {
     Ended(S, Result<(), Fault>),
 }
 
-// The senders, once each has sent the lines of its source, and how that ended. There is room for all of
-// them before the first line is sent, so that no account is lost for want of it.
+// Sends the lines of each source, and returns the senders and how each ended. Memory for all of them is allocated
+// before the first line is sent, so that a refusal loses no account.
 fn send_all<S: LineSender + Send + Drop + 'static, I: Read + Send + Drop + 'static, R: Host>(
     rt: R,
     senders: Vec<S>,
@@ -369,7 +368,7 @@ fn start_all<S: LineSender + Send + Drop + 'static, I: Read + Send + Drop + 'sta
     Ok(all)
 }
 
-// A thread that sends the lines of a source. Where none can be made, this one sends them.
+// Starts a thread that sends the lines of a source. If none can be made, sends them.
 fn start<S: LineSender + Send + Drop + 'static, I: Read + Send + Drop + 'static, R: Host>(
     rt: R,
     sender: S,
@@ -384,7 +383,7 @@ fn start<S: LineSender + Send + Drop + 'static, I: Read + Send + Drop + 'static,
     }
 }
 
-// Waits for the threads; senders and ends go to the ends of these two.
+// Waits for the threads, and adds senders and ends to these two.
 fn end_each<S: Drop, R: Host>(
     rt: R,
     sending: Vec<Sending<S>>,
@@ -402,7 +401,7 @@ fn end_each<S: Drop, R: Host>(
     Ok(())
 }
 
-// What the thread of a source does: it gives its sender back, however far it came.
+// The work of a source's thread. It returns its sender, also after a fault.
 fn send_source<S: LineSender, I: Read + Drop>(
     alloc: Global,
     sender: S,

@@ -1,5 +1,5 @@
-//! What `audit_trail` does: the lines of one input go to the log of their day, each whole and in one file,
-//! and those of several files side by side, with an account of what became of them.
+//! The work of `audit_trail`: the lines of one input go to the log of the day, each whole and in one file; those of
+//! several files are read side by side, with an account.
 #![tactic(auto)]
 
 pub mod gather;

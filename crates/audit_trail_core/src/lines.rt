@@ -1,4 +1,4 @@
-//! A log that takes lines whole: each is a line of one file, or the answer is why it is not.
+//! A log that takes lines whole: each is in one file, or there is an error.
 ghost use Rattle.std.specs.Prelude.{◌≡◌, ◌≢◌, ◌≤◌, IfOk, IfErr, Ok, OnOk, true, false, length};
 ghost use Rattle.std.specs.Io.BufRead.{ends_with_byte};
 ghost use Rattle.std.specs.IoError.{error_kind};
@@ -13,7 +13,7 @@ use std::marker::Model;
 use tracing_appender::rolling::{Clock, RollingFile, Switch};
 use tracing_appender::store::Folder;
 
-/// How often the appends of one line may be interrupted and made again.
+/// How often the appends of one line may be interrupted and repeated.
 const MOST_REPEATS: u32 = 100;
 
 /// A log that takes lines whole. A line that is cut short is ended by a newline before the next line.
@@ -41,17 +41,16 @@ impl<S: Folder, C: Clock, W: Watch<S>> Model for LineLog<S, C, W> {
 /// Why a line is not whole.
 #[derive(Debug, Drop)]
 pub struct LineFault {
-    /// How many of its first bytes were taken.
+    /// The number of its first bytes that were taken.
     pub taken: usize,
-    /// The last append's fault, which is of another kind than `Interrupted`; of kind `WriteZero` if it
-    /// took nothing.
+    /// The last append's error, never `Interrupted`; `WriteZero` if it took nothing.
     pub error: io::Error,
 }
 
 impl<S: Folder, C: Clock, W: Watch<S>> LineLog<S, C, W> {
     ghost use Rattle.audit_trail_core.specs.Trail.{LooksAtClock, PutsLine};
 
-    /// A log that goes on after what is in the open file.
+    /// Returns a log that goes on after what is in the open file.
     pub fn new(log: RollingFile<S, C>, watch: W) -> LineLog<S, C, W>
         ensures { result.log ≡ log }
     {
@@ -64,8 +63,8 @@ impl<S: Folder, C: Clock, W: Watch<S>> LineLog<S, C, W> {
         }
     }
 
-    /// Checks the clock once, and then adds all of a line to the open file, where it begins a line. An
-    /// append that was interrupted is made again, at most 100 times for a line.
+    /// Checks the clock once, and then adds all of a line to the open file, where it begins a line. An interrupted
+    /// append is repeated, at most 100 times for a line.
     pub fn write_line(&mut self, line: &[u8]) -> Result<(), LineFault>
         ensures ok { OnOk result (PutsLine S.Folder C.Clock line.now self.old self.new) }
         ensures err { IfErr result (λ fault. error_kind fault.error ≢ Interrupted) }
@@ -85,7 +84,7 @@ impl<S: Folder, C: Clock, W: Watch<S>> LineLog<S, C, W> {
         }
     }
 
-    // Checks the clock, and how the file ends that then begins.
+    // Checks the clock, and how a file ends that is opened then.
     fn look(&mut self)
         ensures { LooksAtClock S.Folder C.Clock self.old self.new }
     {
@@ -101,7 +100,7 @@ impl<S: Folder, C: Clock, W: Watch<S>> LineLog<S, C, W> {
         }
     }
 
-    // Compares the open file with what its name leads to, if this moment begins another file.
+    // Compares the open file with what its name leads to, if another file is opened at this moment.
     fn compare_before(&mut self, moment: i64)
         ensures { self.new ≡ self.old }
     {
@@ -143,19 +142,19 @@ impl<S: Folder, C: Clock, W: Watch<S>> LineLog<S, C, W> {
         }
     }
 
-    /// The log.
+    /// Returns the log.
     pub fn log(&self) -> &RollingFile<S, C>
         ensures { result.now ≡ self.now.log }
     {
         &self.log
     }
 
-    /// What watches its open file.
+    /// Returns what watches its open file.
     pub fn watch(&self) -> &W {
         &self.watch
     }
 
-    /// The folder and the clock, with the open file let go.
+    /// Closes the open file, and returns the folder and the clock.
     pub fn into_parts(self) -> (S, C)
         ensures folder { result.0 ≡ self.log.roller.folder }
         ensures clock { result.1 ≡ self.log.clock }
@@ -171,7 +170,7 @@ impl<S: Folder, C: Clock, W: Watch<S>> Write for LineLog<S, C, W> {
     ghost use Rattle.appender_rolling.specs.Appender.{FlushesNow};
     ghost use Rattle.audit_trail_core.specs.Trail.{PutsLine};
 
-    /// Writes one line, whole: the answer is its length, or an error of another kind than `Interrupted`.
+    /// Writes one line whole, and returns its length. An error is never `Interrupted`.
     fn write(&mut self, line: &[u8]) -> io::Result<usize>
         ensures bound { WritesAtMost result line.now }
         ensures bytes { WriteAppends None None result line.now }
@@ -199,8 +198,8 @@ impl<S: Folder, C: Clock, W: Watch<S>> Write for LineLog<S, C, W> {
     }
 }
 
-// Adds bytes to the open file by one append after another, each of what those before it left. So many of
-// the line were interrupted before; the answer is how many were with these.
+// Adds bytes to the open file by one append after another, each of what those before it left. So many of the line
+// were interrupted before; returns how many were with these.
 fn add_all<S: Folder, C: Clock>(
     log: &mut RollingFile<S, C>,
     bytes: &[u8],
@@ -225,7 +224,7 @@ fn add_all<S: Folder, C: Clock>(
     Ok(repeats)
 }
 
-// What one append of the rest of a line comes to.
+// The result of one append of the rest of a line.
 #[derive(Drop)]
 enum Step {
     Took(usize),
@@ -233,7 +232,7 @@ enum Step {
     Failed(io::Error),
 }
 
-// Appends once, where so many appends of the line were interrupted before.
+// Appends once, after so many interrupted appends of the line.
 fn append_once<S: Folder, C: Clock>(log: &mut RollingFile<S, C>, rest: &[u8], repeats: u32) -> Step
     ensures { AppendsOnce S.Folder rest.now repeats result log.old log.new }
 {
@@ -246,14 +245,14 @@ fn append_once<S: Folder, C: Clock>(log: &mut RollingFile<S, C>, rest: &[u8], re
     }
 }
 
-// Whether the open file is seen to be empty or to end with a newline.
+// Returns whether the open file is seen to be empty or to end with a newline.
 fn ends_whole<S: Folder, C: Clock, W: Watch<S>>(watch: &W, log: &RollingFile<S, C>) -> bool
     ensures { result ≡ true → EndsWhole S.Folder log.now }
 {
     watch.ends_line(log.folder(), log.open_file(), log.open_name())
 }
 
-// Whether there is a newline at the end.
+// Returns whether there is a newline at the end.
 fn ends_line(bytes: &[u8]) -> bool
     ensures { result ≡ ends_with_byte 10 bytes.now }
 {

@@ -1,7 +1,7 @@
 //! An audit trail of lines.
 ghost use Rattle.std.specs.Prelude.{◌≡◌, ◌≢◌, ◌≤◌, ℕ, List, [], length, false, Some, Ok, Err, OnOk, IfOk, IfErr, IfSome, IsOk};
 ghost use Rattle.std.specs.Io.KnownBytes.{Keeps};
-ghost use Rattle.audit_trail_core.specs.Fault.{line_fault, opening_fault, status_of, unless_memory, words_of, Tells};
+ghost use Rattle.audit_trail_core.specs.Fault.{line_fault, opening_fault, status_of, unless_memory, words_of, ReportsFault};
 ghost use Rattle.audit_trail_core.specs.Trail.{EndsWhole, PutsLine, PutsLines, FlushesLines, KeepsLines, trail_config};
 ghost use Rattle.appender_rolling.specs.Appender.{FlushesNow, OpensSome};
 ghost use Rattle.std.specs.IoError.{error_kind};
@@ -22,7 +22,7 @@ use tracing_appender::folder::DirFolder;
 use tracing_appender::rolling::{Builder, Clock, InitError, RollingFile, Rotation, SystemClock};
 use tracing_appender::store::Folder;
 
-/// How many files are kept, one a day.
+/// The number of files that are kept, one a day.
 const KEPT_DAYS: usize = 366;
 
 /// Why a trail ended early.
@@ -31,7 +31,7 @@ pub enum Fault {
     /// There was no argument.
     #[error("usage: audit_trail DIRECTORY [SOURCE..]")]
     Usage,
-    /// An argument was no UTF-8.
+    /// An argument was not UTF-8.
     #[error("an argument is not UTF-8")]
     Argument,
     /// No log was opened.
@@ -46,7 +46,7 @@ pub enum Fault {
     /// The beginning of a line was written, and the rest was not.
     #[error("line cut short: {0}")]
     Cut(io::Error),
-    /// So many lines of sources came to the log, which didn't take the whole of them.
+    /// The log did not take so many lines of sources whole.
     #[error("lines not written whole: {0}")]
     Lost(u64),
     /// So many log files were removed, renamed or replaced while they were written to, or couldn't be
@@ -62,7 +62,7 @@ pub enum Fault {
     /// The thread that writes was not made.
     #[error("no thread")]
     Thread,
-    /// A sender didn't come back.
+    /// A sender is missing.
     #[error("no account")]
     Unsettled,
     /// Memory was refused.
@@ -71,7 +71,7 @@ pub enum Fault {
 }
 
 impl Fault {
-    // The status that the program ends with.
+    // Returns the status that the program ends with.
     fn status(&self) -> u8
         ensures { result ≡ status_of self.now }
     {
@@ -82,7 +82,7 @@ impl Fault {
         }
     }
 
-    // What is reported of it, on a line, if that is the same for all faults of its kind; else nothing.
+    // Returns what is reported of it, on a line, if that is the same for all faults of its kind; else nothing.
     fn words(&self) -> &'static [u8]
         ensures { IfSome (words_of self.now) (λ words. result.now ≡ words) }
     {
@@ -97,7 +97,7 @@ impl Fault {
         }
     }
 
-    /// This fault, or that memory was refused, where the error behind it is of that kind.
+    /// Returns this fault, or `Memory` if its cause is of the kind `OutOfMemory`.
     pub fn unless_memory(self, kind: ErrorKind) -> Fault
         ensures { result ≡ unless_memory kind self }
     {
@@ -128,12 +128,12 @@ impl Fault {
         ensures { result ≡ line_fault fault.taken fault.error }
     {
         let kind = fault.error.kind();
-        let told = if fault.taken == 0 {
+        let reported = if fault.taken == 0 {
             Fault::Write(fault.error)
         } else {
             Fault::Cut(fault.error)
         };
-        told.unless_memory(kind)
+        reported.unless_memory(kind)
     }
 }
 
@@ -185,20 +185,20 @@ pub fn keep<R: Runtime + AllocGlobal, I: Read, E: Write>(
     ensures status { IfErr result (λ status. (1 ≤ status) × (status ≤ 3)) }
     ensures usage { length arguments.now ≢ 1 → result ≡ Err 2 }
     ensures silent { IsOk result → Keeps (E.contents errors.old) (E.contents errors.new) }
-    ensures told { IfErr result (λ status. (fault : Fault) ×
-        Tells fault status (E.contents errors.old) (E.contents errors.new)) }
+    ensures reported { IfErr result (λ status. (fault : Fault) ×
+        ReportsFault fault status (E.contents errors.old) (E.contents errors.new)) }
     ensures lines { IfOk result (λ log. (text : List ℕ) → I.remaining input.old ≡ Some text →
         KeepsLines ⟦<DirFolder<R> as Folder>⟧ ⟦<SystemClock<R> as Clock>⟧ text log) }
 {
     match copy_lines(rt, arguments, input) {
         Ok(log) => Ok(log),
-        Err(fault) => Err(tell(&fault, errors)),
+        Err(fault) => Err(report_fault(&fault, errors)),
     }
 }
 
-/// Tells a fault on `errors`, and answers its status.
-pub fn tell<E: Write>(fault: &Fault, errors: &mut E) -> u8
-    ensures { Tells fault.now result (E.contents errors.old) (E.contents errors.new) }
+/// Reports a fault on `errors`, and returns its status.
+pub fn report_fault<E: Write>(fault: &Fault, errors: &mut E) -> u8
+    ensures { ReportsFault fault.now result (E.contents errors.old) (E.contents errors.new) }
 {
     let words = fault.words();
     let _ = if words.is_empty() {
@@ -275,8 +275,7 @@ fn flush<S: Folder, C: Clock, W: Watch<S>>(log: &mut LineLog<S, C, W>) -> Result
     }
 }
 
-/// Opens the trail in a folder, which is made where it isn't there. Log files that are not found again are
-/// counted by `gone`.
+/// Opens the trail in a folder, which is made if it is absent. `gone` counts log files that are not found again.
 pub fn open_trail<R: Runtime + AllocGlobal>(
     rt: &R,
     directory: &str,
@@ -290,7 +289,7 @@ pub fn open_trail<R: Runtime + AllocGlobal>(
     Ok(LineLog::new(open_log(rt, directory)?, watch))
 }
 
-/// Opens the log of the day in a folder, which is made where it isn't there. Each flush syncs its file.
+/// Opens the log of the day in a folder, which is made if it is absent. Each flush syncs its file.
 pub fn open_log<R: Runtime + AllocGlobal>(
     rt: &R,
     directory: &str,
@@ -319,7 +318,7 @@ fn settings(alloc: Global) -> Result<Builder, AllocError>
     Ok(linked.max_log_files(KEPT_DAYS))
 }
 
-/// Writes each line of `input` with its newline, which a last line without one is given.
+/// Writes each line of `input` with its newline. A last line without one gets one.
 pub fn write_lines<I: BufRead, S: Folder, C: Clock, W: Watch<S>>(
     alloc: Global,
     input: &mut I,

@@ -1,4 +1,4 @@
-//! What a trail looks at beside its log: files that other programs change too.
+//! Checks of files that other programs change too.
 ghost use Rattle.std.specs.Prelude.{◌≡◌, true};
 ghost use Rattle.audit_trail_core.specs.Trail.{EndsLine};
 
@@ -14,7 +14,7 @@ use std::{fs, io};
 use tracing_appender::folder::DirFolder;
 use tracing_appender::store::Folder;
 
-/// Looks at the open file of a log in a folder.
+/// Checks the open file of a log in a folder.
 pub trait Watch<S: Folder>: Drop {
     ghost use Rattle.std.specs.Prelude.{◌≡◌, true, IsTrue};
     ghost use Rattle.appender_store.specs.Content.{body_at};
@@ -29,7 +29,7 @@ pub trait Watch<S: Folder>: Drop {
     fn finds(&self, folder: &S, file: &S::File, name: &str) -> bool;
 }
 
-/// Looks at the open file of a log in a folder of the file system. A file whose name leads elsewhere, or
+/// Checks the open file of a log in a folder of the file system. A file whose name leads elsewhere, or
 /// that couldn't be compared with what its name leads to, is reported on standard error, and counted.
 #[derive(Drop)]
 pub struct DirWatch<R> {
@@ -81,7 +81,7 @@ impl<R: Files + AllocGlobal + Eprint + Clone + Drop> DirWatch<R> {
         }
     }
 
-    // The last byte of a file of the folder.
+    // Returns the last byte of a file of the folder.
     fn last_byte(&self, name: &str) -> io::Result<u8> {
         let path = format!(in self.rt.alloc(); "{}{name}", self.path)?;
         let mut file = OpenOptions::new().read(true).open(&self.rt, path)?;
@@ -124,7 +124,7 @@ impl<R: Files + AllocGlobal + Eprint + Clone + Drop> Watch<DirFolder<R>> for Dir
     }
 }
 
-// Whether both are of one file.
+// Returns whether both are of one file.
 fn is_same(one: &Metadata, other: &Metadata) -> bool {
     one.dev() == other.dev() && one.ino() == other.ino()
 }

@@ -1,5 +1,5 @@
-//! What programs are given: a runtime, arguments, and an input of lines, which may go to a writer. What they report of
-//! a fault is in `report`. What their arguments ask for is in `options`. `streams` fills standard streams that are closed.
+//! What programs have in common: a runtime, arguments, lines of an input. `report` has reports of faults, `options` the
+//! options among arguments, `streams` standard streams that are closed.
 #![tactic(auto)]
 
 ghost use Rattle.std.specs.Prelude.{◌≡◌, ◌≢◌, ℕ, List, [], Some, Ok, OnOk, OnErr, true, false};
@@ -19,13 +19,13 @@ use std::thread::Threads;
 use std::time::Clock;
 use std::{env, io};
 
-/// What a program that starts threads asks of its runtime.
+/// The runtime of a program that starts threads.
 pub trait Host: AllocGlobal + Threads + Wait + Clock + Print + Eprint + Copy + Send + 'static {}
 
 impl<R: AllocGlobal + Threads + Wait + Clock + Print + Eprint + Copy + Send + 'static> Host for R {}
 
-/// What stands behind the program's name. The error is that of the runtime where one of them is no
-/// UTF-8, or `OutOfMemory`.
+/// Returns the arguments after the program's name. The error is that of the runtime if one of them is not UTF-8, or
+/// `OutOfMemory`.
 pub fn arguments(rt: &(impl Env + AllocGlobal)) -> io::Result<Vec<String>> {
     let mut arguments = Vec::new(rt.alloc());
     for argument in env::args(rt)?.skip(1) {
@@ -38,7 +38,7 @@ pub fn arguments(rt: &(impl Env + AllocGlobal)) -> io::Result<Vec<String>> {
 #[derive(Drop)]
 pub struct ShortLines<R> {
     input: R,
-    // How many bytes came behind the last newline.
+    // The number of bytes after the last newline.
     open: usize,
 }
 
@@ -46,7 +46,7 @@ pub struct ShortLines<R> {
 pub const LONGEST_LINE: usize = 1 << 20;
 
 impl<R> ShortLines<R> {
-    /// The input from here on.
+    /// Returns the input from here on.
     pub fn new(input: R) -> ShortLines<R>
         ensures { result.input ≡ input }
     {
@@ -57,8 +57,8 @@ impl<R> ShortLines<R> {
 impl<R: Read> Read for ShortLines<R> {
     ghost remaining = { λ lines. R.remaining lines.input };
 
-    /// Reads on, up to one byte more than a line may have. If more than `LONGEST_LINE` bytes came behind the last
-    /// newline, the error is InvalidData, and nothing is read.
+    /// Reads on, up to one byte more than a line may have. If there were more than `LONGEST_LINE` bytes after the last
+    /// newline, the error is `InvalidData`, and nothing is read.
     fn read(&mut self, buf: &mut [u8]) -> io::Result<usize> {
         if self.open > LONGEST_LINE {
             return Err(io::Error::new(ErrorKind::InvalidData, "line too long"));
@@ -70,7 +70,7 @@ impl<R: Read> Read for ShortLines<R> {
     }
 }
 
-// How many bytes stand behind the last newline, where there were so many before these.
+// Returns the number of bytes after the last newline, if there were so many before these.
 fn open_bytes(open: usize, bytes: &[u8]) -> usize {
     match bytes.iter().rposition(|byte| *byte == b'\n') {
         Some(place) => bytes.len() - place - 1,
@@ -78,8 +78,8 @@ fn open_bytes(open: usize, bytes: &[u8]) -> usize {
     }
 }
 
-/// Reads the next line with its newline, if it has one, in place of what `line` holds, and tells
-/// whether there was one. Errors are those of the input, and `OutOfMemory`.
+/// Reads the next line with its newline, if it has one, into `line`, in place of what that contained. Returns whether
+/// there was one. Errors are those of the input, and `OutOfMemory`.
 pub fn read_line<I: BufRead>(input: &mut I, line: &mut Vec<u8>) -> io::Result<bool>
     ensures line { OnOk result ((text : List ℕ) → I.remaining input.old ≡ Some text →
         line.new.items ≡ take_through 10 text) }
@@ -93,8 +93,7 @@ pub fn read_line<I: BufRead>(input: &mut I, line: &mut Vec<u8>) -> io::Result<bo
     Ok(length > 0)
 }
 
-/// Puts a newline behind a line that has none at its end. The error is that memory was refused, and
-/// then the line is as it was.
+/// Adds a newline to a line that has none at its end. If memory is refused, the line is as it was.
 pub fn end_line(line: &mut Vec<u8>) -> Result<(), AllocError>
     ensures ended { OnOk result (line.new.items ≡ ended line.old.items) }
     ensures refused { OnErr result (line.new.items ≡ line.old.items) }

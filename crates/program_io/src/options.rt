@@ -15,8 +15,8 @@ pub enum Request {
     Unknown,
 }
 
-/// What arguments ask for. The first one that begins with a dash decides: `-h` and `--help` ask for the usage, and
-/// `--version` for the version; `--` is left out, and those behind it are arguments; any other is unknown.
+/// Returns what arguments ask for. The first one that begins with a dash decides: `-h` and `--help` ask for the usage,
+/// and `--version` for the version; `--` is left out, and those after it are arguments; any other is unknown.
 pub fn request_of(arguments: Vec<String>) -> Request
     ensures { IsRequest arguments.items result }
 {
@@ -35,7 +35,7 @@ pub fn request_of(arguments: Vec<String>) -> Request
     }
 }
 
-// What a word that begins with a dash means.
+// The meaning of a word that begins with a dash.
 #[derive(Clone, Copy)]
 enum Meaning {
     Help,
@@ -44,7 +44,7 @@ enum Meaning {
     Unknown,
 }
 
-// The place of the first argument that begins with a dash.
+// Returns the place of the first argument that begins with a dash.
 fn first_dashed(arguments: &[String]) -> Option<usize>
     ensures { result ≡ position is_dashed arguments.now }
 {

@@ -1,4 +1,4 @@
-//! What a program reports of a fault, and what it prints.
+//! Reports and prints of a program.
 
 ghost use Rattle.std.specs.Prelude.{◌≡◌, ◌≢◌, ◌<◌, ◌≤◌, IfOk, OnOk, length};
 ghost use Rattle.std.specs.Io.KnownBytes.{Appends, WriteAppends};
@@ -24,7 +24,7 @@ pub fn report<E: Write>(errors: &mut E, words: &[u8]) -> io::Result<()>
     Err(io::Error::from(ErrorKind::TimedOut))
 }
 
-// How many of these bytes one write takes. None are of a write that was interrupted; of another it is an error.
+// Returns how many of these bytes one write takes: none if it was interrupted. Another write of none is an error.
 fn write_some<E: Write>(errors: &mut E, bytes: &[u8]) -> io::Result<usize>
     ensures bound { IfOk result (λ n. n ≤ length bytes.now) }
     ensures bytes { WriteAppends (E.contents errors.old) (E.contents errors.new) result bytes.now }
@@ -36,7 +36,7 @@ fn write_some<E: Write>(errors: &mut E, bytes: &[u8]) -> io::Result<usize>
     }
 }
 
-/// Prints a text that was asked for. The answer is the status of the process: 0, or this one if not all was written.
+/// Prints a text that was asked for. Returns the status of the process: 0, or this one if not all was written.
 pub fn print<W: Write>(output: &mut W, text: &str, failed: u8) -> u8
     ensures whole { result ≡ 0 → 0 < failed → Appends (W.contents output.old) (W.contents output.new) text.now }
     ensures beginning { AppendsBeginning (W.contents output.old) (W.contents output.new) text.now }

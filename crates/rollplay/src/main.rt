@@ -36,7 +36,7 @@ fn main(rt: HostRuntime) -> ExitCode {
     }
     let status = match arguments(&rt) {
         Ok(arguments) => run(rt, request_of(arguments)),
-        Err(fault) if fault.kind() == ErrorKind::OutOfMemory => tell(rt, b"no memory\n", 3),
+        Err(fault) if fault.kind() == ErrorKind::OutOfMemory => report_words(rt, b"no memory\n", 3),
         // One of them is not UTF-8. It is ignored, as any argument that is no option.
         Err(_) => run(rt, Request::Run(Vec::new(rt.alloc()))),
     };
@@ -51,12 +51,12 @@ fn run(rt: HostRuntime, request: Request) -> u8 {
         Request::Help => print(&mut output, HELP, 2),
         Request::Version => print(&mut output, VERSION, 2),
         Request::Run(_) => play::play(rt.alloc(), &mut rt.stdin(), &mut output, &mut rt.stderr()),
-        Request::Unknown => tell(rt, USAGE, 2),
+        Request::Unknown => report_words(rt, USAGE, 2),
     }
 }
 
-// Reports why nothing was played, and answers the status.
-fn tell(rt: HostRuntime, words: &[u8], status: u8) -> u8 {
+// Reports why nothing was played, and returns the status.
+fn report_words(rt: HostRuntime, words: &[u8], status: u8) -> u8 {
     let _ = report(&mut rt.stderr(), words);
     status
 }

@@ -42,7 +42,10 @@ fn main(rt: HostRuntime) -> ExitCode {
     let status = match arguments(&rt) {
         Ok(arguments) => run(rt, &rt, request_of(arguments)),
         // One of them is no UTF-8, or memory was refused.
-        Err(fault) => tee::tell(&Fault::Usage.unless_memory(fault.kind()), &mut rt.stderr()),
+        Err(fault) => tee::report_fault(
+            &Fault::Usage.unless_memory(fault.kind()),
+            &mut rt.stderr(),
+        ),
     };
     ExitCode::from(status)
 }
@@ -56,6 +59,6 @@ fn run<R: Host>(rt: R, host: &HostRuntime, request: Request) -> u8 {
             let arguments = arguments.as_slice();
             tee::tee(rt, host, arguments, &mut host.stdin(), &mut errors)
         }
-        Request::Unknown => tee::tell(&Fault::Usage, &mut errors),
+        Request::Unknown => tee::report_fault(&Fault::Usage, &mut errors),
     }
 }

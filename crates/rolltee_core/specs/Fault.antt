@@ -1,4 +1,4 @@
--- Which fault is told, and what a process ends with.
+-- Faults as they are reported, and the status of a process.
 use Rattle.std.specs.Prelude.{◌≡◌, ℕ, List, [], ◌∷◌, ◌++◌, Option, None, Some, IfSome, String, string_bytes, codes}
 use Rattle.std.specs.declared.alloc.Global.{Global}
 use Rattle.appender_names.specs.RotationText.{IsNoRotation}
@@ -21,7 +21,7 @@ abbrev pub HasNoFolder : List (String Global) → Type 0
 HasNoFolder arguments =
     (rotation folder : String Global) × (others : List (String Global)) × (arguments ≡ rotation ∷ folder ∷ others) × (string_bytes folder ≡ [])
 
--- the fault, but want of memory where the error behind it is of that kind
+-- the fault, but want of memory if its cause is of that kind
 abbrev pub unless_memory : ErrorKind → Fault → Fault
 unless_memory OutOfMemory fault = Memory
 unless_memory kind fault = fault
@@ -55,6 +55,6 @@ words_of Full = Some (codes "shutdown full" ++ (10 ∷ []))
 words_of Memory = Some (codes "no memory" ++ (10 ∷ []))
 
 -- the status is that of the fault, and a beginning of its words, if those are known, was added to the errors
-pub record Tells (fault : Fault) (status : ℕ) (errors_old errors_new : Option (List ℕ)) : Type 0 where
+pub record ReportsFault (fault : Fault) (status : ℕ) (errors_old errors_new : Option (List ℕ)) : Type 0 where
   pub status_is : status ≡ status_of fault
   pub words : IfSome (words_of fault) (AppendsBeginning errors_old errors_new)

@@ -1,5 +1,5 @@
-//! What `rolltee` does: each line of an input goes to a rolling log. One thread reads the lines, and
-//! another writes them.
+//! The work of `rolltee`: each line of an input goes to a rolling log. One thread reads the lines, and another writes
+//! them.
 #![tactic(auto)]
 
 pub mod tee;

@@ -2,7 +2,7 @@
 ghost use Rattle.std.specs.Prelude.{◌≡◌, ◌≢◌, ◌≤◌, [], length, Err, IfSome};
 ghost use Rattle.std.specs.Io.KnownBytes.{Keeps};
 ghost use Rattle.std.specs.IoError.{error_kind};
-ghost use Rattle.rolltee_core.specs.Fault.{status_of, unless_memory, words_of, HasNoFolder, NamesNoRotation, Tells};
+ghost use Rattle.rolltee_core.specs.Fault.{status_of, unless_memory, words_of, HasNoFolder, NamesNoRotation, ReportsFault};
 ghost use Rattle.appender_names.specs.RotationText.{IsNoRotation};
 
 use program_io::report::report;
@@ -17,7 +17,7 @@ use tracing_appender::non_blocking::{Closing, NonBlocking, NonBlockingBuilder, W
 use tracing_appender::rolling::{FileAppender, InitError, RollingFileAppender, Rotation};
 use tracing_appender::worker::{CountingWriter, LineCounts};
 
-/// How many lines may wait to be written; behind them the reading waits.
+/// The greatest number of queued lines. If the queue is full, the reader waits.
 const LIMIT: usize = 1024;
 
 /// Opens logs: those of the file system, or a test's own.
@@ -25,7 +25,7 @@ pub trait Logs {
     /// A log.
     type Log: Write + Send + Drop + 'static;
 
-    /// A log of this rotation in this folder, the names of whose files begin with `prefix`.
+    /// Opens a log of this rotation in this folder. The names of its files begin with `prefix`.
     fn open_log(
         &self,
         rotation: Rotation,
@@ -77,7 +77,7 @@ pub enum Fault {
 }
 
 impl Fault {
-    // The status that the program ends with.
+    // Returns the status that the program ends with.
     fn status(&self) -> u8
         ensures { result ≡ status_of self.now }
     {
@@ -88,7 +88,7 @@ impl Fault {
         }
     }
 
-    // What is reported of it, on a line. An error of opening has its own words.
+    // Returns what is reported of it, on a line. An error of opening has its own words.
     fn words(&self) -> &'static [u8]
         ensures { IfSome (words_of self.now) (λ words. result.now ≡ words) }
     {
@@ -104,7 +104,7 @@ impl Fault {
         }
     }
 
-    /// This fault, or that memory was refused, where the error behind it is of that kind.
+    /// Returns this fault, or `Memory` if its cause is of the kind `OutOfMemory`.
     pub fn unless_memory(self, kind: ErrorKind) -> Fault
         ensures { result ≡ unless_memory kind self }
     {
@@ -147,11 +147,11 @@ impl From<CopyFault> for Fault {
     }
 }
 
-/// Writes each line of `input` to the log that the three arguments name, which `logs` opens: a
-/// rotation, a folder and the beginning of the files' names. The first fault goes to `errors`, whose
-/// own faults are ignored; the lines read before it are written. The answer is the status of the
-/// process: 0; 1 if no log was opened, also for want of memory, no thread made, the input not read or a
-/// line not written whole; 2 if the arguments aren't of that form; 3 if memory was refused elsewhere.
+/// Writes each line of `input` to a log that `logs` opens. The three arguments are its rotation, its folder and the
+/// beginning of its files' names. The first fault goes to `errors`, whose own faults are ignored; the lines read before
+/// it are written. Returns the status of the process: 0; 1 if no log was opened, also if memory was refused for that,
+/// no thread made, the input not read or a line not written whole; 2 if the arguments aren't of that form; 3 if memory
+/// was refused elsewhere.
 pub fn tee<R: Host, L: Logs, I: Read, E: Write>(
     rt: R,
     logs: &L,
@@ -164,17 +164,17 @@ pub fn tee<R: Host, L: Logs, I: Read, E: Write>(
     ensures no_rotation { NamesNoRotation arguments.now → result ≡ 2 }
     ensures no_folder { HasNoFolder arguments.now → result ≡ 2 }
     ensures silent { result ≡ 0 → Keeps (E.contents errors.old) (E.contents errors.new) }
-    ensures told { 1 ≤ result → (fault : Fault) × Tells fault result (E.contents errors.old) (E.contents errors.new) }
+    ensures reported { 1 ≤ result → (fault : Fault) × ReportsFault fault result (E.contents errors.old) (E.contents errors.new) }
 {
     match copy_through(rt, logs, arguments, input) {
         Ok(()) => 0,
-        Err(fault) => tell(&fault, errors),
+        Err(fault) => report_fault(&fault, errors),
     }
 }
 
-/// Tells a fault on `errors`, and answers its status.
-pub fn tell<E: Write>(fault: &Fault, errors: &mut E) -> u8
-    ensures { Tells fault.now result (E.contents errors.old) (E.contents errors.new) }
+/// Reports a fault on `errors`, and returns its status.
+pub fn report_fault<E: Write>(fault: &Fault, errors: &mut E) -> u8
+    ensures { ReportsFault fault.now result (E.contents errors.old) (E.contents errors.new) }
 {
     let _ = match fault {
         Fault::Open(error) => writeln!(errors, "{error}"),
@@ -213,8 +213,8 @@ fn open<L: Logs>(logs: &L, rotation: &str, directory: &str, prefix: &str) -> Res
         .map_err(Fault::Open)
 }
 
-// Copies the lines to a log, by the thread of its worker. The worker is waited for also behind a fault, and
-// only then are the lines counted that the log did not take whole.
+// Copies the lines to a log, by the thread of its worker. Waits for the worker also after a fault, and only then reads
+// how many lines the log did not take whole.
 fn copy_to<R: Host, W: Write + Send + Drop + 'static, I: Read>(
     rt: R,
     log: W,
@@ -227,7 +227,7 @@ fn copy_to<R: Host, W: Write + Send + Drop + 'static, I: Read>(
     copied.and(closed).and(none_lost(&counts))
 }
 
-// Whether the log took each of its lines whole.
+// Returns an error if the log did not take each of its lines whole.
 fn none_lost(counts: &LineCounts) -> Result<(), Fault> {
     if counts.lost() > 0 {
         return Err(Fault::Write);

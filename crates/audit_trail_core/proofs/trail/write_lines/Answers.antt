@@ -6,18 +6,18 @@ use Rattle.audit_trail_core.specs.Trail.{PutsLine, PutsLines}
 use Rattle.audit_trail_core.proofs.trail.write_lines.Goals as goal
 
 pub loop-init : goal.loop-init
-loop-init g c = λ text told. (0, text, told, (refl, refl))
+loop-init g c = λ text reported. (0, text, reported, (refl, refl))
 
 pub returns-then-not-branch : goal.returns-then-not-branch
-returns-then-not-branch g c = λ text told.
-    let t = c.loop.invariant text told in
+returns-then-not-branch g c = λ text reported.
+    let t = c.loop.invariant text reported in
     let end = c.in_ok-read_line.ensures.end (ap Ok c.if-not-branch.true) in
     let none = subst IsAtEnd t.2 end in
     (t.0, subst (λ rest. PutsLines g.S.Folder g.C.Clock t.0 text c.args.log.now rest c.loop.log) none t.3)
 
 pub loop-preserved : goal.loop-preserved
-loop-preserved g c = λ text told.
-    let t = c.loop.invariant text told in
+loop-preserved g c = λ text reported.
+    let t = c.loop.invariant text reported in
     let read = c.in_ok-read_line.ensures in
     let put = ◌∙◌ {A = List ℕ} c.in_ok-end_line.ensures.ended (ap ended (read.line t.1 t.2)) in
     let line = ◌∙◌ {A = List ℕ} c.as_slice.ensures.value put in

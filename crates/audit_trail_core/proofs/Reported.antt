@@ -1,7 +1,7 @@
 -- What was told on the errors, and the statuses of that.
 use Rattle.std.proofs.Common.{◌≡◌, ◌⊎◌, ◌∙◌, ℕ, ◌≤◌, List, Option, None, Some, inl, inr, refl, sym, subst, arith}
 use Rattle.std.specs.Io.KnownBytes.{Keeps}
-use Rattle.audit_trail_core.specs.Fault.{status_of, TellsStatus}
+use Rattle.audit_trail_core.specs.Fault.{status_of, ReportsStatus}
 use Rattle.audit_trail_core.specs.declared.trail.Fault.{Fault}
 use Rattle.audit_trail_core.specs.declared.trail.Fault.TheVariants.{Usage, Argument, Open, Read, Write, Cut, Lost, Gone, Own, Account, Thread, Unsettled, Memory}
 
@@ -31,16 +31,16 @@ some_status Unsettled e = omega (arith, e)
 some_status Memory e = omega (arith, e)
 
 -- no fault
-pub told_nothing : (a : Option (List ℕ)) → TellsStatus 0 a a
-told_nothing a = record { status_is = inl refl; silent = λ none. keeps_same a }
+pub reported_nothing : (a : Option (List ℕ)) → ReportsStatus 0 a a
+reported_nothing a = record { status_is = inl refl; silent = λ none. keeps_same a }
 
 -- a fault
-pub told_fault : (fault : Fault) (status : ℕ) (a b : Option (List ℕ)) → status ≡ status_of fault → TellsStatus status a b
-told_fault fault status a b is = record { status_is = inr (fault, is); silent = λ none. absurd (some_status fault (sym is ∙ none)) }
+pub reported_fault : (fault : Fault) (status : ℕ) (a b : Option (List ℕ)) → status ≡ status_of fault → ReportsStatus status a b
+reported_fault fault status a b is = record { status_is = inr (fault, is); silent = λ none. absurd (some_status fault (sym is ∙ none)) }
 
 -- one after the other, and the greater status
-pub told_both : (s t r : ℕ) (a b d : Option (List ℕ)) → (r ≡ s) ⊎ (r ≡ t) → s ≤ r → t ≤ r → TellsStatus s a b → TellsStatus t b d → TellsStatus r a d
-told_both s t r a b d one first second before after = record {
+pub reported_both : (s t r : ℕ) (a b d : Option (List ℕ)) → (r ≡ s) ⊎ (r ≡ t) → s ≤ r → t ≤ r → ReportsStatus s a b → ReportsStatus t b d → ReportsStatus r a d
+reported_both s t r a b d one first second before after = record {
   status_is = elim one [
     | inl same ↦ subst (λ n. (n ≡ 0) ⊎ ((fault : Fault) × (n ≡ status_of fault))) (sym same) before.status_is
     | inr same ↦ subst (λ n. (n ≡ 0) ⊎ ((fault : Fault) × (n ≡ status_of fault))) (sym same) after.status_is
