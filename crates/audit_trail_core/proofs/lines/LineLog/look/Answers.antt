@@ -17,7 +17,7 @@ returns-in-Opened g c =
       switch = Opened;
       sees = record {
         moment = c.moment-moment.result;
-        reported = subst (λ (log : Appending _ _ _). g.C.Clock.now_gives log.clock c.moment-moment.result) found c.moment-moment.ensures;
+        reading = subst (λ (log : Appending _ _ _). g.C.Clock.now_gives log.clock c.moment-moment.result) found c.moment-moment.ensures;
         sees = subst (λ (log : Appending _ _ _). SwitchesFile g.S.Folder c.moment-moment.result 0 log.roller c.see.new.self.roller) same
             (subst (λ m. SwitchesFile g.S.Folder m 0 c.self-2.inside.log.roller c.see.new.self.roller) moment c.in-Opened.ensures.sees);
         clock = c.in-Opened.ensures.clock ∙ ap (λ (log : Appending _ _ _). log.clock) same;
@@ -36,7 +36,7 @@ returns-in-Failed g c =
       switch = Failed;
       sees = record {
         moment = c.moment-moment.result;
-        reported = subst (λ (log : Appending _ _ _). g.C.Clock.now_gives log.clock c.moment-moment.result) found c.moment-moment.ensures;
+        reading = subst (λ (log : Appending _ _ _). g.C.Clock.now_gives log.clock c.moment-moment.result) found c.moment-moment.ensures;
         sees = subst (λ (log : Appending _ _ _). KeepsFile g.S.Folder c.moment-moment.result 0 log.roller c.see.new.self.roller) same
             (subst (λ m. KeepsFile g.S.Folder m 0 c.self-2.inside.log.roller c.see.new.self.roller) moment c.in-Failed.ensures.sees);
         clock = c.in-Failed.ensures.clock ∙ ap (λ (log : Appending _ _ _). log.clock) same;
