@@ -1,6 +1,5 @@
-//! The parts of log writers that wait for nobody: when a file begins, what it is called, the folder
-//! that it stands in, which files go, the queue of lines, and the machine of the worker that empties
-//! it.
+//! The crates below the roller: boundaries and names, folders, retention, the queue, and the worker without a
+//! thread. No call blocks.
 #![tactic(auto)]
 
 pub use appender_names::{error, laws as name_laws, names, rotation};

@@ -11,7 +11,7 @@ use Rattle.jiff_core.proofs.MarchLemmas.{day_count-early}
 use Rattle.jiff_core.proofs.SignedLemmas.{signed_arith}
 use Rattle.appender_names.specs.Calendar.{CivilDate, is_leap, first_day, year_of, month_lengths, date_after, date_of}
 
--- the day lies in its year
+-- the day is in its year
 pub in_year : (n : ℕ) → (first_day (year_of n) ≤ n) × (n < first_day (year_of n + 1))
 unfolding year_of
 in_year n = let q = (n + 1) * 400 / 146097 in

@@ -187,7 +187,7 @@ hour_read text h (Some s) room dash hour w =
       same = ends_with text (45 ∷ two_digits h) n (omega arith) tail ∙ (rw (w.text_is, w.hour_is) refl);
     }
 
--- six digits behind a dot
+-- six digits after a dot
 pub number_read : (text : List ℕ) (a b c : ℕ) → 7 ≤ length text → a < 100 → b < 100 → c < 100
     → 46 ≡ get_or text (length text - 7) 0 → two_digits a ≡ get_or text (length text - 6) 0 ∷ get_or text (length text - 5) 0 ∷ []
     → two_digits b ≡ get_or text (length text - 4) 0 ∷ get_or text (length text - 3) 0 ∷ []

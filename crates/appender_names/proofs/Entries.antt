@@ -7,7 +7,7 @@ use Rattle.appender_names.specs.Calendar.{CivilDate, date_of}
 use Rattle.appender_names.specs.DateText.{day_text, day_at, hour_at, minute_at, text_at, date_text, second_of}
 use Rattle.appender_names.specs.Name.{Naming, IsPart, IsDots, IsEntry, NamesAreEntries, behind, before, dated_name, undated_name, name_by, named_moment, marked, number_text}
 
--- a byte that may stand in a name
+-- a byte that may be in a name
 abbrev pub IsNameByte : ℕ → Type 0
 IsNameByte b = (b ≢ 47) × (b ≢ 0)
 

@@ -6,7 +6,7 @@ use Rattle.appender_names.specs.Calendar.{year_of, date_after, date_of}
 use Rattle.appender_names.specs.DateText.{date_text}
 use Rattle.appender_names.specs.Name.{naming, name_of}
 
--- 0000-01-01, the leap days of the years 0 and 2000 and the day behind the one that 1900 lacks, 1970-01-01 and the last day
+-- 0000-01-01, the leap days of the years 0 and 2000 and the day after the one that 1900 lacks, 1970-01-01 and the last day
 pub known_dates : map date_of (0 ∷ 59 ∷ 694020 ∷ 719528 ∷ 730544 ∷ 3652424 ∷ [])
     ≡ record { year = 0; month = 1; day = 1 } ∷ record { year = 0; month = 2; day = 29 } ∷ record { year = 1900; month = 3; day = 1 }
     ∷ record { year = 1970; month = 1; day = 1 } ∷ record { year = 2000; month = 2; day = 29 } ∷ record { year = 9999; month = 12; day = 31 } ∷ []

@@ -1,4 +1,4 @@
--- What stands between prefix and suffix: later dates, and greater numbers of one date, have greater texts.
+-- What is between prefix and suffix: later dates, and greater numbers of one date, have greater texts.
 use Rattle.std.proofs.Common.{◌≡◌, ℕ, suc, ◌+◌, ◌-◌, ◌*◌, ◌/◌, ◌%◌, ◌<◌, ◌≤◌, ℤ, Bool, true, false, inl, inr, List, [], ◌∷◌, ◌++◌, length, take, length-append, append_assoc, arith, refl, ap, sym, ◌∙◌}
 use Rattle.std.specs.Cmp.Lexicographic.{slice_cmp}
 use Rattle.std.specs.Ordering.{nat_cmp}
@@ -136,7 +136,7 @@ pub take_front : (xs ys : List ℕ) → take (length xs) (xs ++ ys) ≡ xs
 take_front [] ys = refl
 take_front (x ∷ xs) ys = ap (λ t. x ∷ t) (take_front xs ys)
 
--- Where a name is cut for another number: behind the front, which ends with the dot before the number.
+-- Where a name is cut for another number: after the front, which ends with the dot before the number.
 pub record IsCut (bytes p s date : List ℕ) (keep : ℕ) : Type 0 where
   pub kept : take keep bytes ≡ front p date
   pub digit : slice_index bytes keep ≡ 48

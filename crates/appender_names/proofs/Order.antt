@@ -30,7 +30,7 @@ pub cmp_same : (a : List ℕ) → slice_cmp nat_cmp a a ≡ Equal
 cmp_same [] = refl
 cmp_same (x ∷ xs) = rw (same x) (cmp_same xs)
 
--- nor what stands behind two texts of one length that differ
+-- nor what is after two texts of one length that differ
 pub cmp_behind : (a b xs ys : List ℕ) → length a ≡ length b → slice_cmp nat_cmp a b ≡ Less → slice_cmp nat_cmp (a ++ xs) (b ++ ys) ≡ Less
 cmp_behind [] [] xs ys len h = cc
 cmp_behind [] (b ∷ bs) xs ys len h = absurd (omega arith)
@@ -46,7 +46,7 @@ IsLess a b = (xs ys : List ℕ) → slice_cmp nat_cmp (a ++ xs) (b ++ ys) ≡ Le
 first_less : (a b : ℕ) → a < b → IsLess (a ∷ []) (b ∷ [])
 first_less a b h xs ys = rw (less a b h) refl
 
--- less in front, or the same there and less in the two digits behind
+-- less in front, or the same there and less in the two digits after
 pub digits_less : (f g : List ℕ) (a b : ℕ) → IsLess f g ⊎ ((f ≡ g) × (a < b)) → IsLess (f ++ two_digits a) (g ++ two_digits b)
 digits_less f g a b (inl front) xs ys = rw (append_assoc f (two_digits a) xs, append_assoc g (two_digits b) ys) (front (two_digits a ++ xs) (two_digits b ++ ys))
 digits_less f g a b (inr (front, lt)) xs ys =

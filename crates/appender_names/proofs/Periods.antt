@@ -177,7 +177,7 @@ lies_in r s h =
     let start = s -ℤ int_rem_euclid (s -ℤ pos (anchor_of r.kind)) (pos (step_of r.kind)) in
     (start, period_by_kind r.kind s h, omega (arith, ints, rest.1, rest.2), omega (arith, ints, rest.1, rest.2))
 
--- and what lies between these two of a moment lies in the moment's period
+-- and what lies between these two of a moment is in the moment's period
 pub same_period : (r : Rotation) (m s p : ℤ) → r.kind ≢ Never → IsMoment m → period_of r m ≡ Some p → p ≤ℤ s → s <ℤ (p +ℤ pos (step_of r.kind)) → period_of r s ≡ Some p
 same_period r m s p h g e low high =
     let d = step_of r.kind in

@@ -32,7 +32,7 @@ whole_is kind text s d = record { years = d.years; whole = whole_second kind s d
 pub read_whole : (n : Naming) (name : List ℕ) (s : ℤ) (k : ℕ) → ReadsAt n name s k → IsWhole n.rotation.kind s
 read_whole n name s k r = record { years = r.dated_second; whole = whole_second n.rotation.kind s r.dated_second r.whole }
 
--- a name reads as what stands in it between prefix and suffix
+-- a name reads as what is in it between prefix and suffix
 pub reads_mark : (n : Naming) (name rest mark : List ℕ) (s : ℤ) (k : ℕ) → name ≡ behind n.prefix rest → rest ≡ before mark n.suffix → IsMark n.rotation.kind n.numbered mark s k → ReadsAt n name s k
 reads_mark n name rest mark s k front back d = record {
   dated_second = d.is_date.years;

@@ -1,4 +1,4 @@
--- What stands behind a prefix, and before a suffix.
+-- What is after a prefix, and before a suffix.
 use Rattle.std.proofs.Common.{◌≡◌, ◌≢◌, ℕ, ◌-◌, false, List, [], ◌∷◌, ◌++◌, length, take, drop, Option, None, Some, Bor, ap, sym, ◌∙◌, append_assoc, eqb}
 use Rattle.std.specs.Prelude.{◌==◌, MatchOption}
 use Rattle.std.specs.Cmp.Lexicographic.{pointwise}

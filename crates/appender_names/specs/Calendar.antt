@@ -15,7 +15,7 @@ is_leap y = (y % 4 == 0) && (not (y % 100 == 0) || (y % 400 == 0))
 abbrev pub first_day : ℕ → ℕ
 first_day y = 365 * y + (y + 3) / 4 - (y + 99) / 100 + (y + 399) / 400
 
--- the year that the day lies in: 400 years have 146097 days, so the quotient is that year or the next
+-- the year that the day is in: 400 years have 146097 days, so the quotient is that year or the next
 unfoldable pub year_of : ℕ → ℕ
 year_of day = if nat_lt day (first_day ((day + 1) * 400 / 146097)) then (day + 1) * 400 / 146097 - 1 else (day + 1) * 400 / 146097
 

@@ -1,4 +1,4 @@
--- The number that stands for each cause of a refused opening.
+-- The number that represents each cause of a refused opening.
 use Rattle.std.specs.Prelude.{ℕ}
 use Rattle.appender_names.specs.declared.error.InitError.{InitError}
 use Rattle.appender_names.specs.declared.error.InitError.TheVariants.{Directory, File, Symlink, Moment, Name, Memory, Limit}

@@ -27,7 +27,7 @@ naming r p s = record { rotation = r; prefix = p; suffix = s; numbered = false }
 abbrev pub numbered_naming : Rotation → List ℕ → List ℕ → Naming
 numbered_naming r p s = record { rotation = r; prefix = p; suffix = s; numbered = true }
 
--- a text behind the prefix, if one is set, and a dot
+-- a text after the prefix, if one is set, and a dot
 abbrev pub behind : List ℕ → List ℕ → List ℕ
 behind [] text = text
 behind (p ∷ ps) text = (p ∷ ps) ++ (46 ∷ text)
@@ -56,7 +56,7 @@ abbrev pub name_by : RotationKind → List ℕ → List ℕ → List ℕ → Lis
 name_by Never prefix suffix date = undated_name prefix suffix date
 name_by k prefix suffix date = dated_name prefix suffix date
 
--- the moment whose date stands in the name of a moment: the start of its period, and under NEVER the moment itself
+-- the moment whose date is in the name of a moment: the start of its period, and under NEVER the moment itself
 abbrev pub named_moment : Rotation → ℤ → ℤ
 named_moment r m = unwrap_or (period_of r m) m
 
@@ -64,7 +64,7 @@ named_moment r m = unwrap_or (period_of r m) m
 abbrev pub number_text : ℕ → List ℕ
 number_text k = two_digits (k / 10000) ++ two_digits (k / 100 % 100) ++ two_digits (k % 100)
 
--- a date, and behind it, where names are numbered, a dot and the number
+-- a date, and after it, where names are numbered, a dot and the number
 abbrev pub marked : Bool → List ℕ → ℕ → List ℕ
 marked false date k = date
 marked true date k = date ++ 46 ∷ number_text k
@@ -77,7 +77,7 @@ last_by true = 999999
 abbrev pub last_number : Naming → ℕ
 last_number n = last_by n.numbered
 
--- what stands between prefix and suffix: the date text of s, and the number k where names are numbered
+-- what is between prefix and suffix: the date text of s, and the number k where names are numbered
 abbrev pub mark_of : Naming → ℤ → ℕ → List ℕ
 mark_of n s k = marked n.numbered (date_text n.rotation.kind s) k
 
@@ -103,7 +103,7 @@ pub record IsAllowed (r : Rotation) (prefix suffix : List ℕ) : Type 0 where
   pub suffix_is_part : IsPart suffix
   pub no_dots : IsNever r → ¬ (IsDots (undated_name prefix suffix []))
 
--- and that numbered names have, which need a date to stand in them
+-- and that numbered names have, which need a date in them
 pub record IsNumbering (r : Rotation) (prefix suffix : List ℕ) (numbered : Bool) : Type 0 where
   pub allowed : IsAllowed r prefix suffix
   pub rotates : numbered ≡ true → ¬ (IsNever r)
@@ -122,14 +122,14 @@ abbrev pub is_entry : List ℕ → Bool
 is_entry name = not (bytes_eq name []) && not (bytes_eq name (codes ".")) && not (bytes_eq name (codes "..")) && list_all is_name_byte name
 
 -- The name reads as s with the number k: s begins a unit of the rotation (a minute, an hour or a day) in the years 0000 to 9999, and
--- its date stands in the name, with this number where names are numbered; else the number is 0.
+-- its date is in the name, with this number where names are numbered; else the number is 0.
 pub record ReadsAt (n : Naming) (name : List ℕ) (s : ℤ) (k : ℕ) : Type 0 where
   pub dated_second : IsDated s
   pub whole : int_rem_euclid s (pos (unit_of n.rotation.kind)) ≡ pos 0
   pub number_is : k ≤ last_number n
   pub text : name ≡ dated_name n.prefix n.suffix (mark_of n s k)
 
--- the same of what stands between prefix and suffix
+-- the same of what is between prefix and suffix
 pub record IsMark (kind : RotationKind) (numbered : Bool) (mark : List ℕ) (s : ℤ) (k : ℕ) : Type 0 where
   pub date : List ℕ
   pub is_date : IsDateText kind date s
@@ -184,7 +184,7 @@ abbrev pub NamesRise : Naming → Type 0
 NamesRise n = (a b p q : ℤ) (j k : ℕ) → IsMoment a → IsMoment b → period_of n.rotation a ≡ Some p → period_of n.rotation b ≡ Some q
     → j ≤ last_number n → k ≤ last_number n → IsLaterName p j q k → slice_cmp nat_cmp (name_at n a j) (name_at n b k) ≡ Less
 
--- moments whose periods have a start, which those of NEVER lack, share a name exactly where they share the period and the number
+-- moments whose periods have a start, which those of NEVER lack, share a name exactly if they share the period and the number
 abbrev pub NamesArePeriods : Naming → Type 0
 NamesArePeriods n = (a b p q : ℤ) (j k : ℕ) → IsMoment a → IsMoment b → period_of n.rotation a ≡ Some p → period_of n.rotation b ≡ Some q
     → j ≤ last_number n → k ≤ last_number n → (name_at n a j ≡ name_at n b k) ↔ ((p ≡ q) × (j ≡ k))

@@ -63,7 +63,7 @@ pub record IsNextBoundary (r : Rotation) (m b : ℤ) : Type 0 where
   pub after : m <ℤ b
   pub least : (c : ℤ) → IsBoundary r c → m <ℤ c → b ≤ℤ c
 
--- the start of the period of m as a number, m less what it lies after the boundary; under NEVER the whole range is one period, which has no start
+-- the start of the period of m as a number, m less its distance after the boundary; under NEVER the whole range is one period, which has no start
 abbrev pub period_of_kind : RotationKind → ℤ → Option ℤ
 period_of_kind Never m = None
 period_of_kind k m = Some (m -ℤ int_rem_euclid (m -ℤ pos (anchor_of k)) (pos (step_of k)))
@@ -78,7 +78,7 @@ is_same_start None (Some b) = false
 is_same_start (Some a) None = false
 is_same_start (Some a) (Some b) = not (int_lt a b) && not (int_lt b a)
 
--- both lie in one period
+-- both are in one period
 abbrev pub is_in_period : Rotation → ℤ → ℤ → Bool
 is_in_period r m s = is_same_start (period_of r s) (period_of r m)
 

@@ -153,7 +153,7 @@ pub record ClockSoFar {S F : Type 0} (c : Config) (first : Stamp) (h : List Even
   pub period_is : period_of c.rotation now.last.moment ≡ period_at c.rotation first.moment h
   pub room_is : now.room ≡ c.max_bytes - count_since (times c first h) h
 
--- the room tells what the count does
+-- the room agrees with the count
 full_is : (max count w n room : ℕ) → 0 < w → room ≡ max - count
     → (nat_lt n 999999 && nat_lt room max && nat_lt room w) ≡ (not (max == 0) && nat_lt n 999999 && nat_lt 0 count && nat_lt max (count + w))
 full_is max count w n room some is = grind (arith, nat_tests)

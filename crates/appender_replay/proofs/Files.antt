@@ -59,7 +59,7 @@ abbrev newest : List Attempt → ℕ
 newest [] = 0
 newest (a ∷ rest) = a.step
 
--- What is known after the switches of some events were told and the pieces of some were written: the two are the same but
+-- What is known after the switches of some events were replied and the pieces of some were written: the two are the same but
 -- within a step, between its attempt and its piece.
 pub record FilesSoFar (c : Config) (start : Stamp) (seen : ℕ → Seen) (past h : List Event) (first now : Content) (noted_first noted_now : Counts) (opened : Stamp) (b : ℕ) : Type 0 where
   pub attempts : List Attempt

@@ -83,8 +83,8 @@ abbrev pub OtherNames : Config → Type 0
 OtherNames c = (s t : Stamp) → IsStamp c s → IsStamp c t → IsLaterKey (key_of c s) (key_of c t) → file_name_of c t ≢ file_name_of c s
 
 module _ (c : Config) (start : Stamp) where
-  -- Of an attempt, after the switches of some events were told and the pieces of some were written: when it was made, and that
-  -- what it opened is there, has no other name than the attempt's, is what stands under that name if a file does, is the open
+  -- Of an attempt, after the switches of some events were replied and the pieces of some were written: when it was made, and that
+  -- what it opened is there, has no other name than the attempt's, is what has that name if a file does, is the open
   -- body exactly if the attempt is the carrier, and holds its own; and, unless a switch failed, that it is the carrier exactly
   -- in its period.
   pub record IsOwner (past h : List Event) (attempts : List Attempt) (now : Content) (file : Attempt) (b : ℕ) (a : Attempt) : Type 0 where
@@ -125,7 +125,7 @@ module _ (c : Config) (start : Stamp) where
     pub each_in_its_number : NoneFailed past → EachOf (CarriesItsNumber c start attempts h) attempts
     each_in_its_number fine = each_map Owner (CarriesItsNumber c start attempts h) attempts (λ a o. o.in_its_number fine) so.owners
 
-    -- what stands under its name is what the attempt opened, and holds what the attempt carries
+    -- what has its name is what the attempt opened, and holds what the attempt carries
     pub each_holds_its_number : NoneFailed past → EachOf (HoldsItsNumber c start h now) attempts
     each_holds_its_number fine = each_map Owner (HoldsItsNumber c start h now) attempts
         (λ a o x is y t at.

@@ -38,7 +38,7 @@ IsLater (Some p) (Some q) = p <ℤ q
 before_or_not : (a b : ℤ) → (a <ℤ b) ⊎ (b ≤ℤ a)
 before_or_not a b = elim (int_lt a b) as (λ (t : Bool). int_lt a b ≡ t → (a <ℤ b) ⊎ (b ≤ℤ a)) [ true ↦ λ e. inl (grind (arith, ints)) | false ↦ λ e. inr (grind (arith, ints)) ] refl
 
--- a moment before the end of an earlier one's period lies in that period
+-- a moment before the end of an earlier one's period is in that period
 one_start : (r : Rotation) (l m p q n : ℤ) → IsGreatestBoundary r l p → IsGreatestBoundary r m q → IsNextBoundary r l n → l ≤ℤ m → m <ℤ n → q ≡ p
 one_start r l m p q n first second next le lt =
     let least : p ≤ℤ q = second.greatest p first.boundary (let a = first.not_after in omega (arith, ints)) in
@@ -48,7 +48,7 @@ one_start r l m p q n first second next le lt =
     ] in
     omega (arith, ints)
 
--- one at or past it lies in a later one
+-- one at or past it is in a later one
 later_start : (r : Rotation) (l m p q n : ℤ) → IsGreatestBoundary r l p → IsGreatestBoundary r m q → IsNextBoundary r l n → n ≤ℤ m → p <ℤ q
 later_start r l m p q n first second next le =
     let c : n ≤ℤ q = second.greatest n next.boundary le in

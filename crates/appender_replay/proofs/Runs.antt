@@ -35,7 +35,7 @@ use Rattle.appender_replay.proofs.Unlimited.{switch_at_arrivals}
 same_moment : (a b : ℤ) → ◌≡◌ {A = Option ℤ} (Some a) (Some b) → a ≡ b
 same_moment a b e = cc
 
--- What a run rests on: the laws of periods, of names and of openings, and that the content of a folder that tells is sound.
+-- What a run rests on: the laws of periods, of names and of openings, and that a content that is known is sound.
 pub record Grounds {S F : Type 0} (kind : Ghosts S F) (config : Config) : Type 0 where
   pub laws : Laws config.rotation
   pub others : OtherNames config

@@ -41,7 +41,7 @@ abbrev InTurn : Core → Option Event → Type 0
 InTurn core None = Unit {0}
 InTurn core (Some e) = in_turn core e ≡ true
 
--- ---- what a step tells the worker comes in its turn
+-- ---- what a step passes to the worker is what it wants
 
 take_in_turn : (closed line sent gone waits : Bool) (lines : List Offered) (m : ℤ) (k : ℕ)
     → InTurn (Taking waits) (worker_event lines (Work m, if closed then TookGone else if line then Took k else if sent then TookShutdown else if gone then TookGone else TookEmpty))

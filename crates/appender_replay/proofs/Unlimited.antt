@@ -67,7 +67,7 @@ module _ (c : Config) (start : Stamp) (unlimited : is_limited c ≡ false) where
       hold_their_periods h last rest stamps.1 all.1,
     )
 
-  -- and switches are told at arrivals alone
+  -- and switches are replied at arrivals alone
   pub switch_at_arrivals : (h : List Event) → SwitchesAtAttempts c start h → SwitchesAtArrivals c.rotation start.moment h
   switch_at_arrivals [] past = tt
   switch_at_arrivals (e ∷ h) past = (past.0 ∙ by (arrives c.rotation start.moment e h) (is_full c start (times c start h) e h) (never_full (times c start h) e h), switch_at_arrivals h past.1)

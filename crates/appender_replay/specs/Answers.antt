@@ -27,7 +27,7 @@ abbrev pub IsFlushed : Reply → (Result (Unit {0}) ErrorKind → Type 0) → Ty
 IsFlushed (Flushed answer) P = P answer
 IsFlushed reply P = ⊥
 
--- The reply to an offer for whose copy there was memory: the next ticket exactly where the queue is open and has room.
+-- The reply to an offer for whose copy there was memory: the next ticket exactly if the queue is open and has room.
 abbrev pub offer_answer : Queue → Reply
 offer_answer q = if is_open q then (if has_room q then Accepted (q.accepted + 1) else Full) else Closed
 

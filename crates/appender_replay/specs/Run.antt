@@ -90,7 +90,7 @@ counts_before first seen zero = first
 counts_before first seen (suc n) = (seen n).noted
 
 -- The attempt is what was seen of the run at its step: the content and the counts before it are those that the step before left, the
--- counts after it those that its own step left, and so is the content after it, with the step's piece behind what the open body
+-- counts after it those that its own step left, and so is the content after it, with the step's piece after what the open body
 -- held.
 pub record IsSeenAtItsStep (first : Content) (noted_first : Counts) (seen : ℕ → Seen) (a : Attempt) : Type 0 where
   pub before : a.before ≡ content_before first seen a.step
@@ -127,7 +127,7 @@ is_full c first before e earlier =
     && nat_lt c.max_bytes (count_since before earlier + wanted e.offered)
 
 -- The stamp for which a step makes an attempt, if it makes one: an arrival for the latest moment with the number 0; else a full step
--- for the last attempt's moment, in whose period the latest moment lies, with the number behind its own.
+-- for the last attempt's moment, in whose period the latest moment lies, with the number after its own.
 abbrev pub stamp_at : Config → Stamp → List Time → Event → List Event → Option Stamp
 stamp_at c first before e earlier =
     if arrives c.rotation first.moment e earlier then Some (stamp (latest_moment first.moment (e ∷ earlier)) 0)
@@ -175,13 +175,13 @@ is_same_key a b = is_same_start a.0 b.0 && (a.1 == b.1)
 abbrev pub key_at : Config → Stamp → List Event → Key
 key_at c first h = (period_at c.rotation first.moment h, (last_stamp first (times c first h)).number)
 
--- neither the name of the attempt for this stamp nor that of the link, where one is set
+-- neither the name of the attempt for this stamp nor that of the link, if one is set
 pub record IsOther (c : Config) (s : Stamp) (name : List ℕ) : Type 0 where
   pub not_own : name ≢ file_name_of c s
   pub not_link : name ≡ c.link → c.link ≡ []
 
--- The names after an attempt that opened a body: its own, and the link, where one is set. Every other name is as it was, or is
--- gone and doesn't survive. Where neither List nor Remove was noted, or there was no folder, exactly the survivors are left.
+-- The names after an attempt that opened a body: its own, and the link, if one is set. Every other name is as it was, or is
+-- removed and doesn't survive. If neither List nor Remove was noted, or there was no folder, exactly the survivors are left.
 pub record NamesAfter (c : Config) (a : Attempt) (b : ℕ) : Type 0 where
   pub own : (t : Option ℤ) × (fin.get a.after.names (file_name_of c a.stamp) ≡ Some (File b t))
   pub link : c.link ≢ [] → fin.get a.after.names c.link ≡ Some (Link (file_name_of c a.stamp))
@@ -192,7 +192,7 @@ pub record NamesAfter (c : Config) (a : Attempt) (b : ℕ) : Type 0 where
       → (name : List ℕ) → IsOther c a.stamp name
       → fin.get a.after.names name ≡ (if name_survives (naming_of c) c.max_files a.before.names name then fin.get a.before.names name else None)
 
--- What an attempt that opened a body did. It removed only log files that don't survive, and, where it noted neither List nor
+-- What an attempt that opened a body did. It removed only log files that don't survive, and, if it noted neither List nor
 -- Remove, all of them. In the folder, which is there now, it opened the file of its moment's name, and let the link lead to it.
 pub record Succeeded (c : Config) (a : Attempt) (b : ℕ) : Type 0 where
   pub pruned : Content
@@ -237,7 +237,7 @@ is_number n (Some m) = m == n
 abbrev pub bytes_to_body : ℕ → List Attempt → List Event → List ℕ
 bytes_to_body b = bytes_where (λ a. is_number b a.body)
 
--- the pieces of the steps at which the latest moment lay in this period
+-- the pieces of the steps at which the latest moment was in this period
 abbrev pub bytes_in_period : Rotation → ℤ → Option ℤ → List Event → List ℕ
 bytes_in_period r start period [] = []
 bytes_in_period r start period (e ∷ earlier) =
@@ -261,7 +261,7 @@ abbrev pub open_body : List Attempt → Option ℕ
 open_body [] = None
 open_body (a ∷ rest) = if is_some a.body then a.body else open_body rest
 
--- the pieces stand at the end of the body that was open, and nothing else changed
+-- the pieces are at the end of the body that was open, and nothing else changed
 abbrev pub Carried : Option ℕ → List ℕ → Content → Content → Type 0
 Carried None bytes old new = new ≡ old
 Carried (Some b) bytes old new = new ≡ after_append old b bytes
@@ -315,7 +315,7 @@ abbrev pub OpensNoneOf : Attempt → List Attempt → Type 0
 OpensNoneOf a [] = Unit {0}
 OpensNoneOf a (e ∷ rest) = ((b : ℕ) → a.body ≡ Some b → e.body ≡ Some b → ⊥) × OpensNoneOf a rest
 
--- The new names are the survivors of the old ones, the name of this stamp, which leads to a file, and the link, where one is set.
+-- The new names are the survivors of the old ones, the name of this stamp, which leads to a file, and the link, if one is set.
 pub record LeavesJustSurvivors (c : Config) (s : Stamp) (old new : NameMap) : Type 0 where
   pub own : (b : ℕ) × (t : Option ℤ) × (fin.get new (file_name_of c s) ≡ Some (File b t))
   pub link : c.link ≢ [] → fin.get new c.link ≡ Some (Link (file_name_of c s))
@@ -345,7 +345,7 @@ abbrev pub HoldsItsOwn : List Attempt → List Event → Content → Attempt →
 HoldsItsOwn attempts h last a =
     (b : ℕ) → a.body ≡ Some b → body_at last b ≡ body_at a.before b ++ bytes_of_attempt a.step attempts h
 
--- what the attempt carries are the pieces of the steps at which the latest moment lay in its period
+-- what the attempt carries are the pieces of the steps at which the latest moment was in its period
 abbrev pub CarriesItsPeriod : Rotation → ℤ → List Attempt → List Event → Attempt → Type 0
 CarriesItsPeriod r start attempts h a =
     (b : ℕ) → a.body ≡ Some b → bytes_of_attempt a.step attempts h ≡ bytes_in_period r start (period_of r a.stamp.moment) h
@@ -371,7 +371,7 @@ EachOf P [] = Unit {0}
 EachOf P (a ∷ rest) = P a × EachOf P rest
 
 -- where a plain file stands at the end under the name of what the attempt opened, it holds what it held at that opening,
--- followed by exactly the pieces of the steps at which the latest moment lay in the attempt's period
+-- followed by exactly the pieces of the steps at which the latest moment was in the attempt's period
 abbrev pub HoldsItsPeriod : Config → ℤ → List Event → Content → Attempt → Type 0
 HoldsItsPeriod c start h last a =
     (b : ℕ) → a.body ≡ Some b → (x : ℕ) (t : Option ℤ) → fin.get last.names (file_name_of c a.stamp) ≡ Some (File x t)
@@ -383,7 +383,7 @@ HoldsItsNumber c first h last a =
     (b : ℕ) → a.body ≡ Some b → (x : ℕ) (t : Option ℤ) → fin.get last.names (file_name_of c a.stamp) ≡ Some (File x t)
     → body_at last x ≡ body_at a.before x ++ bytes_under c first (key_of c a.stamp) h
 
--- While no switch fails, every file that the run opened and that still stands under its name holds what it held at that opening,
+-- While no switch fails, every file that the run opened and that still has its name holds what it held at that opening,
 -- and then exactly what was written while the latest moment was one of its period; with a limit of bytes, while its number also was
 -- the last begun there. The attempts are those of the run, and no name but an attempt's own leads to what it opened.
 pub record FilesHoldTheirPeriods (c : Config) (start : Stamp) (h : List Event) (first last : Content) (noted_first : Counts) (seen : ℕ → Seen) : Type 0 where
@@ -420,7 +420,7 @@ PiecesFit (e ∷ earlier) = (length e.piece ≤ e.offered) × PiecesFit earlier
 
 -- The law of the files of a run: every body, whether or not a name leads to it, holds what it held at first, followed by
 -- exactly what was written to it. What each attempt opened holds what it held then, followed by what the attempt carries,
--- which is, unless a switch failed, exactly what was written while the latest moment lay in its period; with a limit of bytes, while
+-- which is, unless a switch failed, exactly what was written while the latest moment was in its period; with a limit of bytes, while
 -- its number also was the last begun there. Contents and counts of the attempts are those that were seen at their steps.
 pub record FileLaw (c : Config) (start : Stamp) (h : List Event) (first last : Content) (noted_first noted_last : Counts) (seen : ℕ → Seen) (opened : Stamp) (b : ℕ) : Type 0 where
   pub attempts : List Attempt

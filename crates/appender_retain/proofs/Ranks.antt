@@ -170,7 +170,7 @@ module _ (n : Naming) (rows : List Row) (ordered : List Rank) where
             let there : Contains (take (length ordered - (max - 1)) ordered) a = go_lowest rank_cmp_total ordered max o.rising positive a (Contains-permutation (ranks n rows) ordered a o.moved at.0) more in
             rw at.1 at (Contains_map (λ (r : Rank). r.2) (take (length ordered - (max - 1)) ordered) a there)
 
-    -- the places that go stand in rank order
+    -- the places that go are in rank order
     gone_rises : AllPairs (IsRankedBelow n rows) (places_to_go max ordered)
     gone_rises i j d less short =
         let many = how_many_go max (length ordered) in

@@ -23,11 +23,11 @@ pub record RemovesAmong (gone : List (List ℕ)) (old new : Content) : Type 0 wh
   pub bodies : new.bodies ≡ old.bodies
   pub names : (name : List ℕ) → (fin.get new.names name ≡ fin.get old.names name) ⊎ ((fin.get new.names name ≡ None) × Contains gone name)
 
--- each of these names is gone
+-- each of these names is removed
 abbrev pub AllRemoved : List (List ℕ) → Content → Type 0
 AllRemoved gone c = (name : List ℕ) → Contains gone name → fin.get c.names name ≡ None
 
--- nothing is gone where nothing changed
+-- nothing is removed where nothing changed
 among_none : (gone : List (List ℕ)) (old new : Content) → new ≡ old → RemovesAmong gone old new
 among_none gone old new same = record {
   there = ap (λ (c : Content). c.there) same;
@@ -36,11 +36,11 @@ among_none gone old new same = record {
 }
 
 module _ (maps : NameLaws) (name : List ℕ) (old new : Content) (removes : Removes name old new) where
-  -- a name is the one that was taken away, or stands as before
+  -- a name is the one that was removed, or stands as before
   own_or_same : (other : List ℕ) → ((other ≡ name) × (fin.get new.names other ≡ None)) ⊎ ((other ≢ name) × (fin.get new.names other ≡ fin.get old.names other))
   own_or_same other = rw removes.after (maps.removals old.names name other)
 
-  -- one name is gone
+  -- one name is removed
   among_one : RemovesAmong (name ∷ []) old new
   among_one = record {
     there = ap (λ (c : Content). c.there) removes.after;

@@ -53,7 +53,7 @@ module _ (n : Naming) where
           by Greater = refl
 
   module _ (old new : Content) where
-    -- where exactly the survivors are left, fewer candidates than the maximum stand
+    -- where exactly the survivors are left, fewer candidates than the maximum are left
     pub fewer_stand : (max : ℕ) → 0 < max → LeavesSurvivors n max old new → candidates_in n new < max
     fewer_stand max positive left =
         few rank_cmp_total exact_rank (name_ranks n new.names) (name_ranks n old.names) max positive (ranks_apart new.names) fit

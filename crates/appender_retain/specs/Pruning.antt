@@ -1,4 +1,4 @@
--- What retention does to a folder. `kind` has what folders of one kind tell.
+-- What retention does to a folder. `kind` has the ghost members of a kind of folder.
 use Rattle.std.specs.Prelude.{◌≡◌, ◌≢◌, ◌⊎◌, ℕ, ◌<◌, true, false, List, [], ◌∷◌, map, filter_map, Option, Result, Vec, MatchResult, IfOk, OnOk, OnErr, IsTrue, slice_get, option_and_then}
 use Rattle.std.specs.IoError.{error_kind}
 use Rattle.std.specs.declared.alloc.Global.{Global}
@@ -17,7 +17,7 @@ use Rattle.appender_retain.specs.Survival.{TakesOnlyOld, LeavesSurvivors, candid
 abbrev pub name_at : List Row → ℕ → Option (List ℕ)
 name_at rows place = option_and_then (λ row. row.0) (slice_get rows place)
 
--- The folder removed the file of this name, or took a note of the fault: it failed by itself, or had no memory for it.
+-- The folder removed the file of this name, or noted the fault: it failed by itself, or had no memory for it.
 pub record RemovesFile {S F : Type 0} (kind : Ghosts S F) (name : List ℕ) (old new : S) : Type 0 where
   pub answer : Result (Unit {0}) Error
   pub after : S
@@ -28,18 +28,18 @@ pub record RemovesFile {S F : Type 0} (kind : Ghosts S F) (name : List ℕ) (old
   pub noted : kind.noted after ≡ kind.noted old
   pub notes : MatchResult answer (λ _. new ≡ after) (λ fault. Notes kind after (NotedRemove name fault) new)
 
--- so it does with each of these, one after another
+-- the same for each of these, one after another
 abbrev pub RemovesEach : {S F : Type 0} → Ghosts S F → List (List ℕ) → S → S → Type 0
 RemovesEach kind [] old new = new ≡ old
 RemovesEach kind (name ∷ names) old new = (between : _) × RemovesFile kind name old between × RemovesEach kind names between new
 
--- it removes what doesn't survive of these rows; without memory for the plan it takes a note instead
+-- it removes what doesn't survive of these rows; without memory for the plan it notes that instead
 abbrev pub RemovesPlanned : {S F : Type 0} → Ghosts S F → Naming → ℕ → List Row → S → S → Type 0
 RemovesPlanned kind n max rows old new =
     ((gone : List ℕ) × IsPlan n max rows gone × RemovesEach kind (filter_map (name_at rows) gone) old new)
     ⊎ ((fault : Error) × (error_kind fault ≡ OutOfMemory) × Notes kind old (NotedList fault) new)
 
--- The folder was listed, and what doesn't survive removed; of a listing that was refused it took a note, and nothing went.
+-- The folder was listed, and what doesn't survive removed; of a listing that was refused it noted that, and nothing was removed.
 pub record PrunesListed {S F : Type 0} (kind : Ghosts S F) (n : Naming) (max : ℕ) (old new : S) : Type 0 where
   pub answer : Result (Vec Listed Global) Error
   pub listed : S
@@ -62,8 +62,8 @@ pub record NotesNothingElse (old new : Counts) : Type 0 where
   pub flushes : new.flushes ≡ old.flushes
   pub opens : new.opens ≡ old.opens
 
--- What retention with a maximum does to a folder, which is nothing where the maximum is 0: its calls, that it takes away
--- only names that don't survive, and, where it noted no fault, all of them, so that fewer candidates than the maximum stand.
+-- What retention with a maximum does to a folder, which is nothing where the maximum is 0: its calls, that it removes
+-- only names that don't survive, and, where it noted no fault, all of them, so that fewer candidates than the maximum are left.
 -- Of an absent folder List is noted.
 pub record Prunes {S F : Type 0} (kind : Ghosts S F) (n : Naming) (max : ℕ) (old new : S) : Type 0 where
   pub none : max ≡ 0 → new ≡ old

@@ -50,11 +50,11 @@ rank_at n rows place = option_and_then (λ row. rank_of n (place, row)) (slice_g
 abbrev pub ranks : Naming → List Row → List Rank
 ranks n rows = filter_map (rank_of n) (enumerate_from 0 rows)
 
--- how many candidates stand above this rank
+-- how many candidates rank above this one
 abbrev pub count_above : Naming → List Row → Rank → ℕ
 count_above n rows a = count_by (λ b. is_lt (rank_cmp a b)) (ranks n rows)
 
--- Where there is a maximum, a candidate survives exactly if no more than max - 2 others stand above it. What is no candidate
+-- With a maximum, a candidate survives exactly if no more than max - 2 others rank above it. What is no candidate
 -- survives, and without a maximum, which is 0, all do.
 abbrev pub survives : Naming → ℕ → List Row → ℕ → Bool
 survives n max rows place = (max == 0) || option_map_or (λ a. nat_le (count_above n rows a + 2) max) (rank_at n rows place) true
@@ -67,7 +67,7 @@ pub record IsRankedBelow (n : Naming) (rows : List Row) (low high : ℕ) : Type 
   pub at_high : rank_at n rows high ≡ Some higher
   pub below : rank_cmp lower higher ≡ Less
 
--- The places of a listing that go: exactly those that don't survive, each once, the lowest rank first.
+-- The places of a listing to remove: exactly those that don't survive, each once, the lowest rank first.
 pub record IsPlan (n : Naming) (max : ℕ) (rows : List Row) (gone : List ℕ) : Type 0 where
   pub exact : (place : ℕ) → Contains gone place ↔ (survives n max rows place ≡ false)
   pub once : AllPairs (λ first later. first ≢ later) gone

@@ -20,13 +20,13 @@ name_ranks n names = filter_map (λ e. rank_of n (0, entry_row e)) (fin.entries 
 abbrev pub candidates_in : Naming → Content → ℕ
 candidates_in n c = length (name_ranks n c.names)
 
--- Where there is a maximum, a candidate survives exactly if no more than max - 2 others stand above it. What is no candidate
+-- With a maximum, a candidate survives exactly if no more than max - 2 others rank above it. What is no candidate
 -- survives, and without a maximum, which is 0, all do.
 abbrev pub name_survives : Naming → ℕ → NameMap → List ℕ → Bool
 name_survives n max names name =
     (max == 0) || option_map_or (λ a. nat_le (count_by (λ b. is_lt (rank_cmp a b)) (name_ranks n names) + 2) max) (name_rank n names name) true
 
--- only names that don't survive were taken away, and nothing else changed
+-- only names that don't survive were removed, and nothing else changed
 pub record TakesOnlyOld (n : Naming) (max : ℕ) (old new : Content) : Type 0 where
   pub there : new.there ≡ old.there
   pub bodies : new.bodies ≡ old.bodies
@@ -41,7 +41,7 @@ LeavesSurvivors n max old new =
 abbrev pub OpeningsAddOne : Naming → Type 0
 OpeningsAddOne n = (name : List ℕ) (old new : Content) (b : ℕ) → Opens name old new b → candidates_in n new ≤ candidates_in n old + 1
 
--- neither a link that is made nor one that is taken away is a candidate more
+-- neither a link that is made nor one that is removed is a candidate more
 pub record LinksAddNone (n : Naming) : Type 0 where
   pub made : (link target : List ℕ) (old new : Content) → MakesLink link target old new → candidates_in n new ≤ candidates_in n old
   pub removed : (link : List ℕ) (old new : Content) → RemovesLink link old new → candidates_in n new ≤ candidates_in n old

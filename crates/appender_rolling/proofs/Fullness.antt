@@ -25,7 +25,7 @@ module _ (s : Scheduled) (room : ℕ) (m : ℤ) (len : ℕ) where
       by false false e = refl
       by false true e = absurd (let both : true ≡ false = e in cc)
 
-  -- if none begins, no boundary has come and the file is not full
+  -- if none begins, no boundary was reached and the file is not full
   pub none_begins : is_some (next_with s room m len) ≡ false → (is_due s.boundary m ≡ false) × (is_full_with s room len ≡ false)
   none_begins e = by (is_due s.boundary m) (is_full_with s room len) e
     where

@@ -1,4 +1,4 @@
--- An appender: a roller that a clock is read for. `kind` has what folders of one kind tell, and `time` what clocks do.
+-- An appender: a roller that a clock is read for. `kind` has the ghost members of a kind of folder, and `time` those of a kind of clock.
 use Rattle.std.specs.Prelude.{◌≡◌, ◌⊎◌, ℕ, ℤ, Bool, true, false, List, Result, is_some}
 use Rattle.std.specs.declared.io.Error.{Error}
 use Rattle.appender_names.specs.declared.error.InitError.{InitError}
@@ -20,18 +20,18 @@ pub record Appending (S F C : Type 0) : Type 0 where
   pub roller : Rolling S F
   pub clock : C
 
--- the clock was read, and the bytes were put at the moment that it told
+-- the clock was read, and the bytes were put at the moment that it returned
 pub record PutsNow {S F C : Type 0} (kind : Ghosts S F) (time : Readings C) (bytes : List ℕ) (switch : Switch) (answer : Result ℕ Error) (old new : Appending S F C) : Type 0 where
   pub moment : ℤ
   pub reading : time.now_gives old.clock moment
   pub puts : Puts kind moment bytes switch answer old.roller new.roller
   pub clock : new.clock ≡ old.clock
 
--- so they were by a write, which doesn't tell the switch
+-- the same by a write, which doesn't return the switch
 abbrev pub WritesNow : {S F C : Type 0} → Ghosts S F → Readings C → List ℕ → Result ℕ Error → Appending S F C → Appending S F C → Type 0
 WritesNow kind time bytes answer old new = (switch : Switch) × PutsNow kind time bytes switch answer old new
 
--- the clock was read, and it was looked whether a file begins at the moment that it told
+-- the clock was read, and it was checked whether a file is due at the moment that it returned
 pub record SeesNow {S F C : Type 0} (kind : Ghosts S F) (time : Readings C) (switch : Switch) (old new : Appending S F C) : Type 0 where
   pub moment : ℤ
   pub reading : time.now_gives old.clock moment
@@ -48,14 +48,14 @@ pub record FlushesNow {S F C : Type 0} (kind : Ghosts S F) (answer : Result (Uni
   pub flushes : Flushes kind answer old.roller new.roller
   pub clock : new.clock ≡ old.clock
 
--- the clock was read, and a roller was opened at the moment that it told
+-- the clock was read, and a roller was opened at the moment that it returned
 pub record OpensNow {S F C : Type 0} (kind : Ghosts S F) (time : Readings C) (config : Config) (folder : S) (clock : C) (new : Appending S F C) : Type 0 where
   pub moment : ℤ
   pub reading : time.now_gives clock moment
   pub opens : OpensRoller kind config moment folder new.roller
   pub clock_is : new.clock ≡ clock
 
--- so it was in some folder, by some clock
+-- the same in some folder, by some clock
 abbrev pub OpensSome : {S F C : Type 0} → Ghosts S F → Readings C → Config → Appending S F C → Type 0
 OpensSome {S} {F} {C} kind time config new = (folder : S) × (clock : C) × OpensNow kind time config folder clock new
 
@@ -66,25 +66,25 @@ pub record OpensNone {S F C : Type 0} (kind : Ghosts S F) (time : Readings C) (c
   pub refuses : OpensNoRoller kind config moment folder error left
   pub clock_is : same ≡ clock
 
--- so it was in some folder, by some clock, or memory was refused before
+-- the same in some folder, by some clock, or memory was refused before
 abbrev pub OpensNoneOfSome : {S F C : Type 0} → Ghosts S F → Readings C → Config → InitError → Type 0
 OpensNoneOfSome {S} {F} {C} kind time config error =
     (error ≡ Memory) ⊎ ((folder : S) × (clock : C) × (left : S) × (same : C) × OpensNone kind time config folder clock error left same)
 
 -- ---- for many threads
 
--- What is seen of an appender that threads share: its clock. The roller stands under a lock, so of each call it is known what
+-- What is seen of an appender that threads share: its clock. The roller has a lock, so of each call it is known what
 -- it did to the roller that it found there, and not which one that was.
 pub record Sharing (C : Type 0) : Type 0 where
   pub clock : C
 
--- a log was opened with this in a folder, at the moment that the clock told, and is shared
+-- a log was opened with this in a folder, at the moment that the clock returned, and is shared
 pub record SharesNow {S F C : Type 0} (kind : Ghosts S F) (time : Readings C) (config : Config) (folder : S) (clock : C) (new : Sharing C) : Type 0 where
   pub file : Appending S F C
   pub opens : OpensNow kind time config folder clock file
   pub clock_is : new.clock ≡ clock
 
--- so it was in some folder, by some clock
+-- the same in some folder, by some clock
 abbrev pub SharesSome : {S F C : Type 0} → Ghosts S F → Readings C → Config → Sharing C → Type 0
 SharesSome {S} {F} {C} kind time config new = (folder : S) × (clock : C) × SharesNow kind time config folder clock new
 
@@ -112,7 +112,7 @@ pub record PutsSome {S F : Type 0} (kind : Ghosts S F) (m : ℤ) (bytes : List �
   pub left : Held S F
   pub puts : Puts kind m bytes switch answer (rolling_of old found) (rolling_of new left)
 
--- The clock was read, and at the moment that it told no file was to begin: no boundary had come and, with a limit of bytes, the open
+-- The clock was read, and at the moment that it returned no file was due: no boundary was reached and, with a limit of bytes, the open
 -- file was found to have room.
 pub record LooksNow {S F C : Type 0} (kind : Ghosts S F) (time : Readings C) (clock : C) (s : Holding) : Type 0 where
   pub moment : ℤ
@@ -132,7 +132,7 @@ pub record WritesAllSome {S F : Type 0} (kind : Ghosts S F) (s : Scheduled) (byt
   pub left : Held S F
   pub writes : WritesAll kind bytes answer (rolling_of s found) (rolling_of s left)
 
--- the clock was read, and the bytes were put into a roller at the moment that it told
+-- the clock was read, and the bytes were put into a roller at the moment that it returned
 pub record PutsAtClock {S F C : Type 0} (kind : Ghosts S F) (time : Readings C) (clock : C) (bytes : List ℕ) (answer : Result ℕ Error) : Type 0 where
   pub moment : ℤ
   pub reading : time.now_gives clock moment

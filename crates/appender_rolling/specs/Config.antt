@@ -1,4 +1,4 @@
--- What an appender is set up with.
+-- The settings of an appender.
 use Rattle.std.specs.Prelude.{◌≡◌, ℕ, ◌≤◌, ℤ, ◌==◌, Bool, true, not, List, [], Option, None, Some, String, string_bytes}
 use Rattle.std.specs.declared.alloc.Global.{Global}
 use Rattle.appender_names.specs.declared.rotation.Rotation.{Rotation}
@@ -16,7 +16,7 @@ pub record Config : Type 0 where
   pub max_files : ℕ
   pub max_bytes : ℕ
 
--- what is set before anything is: one file for all time, with neither prefix nor suffix, no link and no maximum of files or bytes
+-- the defaults: one file for all time, with neither prefix nor suffix, no link and no maximum of files or bytes
 abbrev pub defaults : Config
 defaults = record { rotation = rotation_of Never; prefix = []; suffix = []; link = []; max_files = 0; max_bytes = 0 }
 

@@ -1,4 +1,4 @@
--- What an opening takes away at most, and why one is refused.
+-- What an opening removes at most, and why one is refused.
 use Rattle.std.specs.Prelude.{◌≡◌, ◌⊎◌, ℕ, false, List, Some, Err, IsTrue}
 use Rattle.std.specs.FinMap as fin
 use Rattle.std.specs.IoError.{error_kind}
@@ -32,7 +32,7 @@ abbrev pub FirstRefused : {S F : Type 0} → Ghosts S F → Config → List ℕ 
 FirstRefused kind c name old refused =
     (pruned : _) × (fault : Error) × Prunes kind (naming_of c) c.max_files old pruned × RefusesAtOnce kind name pruned fault refused
 
--- Why an opening is refused, by the calls that led from the folder before it to the one after: the call whose fault is told failed by
+-- Why an opening is refused, by the calls that led from the folder before it to the one after: the call whose fault is returned failed by
 -- itself or was refused memory; or what had the name before leaves no place for the file, or for the link; or there was no memory
 -- for the name, and no call.
 abbrev pub HasReason : {S F : Type 0} → Ghosts S F → Config → List ℕ → S → InitError → S → Type 0

@@ -1,5 +1,5 @@
--- The opening of a log file: old ones go, the file is opened in a folder that is made where it isn't there, and the link
--- follows it. `kind` has what folders of one kind tell.
+-- The opening of a log file: old ones are removed, the file is opened in a folder that is made if it is absent, and the link
+-- is made to it. `kind` has the ghost members of a kind of folder.
 use Rattle.std.specs.Prelude.{◌≡◌, ◌≢◌, ◌⊎◌, ℕ, ◌+◌, ◌<◌, ◌≤◌, ℤ, true, false, map, Vec, MatchResult, IsOk, List, [], ◌∷◌, length, Option, None, Some, Result, Ok, Err, OnOk, OnErr, IsTrue}
 use Rattle.std.specs.declared.io.Error.{Error}
 use Rattle.std.specs.FinMap as fin
@@ -27,7 +27,7 @@ file_name_of c s = name_at (naming_of c) s.moment s.number
 abbrev pub LinksEntry : Config → Type 0
 LinksEntry c = c.link ≢ [] → IsEntry c.link
 
--- prefix, suffix and link, where it is set, make names of entries of a folder
+-- prefix, suffix and link, if it is set, make names of entries of a folder
 pub record NamesEntries (c : Config) : Type 0 where
   pub files : IsAllowed c.rotation c.prefix c.suffix
   pub link : LinksEntry c
@@ -74,7 +74,7 @@ abbrev pub HasEntry : Content → List ℕ → Type 0
 HasEntry c name = (e : Entry) × (fin.get c.names name ≡ Some e)
 
 -- The folder was listed, and this is the first number by what was listed, and so by what the folder holds. If the listing was
--- refused, the folder took a note, and the number is 0.
+-- refused, the folder noted it, and the number is 0.
 pub record ListsNumbers {S F : Type 0} (kind : Ghosts S F) (n : Naming) (m : ℤ) (old : S) (number : ℕ) (new : S) : Type 0 where
   pub answer : Result (Vec Listed Global) Error
   pub listed : S
@@ -110,7 +110,7 @@ pub record RefusesAtOnce {S F : Type 0} (kind : Ghosts S F) (name : List ℕ) (o
   pub cause : HasCause {T = F} kind.is_known (ForbidsOpen name (kind.content old)) (kind.failures old) (kind.failures new) (Err fault)
   pub noted : kind.noted new ≡ kind.noted old
 
--- a call made the folder, if it wasn't there
+-- a call made the folder, if it was absent
 pub record MakesFolder {S F : Type 0} (kind : Ghosts S F) (old new : S) : Type 0 where
   pub call : kind.make_folder_gives old (Ok tt) new
   pub content : IsTrue kind.is_known → kind.content new ≡ after_make_folder (kind.content old)
@@ -126,7 +126,7 @@ pub record OpensInMade {S F : Type 0} (kind : Ghosts S F) (name : List ℕ) (old
   pub makes : MakesFolder kind refused ready
   pub second : OpensAtOnce kind name ready file new
 
--- The file of this name was opened: in the folder as it was, or in the folder made, which is the same where it was there.
+-- The file of this name was opened: in the folder as it was, or in the folder made, which is the same if it existed.
 pub record GetsFile {S F : Type 0} (kind : Ghosts S F) (name : List ℕ) (old : S) (file : F) (new : S) : Type 0 where
   pub calls : OpensAtOnce kind name old file new ⊎ OpensInMade kind name old file new
   pub opens : IsTrue kind.is_known → Opens name (after_make_folder (kind.content old)) (kind.content new) (kind.body file)
@@ -164,7 +164,7 @@ GetsNo kind name old _ new = ⊥
 
 -- ---- the link
 
--- a link of this name is gone, or all is as it was
+-- a link of this name was removed, or all is as it was
 abbrev pub MayRemoveLink : List ℕ → Content → Content → Type 0
 MayRemoveLink link old new = (new ≡ old) ⊎ RemovesLink link old new
 
@@ -200,7 +200,7 @@ LeavesNoPlace kind link old freed =
     IsFileOrFolder (fin.get (kind.content old).names link)
     ⊎ (IsLink (fin.get (kind.content old).names link) × HasRisen (kind.failures old) (kind.failures freed))
 
--- The link could not be made, and at most the old one is gone: the call failed by itself, memory was refused, or what has the
+-- The link could not be made, and at most the old one is removed: the call failed by itself, memory was refused, or what has the
 -- name leaves no place.
 pub record RelinksNot {S F : Type 0} (kind : Ghosts S F) (link name : List ℕ) (old : S) (fault : Error) (new : S) : Type 0 where
   pub freed : S
@@ -210,7 +210,7 @@ pub record RelinksNot {S F : Type 0} (kind : Ghosts S F) (link name : List ℕ) 
   pub content : IsTrue kind.is_known → MayRemoveLink link (kind.content old) (kind.content new)
   pub noted : kind.noted new ≡ kind.noted old
 
--- where a link is set, it leads to this name now
+-- if a link is set, it leads to this name now
 abbrev pub LinksTo : {S F : Type 0} → Ghosts S F → List ℕ → List ℕ → S → S → Type 0
 LinksTo kind [] name old new = new ≡ old
 LinksTo kind (b ∷ bs) name old new = Relinks kind (b ∷ bs) name old new
@@ -222,17 +222,17 @@ LinksNot kind (b ∷ bs) name old fault new = RelinksNot kind (b ∷ bs) name ol
 
 -- ---- all of it
 
--- where neither List nor Remove was noted, no more log files stand than the maximum, if one is set
+-- if neither List nor Remove was noted, there are no more log files than the maximum, if one is set
 abbrev pub AtMost : {S F : Type 0} → Ghosts S F → Config → S → S → Type 0
 AtMost kind config old new =
     IsQuiet (kind.noted old) (kind.noted new) → IsTrue kind.is_known → 0 < config.max_files → candidates_in (naming_of config) (kind.content new) ≤ config.max_files
 
--- what the link did to the content, where one is set
+-- what the link did to the content, if one is set
 abbrev pub Linked : List ℕ → List ℕ → Content → Content → Type 0
 Linked [] name old new = new ≡ old
 Linked (b ∷ bs) name old new = (freed : Content) × MayRemoveLink (b ∷ bs) old freed × MakesLink (b ∷ bs) name freed new
 
--- Old log files were removed, the file of this name was opened, and the link, where one is set, leads to it.
+-- Old log files were removed, the file of this name was opened, and the link, if one is set, leads to it.
 pub record OpensFile {S F : Type 0} (kind : Ghosts S F) (config : Config) (name : List ℕ) (old : S) (file : F) (new : S) : Type 0 where
   pub pruned : S
   pub unlinked : S
@@ -254,7 +254,7 @@ RefusesFile {S} {F} kind config name old (Symlink fault) new =
 RefusesFile kind config name old error new =
     (pruned : _) × Prunes kind (naming_of config) config.max_files old pruned × GetsNo kind name pruned error new
 
--- All that a refusal can leave: old log files are gone, the folder is made, the name leads to a file, the link is gone.
+-- All that a refusal can leave: old log files are removed, the folder is made, the name leads to a file, the link is removed.
 pub record LeavesLittle (config : Config) (name : List ℕ) (old new : Content) : Type 0 where
   pub pruned : Content
   pub only_old : TakesOnlyOld (naming_of config) config.max_files old pruned

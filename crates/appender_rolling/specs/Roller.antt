@@ -1,4 +1,4 @@
--- An open log file, and what each call of a roller does to it and to the folder. `kind` has what folders of one kind tell.
+-- An open log file, and what each call of a roller does to it and to the folder. `kind` has the ghost members of a kind of folder.
 use Rattle.std.specs.Prelude.{◌≡◌, ◌⊎◌, ℕ, ◌+◌, ◌-◌, ◌≤◌, nat_lt, ◌==◌, if◌then◌else◌, ℤ, ◌<ℤ◌, int_lt, Bool, true, false, not, ◌&&◌, List, [], length, take, drop, Option, None, Some, Result, Ok, Err, MatchResult, OnOk, IfErr, IsTrue, ◌++◌, ◌∷◌, ◌≢◌}
 use Rattle.std.specs.IoError.{error_kind}
 use Rattle.std.specs.declared.io.Error.{Error}
@@ -91,7 +91,7 @@ pub record OpensRoller {S F : Type 0} (kind : Ghosts S F) (config : Config) (m :
   pub room : new.room ≡ config.max_bytes
   pub opens : OpensFile kind config (file_name_of config (stamp m number)) listed new.file new.folder
 
--- None was, for this reason, and the folder is handed back. The checks come in this order: names, limit, moment, memory, the name
+-- None was, for this reason, and the folder is returned. The checks come in this order: names, limit, moment, memory, the name
 -- of the link, the file.
 abbrev pub OpensNoRoller : {S F : Type 0} → Ghosts S F → Config → ℤ → S → InitError → S → Type 0
 OpensNoRoller kind config m old Name new =
@@ -122,7 +122,7 @@ wanted len = if len == 0 then 1 else len
 abbrev pub is_full_with : Scheduled → ℕ → ℕ → Bool
 is_full_with s room len = nat_lt s.last.number 999999 && nat_lt room s.config.max_bytes && nat_lt room (wanted len)
 
--- The stamp for which a look with so many bytes to write makes an attempt, if it makes one: if a boundary has come, the moment
+-- The stamp for which a check of the clock with so many bytes to write makes an attempt, if it makes one: if a boundary was reached, the moment
 -- and the number 0; else, if the file is full, the last attempt's moment and the number after its own.
 abbrev pub next_with : Scheduled → ℕ → ℤ → ℕ → Option Stamp
 next_with s room m len =
@@ -137,7 +137,7 @@ is_full r len = is_full_with (schedule_of r) r.room len
 abbrev pub next_stamp : {S F : Type 0} → Rolling S F → ℤ → ℕ → Option Stamp
 next_stamp r m len = next_with (schedule_of r) r.room m len
 
--- the folder flushed a file that gives way to the next, and took a note of a fault
+-- the folder flushed a file that is replaced by the next, and noted a fault
 pub record ClosesLast {S F : Type 0} (kind : Ghosts S F) (old : S) (file : F) (new : S) : Type 0 where
   pub answer : Result (Unit {0}) Error
   pub flushed : S
@@ -148,7 +148,7 @@ pub record ClosesLast {S F : Type 0} (kind : Ghosts S F) (old : S) (file : F) (n
   pub noted : kind.noted flushed ≡ kind.noted old
   pub notes : MatchResult answer (λ _. new ≡ flushed) (λ fault. Notes kind flushed (NotedFlush fault) new)
 
--- A new file was opened for a stamp that is later than that of the last opening, and stands in place of the last one.
+-- A new file was opened for a stamp that is later than that of the last opening, and replaces the last one.
 pub record SwitchesFile {S F : Type 0} (kind : Ghosts S F) (m : ℤ) (len : ℕ) (old new : Rolling S F) : Type 0 where
   pub at_stamp : Stamp
   pub cause : next_stamp old m len ≡ Some at_stamp
@@ -162,11 +162,11 @@ pub record SwitchesFile {S F : Type 0} (kind : Ghosts S F) (m : ℤ) (len : ℕ)
   pub opens : OpensFile kind old.config (file_name_of old.config at_stamp) old.folder new.file ready
   pub closes : ClosesLast kind ready old.file new.folder
   pub content : kind.content new.folder ≡ kind.content ready
-  -- where the switch noted neither List nor Remove, its opening noted neither
+  -- if the switch noted neither List nor Remove, its opening noted neither
   pub quiet : IsQuiet (kind.noted old.folder) (kind.noted new.folder) → IsQuiet (kind.noted old.folder) (kind.noted ready)
   pub at_most : AtMost kind old.config old.folder new.folder
 
--- None was, for a reason of which the folder took a note: the last file stays open, the next boundary is set, and the folder
+-- None was, for a reason which the folder noted: the last file stays open, the next boundary is set, and the folder
 -- is left as little changed as the refused opening left it.
 pub record KeepsFile {S F : Type 0} (kind : Ghosts S F) (m : ℤ) (len : ℕ) (old new : Rolling S F) : Type 0 where
   pub at_stamp : Stamp
@@ -184,7 +184,7 @@ pub record KeepsFile {S F : Type 0} (kind : Ghosts S F) (m : ℤ) (len : ℕ) (o
   pub notes : Notes kind refused (NotedOpen reason) new.folder
   pub content : IsTrue kind.is_known → LeavesLittle old.config (file_name_of old.config at_stamp) (kind.content old.folder) (kind.content new.folder)
 
--- What a check of the clock at m does, with so many bytes to write: nothing at all unless a boundary has come or the file is full. So
+-- What a check of the clock at m does, with so many bytes to write: nothing at all unless a boundary was reached or the file is full. So
 -- without a limit of bytes a moment that isn't later than the last opening switches nothing.
 abbrev pub Looks : {S F : Type 0} → Ghosts S F → ℤ → ℕ → Switch → Rolling S F → Rolling S F → Type 0
 Looks kind m len Stayed old new = (next_stamp old m len ≡ None) × (new ≡ old)
@@ -220,7 +220,7 @@ pub record Writes {S F : Type 0} (kind : Ghosts S F) (bytes : List ℕ) (answer 
   pub stays : StaysOpen kind old new
   pub room : new.room ≡ old.room - count_of answer
 
--- more is written behind a write that took some of its bytes, and behind one that was interrupted
+-- more is written after a write that took some of its bytes, and after one that was interrupted
 abbrev pub GoesOn : Result ℕ Error → Type 0
 GoesOn (Ok n) = n ≢ 0
 GoesOn (Err e) = error_kind e ≡ Interrupted
@@ -239,13 +239,13 @@ WritesPieces {S} {F} kind (answer ∷ before) bytes start rest now =
     × Writes kind left answer last now × (rest ≡ drop (count_of answer) left)
 
 -- Why none follows the writes with these answers: the newest has this very fault and wasn't interrupted, or it took nothing, or they
--- are 2^64 - 1, behind which a loop ends.
+-- are 2^64 - 1, after which a loop ends.
 abbrev pub Stops : List (Result ℕ Error) → Error → Type 0
 Stops [] fault = ⊥
 Stops (Ok n ∷ before) fault = ((n ≡ 0) × (error_kind fault ≡ WriteZero)) ⊎ (length before ≡ 18446744073709551614)
 Stops (Err e ∷ before) fault = ((e ≡ fault) × (error_kind e ≢ Interrupted)) ⊎ (length before ≡ 18446744073709551614)
 
--- They leave this rest of the bytes; what they took stands behind what the open file held, and nothing else has changed.
+-- They leave this rest of the bytes; what they took is after what the open file held, and nothing else has changed.
 pub record WritesSoFar {S F : Type 0} (kind : Ghosts S F) (answers : List (Result ℕ Error)) (bytes rest : List ℕ) (old new : Rolling S F) : Type 0 where
   pub pieces : WritesPieces kind answers bytes old rest new
   pub taken : List ℕ
@@ -254,7 +254,7 @@ pub record WritesSoFar {S F : Type 0} (kind : Ghosts S F) (answers : List (Resul
   pub stays : StaysOpen kind old new
   pub room : new.room ≡ old.room - length taken
 
--- Bytes were written so. Where that is told nothing of them is left, and a fault has its reason.
+-- Bytes were written so. After an `Ok` nothing of them is left, and an error has its reason.
 pub record WritesAll {S F : Type 0} (kind : Ghosts S F) (bytes : List ℕ) (answer : Result (Unit {0}) Error) (old new : Rolling S F) : Type 0 where
   pub answers : List (Result ℕ Error)
   pub rest : List ℕ

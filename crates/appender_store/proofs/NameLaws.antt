@@ -1,4 +1,4 @@
--- A map of names after one was taken away or added.
+-- A map of names after one was removed or added.
 use Rattle.std.proofs.Common.{◌≡◌, ◌≢◌, ◌∙◌, ◌⊎◌, ℕ, Bool, true, false, cond, List, Option, None, Some, inl, inr, refl, sym}
 use Rattle.std.proofs.lemmas.Map.Views.{tells_apart}
 use Rattle.std.proofs.lemmas.Map.Lookups.{exact_bytes}
@@ -33,7 +33,7 @@ additions names name entry other = rw (get-insert nat_list_cmp_total names name 
 -- ---- what follows
 
 module _ (names : NameMap) (name : List ℕ) where
-  -- what stands after a removal stood before
+  -- what is there after a removal was there before
   pub stood_before : (other : List ℕ) (e : Entry) → fin.get (fin.remove names name) other ≡ Some e → fin.get names other ≡ Some e
   stood_before other e now =
       elim (removals names name other) [
@@ -46,7 +46,7 @@ module _ (names : NameMap) (name : List ℕ) where
     pub added_stands : fin.get (fin.insert names name entry) name ≡ Some entry
     added_stands = elim (additions names name entry name) [ inl w ↦ w.1 | inr w ↦ absurd (w.0 refl) ]
 
-    -- what stands after an addition was added or stood before
+    -- what is there after an addition was added or was there before
     pub added_or_stood : (other : List ℕ) (e : Entry) → fin.get (fin.insert names name entry) other ≡ Some e → ((other ≡ name) × (entry ≡ e)) ⊎ (fin.get names other ≡ Some e)
     added_or_stood other e now =
         elim (additions names name entry other) [

@@ -14,7 +14,7 @@ pub data Entry : Type 0 where
 abbrev pub NameMap : Type 0
 NameMap = map.FinMap (slice_cmp nat_cmp) Entry
 
--- A folder: whether it is there, the bodies of files by number, which only grow, and its names.
+-- A folder: whether it exists, the bodies of files by number, which only grow, and its names.
 pub record Content : Type 0 where
   pub there : Bool
   pub bodies : List (List ℕ)
@@ -24,26 +24,26 @@ pub record Content : Type 0 where
 abbrev pub body_at : Content → ℕ → List ℕ
 body_at c b = slice_index_or c.bodies b []
 
--- While the folder isn't there it has no name; each file's body is there, and no body has two names. That a body whose name
--- was taken away gets none again isn't said here but by `Opens`, under which a free name gets a new body.
+-- An absent folder has no name; each file's body is there, and no body has two names. That a body whose name
+-- was removed gets none again isn't said here but by `Opens`, under which a free name gets a new body.
 pub record IsSound (c : Content) : Type 0 where
   pub absent : c.there ≡ false → (name : List ℕ) → is_some (map.get c.names name) ≡ false
   pub bodies_there : (name : List ℕ) (b : ℕ) (t : Option ℤ) → map.get c.names name ≡ Some (File b t) → b < length c.bodies
   pub one_name : (n m : List ℕ) (b : ℕ) (t u : Option ℤ) → map.get c.names n ≡ Some (File b t) → map.get c.names m ≡ Some (File b u) → n ≡ m
 
--- a name that leads to a file is taken away, its body stays
+-- a name that leads to a file is removed, its body stays
 pub record Removes (name : List ℕ) (old new : Content) : Type 0 where
   pub was_there : (b : ℕ) × (t : Option ℤ) × (map.get old.names name ≡ Some (File b t))
   pub after : new ≡ record old { names = map.remove old.names name }
 
 -- The file of this name is open, with the body of this number: its own, or for a free name a new empty one, so that a body
--- whose name was taken away gets none again.
+-- whose name was removed gets none again.
 abbrev pub Opens : List ℕ → Content → Content → ℕ → Type 0
 Opens name old new b =
     (old.there ≡ true) × (((t : Option ℤ) × (map.get old.names name ≡ Some (File b t)) × (new ≡ old))
     ⊎ ((t : Option ℤ) × (map.get old.names name ≡ None) × (b ≡ length old.bodies) × (new ≡ record old { bodies = old.bodies ++ [] ∷ []; names = map.insert old.names name (File b t) })))
 
--- a link of this name is taken away
+-- a link of this name is removed
 pub record RemovesLink (name : List ℕ) (old new : Content) : Type 0 where
   pub was_there : (target : List ℕ) × (map.get old.names name ≡ Some (Link target))
   pub after : new ≡ record old { names = map.remove old.names name }
@@ -54,7 +54,7 @@ pub record MakesLink (name target : List ℕ) (old new : Content) : Type 0 where
   pub was_free : map.get old.names name ≡ None
   pub after : new ≡ record old { names = map.insert old.names name (Link target) }
 
--- these bytes stand at the end of the body
+-- these bytes are at the end of the body
 abbrev pub after_append : Content → ℕ → List ℕ → Content
 after_append c b bytes = record c { bodies = slice_set c.bodies b (body_at c b ++ bytes) }
 

@@ -1,4 +1,4 @@
--- What the calls of a folder tell beside its content.
+-- Counts, notices and listings of a folder.
 use Rattle.std.specs.Prelude.{◌≡◌, ◌⊎◌, ℕ, ◌+◌, ◌%◌, ◌^◌, ◌<◌, ℤ, Bool, List, map, Option, None, Some, Result, MatchResult, IsTrue, string_bytes}
 use Rattle.std.specs.Option.{option_map}
 use Rattle.std.specs.List.Sorted.{IsPermutation}
@@ -41,14 +41,14 @@ after_note OfRemove n = record n { removes = wrapping_next n.removes }
 after_note OfFlush n = record n { flushes = wrapping_next n.flushes }
 after_note OfOpen n = record n { opens = wrapping_next n.opens }
 
--- what a notice tells: its kind, the fault, and for Remove the name
+-- the message of a notice: its kind, the fault, and for Remove the name
 pub data Noted : Type 0 where
   NotedList : (error : Error) → Noted
   NotedRemove : (name : List ℕ) (error : Error) → Noted
   NotedFlush : (error : Error) → Noted
   NotedOpen : (error : InitError) → Noted
 
--- what this notice tells
+-- the message of this notice
 abbrev pub message_of : Notice → Noted
 message_of (ListFault e) = NotedList e.now
 message_of (RemoveFault name e) = NotedRemove name.now e.now
@@ -66,11 +66,11 @@ kind_of (NotedOpen e) = OfOpen
 abbrev pub Row : Type 0
 Row = Option (List ℕ) × Kind × Option ℤ
 
--- what an entry of a listing tells
+-- an entry of a listing
 abbrev pub listed_row : Listed → Row
 listed_row l = (option_map string_bytes l.name, l.kind, l.created)
 
--- what a listing tells of a name
+-- what a listing says of a name
 abbrev pub entry_row : List ℕ × Entry → Row
 entry_row (name, File b t) = (Some name, PlainFile, t)
 entry_row (name, Link target) = (Some name, PlainLink, None)

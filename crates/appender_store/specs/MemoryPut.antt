@@ -10,6 +10,6 @@ use Rattle.appender_store.specs.declared.store.put.PutError.TheVariants.{Name, U
 abbrev pub put_refusal : NameMap → List ℕ → Option PutError
 put_refusal names n = if is_entry n then (if is_some (fin.get names n) then Some Used else None) else Some Name
 
--- What a put answers: its refusal, and `Memory` only where there is none.
+-- The result of a put: its refusal, and `Memory` only where there is none.
 abbrev pub AnswersPut : NameMap → List ℕ → Result (Unit {0}) PutError → Type 0
 AnswersPut names n result = MatchResult result (λ _. put_refusal names n ≡ None) (λ e. e ≡ unwrap_or (put_refusal names n) Memory)

@@ -96,7 +96,7 @@ make_link_refusal true (Some entry) = Some AlreadyExists
 -- ---- what each call does
 
 -- A call has a number. It counts a failure exactly if its number was named to fail, and its Err then has the kind Other. A
--- call that isn't named is refused where the content refuses it, by this kind, and beside that only for want of memory.
+-- call that isn't named is refused where the content refuses it, by this kind, and beside that only if memory is refused.
 pub record IsCalled {T : Type 0} (old : State) (refusal : Option ErrorKind) (result : Result T Error) (new : State) : Type 0 where
   pub calls : new.calls ≡ saturating_next old.calls
   pub failures : new.failures ≡ (if is_named old then wrapping_next old.failures else old.failures)
@@ -141,7 +141,7 @@ with_file s name bytes = record s {
 abbrev pub with_entry : State → List ℕ → Entry → State
 with_entry s name entry = record s { content = record s.content { there = true; names = fin.insert s.content.names name entry } }
 
--- what it is once a name was taken away
+-- what it is once a name was removed
 abbrev pub without_entry : State → List ℕ → State
 without_entry s name = record s { content = record s.content { names = fin.remove s.content.names name } }
 

@@ -3,11 +3,11 @@ use Rattle.std.specs.Prelude.{◌≡◌, ◌≢◌, ◌⊎◌, ℕ, List, None, 
 use Rattle.std.specs.FinMap as fin
 use Rattle.appender_store.specs.Content.{NameMap, Entry}
 
--- a removal takes away its own name and no other
+-- a removal removes its own name and no other
 abbrev pub RemovalsTakeOneName : Type 0
 RemovalsTakeOneName = (names : NameMap) (name other : List ℕ) → ((other ≡ name) × (fin.get (fin.remove names name) other ≡ None)) ⊎ ((other ≢ name) × (fin.get (fin.remove names name) other ≡ fin.get names other))
 
--- what is added stands under its own name, and no other name changes
+-- what is added has its own name, and no other name changes
 abbrev pub AdditionsAddOneName : Type 0
 AdditionsAddOneName = (names : NameMap) (name : List ℕ) (entry : Entry) (other : List ℕ) → ((other ≡ name) × (fin.get (fin.insert names name entry) other ≡ Some entry)) ⊎ ((other ≢ name) × (fin.get (fin.insert names name entry) other ≡ fin.get names other))
 

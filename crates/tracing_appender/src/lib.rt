@@ -1,5 +1,4 @@
-//! Log writers that begin a new file each minute, hour, day or week of UTC: a port of the Rust crate
-//! `tracing-appender`, in which what a file holds is proved.
+//! Rotating and non-blocking log writers: a port of the Rust crate `tracing-appender`, with proved contracts.
 #![tactic(auto)]
 
 pub use appender_core::{

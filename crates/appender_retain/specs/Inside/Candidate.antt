@@ -7,6 +7,6 @@ use Rattle.appender_retain.specs.declared.retain.Candidate.{Candidate}
 abbrev pub rank_in : Candidate → Rank
 rank_in c = (c.key, c.name.now, c.place)
 
--- of c candidates so many go, lest more than max - 1 stay beside the file that is made next
+-- how many of c candidates are removed, so that at most max - 1 are left beside the next file
 abbrev pub how_many_go : ℕ → ℕ → ℕ
 how_many_go max c = if max == 0 then 0 else c - (max - 1)

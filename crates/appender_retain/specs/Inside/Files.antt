@@ -1,4 +1,4 @@
--- The files that are to go.
+-- The files to remove.
 use Rattle.std.specs.Prelude.{◌≢◌, ℕ, List, AllPairs, Contains}
 use Rattle.std.specs.FinMap as fin
 use Rattle.appender_store.specs.Content.{NameMap, IsFile}

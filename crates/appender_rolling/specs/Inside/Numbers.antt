@@ -6,7 +6,7 @@ use Rattle.appender_names.specs.Rotation.{is_in_period}
 use Rattle.appender_names.specs.Name.{Naming, reading_at}
 use Rattle.appender_store.specs.Folder.{Row}
 
--- the number after this one, and at most 999999, if its second lies in the moment's period; else 0
+-- the number after this one, and at most 999999, if its second is in the moment's period; else 0
 abbrev pub number_after : Rotation → ℤ → ℤ × ℕ → ℕ
 number_after r m key = if is_in_period r m key.0 then (if nat_lt key.1 999999 then key.1 + 1 else 999999) else 0
 

@@ -7,11 +7,11 @@ use Rattle.std.specs.BTreeMap.{BTreeMap}
 use Rattle.appender_store.specs.MemoryState.{FailingCalls, AppendLimits, saturating_next}
 use Rattle.appender_store.specs.declared.store.calls.Calls.{Calls}
 
--- the set that the code's set stands for
+-- the set that the code's set represents
 abbrev pub failing_calls_of : BTreeSet ℕ → FailingCalls
 failing_calls_of s = set.from_list s.keys
 
--- the map that the code's map stands for
+-- the map that the code's map represents
 abbrev pub append_limits_of : BTreeMap ℕ ℕ → AppendLimits
 append_limits_of m = fin.from_entries m.entries
 

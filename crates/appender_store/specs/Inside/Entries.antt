@@ -9,7 +9,7 @@ use Rattle.appender_store.specs.declared.store.entries.Item.TheVariants.{Plain a
 use Rattle.appender_store.specs.declared.store.entries.Look.{Look}
 use Rattle.appender_store.specs.declared.store.entries.Look.TheVariants.{Free, Plain as PlainSeen, Link as LinkSeen, Folder as FolderSeen}
 
--- what a stored item stands for
+-- what a stored item represents
 abbrev pub entry_of : Item → Entry
 entry_of (PlainItem body created) = File body created
 entry_of (LinkItem target) = Link (string_bytes target)
@@ -19,7 +19,7 @@ entry_of FolderItem = Folder
 abbrev pub named_entry : String Global × Item → List ℕ × Entry
 named_entry e = (string_bytes e.0, entry_of e.1)
 
--- the names that the code's map stands for
+-- the names that the code's map represents
 abbrev pub names_of : BTreeMap (String Global) Item → NameMap
 names_of m = fin.from_entries (map named_entry m.entries)
 
@@ -27,11 +27,11 @@ names_of m = fin.from_entries (map named_entry m.entries)
 abbrev pub bodies_of : Vec (Vec ℕ Global) Global → List (List ℕ)
 bodies_of v = map (λ b. b.items) v.items
 
--- the content that these parts stand for
+-- the content that these parts represent
 abbrev pub content_of : Bool → Vec (Vec ℕ Global) Global → BTreeMap (String Global) Item → Content
 content_of there bodies names = record { there = there; bodies = bodies_of bodies; names = names_of names }
 
--- what a look at a name answers
+-- what a name leads to, with its number
 abbrev pub Sees : Option Entry → Look → Type 0
 Sees entry Free = entry ≡ None
 Sees entry (PlainSeen b) = (t : Option ℤ) × (entry ≡ Some (File b t))
