@@ -1,7 +1,8 @@
-//! Keeps an audit trail: each line of standard input, or of the files that further arguments name, goes
-//! to the log of its day, in the folder that the first argument names. A line of standard input is
-//! written whole by one write, or the program says that it was not. Files are read side by side, and an
-//! account says what became of their lines.
+//! Keeps an audit trail. Each line of standard input, or of the files that further arguments name, is written to the
+//! log of its day. The first argument names the folder of the log.
+//!
+//! A line of standard input is written whole by one write, or the program reports that it was not. Files are read side
+//! by side, and an account of their lines is printed.
 #![tactic(auto)]
 
 use audit_trail_core::trail::Fault;

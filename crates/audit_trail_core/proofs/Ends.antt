@@ -10,7 +10,7 @@ use Rattle.appender_store.proofs.Appends.{after_append_nothing}
 use Rattle.appender_rolling.specs.Appender.{Appending}
 use Rattle.audit_trail_core.specs.Trail.{Adds, EndsLine, EndsWhole}
 
--- what ends with a newline does so after other bytes
+-- bytes that end with a newline do so after other bytes
 pub ends_after : (xs bytes : List ℕ) → ends_with_byte 10 bytes ≡ true → ends_with_byte 10 (xs ++ bytes) ≡ true
 ends_after xs [] ends = absurd (let never : false ≡ true = ends in cc)
 ends_after xs (y ∷ ys) ends =
@@ -32,7 +32,7 @@ pub ends_appended : (c : Content) (b : ℕ) (bytes : List ℕ) → ends_with_byt
 ends_appended c b bytes ends = ends_set c.bodies b bytes ends
 
 module _ {S F C : Type 0} (kind : Ghosts S F) where
-  -- what changes neither the content nor the open file
+  -- an effect that changes neither the content nor the open file
   pub whole_same : (old new : Appending S F C) → kind.content new.roller.folder ≡ kind.content old.roller.folder
       → kind.body new.roller.file ≡ kind.body old.roller.file → EndsWhole kind old → EndsWhole kind new
   whole_same old new content file whole is_known =
@@ -59,7 +59,7 @@ module _ {S F C : Type 0} (kind : Ghosts S F) where
       ∙ after_append_nothing (kind.content old.roller.folder) (kind.body old.roller.file) in
       whole_same old new content adds.so_far.stays.file whole is_known
 
--- if it isn't so that it is not so
+-- a Boolean whose negation is false is true
 pub is_so : (b : Bool) → not b ≡ false → b ≡ true
 is_so true e = refl
 is_so false e = sym e

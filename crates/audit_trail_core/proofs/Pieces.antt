@@ -13,7 +13,7 @@ use Rattle.audit_trail_core.specs.Inside.Pieces.{AddsPart}
 use Rattle.audit_trail_core.specs.Trail.{Adds, interruptions}
 
 module _ {S F C : Type 0} (kind : Ghosts S F) where
-  -- What was added so far: appends that all go on, of which so many were interrupted, and before them others.
+  -- What was added so far: appends that all continue, of which this number were interrupted, and before them others.
   pub record SoFar (bytes rest : List ℕ) (before after : ℕ) (old now : Appending S F C) : Type 0 where
     pub answers : List (Result ℕ Error)
     pub adds : Adds kind answers bytes rest old now

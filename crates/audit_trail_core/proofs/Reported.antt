@@ -1,4 +1,4 @@
--- What was told on the errors, and the statuses of that.
+-- The reports on the errors, and their statuses.
 use Rattle.std.proofs.Common.{◌≡◌, ◌⊎◌, ◌∙◌, ℕ, ◌≤◌, List, Option, None, Some, inl, inr, refl, sym, subst, arith}
 use Rattle.std.specs.Io.KnownBytes.{Keeps}
 use Rattle.audit_trail_core.specs.Fault.{status_of, ReportsStatus}

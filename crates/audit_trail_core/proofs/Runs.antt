@@ -1,4 +1,4 @@
--- What the answers about a run have in common.
+-- Lemmas that the proofs about a run share.
 use Rattle.std.proofs.Common.{◌≡◌, ℕ, ◌==◌, List, [], Option, None, Some, Result, Ok, Err, IfOk, OnOk, if◌then◌else◌, subst, sym, ◌∙◌, ap}
 use Rattle.std.specs.Io.KnownBytes.{prepend_known}
 use Rattle.std.specs.Io.Buffered.{reader_buffer, reader_capacity, reader_inner, reader_remaining}
@@ -18,12 +18,12 @@ pub opens_same : {S F C : Type 0} {kind : Ghosts S F} {time : Readings C} {confi
     → OpensSome kind time config new → OpensSome kind time config same
 opens_same {kind = kind} {time = time} {config = config} is = subst (OpensSome kind time config) (sym is)
 
--- what follows from it holds where it does
+-- a consequence of the claim holds if the claim holds
 pub on_ok_by : {T E P Q : Type 0} (result : Result T E) → (P → Q) → OnOk result P → OnOk result Q
 on_ok_by (Ok value) step p = step p
 on_ok_by (Err error) step p = tt
 
--- what follows from it holds where it does
+-- a consequence of the claim holds if the claim holds
 pub if_ok_by : {T E : Type 0} {P Q : T → Type 0} (result : Result T E) → ((value : T) → P value → Q value) → IfOk result P → IfOk result Q
 if_ok_by (Ok value) step p = step value p
 if_ok_by (Err error) step p = tt

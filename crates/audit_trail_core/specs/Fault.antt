@@ -11,7 +11,7 @@ use Rattle.program_io.specs.Report.{AppendsBeginning}
 use Rattle.audit_trail_core.specs.declared.trail.Fault.{Fault}
 use Rattle.audit_trail_core.specs.declared.trail.Fault.TheVariants.{Usage, Argument, Open, Read, Write, Cut, Lost, Gone, Own, Account, Thread, Unsettled, Memory}
 
--- the fault, but want of memory where the error behind it is of that kind
+-- the fault, or that memory was refused if its error is of that kind
 abbrev pub unless_memory : ErrorKind → Fault → Fault
 unless_memory OutOfMemory fault = Memory
 unless_memory kind fault = fault
@@ -24,7 +24,7 @@ opening_fault (File cause) = unless_memory (error_kind cause) (Open (File cause)
 opening_fault (Symlink cause) = unless_memory (error_kind cause) (Open (Symlink cause))
 opening_fault error = Open error
 
--- the fault of a line of which so many bytes were taken
+-- the fault of a line of which this number of bytes were taken
 abbrev pub line_fault : ℕ → Error → Fault
 line_fault taken error = unless_memory (error_kind error) (if taken == 0 then Write error else Cut error)
 
@@ -44,7 +44,7 @@ status_of Thread = 1
 status_of Unsettled = 1
 status_of Memory = 3
 
--- what is reported of a fault, on a line; one that carries an error or a number has further words
+-- the report of a fault, on a line; a fault with an error or a number has further words
 abbrev pub words_of : Fault → Option (List ℕ)
 words_of Usage = Some (codes "usage: audit_trail DIRECTORY [SOURCE..]" ++ (10 ∷ []))
 words_of Argument = Some (codes "an argument is not UTF-8" ++ (10 ∷ []))
@@ -54,12 +54,12 @@ words_of Unsettled = Some (codes "no account" ++ (10 ∷ []))
 words_of Memory = Some (codes "no memory" ++ (10 ∷ []))
 words_of fault = None
 
--- the status is that of the fault, and a beginning of its words, if those are known, was added to the errors
+-- the status is that of the fault, and a prefix of its words, if those are known, was added to the errors
 pub record ReportsFault (fault : Fault) (status : ℕ) (errors_old errors_new : Option (List ℕ)) : Type 0 where
   pub status_is : status ≡ status_of fault
   pub words : IfSome (words_of fault) (AppendsBeginning errors_old errors_new)
 
--- A status is that of a fault, or 0, and then nothing was added to the errors.
+-- A status is that of a fault, or 0. If it is 0, nothing was added to the errors.
 pub record ReportsStatus (status : ℕ) (errors_old errors_new : Option (List ℕ)) : Type 0 where
   pub status_is : (status ≡ 0) ⊎ ((fault : Fault) × (status ≡ status_of fault))
   pub silent : status ≡ 0 → Keeps errors_old errors_new

@@ -1,2 +1,2 @@
--- What only bodies need. No clause of a public function cites it.
+-- Definitions for bodies only. No clause of a public function cites them.
 pub mod Pieces

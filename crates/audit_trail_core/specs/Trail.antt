@@ -31,27 +31,27 @@ EndsWhole kind log = IsTrue kind.is_known → EndsLine (body_at (kind.content lo
 
 -- ---- a line
 
--- how many of the appends with these answers took nothing for a fault
+-- the number of appends with these results that failed
 abbrev pub interruptions : List (Result ℕ Error) → ℕ
 interruptions [] = 0
 interruptions (Ok n ∷ answers) = interruptions answers
 interruptions (Err e ∷ answers) = suc (interruptions answers)
 
--- Appends to one file with these answers, the newest first, each of what those before it left of the bytes. This rest is left. The
--- clock was not read between them, and all but the newest took some bytes or were interrupted.
+-- Appends to one file with these results, the newest first, each of the bytes that those before it left. This rest is
+-- left. The clock was not read between them, and all but the newest took some bytes or were interrupted.
 pub record Adds {S F C : Type 0} (kind : Ghosts S F) (answers : List (Result ℕ Error)) (bytes rest : List ℕ) (old new : Appending S F C) : Type 0 where
   pub so_far : WritesSoFar kind answers bytes rest old.roller new.roller
   pub clock : new.clock ≡ old.clock
 
--- The clock was looked at. If that began no file, all is as it was. Else it was looked how the open file ends: another run may have
--- left a part of a line there.
+-- The clock was read. If that began no file, nothing changed. Else the end of the open file was read, since another run
+-- may have left a part of a line there.
 pub record LooksAtClock {S F C : Type 0} (kind : Ghosts S F) (time : Readings C) (old new : Trailing S F C) : Type 0 where
   pub switch : Switch
   pub sees : SeesNow kind time switch old.log new.log
   pub same : switch ≡ Stayed → new.cut ≡ old.cut
   pub seen : new.cut ≡ false → EndsWhole kind new.log
 
--- a newline was added where the open file might have ended with a part of a line, and else nothing
+-- a newline was added if the open file might have ended with a part of a line, and else nothing
 abbrev pub EndsPart : {S F C : Type 0} → Ghosts S F → Bool → List (Result ℕ Error) → Appending S F C → Appending S F C → Type 0
 EndsPart kind true answers old new = Adds kind answers (10 ∷ []) [] old new
 EndsPart kind false answers old new = (answers ≡ []) × (new ≡ old)
@@ -70,8 +70,8 @@ pub record PutsLine {S F C : Type 0} (kind : Ghosts S F) (time : Readings C) (li
   pub few : interruptions ending + interruptions answers ≤ 100
   pub cut : new.cut ≡ not (ends_with_byte 10 line)
 
--- So many lines of a text were put, each whole and one after another, each through its newline, which a last line without one is
--- given, and this rest of the text is left. Where nothing is left there is no line.
+-- This number of lines of a text were put, each whole with its newline, one after another.
+-- A last line without a newline gets one. This rest of the text is left. If nothing is left there is no line.
 abbrev pub PutsLines : {S F C : Type 0} → Ghosts S F → Readings C → ℕ → List ℕ → Trailing S F C → List ℕ → Trailing S F C → Type 0
 PutsLines kind time zero text start rest now = (rest ≡ text) × (now ≡ start)
 PutsLines {S} {F} {C} kind time (suc count) text start rest now =
@@ -91,7 +91,7 @@ pub record FlushesLines {S F C : Type 0} (kind : Ghosts S F) (time : Readings C)
   pub puts : PutsLines kind time count text begun [] written
   pub flushes : FlushesNow kind (Ok tt) written.log now.log
 
--- The log was opened, all lines of the text were put into it, and it was flushed: so it is this log now.
+-- The log was opened, all lines of the text were put into it, and it was flushed. It is this log now.
 pub record KeepsLines {S F C : Type 0} (kind : Ghosts S F) (time : Readings C) (text : List ℕ) (kept : Trailing S F C) : Type 0 where
   pub begun : Trailing S F C
   pub opens : OpensSome kind time trail_config begun.log

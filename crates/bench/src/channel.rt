@@ -1,4 +1,4 @@
-// A bounded channel: what `std::sync::mpsc::sync_channel` makes in Rust.
+// A bounded channel, as `std::sync::mpsc::sync_channel` makes in Rust.
 use crate::queue::{Ending, Limit, LineSender, Queue};
 use crate::sink::Sink;
 use crossbeam_channel::{Receiver, Sender};
@@ -47,7 +47,7 @@ impl Ending for ChannelEnding {
     }
 }
 
-/// A channel, and the thread that writes what comes, until all senders are gone.
+/// Starts a channel, and the thread that writes each line until all senders are dropped.
 pub(crate) fn start_channel<R: Threads + Wait + Copy + Send + 'static>(
     rt: R,
     alloc: Global,

@@ -1,4 +1,4 @@
-// The time of a line that goes straight to a log.
+// The time of a line that is written directly to a log.
 use crate::row;
 use crate::row::Row;
 use appender_rolling::rolling::{Clock, MakeWriter, RollingFileAppender};
@@ -10,8 +10,8 @@ use std::thread::Threads;
 use std::time::Instant;
 use std::{io, thread, time};
 
-/// So many lines of so many bytes from each of so many threads, which share the log. No threads are
-/// one, which has it for itself.
+/// The numbers of lines per thread, of threads that share the log, and of bytes per line. If `threads` is 0, one
+/// thread has the log for itself.
 #[derive(Clone, Copy)]
 pub(crate) struct Case {
     pub(crate) lines: u32,
@@ -21,7 +21,7 @@ pub(crate) struct Case {
 
 /// Takes lines of many threads.
 pub(crate) trait Shared {
-    /// Writes a line, and tells how many bytes were taken.
+    /// Writes a line, and returns the number of bytes that were taken.
     fn write_line<R: Wait>(&self, rt: &R, line: &[u8]) -> io::Result<usize>;
 }
 
@@ -37,7 +37,7 @@ impl<W: Write> Shared for Mutex<W> {
     }
 }
 
-/// A log, and what its rows are called.
+/// A log, and the name of its rows.
 #[derive(Drop)]
 pub(crate) struct Log<L: Drop> {
     pub(crate) variant: &'static str,
@@ -72,7 +72,7 @@ pub(crate) fn compare<
     Ok(())
 }
 
-// The nanoseconds that the lines of a case take in one thread.
+// Returns the nanoseconds that the lines of a case take in one thread.
 fn time_alone<W: Write, R: time::Clock>(
     rt: &R,
     alloc: Global,
@@ -87,7 +87,7 @@ fn time_alone<W: Write, R: time::Clock>(
     Ok(start.elapsed(rt)?.as_nanos())
 }
 
-// The nanoseconds that they take in the case's threads.
+// Returns the nanoseconds that the lines of a case take in its threads.
 fn time_together<L: Shared + Sync, R: Threads + Wait + time::Clock + Sync>(
     rt: &R,
     alloc: Global,

@@ -1,4 +1,4 @@
-// The time of one lossy write, at 100,000 a second.
+// The time of one lossy write, at 100,000 writes a second.
 use crate::channel::start_channel;
 use crate::plain::start_plain;
 use crate::queue::{Ending, Limit, LineSender, Queue, start_ours};
@@ -19,17 +19,17 @@ const GAP_MICROS: u64 = 10;
 
 const LIMIT: usize = DEFAULT_BUFFERED_LINES_LIMIT;
 
-// Where the direct writes go.
+// The file of the direct writes.
 const FILE: &str = "bench.log";
 
-/// So many lines of so many bytes.
+/// The numbers of lines and of bytes per line.
 #[derive(Clone, Copy)]
 pub(crate) struct Case {
     pub(crate) lines: u32,
     pub(crate) bytes: usize,
 }
 
-// Writes each line straight to a file.
+// Writes each line directly to a file.
 #[derive(Drop)]
 struct Direct<W: Write> {
     file: W,
@@ -115,7 +115,7 @@ fn measure<S: LineSender, R: Wait + Clock + Print>(
     Ok(())
 }
 
-// How many nanoseconds each line takes, the shortest time first. Each has a reading of the clock in it.
+// Returns the nanoseconds that each line takes, the shortest time first. Each time includes one reading of the clock.
 fn times_of<S: LineSender, R: Wait + Clock>(
     rt: &R,
     alloc: Global,
@@ -134,7 +134,7 @@ fn times_of<S: LineSender, R: Wait + Clock>(
     Ok(times)
 }
 
-// Spins until the gap behind the last line is over, and tells the time.
+// Spins until the gap after the last line is over, and returns the time.
 fn wait_since<R: Clock>(rt: &R, last: Instant) -> io::Result<Instant> {
     let gap = Duration::from_micros(GAP_MICROS);
     for _ in 0..u64::MAX {

@@ -1,5 +1,5 @@
-//! Measures how fast lines go through `NonBlocking`, a channel and a plain queue under a lock, in
-//! turns, so that what else the machine does hits all alike.
+//! Measures the time of lines through `NonBlocking`, a channel and a plain queue under a lock.
+//! The three take turns, so that other load on the machine affects all of them alike.
 #![tactic(auto)]
 
 mod channel;
@@ -62,7 +62,7 @@ fn main(rt: HostRuntime) -> io::Result<()> {
     }
 }
 
-// The log of this hour, and one with each limit of bytes.
+// Opens the log of this hour, and one with each limit of bytes.
 fn open_logs(rt: HostRuntime, limits: &[u32]) -> io::Result<Vec<Log<FileAppender>>> {
     let mut logs = Vec::new(rt.alloc());
     logs.push(Log {
@@ -89,7 +89,7 @@ fn open_log(rt: HostRuntime, limit: u32) -> io::Result<FileAppender> {
     }
 }
 
-// The arguments behind the first.
+// Returns the arguments after the first.
 fn numbers_of(rt: &(impl Env + Alloc), alloc: Global) -> io::Result<Vec<u32>> {
     let mut numbers = Vec::new(alloc);
     for word in env::args(rt)?.skip(2) {
@@ -139,7 +139,7 @@ fn run<R: Files + Threads + Wait + Clock + Print + Eprint + Copy + Send + 'stati
     }
 }
 
-// A queue with nothing to do behind its first line.
+// Keeps a queue idle after its first line.
 fn idle<R: Threads + Wait + Clock + Print + Eprint + Copy + Send + 'static>(
     rt: R,
     alloc: Global,

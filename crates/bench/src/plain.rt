@@ -1,4 +1,4 @@
-// A plain queue under a lock, where each line and each place that comes free wakes a thread.
+// A plain queue under a lock. Each line, and each place that becomes free, wakes a thread.
 use crate::queue::{Ending, Limit, LineSender, Queue};
 use crate::sink::Sink;
 use std::alloc::Global;
@@ -16,7 +16,7 @@ struct State {
     dropped: u64,
 }
 
-/// What senders and the thread share.
+/// The state that senders and the thread share.
 #[derive(Drop)]
 pub(crate) struct PlainQueue {
     limit: Limit,
@@ -85,7 +85,7 @@ impl Ending for PlainEnding {
     }
 }
 
-/// A queue, and the thread that writes what comes, until it is closed and empty.
+/// Starts a queue, and the thread that writes each line until the queue is closed and empty.
 pub(crate) fn start_plain<R: Threads + Wait + Copy + Send + 'static>(
     rt: R,
     alloc: Global,

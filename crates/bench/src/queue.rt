@@ -11,7 +11,7 @@ use std::sync::{Arc, Wait};
 use std::thread::Threads;
 use std::time::Clock;
 
-/// How many lines may wait, and whether a line that finds no room is dropped.
+/// The number of lines that may wait, and whether a full queue drops a line.
 #[derive(Clone, Copy)]
 pub(crate) struct Limit {
     pub(crate) lines: usize,
@@ -24,9 +24,9 @@ pub(crate) trait LineSender {
     fn send<R: Wait>(&mut self, rt: &R, line: &[u8]);
 }
 
-/// What ends the thread that empties a queue.
+/// Ends the thread that empties a queue.
 pub(crate) trait Ending {
-    /// Waits until all is written, and tells how many lines were dropped. All senders are gone.
+    /// Waits until all lines are written, and returns the number of dropped lines. All senders were dropped before.
     fn end<R: Threads + Wait>(self, rt: &R) -> u64;
 }
 
@@ -35,7 +35,7 @@ pub(crate) struct Queue<S: LineSender, E: Ending> {
     pub(crate) name: &'static str,
     pub(crate) sender: S,
     pub(crate) ending: E,
-    /// How many bytes were written, at the last flush.
+    /// The number of bytes that were written until the last flush.
     pub(crate) told: Arc<AtomicU64, Global>,
 }
 
@@ -60,7 +60,7 @@ impl<H: Wait + Clock + Print + Drop> Ending for OurEnding<H> {
     }
 }
 
-/// A queue of this repository.
+/// Starts a queue of this repository.
 pub(crate) fn start_ours<R: Threads + Wait + Clock + Print + Eprint + Copy + Send + 'static>(
     rt: R,
     alloc: Global,

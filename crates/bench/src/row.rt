@@ -1,11 +1,11 @@
 // A row of the table that is printed.
 use std::io;
 
-/// What stands in each column.
+/// The names of the columns.
 pub(crate) const HEADER: &str =
     "variant,mode,limit,bytes,senders,round,lines,nanos_per_line_tenths,dropped";
 
-/// What was measured in a round.
+/// The result of a round.
 #[derive(Clone, Copy)]
 pub(crate) struct Row<'a> {
     pub(crate) variant: &'a str,
@@ -15,7 +15,7 @@ pub(crate) struct Row<'a> {
     pub(crate) senders: u32,
     pub(crate) round: u32,
     pub(crate) lines: u64,
-    /// Of all lines.
+    /// The time of all lines together.
     pub(crate) nanos: u128,
     pub(crate) dropped: u64,
 }

@@ -6,7 +6,7 @@ use std::sync::Arc;
 use std::sync::atomic::AtomicU64;
 use std::sync::atomic::Ordering::SeqCst;
 
-/// Counts bytes, and tells how many came whenever it is flushed.
+/// Counts bytes, and publishes the count at each flush.
 #[derive(Drop)]
 pub(crate) struct Sink {
     bytes: u64,
@@ -14,7 +14,7 @@ pub(crate) struct Sink {
 }
 
 impl Sink {
-    /// Nothing came yet.
+    /// Returns a sink to which nothing was written yet.
     pub(crate) fn new(told: Arc<AtomicU64, Global>) -> Sink {
         Sink { bytes: 0, told }
     }

@@ -12,7 +12,7 @@ use std::thread::{JoinHandle, Threads};
 use std::time::{Clock, Duration, Instant};
 use std::{io, thread};
 
-/// So many lines of so many bytes from each of so many threads.
+/// The numbers of sending threads, of lines per thread, and of bytes per line.
 #[derive(Clone, Copy)]
 pub(crate) struct Case<'a> {
     /// The word for it in a row.
@@ -88,7 +88,7 @@ fn measure<
     row::print(&rt, row)
 }
 
-// Sends the lines of a case from its threads, and tells when they began.
+// Sends the lines of a case from its threads, and returns the moment at which they began.
 fn send_all<
     S: LineSender + Clone + Send + Drop + 'static,
     R: Threads + Wait + Clock + Copy + Send + 'static,
@@ -100,7 +100,7 @@ fn send_all<
         running.push(start_one(rt, alloc, sender.clone()?, gate.clone()?, case)?)?;
     }
     drop(sender);
-    // Time for all of them to come to the gate.
+    // Time for all threads to reach the gate.
     thread::sleep(&rt, Duration::from_millis(2));
     let start = Instant::now(&rt)?;
     gate.wait(&rt);
@@ -108,7 +108,7 @@ fn send_all<
     Ok(start)
 }
 
-// A thread that sends its lines once all have come to the gate.
+// Starts a thread that sends its lines once all threads have reached the gate.
 fn start_one<
     S: LineSender + Clone + Send + Drop + 'static,
     R: Threads + Wait + Clock + Copy + Send + 'static,
@@ -145,7 +145,7 @@ fn send_some<S: LineSender + Drop, R: Wait>(rt: &R, sender: S, line: &[u8], coun
     }
 }
 
-// Each line by a clone. One that can't be made loses its line, so that the count of lines fails.
+// Sends each line by a clone. If a clone can't be made its line is lost, and the check of the counts fails.
 fn send_by_clones<S: LineSender + Clone + Drop, R: Wait>(
     rt: &R,
     sender: S,

@@ -19,7 +19,7 @@ as_many m n text e h = subst (λ k. HasLines k text) e h
 pub first : (n : ℕ) (text : List ℕ) → HasLines n text → HasLines (0 + n) text
 first n text h = as_many n (0 + n) text (omega arith) h
 
--- one line was read, and so many are left
+-- one line was read, and this number of lines is left
 pub next : (lines n : ℕ) (rest text : List ℕ) → ((k : ℕ) → HasLines k rest → HasLines (lines + k) text)
     → take_through 10 rest ≢ [] → HasLines n (drop_through 10 rest) → HasLines (lines + 1 + n) text
 next lines n rest text counted some h =

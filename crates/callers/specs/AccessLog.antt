@@ -7,7 +7,7 @@ use Rattle.http.specs.Uri.{uri_text}
 use Rattle.http_server.specs.declared.response.Response.{Response}
 use Rattle.tracing_appender.specs.Counting.{one_more}
 
--- the service, its log, and how many lines that did not take whole
+-- the service, its log, and the number of lines that the log did not take whole
 pub record Logged (S W : Type 0) : Type 0 where
   pub service : S
   pub log : W
@@ -17,18 +17,18 @@ pub record Logged (S W : Type 0) : Type 0 where
 abbrev pub logged_none : {S W : Type 0} → S → W → Logged S W
 logged_none service log = record { service = service; log = log; lost = 0 }
 
--- the line of a request and the status of its answer
+-- the line of a request and the status of its response
 abbrev pub line_of : Request (List ℕ) → Response → List ℕ
 line_of request response =
     let head = head_of request in
     head.method ++ (codes " " ++ (uri_text head.uri ++ (codes " " ++ (decimal response.status ++ codes "\n"))))
 
--- known bytes grow by a beginning of the line, and it is whole exactly if all of the line was written
+-- known bytes grow by a prefix of the line, and it is whole exactly if all of the line was written
 abbrev pub IsWritten : {W : Type 0} → (W → Option (List ℕ)) → List ℕ → W → W → Bool → Type 0
 IsWritten contents line old new whole =
     (n : ℕ) × (n ≤ length line) × (whole ≡ (n == length line)) × Appends (contents old) (contents new) (take n line)
 
--- The line was written, or a beginning of it. It is counted exactly if it is not whole.
+-- The line or a prefix of it was written. It is counted exactly if it is not whole.
 pub record Writes {S W : Type 0} (contents : W → Option (List ℕ)) (line : List ℕ) (old new : Logged S W) : Type 0 where
   pub whole : Bool
   pub written : IsWritten contents line old.log new.log whole

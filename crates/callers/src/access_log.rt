@@ -1,4 +1,4 @@
-//! An access log: one line for each request that a service answered.
+//! An access log: one line for each request to a service.
 ghost use Rattle.std.specs.Prelude.{◌≡◌, string_bytes, IfOk};
 ghost use Rattle.callers.specs.AccessLog.{line_of, IsWritten};
 
@@ -11,7 +11,7 @@ use std::marker::Model;
 use tracing_appender::worker::run_line;
 
 /// Passes each request to a service, and then writes its line to a log, as `GET /path?query 200`. The log changes no
-/// answer. A line that it did not take whole is counted.
+/// response. A line that the log did not take whole is counted.
 #[derive(Drop)]
 pub struct AccessLog<S, W> {
     alloc: Global,
@@ -43,7 +43,7 @@ impl<S, W> AccessLog<S, W> {
         }
     }
 
-    /// The number of lines that the log did not take whole.
+    /// Returns the number of lines that the log did not take whole.
     pub fn lost(&self) -> u64
         ensures { result ≡ self.now.lost }
     {
@@ -54,7 +54,7 @@ impl<S, W> AccessLog<S, W> {
 impl<S: Service, W: Write> Service for AccessLog<S, W> {
     ghost use Rattle.callers.specs.AccessLog.{Writes};
 
-    // The service's own answer, and the line of the request.
+    // The service's own response, and the line of the request.
     ghost answers = { λ old request response new. S.answers old.service request response new.service
         × Writes W.contents (line_of request response) old new };
 

@@ -7,7 +7,7 @@ use std::io::Write;
 use tracing_appender::non_blocking::{Account, CountedWork, LineSender, NonBlockingBuilder};
 use tracing_appender::worker::CountingWriter;
 
-/// Hands each line to the log by a worker thread, and returns the account of the lines. It is an error if the log did
+/// Writes each line to the log by a worker thread, and returns the account of the lines. It is an error if the log did
 /// not take one of them whole.
 pub fn audit<R: Host + Sync, W: Write + Send + Drop + 'static>(
     rt: R,
@@ -35,7 +35,7 @@ struct Lines<'a> {
 }
 
 impl<'a> CountedWork for Lines<'a> {
-    // The account says how many lines were queued.
+    // The account has the number of queued lines.
     ghost does = { λ _ _ _ _. Unit {0} };
 
     fn run<L: LineSender>(&self, _number: usize, sender: &mut L)

@@ -11,12 +11,12 @@ use tracing_appender::non_blocking::{Closing, NonBlockingBuilder};
 use tracing_appender::rolling::{FileAppender, InitError, daily};
 use tracing_appender::worker::CountingWriter;
 
-/// What is known of the records once the log is closed.
+/// The account of the records, once the log is closed.
 #[derive(Clone, Copy, Debug, PartialEq, Eq)]
 pub struct Ended {
     /// The number of records that were not queued, or not written whole.
     pub lost: u64,
-    /// How the log was closed.
+    /// The result of closing the log.
     pub closing: Closing,
 }
 
@@ -41,12 +41,12 @@ impl From<AllocError> for LoggerError {
     }
 }
 
-/// Opens the log of the day in a folder, which is made if it is not there.
+/// Opens the log of the day in a folder, which is made if it does not exist.
 pub fn open_log(rt: HostRuntime, directory: &str) -> Result<FileAppender, InitError> {
     daily(rt, directory, "service")
 }
 
-/// Logs one record for each number of rows, through a queue whose senders wait, and closes the log. `Ok` says that no
+/// Logs one record for each number of rows, through a queue whose senders wait, and closes the log. Returns `Ok` if no
 /// record was lost.
 pub fn log_reads<R: Host, W: Write + Send + Drop + 'static>(
     rt: R,

@@ -1,4 +1,4 @@
-//! A supervisor: the output of a child goes to a log, line by line.
+//! A supervisor: the output of a child is copied to a log, line by line.
 ghost use Rattle.std.specs.Prelude.{◌≡◌, ◌≤◌, ◌↔◌, ◌+◌, ℕ, length, List, Some, IfOk, true};
 ghost use Rattle.std.specs.Io.KnownBytes.{Appends};
 ghost use Rattle.callers.specs.Supervisor.{HasLines};
@@ -10,7 +10,7 @@ use std::io::{BufRead, Write};
 use tracing_appender::non_blocking::{Closing, NonBlockingBuilder};
 use tracing_appender::worker::{CountingWriter, run_line};
 
-/// What was copied.
+/// The counts of copied lines.
 #[derive(Clone, Copy, Debug, PartialEq, Eq)]
 pub struct Copied {
     /// The number of lines that were read.
@@ -55,7 +55,7 @@ fn cut_of<W: Write>(log: &mut W, line: &[u8]) -> u64
     }
 }
 
-/// What became of the output of a child.
+/// The account of the output of a child.
 #[derive(Clone, Copy, Debug, PartialEq, Eq)]
 pub struct Captured {
     /// The lines that were read, and how many of them were neither queued nor dropped.
@@ -66,7 +66,7 @@ pub struct Captured {
     pub taken: u64,
     /// The number of lines of which the log took a beginning or nothing.
     pub lost: u64,
-    /// How the log was closed.
+    /// The result of closing the log.
     pub closing: Closing,
 }
 
@@ -79,8 +79,8 @@ impl Captured {
     }
 }
 
-/// Copies each line to a queue of 1,024 lines, from which a worker writes to the log, so that a slow log never stops
-/// the child. The error is that of reading, of the worker's start, or `OutOfMemory`.
+/// Copies each line to a queue of 1,024 lines, from which a worker writes to the log. So a slow log never stops the
+/// child. The error is that of reading, of the worker's start, or `OutOfMemory`.
 pub fn capture<I: BufRead, W: Write + Send + Drop + 'static, R: Host>(
     rt: R,
     input: &mut I,

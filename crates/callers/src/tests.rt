@@ -1,4 +1,4 @@
-// Each caller over a log in a folder of the disk, and over one that takes no line of two bytes and more.
+// Each caller over a log in a folder of the disk, and over one that takes no line of two or more bytes.
 use crate::access_log::AccessLog;
 use crate::audit_sink::audit;
 use crate::logger::{Ended, LoggerError, log_reads, open_log};
@@ -45,7 +45,7 @@ impl Write for Full {
     }
 }
 
-// A log in the folder `logs`.
+// Opens a log in the folder `logs`.
 fn open(rt: HostRuntime, name: &str) -> io::Result<FileAppender> {
     match never(rt, "logs", name) {
         Ok(log) => Ok(log),
@@ -53,14 +53,14 @@ fn open(rt: HostRuntime, name: &str) -> io::Result<FileAppender> {
     }
 }
 
-// Ends the test unless the log of that name has this text.
+// Fails the test unless the log of that name has this text.
 fn expect_log<R: Files + AllocGlobal + Abort>(rt: &R, name: &str, wanted: &str) {
     let path = format!(in rt.alloc(); "logs/{name}").expect(rt, "memory");
     let text = fs::read_to_string(rt, path.as_str()).expect(rt, "a file");
     assert!(rt; text.as_str() == wanted, "{text} instead of {wanted}");
 }
 
-// The text of all files of a folder, in the order of their names.
+// Returns the text of all files of a folder, in the order of their names.
 fn text_in(rt: &HostRuntime, directory: &str) -> io::Result<String> {
     let mut paths = Vec::new(rt.alloc());
     for entry in fs::read_dir(rt, directory)? {
@@ -111,7 +111,7 @@ fn the_logger_writes_each_record(rt: HostRuntime) -> Result<(), Fail> {
     Ok(())
 }
 
-// Answers with a letter.
+// A service whose response is a letter.
 #[derive(Drop)]
 struct Letter;
 
@@ -131,7 +131,7 @@ impl Service for Letter {
 static REQUESTS: &[u8] =
     b"GET /a?b HTTP/1.1\r\nhost: x\r\n\r\nPUT / HTTP/1.1\r\nhost: x\r\nconnection: close\r\n\r\n";
 
-// Serves two requests, and returns how many bytes were answered.
+// Serves two requests, and returns the number of bytes in the responses.
 fn serve_two<S: Service>(rt: HostRuntime, service: &mut S) -> io::Result<usize> {
     let mut connection = Connection::new(rt.alloc(), RandomState::new(&rt)?, Config::default());
     let mut input = REQUESTS;

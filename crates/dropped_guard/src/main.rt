@@ -1,5 +1,5 @@
-//! Drops a guard while its queue is full, over a writer whose flushes fail, for a look at what is then printed on
-//! standard output and standard error.
+//! Drops a guard while its queue is full, over a writer whose flushes fail. It shows what is then printed on standard
+//! output and standard error.
 #![tactic(auto)]
 
 use std::alloc::Global;
@@ -11,7 +11,7 @@ use std::time::{Clock, Duration};
 use std::{io, thread};
 use tracing_appender::non_blocking::NonBlockingBuilder;
 
-// What the worker's thread and the main thread tell each other.
+// The flags by which the worker's thread and the main thread signal each other.
 #[derive(Drop)]
 struct Flags {
     held: AtomicBool,

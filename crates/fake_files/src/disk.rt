@@ -1,4 +1,4 @@
-//! A disk in memory, and what goes wrong with it.
+//! A disk in memory, and its faults.
 
 use std::alloc::{AllocError, Global};
 use std::cell::{Cell, RefCell, RefMut};
@@ -24,7 +24,7 @@ pub enum Call {
     Other,
 }
 
-/// What a call that fails answers.
+/// The result of a call that fails.
 #[derive(Clone, Copy)]
 pub enum DiskFault {
     /// An error of this kind.
@@ -50,12 +50,12 @@ pub(crate) enum Kind {
     Pipe,
 }
 
-// A name that is gone is empty; what its file holds stays.
+// A removed name is empty. The contents of its file are kept.
 #[derive(Drop)]
 pub(crate) struct Entry {
     pub(crate) name: Vec<u8>,
     kind: Kind,
-    // What a file holds, or the target of a link.
+    // The contents of a file, or the target of a link.
     pub(crate) bytes: Vec<u8>,
 }
 
@@ -65,7 +65,7 @@ impl Entry {
         match self.kind {
             Kind::File => Metadata::of_file(length),
             Kind::Link => Metadata::of_symlink(length),
-            // std makes no metadata of a pipe; a folder's says as well that it is no plain file.
+            // std has no metadata of a pipe. That of a folder also shows that it is no plain file.
             Kind::Folder | Kind::Pipe => Metadata::of_dir(),
         }
     }
@@ -83,7 +83,7 @@ impl Entry {
     }
 }
 
-// What all files hold, one behind the other.
+// Returns the contents of all files, one after the other.
 fn all_files(alloc: Global, entries: &[Entry]) -> Result<String, AllocError> {
     let mut all = String::new(alloc);
     for entry in entries {
@@ -98,7 +98,7 @@ fn text_of(bytes: &[u8]) -> &str {
     str::from_utf8(bytes).unwrap_or("(no text)")
 }
 
-// The entry of a name, with its number.
+// Returns the number and the entry of a name.
 pub(crate) fn find<'a>(entries: &'a [Entry], name: &[u8]) -> io::Result<(usize, &'a Entry)> {
     let mut number = 0usize;
     for entry in entries {
@@ -110,8 +110,8 @@ pub(crate) fn find<'a>(entries: &'a [Entry], name: &[u8]) -> io::Result<(usize, 
     Err(Error::from(ErrorKind::NotFound))
 }
 
-// The name at a place of the listing, ended by a zero byte; nothing behind the last. A name that is
-// gone has no place.
+// Returns the name at a place of the listing, ended by a zero byte, or nothing after the last name.
+// A removed name has no place.
 pub(crate) fn listed_name(
     alloc: Global,
     entries: &[Entry],
@@ -140,8 +140,8 @@ pub(crate) fn take_name(entries: &mut [Entry], name: &[u8]) {
     }
 }
 
-/// A disk of one folder. Nothing goes wrong until a test says so, which it may at any moment. Files
-/// have no creation moments, and what a file holds stays also when its name is gone.
+/// A disk of one folder. Calls fail only if a test asks for it, which it may at any moment.
+/// Files have no creation moments, and a file's contents are kept after its name is removed.
 #[derive(Drop)]
 pub struct Disk {
     pub(crate) alloc: Global,
@@ -149,21 +149,21 @@ pub struct Disk {
     pub fails_at: Cell<Option<usize>>,
     /// Each call of this sort fails.
     pub fails_each: Cell<Option<Call>>,
-    /// What a call that fails answers.
+    /// The result of a call that fails.
     pub fault: Cell<DiskFault>,
     /// The most bytes that one write takes.
     pub takes: Cell<Option<usize>>,
-    /// How many bytes there is room for.
+    /// The number of bytes for which there is room.
     pub room: Cell<Option<usize>>,
     /// Just before the call of this number the first name becomes a link to the second.
     pub link_comes: Cell<Option<(usize, &'static str, &'static str)>>,
-    /// Just before the call of this number the name becomes a pipe that nobody reads.
+    /// Just before the call of this number the name becomes a pipe without a reader.
     pub pipe_comes: Cell<Option<(usize, &'static str)>>,
     /// No file may be read.
     pub hides_bytes: Cell<bool>,
     /// The metadata of this name can't be read.
     pub hides: Cell<Option<&'static str>>,
-    /// The seconds since 1970 that the clock tells.
+    /// The time of the clock, in seconds since 1970.
     pub seconds: Cell<u64>,
     calls: Cell<usize>,
     pub(crate) syncs: Cell<usize>,
@@ -175,7 +175,7 @@ pub struct Disk {
 }
 
 impl Disk {
-    /// A disk whose folder is there and empty.
+    /// Returns a disk whose folder exists and is empty.
     pub fn new(alloc: Global) -> Disk {
         Disk {
             alloc,
@@ -213,7 +213,7 @@ impl Disk {
         self.put(name.as_bytes(), Kind::Link, target.as_bytes())
     }
 
-    /// Takes the folder away with all names in it.
+    /// Removes the folder with all names in it.
     pub fn remove_folder(&self) -> io::Result<()> {
         self.has_folder.set(false);
         for entry in self.entries()?.iter_mut() {
@@ -222,22 +222,22 @@ impl Disk {
         Ok(())
     }
 
-    /// How many calls were made.
+    /// Returns the number of calls that were made.
     pub fn calls(&self) -> usize {
         self.calls.get()
     }
 
-    /// How often an opening would have waited for ever.
+    /// Returns the number of openings that would have waited for ever.
     pub fn waits(&self) -> usize {
         self.waits.get()
     }
 
-    /// How often the data of a file was synced.
+    /// Returns how often the data of a file was synced.
     pub fn syncs(&self) -> usize {
         self.syncs.get()
     }
 
-    /// The names in byte order, a line each with what they hold.
+    /// Returns the names in byte order, one line each, with their contents.
     pub fn contents(&self) -> io::Result<String> {
         let mut lines = Vec::new(self.alloc);
         for entry in self.entries()?.iter() {
@@ -249,12 +249,13 @@ impl Disk {
         Ok(lines.concat(self.alloc)?)
     }
 
-    /// What all files hold, one behind the other as they were made, those whose names are gone too.
+    /// Returns the contents of all files, one after the other in the order of their creation. Files whose names were
+    /// removed are included.
     pub fn all_bodies(&self) -> io::Result<String> {
         Ok(all_files(self.alloc, &self.entries()?)?)
     }
 
-    /// What was printed on standard error since this was last asked.
+    /// Returns the text that was printed on standard error since the last call of this function.
     pub fn take_printed(&self) -> String {
         self.printed.replace(String::new(self.alloc))
     }
@@ -286,7 +287,7 @@ impl Disk {
         Ok(())
     }
 
-    // Counts a call, and answers its fault.
+    // Counts a call, and returns its fault.
     pub(crate) fn begin(&self, call: Call) -> io::Result<()> {
         let number = self.calls.get().saturating_add(1);
         self.calls.set(number);
@@ -304,7 +305,7 @@ impl Disk {
         Ok(())
     }
 
-    // The name in a path of the folder, which has to be there. The folder itself has the empty one.
+    // Returns the name in a path of the folder, which has to exist. The folder itself has the empty name.
     pub(crate) fn name_in<'a>(&self, path: &'a str) -> io::Result<&'a [u8]> {
         match path.strip_prefix(FOLDER) {
             Some(name) if self.has_folder.get() => Ok(name.as_bytes()),
@@ -312,7 +313,7 @@ impl Disk {
         }
     }
 
-    // Puts what has to be new.
+    // Puts an entry whose name has to be new.
     pub(crate) fn put_new(&self, path: &str, kind: Kind, bytes: &[u8]) -> io::Result<()> {
         let name = self.name_in(path)?;
         if find(&self.entries()?, name).is_ok() {
@@ -321,8 +322,8 @@ impl Disk {
         self.put(name, kind, bytes)
     }
 
-    // The number of a file, also through a link to one. A pipe that is opened to be written alone would
-    // wait for a reader.
+    // Returns the number of a file, also through a link to one. To open a pipe only for writing would wait for a
+    // reader.
     pub(crate) fn file_at(&self, path: &str, reads: bool) -> io::Result<usize> {
         let name = self.name_in(path)?;
         let entries = self.entries()?;
@@ -339,7 +340,7 @@ impl Disk {
         }
     }
 
-    // The target of a link.
+    // Returns the target of a link.
     pub(crate) fn target_at(&self, path: &str) -> io::Result<String> {
         let name = self.name_in(path)?;
         let entries = self.entries()?;

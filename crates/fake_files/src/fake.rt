@@ -14,14 +14,14 @@ fn unsupported_error() -> Error {
     Error::from(ErrorKind::Unsupported)
 }
 
-/// What reaches a disk and prints to it. Copies share the disk.
+/// A runtime whose files and output are on a disk in memory. Copies share the disk.
 #[derive(Clone, Copy)]
 pub struct Fake<'a> {
     disk: &'a Disk,
 }
 
 impl<'a> Fake<'a> {
-    /// The runtime over a disk.
+    /// Returns the runtime over a disk.
     pub fn new(disk: &'a Disk) -> Fake<'a> {
         Fake { disk }
     }
@@ -81,7 +81,7 @@ impl<'a> Files for Fake<'a> {
         Ok(FakeDir { disk, place: 0 })
     }
 
-    // Of the folder alone.
+    // Returns the metadata of the folder only.
     fn metadata(&self, path: &str) -> io::Result<Metadata> {
         self.disk.begin(Call::Other)?;
         if self.disk.name_in(path)?.is_empty() {
@@ -219,7 +219,7 @@ impl OpenFile for FakeFile<'_> {
     }
 }
 
-/// A listing of a disk, of which each read gives one name.
+/// A listing of a disk. Each read returns one name.
 #[derive(Drop)]
 pub struct FakeDir<'a> {
     disk: &'a Disk,

@@ -1,4 +1,4 @@
-//! A file system in memory, for tests: its calls are counted, and fail where a test says so.
+//! A file system in memory, for tests. Its calls are counted, and fail if a test asks for it.
 #![tactic(auto)]
 
 pub mod disk;

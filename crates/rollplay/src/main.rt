@@ -1,5 +1,5 @@
-//! Plays a script from standard input: runs a rolling log writer over a folder in memory, by itself or behind a queue,
-//! and prints what each step answered and what the folder holds at the end.
+//! Plays a script from standard input: runs a rolling log writer over a folder in memory, with or without a queue.
+//! Prints the reply to each step, and the contents of the folder at the end.
 #![tactic(auto)]
 
 use program_io::arguments;
@@ -37,7 +37,7 @@ fn main(rt: HostRuntime) -> ExitCode {
     let status = match arguments(&rt) {
         Ok(arguments) => run(rt, request_of(arguments)),
         Err(fault) if fault.kind() == ErrorKind::OutOfMemory => report_words(rt, b"no memory\n", 3),
-        // One of them is not UTF-8. It is ignored, as any argument that is no option.
+        // One of the arguments is not UTF-8. It is ignored, as is any argument that is no option.
         Err(_) => run(rt, Request::Run(Vec::new(rt.alloc()))),
     };
     ExitCode::from(status)

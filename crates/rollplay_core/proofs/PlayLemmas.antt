@@ -1,4 +1,4 @@
--- What is read of a script.
+-- The text that is read of a script.
 use Rattle.std.proofs.Common.{◌≡◌, ℕ, ℤ, suc, ◌≤◌, List, Vec, Option, None, Some, Result, Ok, Err, IfOk, IfSome, length, take, arith, ap, sym, ◌∙◌}
 use Rattle.std.specs.Option.{option_map}
 use Rattle.std.proofs.lemmas.List.{length-take}
@@ -16,11 +16,11 @@ use Rattle.rollplay_core.specs.declared.play.Opening.TheVariants.{Refused}
 use Rattle.rollplay_core.specs.Play.{IsGiven, IsRefusalPage, IsPlayPage}
 use Rattle.rollplay_script.specs.Script.{Plan, rolling, queued}
 
--- a front that is shorter than it may be is all
+-- a front shorter than its limit is the whole text
 take_short : (n : ℕ) (xs : List ℕ) → length xs ≤ n → take n xs ≡ xs
 take_short n xs short = grind (arith, common_steps)
 
--- what was read is all that was given, since it fell short of the limit
+-- the text that was read is the whole input, since it is shorter than the limit
 pub given_whole : (given : Option (List ℕ)) (limit most : ℕ) (read : List ℕ) → limit ≡ suc most
     → IfSome (option_map (take limit) given) (λ front. read ≡ front) → length read ≤ most → IsGiven given read
 given_whole None limit most read next front short = tt

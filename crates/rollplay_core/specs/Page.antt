@@ -1,4 +1,4 @@
--- What is printed of a run.
+-- The page that is printed for a run.
 use Rattle.std.specs.Prelude.{ℕ, List, [], ◌∷◌, ◌++◌, length, Option, None, Some, Result, Ok, Err, codes}
 use Rattle.std.specs.Fmt.{decimal}
 use Rattle.std.specs.List.{flat_map}
@@ -29,7 +29,7 @@ switch_word Stayed = codes "none"
 switch_word Opened = codes "opened"
 switch_word Failed = codes "failed"
 
--- how many bytes were taken, or that it failed
+-- the number of bytes that were taken, or the failure
 abbrev pub count_words : Result ℕ ErrorKind → List ℕ
 count_words (Ok n) = codes "ok " ++ decimal n
 count_words (Err kind) = codes "err"
@@ -45,7 +45,7 @@ reply_words (Flushed (Err kind)) = codes "err"
 abbrev pub reply_lines : List RollReply → List ℕ
 reply_lines = flat_map (λ reply. line_of (reply_words reply))
 
--- of a run behind a queue: tickets count the accepted lines from 1
+-- for a run with a queue: tickets count the accepted lines from 1
 abbrev pub queue_reply_words : Reply → List ℕ
 queue_reply_words (Accepted ticket) = codes "accepted " ++ decimal ticket
 queue_reply_words Full = codes "full"
@@ -76,12 +76,12 @@ counts_words c =
 
 -- ---- the folder
 
--- a file's contents in one line, behind a space; nothing where it is empty
+-- a file's contents in one line, after a space; nothing if it is empty
 abbrev pub contents_word : List ℕ → List ℕ
 contents_word [] = []
 contents_word (b ∷ bytes) = 32 ∷ escapes_of (b ∷ bytes)
 
--- a name with the bytes of its file or the target of its link; it leads to a folder where it has neither
+-- a name with the bytes of its file or the target of its link; with neither, it is a folder
 abbrev pub entry_words : List ℕ → Option (List ℕ) → Option (List ℕ) → List ℕ
 entry_words name (Some bytes) target =
     codes "file " ++ (name ++ (32 ∷ (decimal (length bytes) ++ contents_word bytes)))
@@ -102,15 +102,15 @@ folder_lines folder = flat_map (entry_line folder) (fin.keys folder.names)
 abbrev pub open_line : List ℕ → List ℕ
 open_line name = line_of (codes "open " ++ name)
 
--- of a log that was opened: the first file's name, the replies, and the folder at the end
+-- for a log that was opened: the first file's name, the replies, and the folder at the end
 abbrev pub run_page : List ℕ → List RollReply → Content → List ℕ
 run_page name replies folder = open_line name ++ (reply_lines replies ++ folder_lines folder)
 
--- of one behind a queue, the counts of this too
+-- for a log with a queue: also the counts of the queue
 abbrev pub queued_page : List ℕ → List Reply → Content → Counts → List ℕ
 queued_page name replies folder counts =
     open_line name ++ (queue_reply_lines replies ++ (folder_lines folder ++ line_of (counts_words counts)))
 
--- of one that was not: the number of the error, and the folder as it was handed back
+-- for a log that was not opened: the number of the error, and the folder that was returned
 abbrev pub refusal_page : InitError → Content → List ℕ
 refusal_page error folder = line_of (codes "init error " ++ decimal (code_of error)) ++ folder_lines folder

@@ -1,4 +1,5 @@
--- A play of a script: its run over a folder in memory, and what is printed of it. `kind` has the ghost members of such a folder.
+-- A play of a script: its run over a folder in memory, and the page that is printed.
+-- `kind` has the ghost members of such a folder.
 use Rattle.std.specs.Prelude.{◌≡◌, ◌<◌, ◌⊎◌, ℕ, ℤ, Bool, List, [], ◌++◌, length, Option, IfSome, IsUtf8, codes}
 use Rattle.std.specs.Fmt.{decimal}
 use Rattle.std.specs.Io.KnownBytes.{Appends, Keeps}
@@ -41,8 +42,8 @@ pub record IsRunPage {F : Type 0} (kind : Ghosts MemoryFolder F) (config : Confi
   pub runs : RunsFrom kind (RollDoes kind) config start number folder (with_replies steps replies) last
   pub page_is : page ≡ run_page (file_name_of config (stamp start number)) replies (state_of last.folder).content
 
--- The log was opened with a queue of so many lines before it, and all steps were run, with these replies; the laws of lines hold.
--- The page has the replies, the folder at the end and the counts of the queue.
+-- The log was opened with a queue of this number of lines, and all steps were run with these replies.
+-- The laws of lines hold. The page has the replies, the folder at the end and the counts of the queue.
 pub record IsQueuedRunPage {F : Type 0} (kind : Ghosts MemoryFolder F) (config : Config) (folder : MemoryFolder) (start : ℤ) (limit : ℕ) (lossy : Bool) (steps : List Step) (page : List ℕ) : Type 0 where
   pub replies : List Reply
   pub one_each : length replies ≡ length steps
@@ -61,7 +62,7 @@ pub record IsRefusedPage {F : Type 0} (kind : Ghosts MemoryFolder F) (config : C
   pub refused : OpensNoRoller kind config start folder error back
   pub page_is : page ≡ refusal_page error (state_of back).content
 
--- if no step was run, the page has the reason; there is none for a lack of memory
+-- if no step was run, the page has the reason; there is no page if memory was refused
 abbrev pub IsRefusalPage : ReplayError MemoryFolder → List ℕ → Type 0
 IsRefusalPage (NoMemory back) page = ⊥
 IsRefusalPage (Init error back) page = page ≡ refusal_page error (state_of back).content
@@ -80,11 +81,11 @@ pub record Plays {F : Type 0} (kind : Ghosts MemoryFolder F) (opening : Opening)
   pub script : IsScript text config (state_of folder) start plan
   pub page_of : IsPlayPage kind config folder start plan opening page
 
--- all that was given, where that is known
+-- the whole input, if it is known
 abbrev pub IsGiven : Option (List ℕ) → List ℕ → Type 0
 IsGiven given text = IfSome given (λ bytes. bytes ≡ text)
 
--- the whole page of the script that was given was written, and nothing else
+-- the whole page of the given script was written, and nothing else
 pub record Prints {F : Type 0} (kind : Ghosts MemoryFolder F) (opening : Opening) (given old new : Option (List ℕ)) : Type 0 where
   pub text : List ℕ
   pub page : List ℕ
@@ -92,7 +93,7 @@ pub record Prints {F : Type 0} (kind : Ghosts MemoryFolder F) (opening : Opening
   pub plays : Plays kind opening text page
   pub appends : Appends old new page
 
--- the script that was given was played, and its page not written
+-- the given script was played, and its page was not written
 pub record IsUnwritten {F : Type 0} (kind : Ghosts MemoryFolder F) (given : Option (List ℕ)) : Type 0 where
   pub text : List ℕ
   pub opening : Opening
@@ -102,7 +103,7 @@ pub record IsUnwritten {F : Type 0} (kind : Ghosts MemoryFolder F) (given : Opti
 
 -- ---- failures
 
--- what is reported of each
+-- the report for each failure
 abbrev pub words_of : Failure → List ℕ
 words_of (Line number) = line_of (codes "line " ++ (decimal number ++ codes ": fault"))
 words_of Script = line_of (codes "bad script")
@@ -122,25 +123,26 @@ abbrev pub failure_of : ScriptError → Failure
 failure_of (Fault number) = Line number
 failure_of OutOfMemory = Memory
 
--- what was given is no UTF-8, or longer than a script may be: a MiB
+-- the input is not UTF-8, or is longer than the limit of a script, 1 MiB
 abbrev pub IsNoText : Option (List ℕ) → Type 0
 IsNoText given = (text : List ℕ) × IsGiven given text × ((1048576 < length text) ⊎ ¬ (IsUtf8 text))
 
--- what reading the script can lead to
+-- the results of reading the script
 abbrev pub IsOfReading : Option (List ℕ) → Failure → Type 0
 IsOfReading given (Line number) = ⊥
 IsOfReading given Write = ⊥
 IsOfReading given Script = IsNoText given
 IsOfReading given failure = Unit {0}
 
--- what each says of the input and the output, of which only a fault of writing changes something
+-- the effect of each failure on the input and the output; only a fault of writing changes something
 abbrev pub Fails : {F : Type 0} → Ghosts MemoryFolder F → Failure → Option (List ℕ) → Type 0 → Type 0
 Fails kind (Line number) given Same = ((text : List ℕ) × IsGiven given text × HasFirstFault text number) × Same
 Fails kind Script given Same = IsNoText given × Same
 Fails kind Write given Same = IsUnwritten kind given
 Fails kind failure given Same = Same
 
--- One failure has this status. It is that of the input and the output, and a beginning of its words was added to the errors.
+-- One failure has this status. It is the failure of the input and the output, and a prefix of its words was added to
+-- the errors.
 pub record Reports {F : Type 0} (kind : Ghosts MemoryFolder F) (status : ℕ) (given old new errors_old errors_new : Option (List ℕ)) : Type 0 where
   pub failure : Failure
   pub status_is : status ≡ status_of failure

@@ -1,5 +1,5 @@
-//! What `rollplay` does: a script of a rolling log writer is run over a folder in memory, and each
-//! answer is printed, with what the folder holds at the end.
+//! The library of `rollplay`. It runs a script of a rolling log writer over a folder in memory.
+//! It prints each reply, and the contents of the folder at the end.
 #![tactic(auto)]
 
 mod page;

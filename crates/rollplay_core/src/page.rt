@@ -1,4 +1,4 @@
-//! What is printed of a run. Each line ends with a newline, and the only fault is that memory was refused.
+//! The page that is printed for a run. Each line ends with a newline. The only error is that memory was refused.
 ghost use Rattle.std.specs.Prelude.{◌≡◌, ◌≤◌, ◌++◌, OnOk, None, Some};
 ghost use Rattle.appender_names.specs.Rotation.{IsMoment};
 ghost use Rattle.appender_store.specs.MemoryView.{state_of};
@@ -18,7 +18,7 @@ use tracing_appender::replay::{Reply, RollReply, RollRun, Run};
 use tracing_appender::rolling::{InitError, Roller, Switch};
 use tracing_appender::store::MemoryFolder;
 
-// A switch in one word.
+// The word for a switch.
 #[derive(Clone, Copy)]
 struct SwitchWord(Switch);
 
@@ -37,7 +37,7 @@ impl fmt::Display for SwitchWord {
     }
 }
 
-// How many bytes were taken, or that it failed.
+// The number of bytes that were taken, or the failure.
 #[derive(Clone, Copy)]
 struct Taken<'a>(&'a Result<usize, io::ErrorKind>);
 
@@ -55,8 +55,8 @@ impl fmt::Display for Taken<'_> {
     }
 }
 
-/// Prints a run that was opened at `start`, in seconds of UTC since the epoch: the name of the first file, what each
-/// step answered, and the folder at the end.
+/// Prints a run that was opened at `start`, in seconds of UTC since the epoch. The page has the name of the first
+/// file, the reply to each step, and the folder at the end.
 pub fn print_run(page: &mut Vec<u8>, start: i64, run: &RollRun<MemoryFolder>) -> io::Result<()>
     requires start { IsMoment start }
     requires number { run.now.number ≤ last_of run.now.roller.config }
@@ -69,8 +69,8 @@ pub fn print_run(page: &mut Vec<u8>, start: i64, run: &RollRun<MemoryFolder>) ->
     print_folder(page, run.roller.folder())
 }
 
-/// Prints a run behind a queue that was opened at `start`, in seconds of UTC since the epoch: the name of the first
-/// file, what each step answered, the folder at the end, and the counts of the queue.
+/// Prints a run with a queue that was opened at `start`, in seconds of UTC since the epoch. The page has the name of
+/// the first file, the reply to each step, the folder at the end, and the counts of the queue.
 pub fn print_queued_run(page: &mut Vec<u8>, start: i64, run: &Run<MemoryFolder>) -> io::Result<()>
     requires start { IsMoment start }
     requires number { run.now.number ≤ last_of run.now.roller.config }
@@ -84,7 +84,7 @@ pub fn print_queued_run(page: &mut Vec<u8>, start: i64, run: &Run<MemoryFolder>)
     print_counts(page, run.queue.counts())
 }
 
-/// Prints why the log was not opened, and the folder as it was handed back.
+/// Prints why the log was not opened, and the folder that was returned.
 pub fn print_refusal(page: &mut Vec<u8>, error: &InitError, folder: &MemoryFolder) -> io::Result<()>
     ensures { OnOk result (page.new.items ≡
         page.old.items ++ refusal_page error.now (state_of folder.now).content) }
@@ -120,7 +120,7 @@ fn print_replies(page: &mut Vec<u8>, replies: &[RollReply]) -> io::Result<()>
     Ok(())
 }
 
-// Prints what a step answered.
+// Prints the reply to a step.
 fn print_reply(page: &mut Vec<u8>, reply: &RollReply) -> io::Result<()>
     ensures { OnOk result
         (page.new.items ≡ page.old.items ++ line_of (reply_words reply.now)) }
@@ -134,7 +134,7 @@ fn print_reply(page: &mut Vec<u8>, reply: &RollReply) -> io::Result<()>
     }
 }
 
-// Prints a line for each reply of a run behind a queue.
+// Prints a line for each reply of a run with a queue.
 fn print_queue_replies(page: &mut Vec<u8>, replies: &[Reply]) -> io::Result<()>
     ensures { OnOk result (page.new.items ≡ page.old.items ++ queue_reply_lines replies.now) }
 {
@@ -144,7 +144,7 @@ fn print_queue_replies(page: &mut Vec<u8>, replies: &[Reply]) -> io::Result<()>
     Ok(())
 }
 
-// Prints what a step of such a run answered.
+// Prints the reply to a step of a run with a queue.
 fn print_queue_reply(page: &mut Vec<u8>, reply: &Reply) -> io::Result<()>
     ensures { OnOk result
         (page.new.items ≡ page.old.items ++ line_of (queue_reply_words reply.now)) }

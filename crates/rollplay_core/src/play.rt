@@ -1,4 +1,4 @@
-//! A play of a script: what is read, what is printed, and the status at the end.
+//! A play of a script: its input, its output, and the exit status.
 
 ghost use Rattle.std.specs.Prelude.{◌≡◌, ◌≤◌, IfOk, IfErr, OnOk, IfSome, string_bytes, string_len};
 ghost use Rattle.std.specs.Io.KnownBytes.{Keeps, Appends};
@@ -40,12 +40,12 @@ impl Opening {
     }
 }
 
-// Why a script was not played, or its output not written.
+// Why a script was not played, or its output was not written.
 #[derive(Clone, Copy)]
 enum Failure {
-    // This line is faulty, counted from 1.
+    // The number of the faulty line, counted from 1.
     Line(usize),
-    // It is no UTF-8, or too long.
+    // The script is not UTF-8, or too long.
     Script,
     // The input was not read.
     Read,
@@ -65,7 +65,7 @@ impl Failure {
         }
     }
 
-    // Reports it on `errors`, and needs no memory for that.
+    // Reports the failure on `errors`, without allocating.
     fn report<E: Write>(self, errors: &mut E) -> io::Result<()>
         ensures whole { OnOk result (Appends (E.contents errors.old) (E.contents errors.new) (words_of self)) }
         ensures beginning { AppendsBeginning (E.contents errors.old) (E.contents errors.new) (words_of self) }
@@ -103,10 +103,15 @@ impl From<ScriptError> for Failure {
     }
 }
 
-/// Reads a script on `input` and plays it over a folder in memory. The replies of the calls and what the folder then
-/// contains go to `output`, a failure to `errors`, whose own faults are ignored. Returns the status of the process: 0;
-/// 1 if the log was not opened; 2 if the script is faulty or not read, or the output not written; 3 if memory was
-/// refused.
+/// Reads a script on `input` and plays it over a folder in memory. Writes the replies of the calls and the contents of
+/// the folder to `output`. Reports a failure on `errors`, and ignores faults of `errors` itself.
+///
+/// Returns the status of the process:
+///
+/// - 0: the log was opened, and the page was written.
+/// - 1: the log was not opened.
+/// - 2: the script is faulty or was not read, or the output was not written.
+/// - 3: memory was refused.
 pub fn play<R: Read, W: Write, E: Write>(
     alloc: Global,
     input: &mut R,
@@ -150,7 +155,7 @@ fn play_input<R: Read, W: Write>(
     }
 }
 
-// The text of a script, of which no more is read than shows that it is too long.
+// Reads the text of a script, up to one byte beyond its limit.
 fn read_text<R: Read>(alloc: Global, input: &mut R) -> Result<String, Failure>
     ensures length { IfOk result (λ text. string_len text ≤ LONGEST) }
     ensures given { IfOk result (λ text. IsGiven (R.remaining input.old) (string_bytes text)) }

@@ -9,7 +9,7 @@ use Rattle.rollplay_script.specs.Words.{tail_of, TakesWord, HasNoWord, Takes, Ta
 use Rattle.rollplay_script.specs.Text.{StandsForNone}
 use Rattle.rollplay_script.specs.Line.{LineKind, rotation, prefix, suffix, link, maximum, byte_limit, created, file, folder, link_at, absent, failing, shortened, start, see, put, write, flush, queue, offer, shut, add, drop, work, first_word, log_kinds, folder_kinds, run_kinds, queue_kinds, HasArguments, IsNotOf, BeginsWith, ContinuesWith, TakesText}
 
--- what stands behind a word tells what is left
+-- the text after a word determines what is left
 tail_of-once : (r s : Option (List ℕ)) → tail_of r ≡ tail_of s → r ≡ s
 tail_of-once None None e = refl
 tail_of-once None (Some s) e = absurd (cc)
@@ -87,26 +87,26 @@ one_kind j k e =
     let some : Some j ≡ Some k = sym (first_word-tells j) ∙ (ap kind_from e ∙ first_word-tells k) in
     ap (λ (o : Option LineKind). unwrap_or o j) some
 
--- what stands behind a first word belongs to the one kind that has this word
+-- the text after a first word belongs to the one kind that has this word
 goes_on_as : (word : List ℕ) (rest : Option (List ℕ)) (line : ScriptLine) (left : Option (List ℕ)) (j k : LineKind) → word ≡ first_word j → word ≡ first_word k → HasArguments k rest line left → HasArguments j rest line left
 goes_on_as word rest line left j k own other arguments =
     subst (λ (i : LineKind). HasArguments i rest line left) (one_kind k j (sym other ∙ own)) arguments
 
 module _ (word : List ℕ) (rest : Option (List ℕ)) where
-  -- where the word is that of a kind, but nothing of this kind stands behind it, nothing of any kind does
+  -- if the word is that of a kind, and no arguments of this kind follow, no arguments of any kind follow
   pub none_behind : (kinds : List LineKind) (j : LineKind) → word ≡ first_word j
       → ((line : ScriptLine) (left : Option (List ℕ)) → ¬ HasArguments j rest line left) → All (IsNotOf word rest) kinds
   none_behind kinds j own none n d lt = λ other line left arguments.
       none line left (goes_on_as word rest line left j (get_or kinds n d) own other arguments)
 
-  -- where the word is of none of these kinds, the others tell
+  -- if the word is of none of these kinds, the other kinds decide
   pub none_unless : (kinds others : List LineKind) → AllByRecursion (λ k. word ≢ first_word k) kinds → All (IsNotOf word rest) others
       → All (IsNotOf word rest) (kinds ++ others)
   none_unless [] others not none = none
   none_unless (k ∷ kinds) others not none =
       All-cons (IsNotOf word rest) k (kinds ++ others) (λ own. absurd (not.0 own)) (none_unless kinds others not.1 none)
 
-  -- these are all kinds there are
+  -- these are all the kinds
   pub none_at_all : All (IsNotOf word rest) (log_kinds ++ folder_kinds ++ run_kinds ++ queue_kinds) → (k : LineKind) → IsNotOf word rest k
   none_at_all none rotation = none 0 rotation (lit< tt)
   none_at_all none prefix = none 1 prefix (lit< tt)
@@ -143,7 +143,7 @@ begins_with old word rest taken k is line left arguments =
     record { kind = k; rest = rest; word = subst (λ (w : List ℕ). TakesWord old w rest) is taken; arguments = arguments }
 
 module _ (old : Option (List ℕ)) (word : List ℕ) (rest : Option (List ℕ)) (taken : TakesWord old word rest) (line : ScriptLine) (left : Option (List ℕ)) (begins : BeginsWith old line left) where
-  -- what stands behind the first word belongs to the word's kind
+  -- the text after the first word belongs to the word's kind
   pub arguments_of : (k : LineKind) → word ≡ first_word k → HasArguments k rest line left
   arguments_of k is =
       let once = takes_once old (first_word begins.kind) word begins.rest rest begins.word taken in
@@ -158,11 +158,11 @@ takes_no P Q old r s takes none to = elim none [
   | inr other ↦ other.2 (to other.0 (subst P (takes_once old takes.word other.0 r s takes.taken other.1).0 takes.kind))
 ]
 
--- a text stood there, and none could
+-- a text was there, and no text could be
 pub no_text : (old new : Option (List ℕ)) (text : List ℕ) → TakesText old text new → StandsForNone (unwrap_or old []) → ⊥
 no_text old new text takes none = none text takes.text
 
--- what is left behind the arguments of a kind
+-- what is left after the arguments of a kind
 left_once : (k : LineKind) (rest : Option (List ℕ)) (l m : ScriptLine) (r s : Option (List ℕ)) → HasArguments k rest l r → HasArguments k rest m s → r ≡ s
 left_once rotation rest l m r s a b = (takes_once rest a.2.word b.2.word r s a.2.taken b.2.taken).1
 left_once prefix rest l m r s a b = a.2.all ∙ sym b.2.all
@@ -195,7 +195,7 @@ left_once add rest l m r s a b = a.1 ∙ sym b.1
 left_once drop rest l m r s a b = a.1 ∙ sym b.1
 left_once work rest l m r s a b = (takes_once rest a.2.word b.2.word r s a.2.taken b.2.taken).1
 
--- what is left behind a line
+-- what is left after a line
 pub begins_once : (old : Option (List ℕ)) (l m : ScriptLine) (r s : Option (List ℕ)) → BeginsWith old l r → BeginsWith old m s → r ≡ s
 begins_once old l m r s a b =
     left_once b.kind b.rest l m r s (arguments_of old (first_word b.kind) b.rest b.word l r a b.kind refl) b.arguments

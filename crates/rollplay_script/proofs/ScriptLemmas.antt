@@ -18,7 +18,7 @@ use Rattle.rollplay_script.specs.declared.words.LineError.TheVariants.{Fault as 
 use Rattle.rollplay_script.specs.Draft.{plan_of}
 use Rattle.rollplay_script.specs.Script.{Progress, Gives, BeginsWithLine, IsFaultyLine, Stops, Reaches, IsScript, HasFirstFault, is_misplaced}
 
--- a text is cut behind its first newline
+-- a text is cut after its first newline
 pub begins_with_line : (text : List ℕ) (found : Option (Bor (List ℕ) × Bor (List ℕ))) (whole : Bor (List ℕ) × Bor (List ℕ)) → text ≢ [] → whole.0.now ≡ text → whole.1.now ≡ []
     → MatchOption found ((i : ℕ) → i < length text → get_or text i 0 ≢ 10) (λ x. (text ≡ x.0.now ++ (10 ∷ x.1.now)) × ((i : ℕ) → i < length x.0.now → get_or x.0.now i 0 ≢ 10))
     → BeginsWithLine text (unwrap_or found whole).0.now (unwrap_or found whole).1.now
@@ -32,7 +32,7 @@ pub stops_here : (rest line behind : List ℕ) (p : Progress) → BeginsWithLine
 stops_here [] line behind p begins faulty = absurd (begins.some refl)
 stops_here (b ∷ bs) line behind p begins faulty = (line, behind, begins, faulty)
 
--- where the start is known at the end of the text, all of it is a script
+-- if the start is known at the end of the text, all of it is a script
 pub is_script : (text : List ℕ) (lines : ℕ) (p : Progress) (found : Option Script) (error : ScriptError) → Reaches text lines [] p
     → IfSome found (λ s. Gives p s.builder (state_of s.folder) s.start (plan_of s.plan))
     → IfOk (ok_or found error) (λ s. IsScript text s.builder (state_of s.folder) s.start (plan_of s.plan))
@@ -44,7 +44,7 @@ is_script text lines p (Some s) error reached is = record {
   gives = is;
 }
 
--- where it is not, the fault lies behind the last line
+-- if it is not, the fault is after the last line
 pub misses_start : (text : List ℕ) (lines : ℕ) (p : Progress) (found : Option Script) (number counted : ℕ) → Reaches text lines [] p → counted ≡ suc lines
     → (IsNone found → p.start ≡ None) → ok_or found (Fault counted) ≡ Err (Fault number) → HasFirstFault text number
 misses_start text lines p None number counted reached next none e = record {
@@ -57,7 +57,7 @@ misses_start text lines p None number counted reached next none e = record {
 }
 misses_start text lines p (Some s) number counted reached next none e = absurd (cc)
 
--- a fault of a script is one of its line
+-- a fault of a script is a fault of its line
 pub fault_of_line : (error : LineError) (told : ScriptError) (line number : ℕ) → (error ≡ LineFault → told ≡ Fault line) → (error ≡ LineMemory → told ≡ Memory) → told ≡ Fault number
     → (error ≡ LineFault) × (number ≡ line)
 fault_of_line LineFault told line number fault memory is = let same : told ≡ Fault line = fault refl in (refl, (cc))
@@ -83,14 +83,14 @@ no_bytes (b ∷ bs) e = elim (eqb_tells (length (b ∷ bs)) 0) [
   | inr some ↦ absurd (true_is_not_false (e ∙ some.0))
 ]
 
--- before the start, a line that is neither a setting nor the start may not stand
+-- before the start, only a setting or the start is allowed
 pub misplaced_before_start : (p : Progress) (line : ScriptLine) → p.start ≡ None → ((setting : Setting) → line ≡ Sets setting → ⊥) → ((m : ℤ) → line ≡ Start m → ⊥) → is_misplaced line p ≡ true
 misplaced_before_start p (Sets setting) none no_setting no_start = absurd (no_setting setting refl)
 misplaced_before_start p (Start m) none no_setting no_start = absurd (no_start m refl)
 misplaced_before_start p (Step step) none no_setting no_start = rw none refl
 misplaced_before_start p (QueueStep step) none no_setting no_start = rw none refl
 
--- behind it, nor may a line that is no step of the kind that the script is of
+-- after the start, only a step of the script's kind is allowed
 pub misplaced_without_queue : (p : Progress) (line : ScriptLine) (moment : ℤ) → p.start ≡ Some moment → p.queueing ≡ None → ((step : RollStep) → line ≡ Step step → ⊥) → is_misplaced line p ≡ true
 misplaced_without_queue p (Sets setting) moment some none no_step = rw some refl
 misplaced_without_queue p (Start m) moment some none no_step = rw some refl

@@ -1,4 +1,4 @@
--- Texts as they stand in one line.
+-- Texts in the form that they have in one line.
 use Rattle.std.proofs.Common.{◌≡◌, ◌≢◌, ℕ, ◌<◌, ◌⊎◌, List, [], ◌∷◌, ◌++◌, All, length, get_or, refl, ap, sym, subst, ◌∙◌, arith, append_assoc, inl, inr}
 use Rattle.std.proofs.lemmas.Bool.{cases_eq}
 use Rattle.std.proofs.lemmas.Grind.{common_steps}
@@ -10,7 +10,7 @@ use Rattle.rollplay_script.specs.Text.{escape_of, StandsFirst, IsEscaped, Stands
 escape_of-plain : (b : ℕ) → b ≢ 10 → b ≢ 92 → escape_of b ≡ b ∷ []
 escape_of-plain b n s = grind (arith, common_steps)
 
--- the byte that an escape stands for
+-- the byte that an escape denotes
 pub escape_of-cases : (b : ℕ) (after behind : List ℕ) → 92 ∷ after ≡ escape_of b ++ behind → (after ≡ 110 ∷ behind) ⊎ (after ≡ 92 ∷ behind)
 escape_of-cases b after behind e = elim (cases_eq b 10) [
   | inl ten ↦
@@ -27,14 +27,14 @@ escape_of-cases b after behind e = elim (cases_eq b 10) [
   ]
 ]
 
--- a byte that isn't a backslash stands for itself
+-- a byte that isn't a backslash denotes itself
 stands_first-plain : (b : ℕ) (rest : List ℕ) → b ≢ 92 → StandsFirst b (b ∷ rest) rest
 stands_first-plain b rest s = elim (cases_eq b 10) [
   | inl ten ↦ inr (ten, ap (λ x. x ∷ rest) ten)
   | inr not_ten ↦ inl (sym (ap (λ x. x ++ rest) (escape_of-plain b not_ten s)))
 ]
 
--- and nothing else does
+-- and no other text denotes it
 stands_first-rest : (a b : ℕ) (text rest : List ℕ) → b ≢ 92 → StandsFirst a (b ∷ text) rest → rest ≡ text
 stands_first-rest a b text rest s stands = elim stands [
   | inl e ↦ elim (cases_eq a 10) [
@@ -61,13 +61,13 @@ apart xs ys e = omega (arith, ap (λ (bs : List ℕ). get_or bs 0 0) e)
 some_byte : (b : ℕ) (bs : List ℕ) → b ∷ bs ≡ [] → ⊥
 some_byte b bs e = cc
 
--- what no backslash is in stands for itself
+-- a text without a backslash denotes itself
 front-stands : (before more rest : List ℕ) → All (λ b. b ≢ 92) before → IsEscaped more rest → IsEscaped (before ++ more) (before ++ rest)
 front-stands [] more rest plain escaped = escaped
 front-stands (b ∷ bs) more rest plain escaped =
     (bs ++ rest, stands_first-plain b (bs ++ rest) (All-head (λ x. x ≢ 92) b bs plain), front-stands bs more rest (All-tail (λ x. x ≢ 92) b bs plain) escaped)
 
--- and what stands behind it stands for something
+-- and the text after it denotes something
 front-leaves : (before rest all : List ℕ) → All (λ b. b ≢ 92) before → IsEscaped all (before ++ rest) → (more : List ℕ) × IsEscaped more rest
 front-leaves [] rest all plain escaped = (all, escaped)
 front-leaves (b ∷ bs) rest [] plain escaped = absurd (some_byte b (bs ++ rest) escaped)
@@ -75,7 +75,7 @@ front-leaves (b ∷ bs) rest (a ∷ as') plain (left, stands, escaped) =
     front-leaves bs rest as' (All-tail (λ x. x ≢ 92) b bs plain)
     (subst (λ (x : List ℕ). IsEscaped as' x) (stands_first-rest a b (bs ++ rest) left (All-head (λ x. x ≢ 92) b bs plain) stands) escaped)
 
--- behind an escape
+-- after an escape
 escape-leaves : (after behind all : List ℕ) (c : ℕ) → 92 ∷ after ≡ escape_of c ++ behind → IsEscaped all (92 ∷ after)
     → (more : List ℕ) × IsEscaped more behind
 escape-leaves after behind [] c escape escaped = absurd (some_byte 92 after escaped)
@@ -95,7 +95,7 @@ escape-leaves after behind (a ∷ more) c escape (left, stands, escaped) = elim 
   | inr newline ↦ absurd (omega (arith, ap (λ (bs : List ℕ). get_or bs 0 0) newline.1))
 ]
 
--- nothing stands for a backslash that begins no escape
+-- a backslash that begins no escape denotes nothing
 no_escape : (after all : List ℕ) → ((b : ℕ) (rest : List ℕ) → 92 ∷ after ≢ escape_of b ++ rest) → ¬ (IsEscaped all (92 ∷ after))
 no_escape after [] none escaped = some_byte 92 after escaped
 no_escape after (a ∷ more) none (left, stands, escaped) = elim stands [
@@ -103,7 +103,7 @@ no_escape after (a ∷ more) none (left, stands, escaped) = elim stands [
   | inr newline ↦ omega (arith, ap (λ (bs : List ℕ). get_or bs 0 0) newline.1)
 ]
 
--- The text was resolved up to this rest: whatever stands behind what was resolved, and whether anything does.
+-- The text was resolved up to this rest. The text has a plain form exactly if the rest has one.
 pub record IsResolved (text done rest : List ℕ) : Type 0 where
   pub grows : (more : List ℕ) → IsEscaped more rest → IsEscaped (done ++ more) text
   pub leaves : (all : List ℕ) → IsEscaped all text → (more : List ℕ) × IsEscaped more rest

@@ -1,4 +1,4 @@
--- A draft of a script, and what comes of it.
+-- A draft of a script, and the script that it becomes.
 use Rattle.appender_store.specs.MemoryView.{state_of}
 use Rattle.rollplay_script.specs.declared.script.Draft.{Draft}
 use Rattle.rollplay_script.specs.declared.script.Plan.{Plan as PlanOfScript}

@@ -11,7 +11,7 @@ use Rattle.rollplay_script.specs.declared.line.Setting.TheVariants.{Rotation as 
 use Rattle.rollplay_script.specs.Words.{TakesWord, Takes}
 use Rattle.rollplay_script.specs.Text.{IsEscaped, IsSeconds, IsCreated, IsCount, IsCall}
 
--- what a queue does with a line that finds no room: it drops and counts it, or has its sender try again
+-- what a full queue does with a line: it drops and counts it, or its sender tries again
 abbrev pub mode_word : Bool → List ℕ
 mode_word true = codes "lossy"
 mode_word false = codes "waiting"
@@ -74,7 +74,7 @@ first_word work = codes "work"
 abbrev pub log_kinds : List LineKind
 log_kinds = rotation ∷ prefix ∷ suffix ∷ link ∷ maximum ∷ byte_limit ∷ []
 
--- what stands in the folder, and which of its calls go wrong
+-- the entries of the folder, and which of its calls fail
 abbrev pub folder_kinds : List LineKind
 folder_kinds = created ∷ file ∷ folder ∷ link_at ∷ absent ∷ failing ∷ shortened ∷ []
 
@@ -86,12 +86,12 @@ run_kinds = start ∷ see ∷ put ∷ write ∷ flush ∷ []
 abbrev pub queue_kinds : List LineKind
 queue_kinds = queue ∷ offer ∷ shut ∷ add ∷ drop ∷ work ∷ []
 
--- all that is left of a line is a text, which may be missing where it is empty
+-- the rest of a line is a text, which may be missing if it is empty
 pub record TakesText (old : Option (List ℕ)) (plain : List ℕ) (new : Option (List ℕ)) : Type 0 where
   pub text : IsEscaped plain (unwrap_or old [])
   pub all : new ≡ None
 
--- What stands behind the first word of a line of each kind, which line it is, and what is then left of it.
+-- The text after the first word of a line of each kind, the line that it gives, and the rest.
 abbrev pub HasArguments : LineKind → Option (List ℕ) → ScriptLine → Option (List ℕ) → Type 0
 HasArguments rotation rest line left =
     (r : Rotation) × (line ≡ Setting (SetRotation r)) × Takes (λ word. word ≡ rotation_word r) rest left
@@ -143,13 +143,13 @@ HasArguments drop rest line left = (line ≡ QueueStep DropSender) × (left ≡ 
 HasArguments work rest line left =
     (m : ℤ) × (line ≡ QueueStep (Work m)) × Takes (λ word. IsSeconds word m) rest left
 
--- behind this first word, a line goes on like this
+-- after this first word, a line continues like this
 pub record ContinuesWith (word : List ℕ) (rest : Option (List ℕ)) (line : ScriptLine) (left : Option (List ℕ)) : Type 0 where
   pub kind : LineKind
   pub is : word ≡ first_word kind
   pub arguments : HasArguments kind rest line left
 
--- behind this first word, it goes on as no line of this kind
+-- after this first word, it is no line of this kind
 abbrev pub IsNotOf : List ℕ → Option (List ℕ) → LineKind → Type 0
 IsNotOf word rest kind =
     word ≡ first_word kind → (line : ScriptLine) → (left : Option (List ℕ)) → ¬ HasArguments kind rest line left

@@ -1,4 +1,4 @@
--- Whole scripts: which line may stand where, and what it sets.
+-- Whole scripts: the allowed place of each line, and what the line sets.
 use Rattle.std.specs.Prelude.{◌≡◌, ◌≢◌, ◌⊎◌, ℕ, zero, suc, ℤ, Bool, true, false, not, List, [], ◌∷◌, ◌++◌, All, Option, None, Some, is_some, string_bytes, if◌then◌else◌}
 use Rattle.std.specs.FinMap as fin
 use Rattle.std.specs.FinSet as set
@@ -19,8 +19,9 @@ use Rattle.rollplay_script.specs.Line.{IsLine, IsNoLine}
 use Rattle.rollplay_script.specs.declared.words.LineError.{LineError}
 use Rattle.rollplay_script.specs.declared.words.LineError.TheVariants.{Fault, Memory}
 
--- A script as far as it was read: whether anything was set up, with what the log is opened, the folder before it, the queue
--- if there is one, the moment of the opening once it is known, and the steps so far, of a log by itself and of a queue.
+-- A script as far as it was read: whether anything was set up, the configuration of the log, and the folder before it.
+-- Then the queue if there is one, the moment of the opening once it is known, and the steps so far.
+-- The steps are those of a log without a queue and those of a queue.
 pub record Progress : Type 0 where
   pub begun : Bool
   pub config : Config
@@ -46,26 +47,26 @@ nothing_read = record {
 abbrev pub is_no_name : State → List ℕ → Bool
 is_no_name folder name = is_some (put_refusal folder.content.names name)
 
--- what a put that was refused is to its line
+-- the fault of a line whose put was refused
 abbrev pub error_of_put : PutError → LineError
 error_of_put Name = Fault
 error_of_put Used = Fault
 error_of_put OutOfMemory = Memory
 
--- what puts something under a name that can't be
+-- a line that puts something under an invalid name
 abbrev pub is_refused_put : Setting → State → Bool
 is_refused_put (File name text) folder = is_no_name folder name.now
 is_refused_put (Folder name) folder = is_no_name folder name.now
 is_refused_put (LinkAt name target) folder = is_no_name folder name.now
 is_refused_put setting folder = false
 
--- what may not be set up now: such a put, and in any line but the first that the folder is absent
+-- a setup that is not allowed now: such a put, or an absent folder in a line that is not the first
 abbrev pub is_refused : Setting → Progress → Bool
 is_refused Absent p = p.begun
 is_refused setting p = is_refused_put setting p.folder
 
--- a line that may not stand here: settings come before the start, steps behind it, those of a queue where there is one and the
--- others where there is none, and the start once
+-- A line that is not allowed here. Settings are before the start, which is there once, and steps are after it.
+-- The steps are those of a queue if there is one, else those of a log without a queue.
 abbrev pub is_misplaced : ScriptLine → Progress → Bool
 is_misplaced (Sets setting) p = if is_some p.start then true else is_refused setting p
 is_misplaced (Start m) p = is_some p.start
@@ -111,42 +112,43 @@ after_line (Start m) p = record p { start = Some m }
 after_line (Step step) p = record p { steps = p.steps ++ step ∷ [] }
 after_line (QueueStep step) p = record p { queue_steps = p.queue_steps ++ step ∷ [] }
 
--- the text is a line that may stand here, and was added
+-- the text is a line that is allowed here, and was added
 pub record Adds (text : List ℕ) (old new : Progress) : Type 0 where
   pub line : ScriptLine
   pub reads : IsLine text line
   pub fits : is_misplaced line old ≡ false
   pub after : new ≡ after_line line old
 
--- the text is no line, or one that may not stand here
+-- the text is no line, or one that is not allowed here
 abbrev pub IsFaultyLine : List ℕ → Progress → Type 0
 IsFaultyLine text p = IsNoLine text ⊎ ((line : ScriptLine) × IsLine text line × (is_misplaced line p ≡ true))
 
 -- ---- line by line
 
--- the first line of a text, and what stands behind its newline; the last line may have none
+-- the first line of a text, and the text after its newline; the last line may have no newline
 pub record BeginsWithLine (text line rest : List ℕ) : Type 0 where
   pub one : All (λ b. b ≢ 10) line
   pub join : (text ≡ line ++ (10 ∷ rest)) ⊎ ((text ≡ line) × (rest ≡ []))
   pub some : text ≢ []
 
--- after so many lines of the text, each of which may stand where it does, this rest is left, and this far the script was read
+-- After this number of lines of the text, each allowed in its place, this rest is left. The script was read this far.
 abbrev pub Reaches : List ℕ → ℕ → List ℕ → Progress → Type 0
 Reaches text zero rest p = (rest ≡ text) × (p ≡ nothing_read)
 Reaches text (suc k) rest p = (before : List ℕ) × (line : List ℕ) × (q : Progress)
     × Reaches text k before q × BeginsWithLine before line rest × Adds line q p
 
--- what is done with a log once it is open: steps of it by itself, or of a queue of so many lines, lossy or not, and a worker
+-- The steps of an open log: those of the log alone, or those of a worker and a queue of this number of lines.
+-- The queue is lossy or not.
 pub data Plan : Type 0 where
   rolling : List RollStep → Plan
   queued : ℕ → Bool → List StepOfQueue → Plan
 
--- it is decided by whether there is a queue
+-- the choice depends on whether there is a queue
 abbrev pub plan_with : Option Queueing → List RollStep → List StepOfQueue → Plan
 plan_with None steps queue_steps = rolling steps
 plan_with (Some queueing) steps queue_steps = queued queueing.limit queueing.lossy queue_steps
 
--- What was read gives this: with what the log is opened, the folder before it, when, and what is done then.
+-- The parts of a script that was read: the configuration of the log, the folder before, the moment, and the steps.
 pub record Gives (p : Progress) (config : Config) (folder : State) (start : ℤ) (plan : Plan) : Type 0 where
   pub config_is : p.config ≡ config
   pub folder_is : p.folder ≡ folder
@@ -160,12 +162,12 @@ pub record IsScript (text : List ℕ) (config : Config) (folder : State) (start 
   pub reached : Reaches text lines [] progress
   pub gives : Gives progress config folder start plan
 
--- the next line is faulty; where nothing is left, the start is missing
+-- the next line is faulty; if nothing is left, the start is missing
 abbrev pub Stops : List ℕ → Progress → Type 0
 Stops [] p = p.start ≡ None
 Stops (b ∷ bs) p = (line : List ℕ) × (rest : List ℕ) × BeginsWithLine (b ∷ bs) line rest × IsFaultyLine line p
 
--- the first fault lies in the line of this number, counted from 1
+-- the first fault is in the line of this number, counted from 1
 pub record HasFirstFault (text : List ℕ) (number : ℕ) : Type 0 where
   pub taken : ℕ
   pub counted : number ≡ suc taken

@@ -1,4 +1,4 @@
--- Texts and numbers as they stand in one line.
+-- Texts and numbers in the form that they have in one line.
 use Rattle.std.specs.Prelude.{◌≡◌, ◌≢◌, ◌↔◌, ◌⊎◌, ◌<◌, ◌≤◌, ◌^◌, ◌<ℤ◌, ℕ, ℤ, pos, FitsSigned, List, [], ◌∷◌, ◌++◌, ◌==◌, Option, None, Some, if◌then◌else◌, slice_index, codes}
 use Rattle.std.specs.Int.{w64, w128}
 use Rattle.std.specs.List.{flat_map}
@@ -12,20 +12,20 @@ escape_of b = if b == 10 then 92 ∷ 110 ∷ [] else (if b == 92 then 92 ∷ 92 
 abbrev pub escapes_of : List ℕ → List ℕ
 escapes_of = flat_map escape_of
 
--- the byte stands first in the text, and the rest behind it; a newline may stand there as it is
+-- the text begins with the byte, and the rest follows; a newline may also be unescaped
 abbrev pub StandsFirst : ℕ → List ℕ → List ℕ → Type 0
 StandsFirst b text rest = (text ≡ escape_of b ++ rest) ⊎ ((b ≡ 10) × (text ≡ 10 ∷ rest))
 
--- the text has the bytes of the plain one, each of them as it may stand
+-- the text has the bytes of the plain one, each escaped or as it is
 abbrev pub IsEscaped : List ℕ → List ℕ → Type 0
 IsEscaped [] text = text ≡ []
 IsEscaped (b ∷ plain) text = (rest : List ℕ) × StandsFirst b text rest × IsEscaped plain rest
 
--- there is no plain text that stands escaped like this
+-- no plain text has this escaped form
 abbrev pub StandsForNone : List ℕ → Type 0
 StandsForNone text = (plain : List ℕ) → ¬ (IsEscaped plain text)
 
--- A decimal number: one digit or more, with a minus before the negative numbers alone, and never a plus.
+-- A decimal number: one digit or more. Only negative numbers have a sign.
 pub record IsSigned (word : List ℕ) (n : ℤ) : Type 0 where
   pub digits : IsNumeral 10 (without_leading_sign word)
   pub value : n ≡ signed_digits_value 10 word
@@ -47,7 +47,7 @@ abbrev pub IsCreated : List ℕ → Option ℤ → Type 0
 IsCreated word None = word ≡ codes "none"
 IsCreated word (Some m) = FitsSigned w128 m × IsSigned word m
 
--- how many
+-- a count
 pub record IsCount (word : List ℕ) (n : ℕ) : Type 0 where
   pub fits : n < 2 ^ 64
   pub number : IsUnsigned word n

@@ -1,4 +1,4 @@
-//! The language of scripts: words, lines, and which line may stand where.
+//! The language of scripts: words, lines, and the allowed place of each line.
 #![tactic(auto)]
 
 pub mod line;

@@ -1,4 +1,4 @@
-//! A line of a script: what is set up, the start, or a step.
+//! A line of a script: a setting, the start, or a step.
 
 ghost use Rattle.std.specs.Prelude.{◌≡◌, ◌≢◌, ◌++◌, Option, List, ℕ, Bool, None, Some, Err, IfOk, IfErr};
 ghost use Rattle.std.specs.List.{All};
@@ -15,55 +15,55 @@ use std::alloc::Global;
 /// The queue before a worker that writes the log.
 #[derive(Clone, Copy, Debug, PartialEq, Eq)]
 pub struct Queueing {
-    /// How many lines have room in it.
+    /// The number of lines for which it has room.
     pub limit: usize,
-    /// Whether a line that finds no room is dropped and counted; else its sender is to try again.
+    /// Whether a full queue drops and counts a line. Else its sender has to try again.
     pub lossy: bool,
 }
 
 /// A line that sets something up.
 #[derive(Drop)]
 pub enum Setting<'a> {
-    /// How often a new file begins.
+    /// The period after which a new file begins.
     Rotation(Rotation),
-    /// What the name of each file begins with.
+    /// The prefix of the name of each file.
     Prefix(String),
-    /// What it ends with.
+    /// The suffix of the name of each file.
     Suffix(String),
     /// The link to the newest file.
     Link(String),
-    /// How many files are kept.
+    /// The number of files that are kept.
     Max(usize),
-    /// How many bytes a file takes before the next of its period begins.
+    /// The number of bytes in a file before the next of its period begins.
     Bytes(u64),
     /// The creation moment of files from here on, in nanoseconds since the epoch.
     Created(Option<i128>),
-    /// A file that is there, with its contents.
+    /// A file that exists before the start, with its contents.
     File(&'a str, String),
-    /// A folder that is there.
+    /// A folder that exists before the start.
     Folder(&'a str),
-    /// A link that is there, with its target.
+    /// A link that exists before the start, with its target.
     LinkAt(&'a str, &'a str),
-    /// That the folder itself is not there.
+    /// The folder of the log does not exist before the start.
     Absent,
     /// A call that fails, by its number.
     Fail(u64),
-    /// An append that takes so many bytes at most, by the number of its call.
+    /// An append that takes at most this number of bytes, by the number of its call.
     Short(u64, usize),
-    /// That a worker writes the log, from this queue.
+    /// A worker writes the log, from this queue.
     Queue(Queueing),
 }
 
-/// A line that is good by itself, wherever it stands.
+/// A line that is valid by itself, in whatever place.
 #[derive(Drop)]
 pub enum ScriptLine<'a> {
-    /// Comes before the start.
+    /// A setting, before the start.
     Setting(Setting<'a>),
     /// The log is opened at this moment, in seconds of UTC since the epoch.
     Start(i64),
-    /// Comes behind the start, where no queue is set up.
+    /// A step after the start, if no queue is set up.
     Step(RollStep),
-    /// Comes behind the start, where a queue is set up.
+    /// A step after the start, if a queue is set up.
     QueueStep(Step),
 }
 
@@ -79,7 +79,7 @@ impl<'a> ScriptLine<'a> {
         Ok(line)
     }
 
-    // Reads the first word, and what belongs to it.
+    // Reads the first word and its arguments.
     fn read_words(alloc: Global, words: &mut Words<'a>) -> Result<ScriptLine<'a>, LineError>
         ensures ok { IfOk result (λ line. BeginsWith words.old line words.new) }
         ensures fault { result ≡ Err LineError.Fault →
@@ -89,7 +89,7 @@ impl<'a> ScriptLine<'a> {
         ScriptLine::read_log_words(alloc, word, words)
     }
 
-    // Reads what belongs to a first word. Those that say how the log is kept come first.
+    // Reads the arguments of a first word: here those of the log's settings.
     fn read_log_words(
         alloc: Global,
         word: &str,
@@ -110,7 +110,7 @@ impl<'a> ScriptLine<'a> {
         }))
     }
 
-    // Then those that say what stands in the folder, and which of its calls go wrong.
+    // Then those of the folder's entries, and of its calls that fail.
     fn read_folder_words(
         alloc: Global,
         word: &str,
@@ -132,7 +132,7 @@ impl<'a> ScriptLine<'a> {
         }))
     }
 
-    // Then the start, and the steps of a run without a queue.
+    // Then those of the start, and of the steps of a run without a queue.
     fn read_run_words(
         alloc: Global,
         word: &str,
@@ -154,7 +154,7 @@ impl<'a> ScriptLine<'a> {
         })
     }
 
-    // At last those of a queue.
+    // At last those of a queue and of the steps of a run with one.
     fn read_queue_words(
         alloc: Global,
         word: &str,

@@ -1,4 +1,4 @@
-//! A script: what is set up, then the moment at which the log is opened, then the steps.
+//! A script: its settings, then the moment at which the log is opened, then the steps.
 
 ghost use Rattle.std.specs.Prelude.{◌≡◌, ◌≢◌, ◌≤◌, ℕ, [], length, false, true, IfOk, Some, Err, IfSome};
 ghost use Rattle.std.specs.Prelude.{IsNone, OnOk};
@@ -13,20 +13,20 @@ use appender_store::store::{MemoryFolder, PutError};
 use std::alloc::{AllocError, Global};
 use std::mem;
 
-/// How many bytes a script may have.
+/// The greatest number of bytes of a script.
 pub const LONGEST: usize = 1_048_576;
 
-/// Why there is no script in a text.
+/// Why a text is not a script.
 #[derive(Clone, Copy, Debug, PartialEq, Eq)]
 pub enum ScriptError {
-    /// The first faulty line, counted from 1. Where `start` is missing, it is the one behind the last.
+    /// The first faulty line, counted from 1. If `start` is missing, it is the line after the last.
     Fault(usize),
     /// Memory was refused.
     Memory,
 }
 
 impl ScriptError {
-    // What the error of this line is to a whole script.
+    // Returns the error of the script for the error of this line.
     fn at(line: usize, error: LineError) -> ScriptError
         ensures fault { error ≡ LineError.Fault → result ≡ ScriptError.Fault line }
         ensures memory { error ≡ LineError.Memory → result ≡ ScriptError.Memory }
@@ -38,25 +38,25 @@ impl ScriptError {
     }
 }
 
-/// What is done with a log once it is open.
+/// The steps of a log once it is open.
 #[derive(Drop)]
 pub enum Plan {
-    /// It is written by itself.
+    /// The log is written without a queue.
     Rolling(Vec<RollStep>),
-    /// A worker writes it, from a queue.
+    /// A worker writes the log, from a queue.
     Queued(Queueing, Vec<Step>),
 }
 
-/// A whole script, of which each line is known to be good.
+/// A whole script, of which each line is valid.
 #[derive(Drop)]
 pub struct Script {
-    /// What the log is set up with.
+    /// The configuration of the log.
     pub builder: Builder,
     /// The folder before the log is opened.
     pub folder: MemoryFolder,
-    /// When it is opened, in seconds of UTC since the epoch.
+    /// The moment of the opening, in seconds of UTC since the epoch.
     pub start: i64,
-    /// What is done then.
+    /// The steps after the opening.
     pub plan: Plan,
 }
 
@@ -87,7 +87,7 @@ impl Script {
     }
 }
 
-// The first line of a text, and what stands behind its newline.
+// Returns the first line of a text, and the text after its newline.
 fn split_line(text: &str) -> (&str, &str)
     requires { text.now ≢ [] }
     ensures { BeginsWithLine text.now result.0.now result.1.now }
@@ -104,7 +104,7 @@ struct Draft {
     folder: MemoryFolder,
     queueing: Option<Queueing>,
     start: Option<i64>,
-    // One of the two is empty, by whether there is a queue.
+    // Empty if there is a queue. Else `queue_steps` is empty.
     steps: Vec<RollStep>,
     queue_steps: Vec<Step>,
 }
@@ -127,7 +127,7 @@ impl Draft {
         }
     }
 
-    // Takes the next line. Settings come first, then `start` once, then the steps, of a queue where there is one.
+    // Takes the next line. Settings are first, then `start` once, then the steps. With a queue, they are its steps.
     fn add(&mut self, alloc: Global, line: &str) -> Result<(), LineError>
         ensures ok { OnOk result (Adds line.now (progress_of self.old) (progress_of self.new)) }
         ensures fault { result ≡ Err LineError.Fault → IsFaultyLine line.now (progress_of self.old) }
@@ -150,7 +150,7 @@ impl Draft {
         }
     }
 
-    // Sets something up, if it can be set up now.
+    // Applies a setting, if it is allowed now.
     fn set(&mut self, alloc: Global, setting: &Setting<'_>) -> Result<(), LineError>
         ensures ok { OnOk result
             (progress_of self.new ≡ after_setting setting.now (progress_of self.old)) }
@@ -168,7 +168,7 @@ impl Draft {
         Ok(())
     }
 
-    // The whole script; `None` where `start` is missing.
+    // Returns the whole script, or `None` if `start` is missing.
     fn finish(self) -> Option<Script>
         ensures none { IsNone result → self.start ≡ None }
         ensures some { IfSome result (λ s.
@@ -196,7 +196,7 @@ impl Draft {
     }
 }
 
-// A builder with what a line sets of it.
+// Returns the builder with the setting of a line.
 fn builder_with(
     alloc: Global,
     builder: Builder,
@@ -215,7 +215,7 @@ fn builder_with(
     }
 }
 
-// The queue, if there is one, with what a line sets of it.
+// Returns the queue, if there is one, with the setting of a line.
 fn queueing_with(queueing: Option<Queueing>, setting: &Setting<'_>) -> Option<Queueing>
     ensures { result ≡ queueing_after setting.now queueing }
 {
@@ -225,7 +225,7 @@ fn queueing_with(queueing: Option<Queueing>, setting: &Setting<'_>) -> Option<Qu
     }
 }
 
-// Does what a line says of the folder.
+// Applies the setting of a line to the folder.
 fn set_folder(
     alloc: Global,
     folder: &mut MemoryFolder,
@@ -249,7 +249,7 @@ fn set_folder(
     Ok(())
 }
 
-// What a put that was refused is to its line.
+// Returns the error of a line whose put was refused.
 fn line_error(put: PutError) -> LineError
     ensures { result ≡ error_of_put put }
 {

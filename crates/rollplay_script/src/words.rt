@@ -15,7 +15,7 @@ use std::marker::Model;
 /// Why a line of a script was not taken.
 #[derive(Clone, Copy, Debug, PartialEq, Eq)]
 pub enum LineError {
-    /// It is no line of the language, or none for its place.
+    /// It is no line of the language, or it is not allowed in its place.
     Fault,
     /// Memory was refused.
     Memory,
@@ -31,7 +31,7 @@ impl From<AllocError> for LineError {
     }
 }
 
-/// What is left of a line: what stands behind one space, or `None` where no space came.
+/// The rest of a line: the text after one space, or `None` if there was no space.
 #[derive(Drop)]
 pub struct Words<'a> {
     rest: Option<&'a str>,
@@ -47,14 +47,14 @@ impl<'a> Model for Words<'a> {
 }
 
 impl<'a> Words<'a> {
-    /// A whole line, without its newline.
+    /// Returns the words of a whole line, without its newline.
     pub fn new(line: &'a str) -> Words<'a>
         ensures { result ≡ Some line.now }
     {
         Words { rest: Some(line) }
     }
 
-    /// The next word, which is not empty. Words stand apart by one space each.
+    /// Takes the next word, which is not empty. One space separates two words.
     pub fn word(&mut self) -> Result<&'a str, LineError>
         ensures ok { IfOk result (λ word. TakesWord self.old word.now self.new) }
         ensures err { IfErr result (λ e. (e ≡ LineError.Fault) × HasNoWord self.old) }
@@ -68,7 +68,7 @@ impl<'a> Words<'a> {
         Ok(word)
     }
 
-    /// The next word as a moment, in seconds of UTC since the epoch.
+    /// Takes the next word as a moment, in seconds of UTC since the epoch.
     pub fn seconds(&mut self) -> Result<i64, LineError>
         ensures ok { IfOk result (λ seconds. Takes (λ word. IsSeconds word seconds) self.old self.new) }
         ensures err { IfErr result (λ e. (e ≡ LineError.Fault)
@@ -78,7 +78,7 @@ impl<'a> Words<'a> {
         i64::try_from(number).map_err(|_| LineError::Fault)
     }
 
-    /// The next word as a creation moment, in nanoseconds since the epoch, or `none`.
+    /// Takes the next word as a creation moment, in nanoseconds since the epoch, or `none`.
     pub fn creation(&mut self) -> Result<Option<i128>, LineError>
         ensures ok { IfOk result (λ created. Takes (λ word. IsCreated word created) self.old self.new) }
         ensures err { IfErr result (λ e. (e ≡ LineError.Fault)
@@ -90,7 +90,7 @@ impl<'a> Words<'a> {
         }
     }
 
-    /// The next word as a count: decimal digits without a sign.
+    /// Takes the next word as a count: decimal digits without a sign.
     pub fn count(&mut self) -> Result<usize, LineError>
         ensures ok { IfOk result (λ count. Takes (λ word. IsCount word count) self.old self.new) }
         ensures err { IfErr result (λ e. (e ≡ LineError.Fault)
@@ -100,7 +100,7 @@ impl<'a> Words<'a> {
         usize::try_from(number).map_err(|_| LineError::Fault)
     }
 
-    /// The next word as the label of a sender: decimal digits without a sign.
+    /// Takes the next word as the label of a sender: decimal digits without a sign.
     pub fn label(&mut self) -> Result<u64, LineError>
         ensures ok { IfOk result (λ label. Takes (λ word. IsCount word label) self.old self.new) }
         ensures err { IfErr result (λ e. (e ≡ LineError.Fault)
@@ -109,7 +109,7 @@ impl<'a> Words<'a> {
         read_unsigned(self.word()?).ok_or(LineError::Fault)
     }
 
-    /// The next word as the number of a call, from 1 on.
+    /// Takes the next word as the number of a call, from 1 on.
     pub fn call(&mut self) -> Result<u64, LineError>
         ensures ok { IfOk result (λ number. Takes (λ word. IsCall word number) self.old self.new) }
         ensures err { IfErr result (λ e. (e ≡ LineError.Fault)
@@ -122,7 +122,7 @@ impl<'a> Words<'a> {
         Ok(number)
     }
 
-    /// All that is left, spaces too, with its escapes resolved; empty where nothing is left.
+    /// Takes the whole rest, spaces too, with its escapes resolved. It is empty if nothing is left.
     pub fn text(&mut self, alloc: Global) -> Result<String, LineError>
         ensures all { self.new ≡ None }
         ensures ok { IfOk result (λ plain. IsEscaped (string_bytes plain) (unwrap_or self.old [])) }
@@ -132,7 +132,7 @@ impl<'a> Words<'a> {
         unescape(alloc, text)
     }
 
-    /// Whether the line ends here, without a space.
+    /// Checks that the line ends here, without a space.
     pub fn end(&self) -> Result<(), LineError>
         ensures end { IsOk result ↔ (self.now ≡ None) }
         ensures err { IfErr result (λ e. e ≡ LineError.Fault) }
@@ -144,7 +144,7 @@ impl<'a> Words<'a> {
     }
 }
 
-// What stands before the first space, and what behind it.
+// Returns the text before the first space, and the text after it.
 fn split_word(line: &str) -> (&str, Option<&str>)
     ensures word { result.0.now ≡ before_first (λ b. b == 32) line.now }
     ensures join { line.now ≡ result.0.now ++ tail_of (option_map (λ rest. rest.now) result.1) }
@@ -155,7 +155,7 @@ fn split_word(line: &str) -> (&str, Option<&str>)
     }
 }
 
-// A decimal number, whose `-` stands before the negative ones alone.
+// Reads a decimal number. Only negative numbers have a sign.
 fn read_signed(word: &str) -> Option<i128>
     ensures { MatchOption result ((n : ℤ) → FitsSigned w128 n → ¬ (IsSigned word.now n))
         (IsSigned word.now) }
@@ -170,7 +170,7 @@ fn read_signed(word: &str) -> Option<i128>
     Some(number)
 }
 
-// A decimal number without a sign.
+// Reads a decimal number without a sign.
 fn read_unsigned(word: &str) -> Option<u64>
     ensures { MatchOption result ((n : ℕ) → n < 2 ^ 64 → ¬ (IsUnsigned word.now n))
         (IsUnsigned word.now) }
@@ -181,7 +181,7 @@ fn read_unsigned(word: &str) -> Option<u64>
     word.parse::<u64>().ok()
 }
 
-// The text with a newline for each `\n` and a backslash for each `\\`; any other backslash is a fault.
+// Returns the text with a newline for each `\n` and a backslash for each `\\`. Any other backslash is a fault.
 fn unescape(alloc: Global, text: &str) -> Result<String, LineError>
     ensures ok { IfOk result (λ plain. IsEscaped (string_bytes plain) text.now) }
     ensures fault { result ≡ Err LineError.Fault → StandsForNone text.now }
@@ -198,7 +198,7 @@ fn unescape(alloc: Global, text: &str) -> Result<String, LineError>
     Ok(plain)
 }
 
-// The character that is escaped at the start of a text, and what stands behind it.
+// Returns the character that is escaped at the start of a text, and the text after it.
 fn split_escape(text: &str) -> Option<(char, &str)>
     ensures byte { IfSome result (λ r. r.0 < 128) }
     ensures split { IfSome result (λ r. 92 ∷ text.now ≡ escape_of r.0 ++ r.1.now) }

@@ -1,5 +1,5 @@
-//! Writes each line of standard input to a log that begins a new file each minute, hour, day or week
-//! of UTC: `rolltee ROTATION DIR PREFIX`. One thread reads the lines, and another writes them.
+//! Writes each line of standard input to a log: `rolltee ROTATION DIR PREFIX`. The log begins a new file each minute,
+//! hour, day or week of UTC. One thread reads the lines, and another writes them.
 #![tactic(auto)]
 
 use program_io::options::{Request, request_of};
@@ -41,7 +41,7 @@ fn main(rt: HostRuntime) -> ExitCode {
     }
     let status = match arguments(&rt) {
         Ok(arguments) => run(rt, &rt, request_of(arguments)),
-        // One of them is no UTF-8, or memory was refused.
+        // One of the arguments is not UTF-8, or memory was refused.
         Err(fault) => tee::report_fault(
             &Fault::Usage.unless_memory(fault.kind()),
             &mut rt.stderr(),

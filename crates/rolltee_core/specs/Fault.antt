@@ -21,7 +21,7 @@ abbrev pub HasNoFolder : List (String Global) → Type 0
 HasNoFolder arguments =
     (rotation folder : String Global) × (others : List (String Global)) × (arguments ≡ rotation ∷ folder ∷ others) × (string_bytes folder ≡ [])
 
--- the fault, but want of memory if its cause is of that kind
+-- the fault, or that memory was refused if its cause is of that kind
 abbrev pub unless_memory : ErrorKind → Fault → Fault
 unless_memory OutOfMemory fault = Memory
 unless_memory kind fault = fault
@@ -43,7 +43,7 @@ status_of Pending = 1
 status_of Full = 1
 status_of Memory = 3
 
--- what is reported of a fault, on a line; an error of opening has its own words
+-- the report of a fault, on a line; an error of opening has its own words
 abbrev pub words_of : Fault → Option (List ℕ)
 words_of Usage = Some (codes "usage: rolltee ROTATION DIR PREFIX" ++ (10 ∷ []))
 words_of (Open error) = None
@@ -54,7 +54,7 @@ words_of Pending = Some (codes "shutdown pending" ++ (10 ∷ []))
 words_of Full = Some (codes "shutdown full" ++ (10 ∷ []))
 words_of Memory = Some (codes "no memory" ++ (10 ∷ []))
 
--- the status is that of the fault, and a beginning of its words, if those are known, was added to the errors
+-- the status is that of the fault, and a prefix of its words, if those are known, was added to the errors
 pub record ReportsFault (fault : Fault) (status : ℕ) (errors_old errors_new : Option (List ℕ)) : Type 0 where
   pub status_is : status ≡ status_of fault
   pub words : IfSome (words_of fault) (AppendsBeginning errors_old errors_new)

@@ -2,7 +2,7 @@ use Rattle.std.proofs.Common.{◌+◌, ◌-◌, length}
 use Rattle.audit_trail_core.proofs.Pieces.{SoFar}
 use Rattle.audit_trail_core.proofs.lines.add_all.Given as goal
 
--- what is left was not added yet, and all before it was
+-- the rest was not added yet, and all bytes before it were
 abbrev pub invariant-loop-rest : goal.invariant-loop-rest
 invariant-loop-rest g l = SoFar g.S.Folder l.fn.bytes l.rest l.fn.repeats l.repeats l.fn.log l.log
 

@@ -2,7 +2,7 @@ use Rattle.std.proofs.Common.{◌≡◌, ℕ, List, Some}
 use Rattle.audit_trail_core.specs.Trail.{PutsLines}
 use Rattle.audit_trail_core.proofs.trail.write_lines.Given as goal
 
--- the lines so far were put, and what is left of the text is left to be read
+-- the lines so far were put, and the rest of the text is still to be read
 abbrev pub invariant-loop : goal.invariant-loop
 invariant-loop g l =
     (text : List ℕ) → g.I.Read.remaining l.fn.input ≡ Some text →

@@ -3,8 +3,8 @@ use Rattle.std.specs.Io.KnownBytes.{Appends}
 use Rattle.callers.specs.Supervisor.{HasLines}
 use Rattle.callers.proofs.supervisor.copy.Given as goal
 
--- The lines that were read are counted, and the rest is left to be read. If none was cut, what was read was written; else a byte less
--- for each of them, or fewer.
+-- The lines that were read are counted, and the rest is left to be read. If none was cut, all bytes that were read were
+-- written. Else at least one byte less was written for each cut line.
 abbrev pub invariant-loop : goal.invariant-loop
 invariant-loop g l =
     (l.copied.lines ≡ l.counter) × (l.copied.cut ≤ l.copied.lines)

@@ -1,4 +1,4 @@
--- The lines so far were taken, and there are no more of them than bytes.
+-- The lines so far were taken, and their number is at most that of the bytes.
 use Rattle.std.proofs.Common.{◌≡◌, ◌+◌, ◌≤◌, ℕ, suc, length}
 use denote.Text.{Utf8}
 use denote.Shadow.{shadow}
