@@ -73,7 +73,7 @@ pub fn log_reads<R: Host, W: Write + Send + Drop + 'static>(
     }
 }
 
-// A part of the program that logs.
+// Logs, as one part of a program.
 fn log_read<L: Log>(logger: &L, rows: u64) {
     info!(logger; target: "db", rows; "read");
 }

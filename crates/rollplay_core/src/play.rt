@@ -244,7 +244,7 @@ fn play_queued(
     }
 }
 
-// IsPlayPage on a page why the log was not opened.
+// Prints to a page why the log was not opened.
 fn play_refusal(
     alloc: Global,
     error: ReplayError<MemoryFolder>,

@@ -181,7 +181,7 @@ impl<'a> ScriptLine<'a> {
     }
 }
 
-// Whether a queue is lossy.
+// Reads whether a queue is lossy.
 fn read_mode(word: &str) -> Result<bool, LineError>
     ensures ok { IfOk result (λ lossy. word.now ≡ mode_word lossy) }
     ensures err { IfErr result (λ e. (e ≡ LineError.Fault)
