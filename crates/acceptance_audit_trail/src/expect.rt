@@ -2,12 +2,12 @@
 use std::fmt::Debug;
 use std::process::Abort;
 
-/// Ends the test where a value isn't the wanted one.
+/// Ends the test if a value isn't the expected one.
 pub(crate) fn expect_eq<T: Copy + PartialEq + Debug>(rt: &impl Abort, got: T, wanted: T) {
     assert!(rt; got == wanted, "{got:?} where {wanted:?} is wanted");
 }
 
-/// The same, and tells of what it is the value: a name, or the row of a table.
+/// The same, and prints which value it is: a name, or the row of a table.
 pub(crate) fn expect_eq_of<P: Copy + Debug, T: Copy + PartialEq + Debug>(
     rt: &impl Abort,
     place: P,

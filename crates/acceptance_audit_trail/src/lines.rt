@@ -16,7 +16,7 @@ use std::test::Fail;
 use tracing_appender::rolling::{Builder, Clock, InitError, Rotation};
 use tracing_appender::store::{Folder, Listed, MemoryFile, MemoryFolder, Notice};
 
-// A clock that goes on by so many seconds at each reading.
+// A clock that advances by this number of seconds at each reading.
 #[derive(Drop)]
 pub(super) struct Ticking {
     now: Cell<i64>,
@@ -186,7 +186,7 @@ fn failing_folder(
 
 pub(super) type TestLog = LineLog<Disturbed, Ticking, Looking>;
 
-// A log over a folder in memory, opened at 2020-02-01 10:01:00, whose clock goes on by `step` seconds.
+// A log over a folder in memory, opened at 2020-02-01 10:01:00, whose clock advances by `step` seconds.
 fn hourly(rt: &(impl AllocGlobal + Abort), folder: MemoryFolder, step: i64) -> TestLog {
     open(rt, folder, step, "", true)
 }
@@ -328,7 +328,7 @@ fn a_part_of_a_line_is_ended_at_a_switch(rt: HostRuntime) -> Result<(), Fail> {
     Ok(())
 }
 
-// A file that is gone is told before the switch from it, or at a flush, and once.
+// A removed file is reported once, before the switch from it or at a flush.
 static LOST: [(&str, u32, u32); 3] = [(TEN, 1, 1), (ELEVEN, 0, 1), ("", 0, 0)];
 
 #[test]

@@ -18,7 +18,7 @@ impl Read for Broken {
     }
 }
 
-// A path of this test's own, where nothing stands.
+// A path of this test's own, that doesn't exist.
 pub(crate) fn fresh(rt: &HostRuntime, name: &str) -> io::Result<String> {
     let parent = env::temp_dir(rt)?;
     let id = process::id(rt.process());
@@ -27,7 +27,7 @@ pub(crate) fn fresh(rt: &HostRuntime, name: &str) -> io::Result<String> {
     Ok(path)
 }
 
-// Runs the program, and compares the status and what it tells.
+// Runs the program, and compares the status and what it reports.
 fn check<R: Runtime + AllocGlobal + Abort, I: Read + Drop>(
     rt: &R,
     arguments: &[String],
@@ -41,7 +41,7 @@ fn check<R: Runtime + AllocGlobal + Abort, I: Read + Drop>(
     expect_eq(rt, kept.err().unwrap_or(0), status);
 }
 
-// What is asked of the runtime where a test looks at the disk.
+// The runtime of a test that checks the disk.
 pub(crate) trait FilesAndAbort: Files + AllocGlobal + Abort + Copy + Drop {}
 
 impl<R: Files + AllocGlobal + Abort + Copy + Drop> FilesAndAbort for R {}

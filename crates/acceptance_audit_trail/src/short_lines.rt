@@ -6,7 +6,7 @@ use std::io::{BufReader, ErrorKind, Read};
 use std::process::Abort;
 use std::test::Fail;
 
-// Gives at most so many bytes by each read.
+// Returns at most this number of bytes by each read.
 #[derive(Drop)]
 struct Pieces<'a> {
     left: &'a [u8],
@@ -20,7 +20,7 @@ impl<'a> Read for Pieces<'a> {
     }
 }
 
-// A line with a newline, one of so many bytes, and behind its newline, if it has one, a last line.
+// A line with a newline, one of this number of bytes, and after its newline, if it has one, a last line.
 fn text_of(rt: &impl AllocGlobal, length: usize, ended: bool) -> Result<Vec<u8>, Fail> {
     let mut text = Vec::new(rt.alloc());
     text.extend_from_slice(b"first\n")?;
@@ -43,7 +43,7 @@ fn next<R: Read>(
     }
 }
 
-// Reads such a text in such pieces, through a buffer of so many bytes.
+// Reads such a text in such pieces, through a buffer of this number of bytes.
 fn check<R: AllocGlobal + Abort>(
     rt: &R,
     text: &[u8],
@@ -104,7 +104,7 @@ fn single_bytes_make_a_line_as_long(rt: HostRuntime) -> Result<(), Fail> {
     check(&rt, text.as_slice(), 1, 8192, [refused; 3])
 }
 
-// What was read of the line came before the fault.
+// What was read of the line was read before the fault.
 #[test]
 fn a_longer_line_is_read_by_one_byte_more(rt: HostRuntime) -> Result<(), Fail> {
     let text = text_of(&rt, LONGEST_LINE + 9, true)?;

@@ -34,13 +34,13 @@ fn sources(rt: &HostRuntime) -> io::Result<[String; 4]> {
     Ok([first, lacks, second, fails])
 }
 
-// What the program tells of the two that can't be read.
+// What the program reports of the two that can't be read.
 fn faults_of(alloc: Global, sources: &[String; 4]) -> Result<String, AllocError> {
     let [_, lacks, _, fails] = sources;
     format!(in alloc; "{lacks}: read failed: {LACKING}\n{fails}: read failed: {LACKING}\n")
 }
 
-// Runs the program over these sources, and checks what it tells.
+// Runs the program over these sources, and checks what it reports.
 fn check_account<R: Host + Abort, T: Trails>(
     rt: R,
     trails: &T,
@@ -56,7 +56,7 @@ fn check_account<R: Host + Abort, T: Trails>(
     expect_eq(&rt, status, 1);
 }
 
-// The lines that begin so, in their order, with a bar behind each.
+// The lines that begin so, in their order, with a bar after each.
 fn lines_of(rt: &(impl AllocGlobal + Abort), text: &str, begin: &str) -> String {
     let mut found = String::new(rt.alloc());
     for line in text.lines() {
@@ -68,7 +68,7 @@ fn lines_of(rt: &(impl AllocGlobal + Abort), text: &str, begin: &str) -> String 
     found
 }
 
-// Checks what the log holds: the lines of one source stand in their order.
+// Checks what the log holds: the lines of one source are in their order.
 fn check_written(rt: &(impl AllocGlobal + Abort), written: &str) {
     expect_eq(rt, written.len(), 17);
     for (begin, wanted) in [("a", "a 1|a 2|a 3|"), ("b", "b 1|")] {
@@ -98,7 +98,7 @@ fn gives_an_account_of_all_sources(rt: HostRuntime) -> Result<(), Fail> {
     Ok(())
 }
 
-// A log that takes a byte at a time, and so many bytes in all.
+// A log that takes a byte at a time, and this number of bytes in all.
 #[derive(Drop)]
 struct Filling {
     room: u32,
@@ -118,7 +118,7 @@ impl Write for Filling {
     }
 }
 
-// A log with room for so many bytes, and sources of two lines of two bytes, of which one never ends.
+// A log with room for this number of bytes, and sources of two lines of two bytes, of which one never ends.
 #[derive(Drop)]
 struct Narrow {
     room: u32,
@@ -142,7 +142,7 @@ impl Trails for Narrow {
     }
 }
 
-// Runs the program over two sources of such, and checks what it tells.
+// Runs the program over two such sources, and checks what it reports.
 fn check_narrow<R: Host + Abort>(
     rt: R,
     room: u32,
@@ -169,7 +169,7 @@ fn a_line_that_never_ends_keeps_no_other_from_the_log(rt: HostRuntime) -> Result
     Ok(check_narrow(rt, 8, "endless", faults)?)
 }
 
-// The account of so many lines, all of which were handed to the log.
+// The account of this number of lines, all of which were handed to the log.
 fn account_of(alloc: Global, lines: u64) -> Result<String, AllocError> {
     format!(in alloc; "accepted {lines} handed {lines} left 0 dropped 0\n")
 }
@@ -250,7 +250,7 @@ fn ends_a_part_of_a_line_that_another_run_left(rt: HostRuntime) -> Result<(), Fa
 }
 
 // Sources that are in the log's folder: the newest log by its link, and by a link to that; another file, and
-// that by a link to the folder. Behind them stand both links.
+// that by a link to the folder. Both links follow them.
 fn own_sources(rt: &HostRuntime, directory: &str) -> io::Result<[String; 6]> {
     let alloc = rt.alloc();
     let newest = format!(in alloc; "{directory}/latest.log")?;
@@ -263,7 +263,7 @@ fn own_sources(rt: &HostRuntime, directory: &str) -> io::Result<[String; 6]> {
     Ok([newest, link.clone()?, other, through, link, folder])
 }
 
-// A path of this test's own, where no link stands.
+// A path of this test's own, that is no link.
 fn fresh_link(rt: &HostRuntime, name: &str) -> io::Result<String> {
     let path = fresh(rt, name)?;
     let _ = fs::remove_file(rt, path.as_str());

@@ -1,4 +1,4 @@
-// What counted senders are told, and what their guard answers.
+// The replies to counted senders, and the results of their guard.
 ghost use Rattle.std.specs.Prelude.{◌≡◌, ◌+◌, ◌<◌};
 ghost use Rattle.appender_non_blocking.specs.Account.{AreBlanksOf};
 
@@ -19,13 +19,13 @@ use std::sync::ledger::Ledger;
 // What a test does with the senders of one worker.
 #[derive(Clone, Copy)]
 enum SenderStep {
-    // The first sender writes a line, and is told this.
+    // The first sender writes a line, with this reply.
     Tells(&'static [u8], Sent),
     // Ten threads write a hundred lines each.
     TellsByTen,
-    // The writer comes to the line that the gate holds.
+    // The writer reaches the line that the gate holds.
     IsHeld,
-    // So many lines of the first sender are queued, and so many were dropped.
+    // These numbers of lines of the first sender are queued and were dropped.
     Counts(u64, usize),
     // The last ticket of the first sender.
     LastTicket(u64),
@@ -37,9 +37,9 @@ enum SenderStep {
 enum End {
     // All are settled, with this account.
     Settles(Account),
-    // The queue is shut. Then come these steps, and all are settled.
+    // The queue is shut. Then these steps follow, and all are settled.
     Shuts(&'static [SenderStep], Account),
-    // As `Shuts`, and the worker's share comes with the account.
+    // As `Shuts`, and the worker's share is returned with the account.
     ShutsWithShare(&'static [SenderStep], Account),
     // They are settled without one of them, and then with it.
     LacksOne(Account),
@@ -48,11 +48,11 @@ enum End {
     CanBeShown,
 }
 
-// What came by then.
+// What was written by then.
 #[derive(Clone, Copy)]
 enum Came {
     Lines(&'static [u8]),
-    // So many lines, after a wait if need be.
+    // This number of lines, after a wait if need be.
     Count(usize),
     // The lines of ten threads.
     ByTen,
@@ -72,7 +72,7 @@ struct Story {
 struct Stage<R: Host> {
     rt: R,
     seen: Arc<Seen, Global>,
-    // What the sender of each of ten threads was told.
+    // What the sender of each of ten threads was returned.
     told: Vec<Tickets>,
 }
 
@@ -162,7 +162,7 @@ fn settles<A: Ledger, H: Ledger, S: Ledger, C: Ledger, R: Host + Abort>(
     }
 }
 
-// Shuts the queue. What lies behind the shutdown is left.
+// Shuts the queue. What is queued after the shutdown is left.
 fn shuts<
     A: Ledger + Send + Sync + 'static,
     H: Ledger + Send + Sync + 'static,
@@ -183,7 +183,7 @@ fn shuts<
     settles(stage.rt, senders, guard, wanted);
 }
 
-// As `shuts`, and the worker's share comes with the account.
+// As `shuts`, and the worker's share is returned with the account.
 fn shuts_with_share<
     A: Ledger + Send + Sync + 'static,
     H: Ledger + Send + Sync + 'static,
@@ -254,10 +254,10 @@ fn can_be_shown<A: Ledger, H: Ledger, S: Ledger, C: Ledger, R: Host + Abort>(
     expect_shown(&rt, Sent::Dropped, "Dropped");
 }
 
-/// A sender that is told what becomes of its lines. A proof over it is shorter than one over the five
+/// A sender that returns what became of its lines. A proof over it is shorter than one over the five
 /// parameters of a `CountedSender`.
 pub(crate) trait TicketSender: Send + Drop + 'static {
-    /// Writes a line, and tells what became of it.
+    /// Writes a line, and returns what became of it.
     fn tell(&mut self, line: &[u8]) -> io::Result<Sent>;
 
     /// How many lines are queued, and how many were dropped.
@@ -287,7 +287,7 @@ impl<
     }
 }
 
-// Writes a line by the first sender, and compares what it is told.
+// Writes a line by the first sender, and compares the reply.
 fn expect_told<T: TicketSender, R: Abort>(rt: &R, senders: &mut Vec<T>, line: &[u8], wanted: Sent) {
     let sender = senders.first_mut().expect(rt, "a sender");
     let told = sender.tell(line).expect(rt, "the queue is open");

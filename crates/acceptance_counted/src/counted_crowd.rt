@@ -9,7 +9,7 @@ use std::process::Abort;
 use std::thread::JoinHandle;
 use std::{io, thread};
 
-/// The tickets that a sender was told, one for each of its lines.
+/// The tickets that a sender was returned, one for each of its lines.
 #[derive(Drop)]
 pub(crate) struct Tickets {
     sender: usize,
@@ -35,7 +35,7 @@ fn tell_one<T: TicketSender, R: Host>(
     }
 }
 
-// Writes a hundred lines, and gives back the sender with the tickets that it was told.
+// Writes a hundred lines, and returns the sender with the tickets that it was returned.
 fn write_hundred<T: TicketSender, R: Host>(rt: R, number: usize, mut sender: T) -> (T, Vec<u64>) {
     let mut tickets = Vec::new(rt.alloc());
     for line in 0..100usize {
@@ -68,7 +68,7 @@ fn start<T: TicketSender, R: Host + Abort>(
     running
 }
 
-// Joins a thread, gives its sender back, and answers what tickets it was told.
+// Joins a thread, returns its sender, and returns what tickets it was returned.
 fn join_one<T: TicketSender, R: Host + Abort>(
     rt: R,
     thread: JoinHandle<(T, Vec<u64>)>,
@@ -80,7 +80,7 @@ fn join_one<T: TicketSender, R: Host + Abort>(
     tickets
 }
 
-/// Writes by ten threads, and answers what tickets the sender of each was told.
+/// Writes by ten threads, and returns what tickets the sender of each was returned.
 pub(crate) fn write_by_ten<T: TicketSender, R: Host + Abort>(
     rt: R,
     senders: &mut Vec<T>,

@@ -96,7 +96,7 @@ fn play<T: TicketSender, G: Shuts, R: Host + Abort>(
     }
 }
 
-// Writes a line by the first sender, and compares what it is told.
+// Writes a line by the first sender, and compares the reply.
 fn expect_told<T: TicketSender, R: Abort + Copy>(
     rt: R,
     senders: &mut Vec<T>,
@@ -142,7 +142,7 @@ fn leaves_one<T: TicketSender, G: Shuts, R: Host + Abort>(
     }
 }
 
-// Shuts the queue, and writes until a sender is told that it is closed. Then the guard is told so too.
+// Shuts the queue, and writes until a sender finds it closed. Then the guard finds so too.
 fn closes<T: TicketSender, G: Shuts, R: Host + Abort>(rt: R, senders: &mut Vec<T>, guard: &mut G) {
     let sender = senders.first_mut().expect(&rt, "a sender");
     expect_eq(&rt, guard.shuts(), Shut::Sent);

@@ -36,7 +36,7 @@ impl Write for Picky {
             Some(b'o') if self.writes == 1 => return Err(io::Error::from(ErrorKind::Interrupted)),
             Some(b'r') => return Err(io::Error::from(ErrorKind::PermissionDenied)),
             Some(b'z') => 0,
-            // The rest of the line begins with the letter behind it.
+            // The rest of the line begins with the letter after it.
             Some(b'b') => 1,
             _ => buf.len(),
         };
@@ -54,7 +54,7 @@ impl Write for Picky {
     }
 }
 
-// A line, what its write answers, how often its writer was called, and the text that it got.
+// A line, the result of its write, how often its writer was called, and the text that it got.
 struct Row {
     line: &'static str,
     answer: Result<usize, ErrorKind>,
@@ -113,7 +113,7 @@ static ROWS: [Row; 8] = [
     },
 ];
 
-// Writes one line by a counting writer of its own, and compares what came of it.
+// Writes one line by a counting writer of its own, and compares the result.
 fn check_row<R: AllocGlobal + Abort>(rt: &R, row: &Row) -> Result<(), AllocError> {
     let mut picky = Picky::new(rt);
     let (mut writer, counts) = CountingWriter::new(rt.alloc(), &mut picky)?;

@@ -5,12 +5,12 @@ use std::alloc::AllocError;
 use std::fmt::Debug;
 use std::process::Abort;
 
-/// Ends the test where a value isn't the wanted one.
+/// Ends the test if a value isn't the expected one.
 pub(crate) fn expect_eq<T: Copy + PartialEq + Debug>(rt: &impl Abort, got: T, wanted: T) {
     assert!(rt; got == wanted, "{got:?} where {wanted:?} is wanted");
 }
 
-/// The same, and tells of what it is the value: a name, or the row of a table.
+/// The same, and prints which value it is: a name, or the row of a table.
 pub(crate) fn expect_eq_of<P: Copy + Debug, T: Copy + PartialEq + Debug>(
     rt: &impl Abort,
     place: P,
@@ -23,7 +23,7 @@ pub(crate) fn expect_eq_of<P: Copy + Debug, T: Copy + PartialEq + Debug>(
     );
 }
 
-/// Ends the test where the `Debug` text of a value isn't the wanted one.
+/// Ends the test if the `Debug` text of a value isn't the expected one.
 pub(crate) fn expect_shown<T: Copy + Debug>(
     rt: &(impl AllocGlobal + Abort),
     value: T,
@@ -32,18 +32,18 @@ pub(crate) fn expect_shown<T: Copy + Debug>(
     expect_eq(rt, debug_text(rt, value).as_str(), wanted);
 }
 
-/// The `Debug` text of a value.
+/// Returns the `Debug` text of a value.
 pub(crate) fn debug_text<T: Copy + Debug>(rt: &(impl AllocGlobal + Abort), value: T) -> String {
     format!(in rt.alloc(); "{value:?}").expect(rt, "memory")
 }
 
-/// Ends the test where other lines came.
+/// Ends the test if other lines were written.
 pub(crate) fn expect_text<R: Host + Abort>(rt: R, seen: &Seen, wanted: &[u8]) {
     let text = seen.text(&rt).expect(&rt, "memory");
     expect_eq(&rt, text.as_slice(), wanted);
 }
 
-/// Puts a value behind the others. Ends the test where there is no memory.
+/// Adds a value at the end. Ends the test if there is no memory.
 pub(crate) fn put<T: Drop>(rt: &impl Abort, values: &mut Vec<T>, value: T) {
     values
         .push(value)

@@ -6,7 +6,7 @@ use std::sync::atomic::AtomicU64;
 use std::sync::atomic::Ordering::SeqCst;
 use std::test::Fail;
 
-// Writes so many lines by each sender, and counts the threads by their numbers.
+// Writes this number of lines by each sender, and counts the threads by their numbers.
 #[derive(Drop)]
 struct Writes {
     lines: u64,
@@ -53,7 +53,7 @@ fn work_of_threads_has_an_account(rt: HostRuntime) -> Result<(), Fail> {
         let lines = (*threads as u64).saturating_mul(7);
         expect_eq(&rt, account, account_of(lines));
         expect_eq(&rt, seen.count() as u64, lines);
-        // Each number came once.
+        // Each number occurred once.
         expect_eq(
             &rt,
             work.numbers.load(SeqCst).count_ones() as usize,

@@ -7,12 +7,12 @@ pub(crate) trait AllocAndAbort: AllocGlobal + Abort {}
 
 impl<R: AllocGlobal + Abort> AllocAndAbort for R {}
 
-/// Ends the test where a value isn't the wanted one.
+/// Ends the test if a value isn't the expected one.
 pub(crate) fn expect_eq<T: Copy + PartialEq + Debug>(rt: &impl Abort, got: T, wanted: T) {
     expect_eq_of(rt, "a value", got, wanted);
 }
 
-/// The same, and tells of what it is the value: a name, or the row of a table.
+/// The same, and prints which value it is: a name, or the row of a table.
 pub(crate) fn expect_eq_of<P: Copy + Debug, T: Copy + PartialEq + Debug>(
     rt: &impl Abort,
     place: P,
@@ -25,12 +25,12 @@ pub(crate) fn expect_eq_of<P: Copy + Debug, T: Copy + PartialEq + Debug>(
     );
 }
 
-/// The `Debug` text of a value.
+/// Returns the `Debug` text of a value.
 pub(crate) fn debug_text<T: Copy + Debug>(rt: &impl AllocAndAbort, value: T) -> String {
     format!(in rt.alloc(); "{value:?}").expect(rt, "memory")
 }
 
-/// Two values, one behind the other.
+/// Returns the texts of two values, one after the other.
 pub(crate) fn pair_text<A: Copy + Display, B: Copy + Display>(
     rt: &impl AllocAndAbort,
     first: A,
@@ -39,7 +39,7 @@ pub(crate) fn pair_text<A: Copy + Display, B: Copy + Display>(
     format!(in rt.alloc(); "{first}{second}").expect(rt, "memory")
 }
 
-/// The bytes of a text.
+/// Returns the bytes of a text.
 pub(crate) fn bytes(rt: &impl AllocAndAbort, text: &str) -> Vec<u8> {
     text.as_bytes().to_vec(rt.alloc()).expect(rt, "memory")
 }

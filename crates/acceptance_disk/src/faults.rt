@@ -1,4 +1,4 @@
-// Full disks, short writes, links that come in between, and a folder that goes.
+// Full disks, short writes, links that are made in between, and a folder that is removed.
 
 use crate::expect::{AllocAndAbort, expect_eq_of, pair_text};
 use crate::runs::{DiskStep, Outcome};
@@ -10,12 +10,12 @@ fn kept_disk(rt: &impl AllocAndAbort) -> Disk {
     disk_of(rt, &[("other.txt", "kept")])
 }
 
-// Writes a log without a link on such a disk, and answers what came of it.
+// Writes a log without a link on such a disk, and returns the result.
 fn write_unlinked(rt: &impl AllocAndAbort, steps: &[DiskStep]) -> Outcome {
     write_log(rt, &kept_disk(rt), 0, "", steps)
 }
 
-// Steps with what they answer, the files at the end, and what is told.
+// Steps with their replies, the files at the end, and what is printed.
 static WRITES: [(&[DiskStep], &str, &str, &str); 5] = [
     // A disk that is full takes what there is room for, and more once there is room again.
     (
@@ -61,7 +61,7 @@ static WRITES: [(&[DiskStep], &str, &str, &str); 5] = [
         "app.2020-02-01-10 hehellohello\nother.txt kept\n",
         "failures 0\n",
     ),
-    // Where the folder goes, lines go to the open file until the boundary makes the folder again.
+    // If the folder is removed, lines are written to the open file until the boundary makes the folder again.
     (
         &[
             DiskStep::Put(START, "one"),
@@ -90,7 +90,7 @@ static WRITES: [(&[DiskStep], &str, &str, &str); 5] = [
     ),
 ];
 
-// Behind what the disk held at first stands what puts counted.
+// What puts counted follows what the disk held at first.
 fn expect_counted(rt: &impl AllocAndAbort, outcome: &Outcome, of: &[DiskStep]) {
     let counted = pair_text(rt, "kept", outcome.counted.as_str());
     expect_eq_of(rt, of, outcome.appended.as_str(), counted.as_str());
@@ -113,8 +113,8 @@ const REFUSED: &str = "failed to create log file: not a plain file\n";
 
 const LINKED: &str = "app.2020-02-01-10 -> other.txt\nother.txt kept\n";
 
-// Whether the log stands at first, the call before which a name becomes a link to `other.txt` and
-// that name; the answers, the files, and what is told.
+// Whether the log exists at first, the call before which a name becomes a link to `other.txt` and
+// that name; the replies, the files, and what is printed.
 static LINKS: [(bool, usize, &str, &str, &str, &str); 6] = [
     // Before the look at the name, and between look and opening.
     (false, 1, LOG, REFUSED, LINKED, "failures 2\n"),
@@ -122,7 +122,7 @@ static LINKS: [(bool, usize, &str, &str, &str, &str); 6] = [
     (true, 2, LOG, REFUSED, LINKED, "failures 2\n"),
     // Between the opening and the second look.
     (true, 4, LOG, REFUSED, LINKED, "failures 2\n"),
-    // At a boundary, whose line goes to the last file then.
+    // At a boundary, whose line is written to the last file then.
     (
         false,
         5,
@@ -144,7 +144,7 @@ static LINKS: [(bool, usize, &str, &str, &str, &str); 6] = [
 
 static TWO_LINES: [DiskStep; 2] = [DiskStep::Put(START, "one"), DiskStep::Put(ELEVEN, "two")];
 
-// Writes two lines where this name becomes a link before this call.
+// Writes two lines while this name becomes a link before this call.
 fn write_linked(rt: &impl AllocAndAbort, stands: bool, call: usize, name: &'static str) -> Outcome {
     let disk = kept_disk(rt);
     if stands {

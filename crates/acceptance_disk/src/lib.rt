@@ -1,4 +1,4 @@
-//! Tests of logs over a disk in memory whose calls fail as a test chooses, and that a disk comes to hold what a
+//! Tests of logs over a disk in memory whose calls fail as a test chooses, and that a disk in the end holds what a
 //! folder in memory does.
 #![tactic(auto)]
 

@@ -1,4 +1,4 @@
-// What retention does with a folder that tells less than it should.
+// What retention does with a folder that lists less than it should.
 
 use crate::expect::{AllocAndAbort, expect_eq, expect_eq_of, pair_text};
 use crate::runs::list_folder;
@@ -17,13 +17,13 @@ fn three_logs(rt: &impl AllocAndAbort) -> Disk {
     disk_of(rt, &LOGS)
 }
 
-// Opens a log of which so many files are kept, and answers the files and what is told.
+// Opens a log of which this number of files are kept, and returns the files and what is printed.
 fn open_log(rt: &impl AllocAndAbort, disk: &Disk, max: usize) -> String {
     let outcome = write_log(rt, disk, max, "", &[]);
     pair_text(rt, outcome.files.as_str(), outcome.printed.as_str())
 }
 
-// Opens such a log, and checks the files and what is told.
+// Opens such a log, and checks the files and what is printed.
 fn expect_opened(rt: &impl AllocAndAbort, disk: &Disk, max: usize, wanted: &str) {
     expect_eq(rt, open_log(rt, disk, max).as_str(), wanted);
 }
@@ -35,7 +35,7 @@ static FAULTS: [(DiskFault, &str); 3] = [
     (DiskFault::Number(36), "File name too long (os error 36)"),
 ];
 
-// Opens a log that keeps one file where this call fails so, and answers the files and what is told.
+// Opens a log that keeps one file while this call fails so, and returns the files and what is printed.
 fn break_off(rt: &impl AllocAndAbort, fault: DiskFault, number: usize) -> String {
     let disk = three_logs(rt);
     disk.fault.set(fault);
@@ -43,7 +43,7 @@ fn break_off(rt: &impl AllocAndAbort, fault: DiskFault, number: usize) -> String
     open_log(rt, &disk, 1)
 }
 
-// The three logs and that of the opening, and that this fault is told.
+// The three logs and that of the opening, and that this fault is reported.
 fn all_logs(rt: &impl AllocAndAbort, text: &str) -> String {
     format!(in rt.alloc();
         "app.2020-02-01-07 a\napp.2020-02-01-08 b\napp.2020-02-01-09 c\napp.2020-02-01-10 \n\
@@ -112,7 +112,7 @@ fn a_link_is_not_removed_as_a_file(rt: HostRuntime) {
 #[test]
 fn without_creation_moments_the_dates_decide(rt: HostRuntime) {
     let disk = three_logs(&rt);
-    // No date stands in it, so that it is no log.
+    // It has no date, so that it is no log.
     put_file(&rt, &disk, b"app.notes", "x");
     expect_opened(
         &rt,

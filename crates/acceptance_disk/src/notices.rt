@@ -1,4 +1,4 @@
-// What is printed on standard error where a boundary meets a fault.
+// What is printed on standard error if a boundary meets a fault.
 
 use crate::expect::{AllocAndAbort, expect_eq, expect_eq_of};
 use crate::runs::{DiskStep, Outcome};
@@ -6,7 +6,7 @@ use crate::scene::{ELEVEN, START, old_logs, write_log};
 use fake_files::disk::Call;
 use std::process::Abort;
 
-// The calls that fail at the boundary, the link if there is one, and what is told.
+// The calls that fail at the boundary, the link if there is one, and what is printed.
 static NOTICES: [(Call, &str, &str); 5] = [
     (
         Call::OpenDir,

@@ -16,8 +16,8 @@ const NEW_LINK: &str =
 
 const OTHER_LINK: &str = "app.2020-02-01-10 onetwo\napp.2020-02-01-11 \nlatest.log -> other\n";
 
-// The target of the link that another process makes just before the call that makes it; the answers, the
-// files, and what is told.
+// The target of the link that another process makes just before the call that makes it; the replies, the
+// files, and what is printed.
 static LINKS: [(&str, &str, &str, &str); 2] = [
     // It is the wanted one.
     (
@@ -51,7 +51,7 @@ fn a_link_that_is_as_wanted_is_taken(rt: HostRuntime) {
     }
 }
 
-// Writes two lines to a log that is there already, where a pipe comes in its place between look and
+// Writes two lines to a log that exists, while a pipe replaces it between check and
 // opening, or no file may be read.
 fn write_standing(rt: &impl AllocAndAbort, pipe_comes: bool) -> Outcome {
     let disk = disk_of(rt, &[(LOG, "x")]);
@@ -84,7 +84,7 @@ fn a_log_that_may_not_be_read_is_written(rt: HostRuntime) {
     expect_texts(&rt, &write_standing(&rt, false), wanted, &"a file");
 }
 
-// Flushes a file of a folder, which syncs or doesn't, and answers the error's kind and how often the disk
+// Flushes a file of a folder, which syncs or doesn't, and returns the error's kind and how often the disk
 // synced.
 fn flush_once(
     rt: &impl AllocAndAbort,

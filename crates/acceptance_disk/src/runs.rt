@@ -1,4 +1,4 @@
-// Runs of a log over a fake disk, told as texts.
+// Runs of a log over a fake disk, as texts.
 
 use crate::expect::{AllocAndAbort, debug_text, pair_text};
 use appender_folder::folder::DirFolder;
@@ -10,7 +10,7 @@ use std::fmt::{Display, Write as _};
 use std::io;
 use std::io::Write;
 
-/// A step of a run. What goes wrong from a step on does so until another step says else.
+/// A step of a run. A failure that a step sets lasts until another step changes it.
 #[derive(Clone, Copy, Debug)]
 pub(crate) enum DiskStep {
     /// A text is put at a moment, in seconds since 1970.
@@ -19,18 +19,18 @@ pub(crate) enum DiskStep {
     Flush,
     /// Each call of this sort fails, if one is named.
     Fail(Option<Call>),
-    /// A write takes at most so many bytes.
+    /// A write takes at most this number of bytes.
     Take(usize),
-    /// The disk has room for so many bytes.
+    /// The disk has room for this number of bytes.
     Room(usize),
-    /// The folder goes with all names in it.
+    /// The folder is removed with all names in it.
     RemoveFolder,
 }
 
-/// What came of a run.
+/// The result of a run.
 #[derive(Drop)]
 pub(crate) struct Outcome {
-    /// What the opening and the steps answered, a line each.
+    /// The replies of the opening and the steps, a line each.
     pub(crate) answers: String,
     /// The names of the folder in byte order, a line each with what they hold.
     pub(crate) files: String,
@@ -38,12 +38,12 @@ pub(crate) struct Outcome {
     pub(crate) printed: String,
     /// The bytes that puts counted.
     pub(crate) counted: String,
-    /// What all files hold, one behind the other as they were made, those whose names are gone too.
+    /// What all files hold, one after the other as they were made, also of those whose names were removed.
     pub(crate) appended: String,
 }
 
 impl Outcome {
-    /// The answers, the files, and what was printed.
+    /// The replies, the files, and what was printed.
     pub(crate) fn texts(&self) -> (&str, &str, &str) {
         (
             self.answers.as_str(),
@@ -53,14 +53,14 @@ impl Outcome {
     }
 }
 
-// What was told so far: the answers, and the bytes that puts counted.
+// What was returned so far: the replies, and the bytes that puts counted.
 #[derive(Drop)]
 struct RunAnswers {
     answers: String,
     counted: String,
 }
 
-// What is told at first.
+// What is returned at first.
 fn first_told(rt: &impl AllocAndAbort, answer: impl Display + Copy) -> RunAnswers {
     RunAnswers {
         answers: pair_text(rt, answer, "\n"),
@@ -121,7 +121,7 @@ fn do_step<S: Folder, C: Clock>(
     }
 }
 
-// Does the steps, and answers how many calls of the folder failed.
+// Does the steps, and returns how many calls of the folder failed.
 fn do_steps<S: Folder, C: Clock>(
     rt: &impl AllocAndAbort,
     mut log: RollingFile<S, C>,
@@ -135,7 +135,7 @@ fn do_steps<S: Folder, C: Clock>(
     log.into_parts().0.failures()
 }
 
-// What is known of a run, and what its disk tells.
+// What is known of a run, and what its disk shows.
 fn outcome_of(rt: &impl AllocAndAbort, disk: &Disk, told: RunAnswers, failures: u64) -> Outcome {
     let RunAnswers { answers, counted } = told;
     let printed = disk.take_printed();
@@ -191,7 +191,7 @@ pub(crate) fn run_log(
     run_over(rt, disk, builder, folder_of(rt, disk), clock, steps)
 }
 
-/// The entries of the folder as a listing tells them.
+/// The entries of the folder as a listing has them.
 pub(crate) fn list_folder(rt: &impl AllocAndAbort, disk: &Disk) -> String {
     let listed = folder_of(rt, disk).list().expect(rt, "a listing");
     debug_text(rt, &listed)

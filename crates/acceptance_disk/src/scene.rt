@@ -16,7 +16,7 @@ pub(crate) const ELEVEN: u64 = 1_580_554_800;
 /// 2020-02-01 12:00:00.
 pub(crate) const TWELVE: u64 = 1_580_558_400;
 
-/// Writes an hourly log on a disk, of which so many files are kept, and answers what came of it. An
+/// Writes an hourly log on a disk, of which this number of files are kept, and returns the result. An
 /// empty link is none.
 pub(crate) fn write_log(
     rt: &impl AllocAndAbort,
@@ -29,7 +29,7 @@ pub(crate) fn write_log(
     run_log(rt, disk, &builder, START, steps)
 }
 
-/// Compares the answers, the files, and what is told.
+/// Compares the replies, the files, and what is printed.
 pub(crate) fn expect_texts(
     rt: &impl Abort,
     outcome: &Outcome,

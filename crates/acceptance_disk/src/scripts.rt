@@ -42,7 +42,7 @@ fn carry_out<S: Folder>(
     }
 }
 
-// What a folder in memory holds after a script, as `Disk::shown` tells it.
+// What a folder in memory holds after a script, as `Disk::shown` prints it.
 fn play_in_memory(rt: &impl AllocAndAbort, script: Script) -> String {
     let Script {
         builder,

@@ -20,7 +20,7 @@ const FILES: &str =
 // There is no link to remove at first, which is a failure by itself.
 const PRINTED: &str = "failures 1\n";
 
-// The oldest log stands longer.
+// The oldest log is kept longer.
 const OLD_FILES: &str =
     "app.2020-02-01-09 p\napp.2020-02-01-10 a\napp.2020-02-01-11 bc\napp.d/\nlatest.log -> app.2020-02-01-11\nother.txt kept\n";
 
@@ -34,13 +34,13 @@ const REMOVE_SECOND: &str =
 
 const FLUSH: &str = "Couldn't flush previous writer: permission denied\nfailures 2\n";
 
-// The next file is made, and nothing goes to it.
+// The next file is made, and nothing is written to it.
 const FAILED: &str = "open\nnone ok 1\nfailed ok 1\nnone ok 1\nok\n";
 
 const LINK_IN_USE: &str =
     "Couldn't create writer for logs: failed to create symlink to latest log file: entity already exists\nfailures 3\n";
 
-// What fails, and what comes of it: the answers, the files, and what is told.
+// What fails, and the result: the replies, the files, and what is printed.
 static TURNS: [(&[usize], &str, &str, &str); 18] = [
     // The listing at the opening; at the boundary two files go.
     (&[1, 2, 4, 6, 8, 10], ANSWERS, FILES, LIST),
@@ -49,7 +49,7 @@ static TURNS: [(&[usize], &str, &str, &str); 18] = [
     (&[11, 12], ANSWERS, FILES, REMOVE_FIRST),
     // The opening is tried again once the folder is there.
     (&[13, 14], ANSWERS, FILES, "failures 2\n"),
-    // It is not known whether a link stands there, and none does.
+    // It is not known whether there is a link, and there is none.
     (&[15], ANSWERS, FILES, PRINTED),
     (
         &[16],
@@ -65,7 +65,7 @@ static TURNS: [(&[usize], &str, &str, &str); 18] = [
     ),
     // The listing at the boundary.
     (&[18, 19, 21, 23, 25, 27, 29], ANSWERS, OLD_FILES, LIST),
-    // One log file fewer is known, so that none goes.
+    // One log file fewer is known, so that none is removed.
     (&[20, 26], ANSWERS, OLD_FILES, PRINTED),
     (&[22, 24, 28, 41], ANSWERS, FILES, PRINTED),
     (&[30, 31], ANSWERS, OLD_FILES, REMOVE_SECOND),
@@ -104,7 +104,7 @@ static TURNS: [(&[usize], &str, &str, &str); 18] = [
     ),
 ];
 
-// Writes the log on a disk whose call of this number fails, and answers how many calls there were.
+// Writes the log on a disk whose call of this number fails, and returns how many calls there were.
 fn turn(rt: &impl AllocAndAbort, number: usize, steps: &[DiskStep]) -> (Outcome, usize) {
     let disk = old_logs(rt);
     disk.fails_at.set(Some(number));
@@ -112,7 +112,7 @@ fn turn(rt: &impl AllocAndAbort, number: usize, steps: &[DiskStep]) -> (Outcome,
     (outcome, disk.calls())
 }
 
-// Checks what comes of it where one of these calls fails.
+// Checks the result if one of these calls fails.
 fn expect_turns(rt: &impl AllocAndAbort, numbers: &[usize], wanted: (&str, &str, &str)) {
     for number in numbers {
         let (outcome, _) = turn(rt, *number, &STEPS);
@@ -147,7 +147,7 @@ fn expect_whole(rt: &impl AllocAndAbort, outcome: &Outcome, number: usize) {
     expect_eq_of(rt, number, files.ends_with("other.txt kept\n"), true);
 }
 
-// Checks that no byte is lost where the call of this number fails, and answers how many calls there were.
+// Checks that no byte is lost if the call of this number fails, and returns how many calls there were.
 fn count_calls(rt: &impl AllocAndAbort, number: usize) -> usize {
     let (outcome, calls) = turn(rt, number, &LONG_STEPS);
     expect_whole(rt, &outcome, number);

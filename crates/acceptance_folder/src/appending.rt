@@ -52,7 +52,7 @@ fn say_hello_to_each<R: FilesAndAbort + time::Clock>(rt: R, directory: &str) {
     }
 }
 
-// Checks that one file alone is there, which reads as `Hello`, and answers its name.
+// Checks that one file alone is there, which reads as `Hello`, and returns its name.
 fn expect_hello(rt: &impl FilesAndAbort, directory: &str) -> String {
     let mut names = names_in(rt, directory);
     expect_eq_of(rt, directory, names.len(), 1);
@@ -87,7 +87,7 @@ fn is_within_a_minute<R: FilesAndAbort + time::Clock>(rt: R, directory: &str) ->
     within
 }
 
-// Writes a log of each rotation, and once more where a minute ended in between.
+// Writes a log of each rotation, and once more if a minute ended in between.
 fn expect_rotations<R: FilesAndAbort + time::Clock>(rt: R, place: io::Result<String>) {
     let directory = fresh(&rt, place);
     for _ in 0..3 {
@@ -105,9 +105,9 @@ fn a_log_of_each_rotation_is_one_file(rt: HostRuntime) {
 
 // What is done with an appender.
 enum AppenderStep {
-    // A line is written when the clock tells this.
+    // A line is written when the clock shows this.
     Put(i64, &'static str),
-    // The clock tells this, and one call of `write` takes so many of these bytes.
+    // The clock shows this, and one call of `write` takes this number of these bytes.
     Write(i64, &'static [u8], usize),
     Flush,
     // The clock was read so often.
@@ -158,7 +158,7 @@ fn take_all<S: Folder, R: FilesAndAbort>(
 }
 
 // Takes these steps with an appender that is opened at 10:01, checks how many calls of its folder
-// fail, and answers that.
+// fail, and returns that.
 fn write_log<S: Folder>(
     rt: impl FilesAndAbort,
     builder: &Builder,
@@ -185,7 +185,7 @@ fn write_at(
     write_log(*rt, builder, folder_at(*rt, path), steps, failures);
 }
 
-// Takes these steps in memory, where no call fails, and checks which files come of them.
+// Takes these steps in memory, where no call fails, and checks which files result.
 fn write_in_memory(
     rt: &impl FilesAndAbort,
     builder: &Builder,
@@ -196,7 +196,7 @@ fn write_in_memory(
     expect_bytes(rt, &folder, files);
 }
 
-// Takes these steps in a fresh directory, where no call fails, and checks which files come of them.
+// Takes these steps in a fresh directory, where no call fails, and checks which files result.
 fn write_in(
     rt: &impl FilesAndAbort,
     place: io::Result<String>,
@@ -274,7 +274,7 @@ static KEPT: [(&str, &str); 2] = [
     ("test_max_log_files.2020-02-01-12", "file 3\nfile 3\n"),
 ];
 
-// Writes to three hours in memory and in a fresh directory, where two files are kept.
+// Writes to three hours in memory and in a fresh directory, while two files are kept.
 fn write_three_hours(rt: &impl FilesAndAbort, place: io::Result<String>) {
     let builder = hourly_log(rt, "test_max_log_files").max_log_files(2);
     write_in_memory(rt, &builder, &THREE_HOURS, &KEPT);
@@ -308,7 +308,7 @@ fn linked_log(rt: &impl FilesAndAbort) -> Builder {
         .expect(rt, "memory")
 }
 
-// Writes a log with a link at a path, and checks what then stands in a directory.
+// Writes a log with a link at a path, and checks what a directory then contains.
 fn expect_linked(rt: &impl FilesAndAbort, path: &str, directory: &str) {
     // At first there is neither the directory nor a link to remove.
     write_at(rt, &linked_log(rt), path, &LINE_AN_HOUR, 2);
@@ -316,7 +316,7 @@ fn expect_linked(rt: &impl FilesAndAbort, path: &str, directory: &str) {
     expect_files(rt, directory, &LINKED);
 }
 
-// The same where the path is that of the directory.
+// The same if the path is that of the directory.
 fn expect_linked_whole(rt: &impl FilesAndAbort, directory: &str) {
     expect_linked(rt, directory, directory);
 }
@@ -356,7 +356,7 @@ fn an_appender_shows_its_file_and_boundary(rt: HostRuntime) {
     expect_appender_and_clock_shown(rt);
 }
 
-// A system whose clock tells so many seconds since 1970, if it can be read.
+// A system whose clock shows this number of seconds since 1970, if it can be read.
 #[derive(Drop)]
 struct Stopped {
     seconds: Option<u64>,

@@ -102,7 +102,7 @@ fn expect_kinds<S: Folder>(rt: &impl FilesAndAbort, folder: &mut S, directory: &
     }
 }
 
-// A step of a test with a folder, which is a directory or stands in it, and what it must come to.
+// A step of a test with a folder, which is a directory or is in it, and its expected result.
 enum FolderStep {
     // These entries are made in the directory.
     Fill(&'static [Entry]),
@@ -114,19 +114,19 @@ enum FolderStep {
     NoFolder,
     // Each of these calls with each of these names is refused so.
     Refused(&'static [Call], &'static [&'static str], ErrorKind),
-    // A file of this name is opened and takes so many of these bytes.
+    // A file of this name is opened and takes this number of these bytes.
     Append(&'static str, &'static [u8], usize),
     // A file is removed.
     Remove(&'static str),
     // A link to this target is made, says so, and is removed again.
     Link(&'static str),
-    // So many entries are listed.
+    // This number of entries are listed.
     Lists(usize),
     // Four entries are listed, each with its kind.
     Kinds,
     // The listing is refused so.
     NoList(ErrorKind),
-    // So many calls have failed.
+    // This number of calls have failed.
     Failed(u64),
     // A name of the directory reads as this text.
     Reads(&'static str, &'static str),
@@ -280,7 +280,7 @@ fn links_alone_are_removed_as_links(rt: HostRuntime) {
     take_in(&rt, place_of(rt, "links"), "", &LINKS);
 }
 
-// A file that stands, and one that the first append to it makes.
+// A file that exists, and one that the first append to it makes.
 static APPENDS: [FolderStep; 6] = [
     FolderStep::Fill(&[Entry::File("standing", "one")]),
     FolderStep::Append("standing", b"two", 3),
@@ -347,7 +347,7 @@ static ONE_MORE: [FolderStep; 3] = [
 
 static CURRENT: [&str; 3] = ["", ".", "./"];
 
-// What they come to.
+// Their results.
 static THREE_MORE: [Entry; 1] = [Entry::File("file", "xxx")];
 
 // Writes to a file of the current directory by three of its paths.
@@ -366,7 +366,7 @@ fn an_empty_path_is_the_current_directory(rt: HostRuntime) {
     append_in_current(&rt, place_of(rt, "current"));
 }
 
-// An empty folder, one of every kind of entry, and one that is gone.
+// An empty folder, one of every kind of entry, and one that is absent.
 static LISTING: [FolderStep; 6] = [
     FolderStep::Lists(0),
     FolderStep::Fill(&[

@@ -1,4 +1,4 @@
-//! Tests of the log writers over real folders, where other processes may change them.
+//! Tests of the log writers over real folders, which other processes may change.
 #![tactic(auto)]
 
 #[cfg(test)]

@@ -64,7 +64,7 @@ static DEEDS: [(Deed, bool); 5] = [
     (Deed::Links, false),
 ];
 
-// Opens a file, lets the deed be done, and answers whether the name still leads to it.
+// Opens a file, lets the deed be done, and returns whether the name still leads to it.
 fn is_named_after<R: FilesAndAbort>(rt: R, directory: &str, deed: Deed) -> bool {
     fs::create_dir(&rt, directory).expect(&rt, "a directory");
     let mut folder = folder_at(rt, directory);

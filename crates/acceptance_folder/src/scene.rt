@@ -21,7 +21,7 @@ pub(crate) const ELEVEN: i64 = 1_580_554_800;
 /// 2020-02-01 12:00:00.
 pub(crate) const TWELVE: i64 = 1_580_558_400;
 
-/// A clock that stands until it is set.
+/// A clock that shows the same moment until it is set.
 #[derive(Drop)]
 pub(crate) struct TestClock {
     moment: Cell<i64>,
@@ -60,7 +60,7 @@ pub(crate) trait FilesAndAbort: Files + AllocGlobal + Eprint + Abort + Copy + Dr
 
 impl<R: Files + AllocGlobal + Eprint + Abort + Copy + Drop> FilesAndAbort for R {}
 
-/// Where a directory of the test's own lies.
+/// Returns the path of a directory of the test's own.
 pub(crate) fn place_of(rt: HostRuntime, test: &str) -> io::Result<String> {
     let temp = env::temp_dir(&rt)?;
     let parent = temp.as_str();
@@ -106,7 +106,7 @@ pub(crate) fn folder_at<R: FilesAndAbort>(rt: R, path: &str) -> DirFolder<R> {
     DirFolder::new(rt, path).expect(&rt, "memory")
 }
 
-/// What stands in a directory: its name, and what a file reads as or a link says.
+/// An entry of a directory: its name, and what a file reads as or a link says.
 #[derive(Clone, Copy)]
 pub(crate) enum Entry {
     File(&'static str, &'static str),

@@ -11,10 +11,10 @@ use std::sync::atomic::AtomicI64;
 use std::sync::atomic::Ordering::SeqCst;
 use std::thread;
 
-// How many boundaries each log comes to.
+// How many boundaries each log reaches.
 const BOUNDARIES: u64 = 300;
 
-// A clock that goes on by a minute once that of the other log waits for it too, and until then tells the
+// A clock that advances by a minute when that of the other log waits for it too, and until then shows the
 // minute before, so that both logs are at the same boundary.
 struct InStep<'a> {
     moment: Cell<i64>,

@@ -25,8 +25,8 @@ pub struct Seen {
     open: AtomicUsize,
 }
 
-/// Records lines and flushes. The write of the line that it is to hold answers once the gate is
-/// open; where that takes longer than ten seconds, `late` is recorded too, and it fails.
+/// Records lines and flushes. The write of the line that it is to hold returns when the gate is
+/// open; if that takes longer than ten seconds, `late` is recorded too, and it fails.
 #[derive(Drop)]
 pub struct Gate<R: Host> {
     rt: R,
@@ -82,7 +82,7 @@ impl Seen {
         Ok(())
     }
 
-    /// Waits until the writer holds its line, and tells whether it does.
+    /// Waits until the writer holds its line, and returns whether it does.
     pub fn is_held<R: Clock + Copy>(&self, rt: R) -> bool {
         reaches(rt, &self.holds, 1)
     }
@@ -92,17 +92,17 @@ impl Seen {
         self.open.store(1, SeqCst);
     }
 
-    /// Waits until so many lines came, and tells whether they did.
+    /// Waits until this number of lines were written, and returns whether that happened.
     pub fn come<R: Clock + Copy>(&self, rt: R, count: usize) -> bool {
         reaches(rt, &self.came, count)
     }
 
-    /// How many lines came.
+    /// Returns how many lines were written.
     pub fn count(&self) -> usize {
         self.came.load(SeqCst)
     }
 
-    /// Whether this line came behind so many others.
+    /// Returns whether this line was written after this number of others.
     pub fn has_at<R: Wait>(&self, rt: &R, place: usize, line: &[u8]) -> bool {
         match self.lines.lock(rt).get(place) {
             Some(came) => came.as_slice() == line,
@@ -110,7 +110,7 @@ impl Seen {
         }
     }
 
-    /// All lines, with a bar behind each.
+    /// Returns all lines, with a bar after each.
     pub fn text<R: Wait + AllocGlobal>(&self, rt: &R) -> Result<Vec<u8>, AllocError> {
         let mut text = Vec::new(rt.alloc());
         for line in self.lines.lock(rt).as_slice() {
@@ -120,18 +120,18 @@ impl Seen {
         Ok(text)
     }
 
-    /// Waits until so many flushes came behind the last line, and tells whether they did.
+    /// Waits until this number of flushes followed the last line, and returns whether that happened.
     pub fn flushes_come<R: Clock + Copy>(&self, rt: R, count: usize) -> bool {
         reaches(rt, &self.flushes, count)
     }
 
-    /// How many flushes came behind the last line.
+    /// Returns how many flushes followed the last line.
     pub fn last_flushes(&self) -> usize {
         self.flushes.load(SeqCst)
     }
 }
 
-// Looks until the number is as great, for ten seconds at most, and tells whether it is.
+// Looks until the number is as great, for ten seconds at most, and returns whether it is.
 fn reaches<R: Clock + Copy>(rt: R, number: &AtomicUsize, least: usize) -> bool {
     for _ in 0..LOOKS {
         if number.load(SeqCst) >= least {

@@ -6,7 +6,7 @@ use appender_core::store::{Folder, Kind, Listed, MemoryFolder, Notice, NoticeKin
 use std::io;
 use std::process::Abort;
 
-// A name, and what a put under it answers.
+// A name, and the result of a put under it.
 static PUTS: [(&str, Result<(), PutError>); 11] = [
     ("", Err(PutError::Name)),
     (".", Err(PutError::Name)),
@@ -62,7 +62,7 @@ fn puts_only_what_names_one_entry(rt: HostRuntime) {
     put_all(&rt, Made::Link);
 }
 
-// Puts something where no folder is, and checks what its name leads to.
+// Puts something if no folder is there, and checks what its name leads to.
 fn put_first(
     rt: &impl AllocAndAbort,
     made: Made,
@@ -84,7 +84,7 @@ fn a_put_makes_an_absent_folder(rt: HostRuntime) {
     put_first(&rt, Made::Link, None, Kind::Link, Some("b"));
 }
 
-// Makes the link lead to the new file in place of the old one, which goes.
+// Makes the link lead to the new file in place of the old one, which is removed.
 fn move_link<S: Folder>(rt: &impl Abort, folder: &mut S) {
     folder.make_folder().expect(rt, "a folder");
     folder.remove("old").expect(rt, "a file");
@@ -110,7 +110,7 @@ fn note_all<S: Folder>(folder: &mut S) {
     folder.note(Notice::Open(&InitError::Memory));
 }
 
-// Makes each call of a folder, and answers what was listed.
+// Makes each call of a folder, and returns what was listed.
 fn walk<S: Folder>(rt: &impl Abort, folder: &mut S) -> Vec<Listed> {
     move_link(rt, folder);
     write_hello(rt, folder);
@@ -143,7 +143,7 @@ fn expect_listed(rt: &impl Abort, listed: &[Listed]) {
     }
 }
 
-// What stands under each name of a folder that was walked.
+// What each name leads to of a folder that was walked.
 static FOUND: [(&str, Option<&[u8]>, Option<Kind>); 4] = [
     ("latest", None, Some(Kind::Link)),
     ("new", Some(b"hello"), Some(Kind::File)),

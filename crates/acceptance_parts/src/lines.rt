@@ -66,7 +66,7 @@ static LINE_RUNS: [LineRun; 6] = [
     },
 ];
 
-// Writes the line of a run, and answers the fault.
+// Writes the line of a run, and returns the fault.
 fn fault_of_line(writer: &mut Script, line: &str) -> Option<(usize, ErrorKind)> {
     match run_line(writer, line.as_bytes()) {
         Ok(()) => None,

@@ -350,7 +350,7 @@ fn texts_of_errors(rt: HostRuntime) {
     expect_text(&rt, InitError::Memory, 6, "out of memory", "");
 }
 
-// The fault's own text stands behind that of its case.
+// The fault's own text follows that of its case.
 fn expect_texts_with(rt: &impl AllocAndAbort, fault: io::ErrorKind, rest: &str) {
     let begin = "failed to create log directory: ";
     expect_text(rt, InitError::Directory(fault.into()), 1, begin, rest);

@@ -20,7 +20,7 @@ const TAKE: Call = Call::Take { waits: false };
 
 const WAIT: Call = Call::Take { waits: true };
 
-// A queue, its calls with their answers, and its counts at the end: accepted, handed, queued, left
+// A queue, its calls with their replies, and its counts at the end: accepted, handed, queued, left
 // and dropped.
 struct QueueRun {
     lossy: bool,
@@ -148,7 +148,7 @@ static QUEUE_RUNS: [QueueRun; 9] = [
     },
 ];
 
-// Offers a line, and tells the answer.
+// Offers a line, and returns the reply.
 fn offer_text(rt: &impl AllocAndAbort, queue: &mut LineQueue, line: &str) -> String {
     match queue.offer(bytes(rt, line)) {
         Ok(ticket) => word_and_number(rt, "accepted", ticket),
@@ -171,7 +171,7 @@ fn taken_text(rt: &impl AllocAndAbort, taken: &Taken) -> String {
     }
 }
 
-// Makes the call, and tells its answer.
+// Makes the call, and returns its reply.
 fn answer(rt: &impl AllocAndAbort, queue: &mut LineQueue, call: Call) -> String {
     match call {
         Call::Offer(line) => offer_text(rt, queue, line),
@@ -187,7 +187,7 @@ fn queue_of(rt: &impl AllocAndAbort, limit: usize, lossy: bool) -> LineQueue {
     LineQueue::new(rt.alloc(), limit, lossy).expect(rt, "memory")
 }
 
-// Makes the calls of a run, and checks what they answer.
+// Makes the calls of a run, and checks their replies.
 fn check_calls(rt: &impl AllocAndAbort, row: usize, queue: &mut LineQueue, calls: &[(Call, &str)]) {
     for (call, want) in calls {
         let got = answer(rt, queue, *call);

@@ -41,7 +41,7 @@ fn expect_plan(
     expect_eq_of(rt, max, gone.as_slice(), wanted);
 }
 
-// Checks which of these entries go, where one is kept.
+// Checks which of these entries are removed if one is kept.
 fn expect_one_kept(rt: &impl AllocAndAbort, names: &Names, entries: &[Entry], wanted: &[usize]) {
     expect_plan(rt, names, 1, &listing(rt, entries), wanted);
 }
@@ -71,7 +71,7 @@ static MIXED: [Entry; 9] = [
     ),
 ];
 
-// The mixed entries, and behind them one whose name is not readable.
+// The mixed entries, and after them one whose name is not readable.
 fn mixed_listing(rt: &impl AllocAndAbort) -> Vec<Listed> {
     let mut listed = listing(rt, &MIXED);
     push(rt, &mut listed, None, &("", Kind::File, Some(0)));

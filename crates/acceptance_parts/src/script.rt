@@ -1,4 +1,4 @@
-// A writer that does what it is told, and lines as texts.
+// A writer that does what a script says, and lines as texts.
 use crate::expect::AllocAndAbort;
 use std::alloc::Global;
 use std::io;
@@ -69,13 +69,13 @@ impl Write for Script {
     }
 }
 
-/// A word, and behind it a line.
+/// A word, and after it a line.
 pub(crate) fn line_text(rt: &impl AllocAndAbort, word: &str, line: &[u8]) -> String {
     let line = str::from_utf8(line).expect(rt, "a text");
     format!(in rt.alloc(); "{word} {line}").expect(rt, "memory")
 }
 
-/// A word, and behind it a number.
+/// A word, and after it a number.
 pub(crate) fn word_and_number(rt: &impl AllocAndAbort, word: &str, number: u64) -> String {
     format!(in rt.alloc(); "{word} {number}").expect(rt, "memory")
 }

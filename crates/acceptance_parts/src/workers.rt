@@ -6,7 +6,7 @@ use appender_core::worker::{Want, WorkerCore};
 use std::io::{ErrorKind, Write};
 use std::test::*;
 
-// Lines that a worker finds, whether a shutdown stands behind them, its writer, what it does, and
+// Lines that a worker finds, whether a shutdown follows them, its writer, what it does, and
 // the text that its writer has at the end.
 struct WorkerRun {
     lines: &'static [&'static str],
@@ -92,7 +92,7 @@ fn add_said(rt: &impl AllocAndAbort, wants: &mut String, want: Want) {
     wants.push_str(", ").expect(rt, "memory");
 }
 
-// Does what the worker wants, and tells whether it would do more.
+// Does what the worker wants, and returns whether it would do more.
 fn step(core: &mut WorkerCore, queue: &mut LineQueue, writer: &mut Script) -> bool {
     match core.want() {
         Want::Take { waits } => {
@@ -115,7 +115,7 @@ fn step(core: &mut WorkerCore, queue: &mut LineQueue, writer: &mut Script) -> bo
 }
 
 // Does what the worker wants, until a take that waits finds nothing or the worker has ended, and
-// tells what that was.
+// returns what that was.
 fn work(rt: &impl AllocAndAbort, queue: &mut LineQueue, writer: &mut Script) -> String {
     let mut wants = String::new(rt.alloc());
     let mut core = WorkerCore::new();
@@ -145,7 +145,7 @@ fn queue_of(rt: &impl AllocAndAbort, row: usize, run: &WorkerRun) -> LineQueue {
     queue
 }
 
-// Does what the worker of a run wants, and checks what that was and what it came to.
+// Does what the worker of a run wants, and checks what that was and its result.
 fn check_run(rt: &impl AllocAndAbort, row: usize, run: &WorkerRun) {
     let mut queue = queue_of(rt, row, run);
     let mut writer = Script::new(rt.alloc(), run.interruptions, run.acts);

@@ -1,5 +1,5 @@
-// One run in which each call of the folder fails in turn: what is noted, and that no byte that was told
-// as written is lost. What the run prints and leaves then stands among the scripts of `rollplay_rows`.
+// One run in which each call of the folder fails in turn: what is noted, and that no byte that was reported
+// as written is lost. What the run prints and leaves is then among the scripts of `rollplay_rows`.
 
 use crate::expect::{AllocAndAbort, bytes, expect_eq, expect_eq_of};
 use crate::logs::{folder_with, hourly_log};
@@ -14,7 +14,7 @@ const START: i64 = 1_580_551_260;
 
 const ELEVEN: i64 = 1_580_554_800;
 
-// No run makes so many calls.
+// No run makes this many calls.
 const LAST: u64 = 64;
 
 static OLD_LOGS: [(&str, &str); 2] = [("app.2020-02-01-08", "o"), ("app.2020-02-01-09", "p")];
@@ -41,10 +41,10 @@ fn steps(rt: &impl AllocAndAbort) -> Vec<RollStep> {
     steps
 }
 
-// A folder as a run left it, and how many bytes the run's answers count.
+// A folder as a run left it, and how many bytes the run's replies count.
 type Played = (MemoryFolder, usize);
 
-// How many bytes these answers count.
+// How many bytes these replies count.
 fn bytes_told(replies: &[RollReply]) -> usize {
     let mut told = 0usize;
     for reply in replies {
@@ -76,7 +76,7 @@ fn play(rt: &impl AllocAndAbort, folder: MemoryFolder, steps: &[RollStep]) -> Pl
     }
 }
 
-// The same of a run behind a queue.
+// The same of a run through a queue.
 fn queued_bytes_told(replies: &[Reply]) -> usize {
     let mut told = 0usize;
     for reply in replies {
@@ -119,7 +119,7 @@ fn queued_steps(rt: &impl AllocAndAbort) -> Vec<Step> {
     steps
 }
 
-// How many bytes the bodies hold that came after the first two.
+// How many bytes the bodies hold after the first two.
 fn bytes_held(folder: &MemoryFolder) -> usize {
     let mut count = 0usize;
     for number in 2..8 {
@@ -131,7 +131,7 @@ fn bytes_held(folder: &MemoryFolder) -> usize {
 }
 
 // Which call fails, the notices that are then taken of listings, removals, openings and flushes, and the
-// bytes that are told as written.
+// bytes that are reported as written.
 static NOTED: [(u64, [u64; 4], usize); 16] = [
     (1, [1, 0, 0, 0], 3),
     (2, [0, 1, 0, 0], 3),
@@ -163,7 +163,7 @@ fn notices_in(folder: &MemoryFolder) -> [u64; 4] {
     ]
 }
 
-// Plays while this call fails, and checks what is noted and what is told as written.
+// Plays while this call fails, and checks what is noted and what is reported as written.
 fn check_noted(
     rt: &impl AllocAndAbort,
     call: u64,
@@ -185,13 +185,13 @@ fn each_call_that_fails_is_noted(rt: HostRuntime) {
     }
 }
 
-// Plays while this call and all behind it fail, and checks that the folder holds what is told as written.
+// Plays while this call and all after it fail, and checks that the folder holds what is reported as written.
 fn check_kept(rt: &impl AllocAndAbort, first: u64, steps: &[RollStep]) {
     let (left, told) = play(rt, folder(rt, first, LAST), steps);
     expect_eq_of(rt, first, bytes_held(&left), told);
 }
 
-// The same of a run behind a queue; answers how many bytes are told.
+// The same of a run through a queue; returns how many bytes are reported.
 fn check_queued_kept(rt: &impl AllocAndAbort, first: u64, steps: &[Step]) -> usize {
     let (left, told) = play_queued(rt, folder(rt, first, LAST), steps);
     expect_eq_of(rt, first, bytes_held(&left), told);

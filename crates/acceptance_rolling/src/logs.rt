@@ -5,7 +5,7 @@ use std::process::Abort;
 use tracing_appender::rolling::{Builder, Rotation};
 use tracing_appender::store::MemoryFolder;
 
-/// A builder of an hourly log, of which so many files are kept; 0 is no maximum. An empty link is none.
+/// A builder of an hourly log, of which this number of files are kept; 0 is no maximum. An empty link is none.
 pub(crate) fn hourly_log(rt: &impl AllocAndAbort, max: usize, link: &str) -> Builder {
     let builder = Builder::new().rotation(Rotation::HOURLY).max_log_files(max);
     let builder = builder.filename_prefix(rt.alloc(), "app");

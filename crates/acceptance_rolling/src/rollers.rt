@@ -1,4 +1,4 @@
-// What a roller and a builder tell, and bodies that names don't lead to any more.
+// What a roller and a builder show, and bodies that names don't lead to any more.
 
 use crate::expect::{AllocAndAbort, expect_eq, expect_eq_of, expect_shown};
 use crate::logs::{expect_count, folder_with, hourly_log};

@@ -82,7 +82,7 @@ static REFUSED: Table = Table {
         "init error 5\n|",
         "prefix ..\nstart 1580551260\n|",
         "init error 5\n|",
-        // The name comes before the moment.
+        // The name is before the moment.
         "prefix /\nstart 253370764800\n|",
         "init error 5\n|",
         "prefix app\nstart 253370764800\n|",
@@ -300,7 +300,7 @@ static FAULTY: Table = Table {
         "queue 1 waiting\nstart 0\nflush\n|3|",
         "start 0\nflush\nshut\nflush\n|3|",
         "queue 1 lossy\nstart 0\nshut\nflush\nshut\n|4|",
-        // Where `queue` and its steps may stand.
+        // Where `queue` and its steps may be.
         "start 0\nqueue 1 lossy\n|2|",
         "queue 1 lossy\nstart 0\nqueue 1 lossy\n|3|",
         "queue 1 lossy\nabsent\nstart 0\n|2|",
@@ -308,7 +308,7 @@ static FAULTY: Table = Table {
         "queue 1 lossy\nwork 0\nstart 0\n|2|",
         "queue 1 lossy\noffer 1 a\nstart 0\n|2|",
         "queue 1 lossy\n|2|",
-        // What stands behind their first words.
+        // What is after their first words.
         "queue\nstart 0\n|1|",
         "queue 1\nstart 0\n|1|",
         "queue 1 \nstart 0\n|1|",
@@ -412,7 +412,7 @@ impl Read for Stumbling<'_> {
     }
 }
 
-// Faults of reading, with the status and what is printed and told.
+// Faults of reading, with the status and what is printed and reported.
 static STUMBLES: [(io::ErrorKind, u8, &str, &str); 3] = [
     (
         io::ErrorKind::Interrupted,

@@ -12,24 +12,24 @@ fn plays_behind_a_queue(rt: HostRuntime) {
     check_each(&rt, rt.alloc(), &QUEUED, 0);
 }
 
-// What the lines of an output come to.
+// Counts of the lines of an output.
 #[derive(Clone, Copy, Debug, PartialEq, Eq)]
 struct Sums {
     // Bytes that writes took.
     written: usize,
-    // Bytes that lie in files.
+    // Bytes in files.
     stored: usize,
     // Whether the worker has ended.
     ended: bool,
 }
 
-// The number that stands before the first space, or 0.
+// The number before the first space, or 0.
 fn number_at(text: &str) -> usize {
     let (word, _) = text.split_once(' ').unwrap_or((text, ""));
     word.parse::<usize>().unwrap_or(0)
 }
 
-// What stands behind the first word, or nothing.
+// What is after the first word, or nothing.
 fn behind_word(text: &str) -> &str {
     let (_, rest) = text.split_once(' ').unwrap_or((text, ""));
     rest
@@ -64,7 +64,7 @@ fn sums_of(output: &str) -> Sums {
 const THREE_LINES: &str =
     "rotation hourly\nprefix app\nlink latest\nqueue 2 lossy\nstart 1580551260\noffer 1 a\noffer 2 bc\nwork 1580551260\nwork 1580551260\nwork 1580551260\nwork 1580554800\nwork 0\nwork 0\noffer 1 def\nshut\nwork 0\nwork 1580554801\nwork 0\nwork 0\nwork 0\nwork 0\nwork 0\n";
 
-// Plays that script where a call of the folder fails, and gives the status and the output.
+// Plays that script while a call of the folder fails, and returns the status and the output.
 fn play_failing(alloc: Global, call: usize) -> Result<(u8, Vec<u8>), Fail> {
     let script = format!(in alloc; "absent\nfail {call}\n{THREE_LINES}")?;
     let mut input = script.as_bytes();
@@ -74,7 +74,7 @@ fn play_failing(alloc: Global, call: usize) -> Result<(u8, Vec<u8>), Fail> {
     Ok((status, printed))
 }
 
-// Plays that script where a call fails, checks what stands in files and how it ends, and answers whether
+// Plays that script while a call fails, checks what is in files and how it ends, and returns whether
 // no log was opened.
 fn check_failing(rt: &(impl AllocGlobal + Abort), call: usize) -> Result<bool, Fail> {
     let (status, printed) = play_failing(rt.alloc(), call)?;

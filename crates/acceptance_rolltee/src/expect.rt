@@ -2,7 +2,7 @@
 use std::fmt::Debug;
 use std::process::Abort;
 
-/// Ends the test where a value isn't the wanted one.
+/// Ends the test if a value isn't the expected one.
 pub(crate) fn expect_eq<T: Copy + PartialEq + Debug>(rt: &impl Abort, got: T, wanted: T) {
     assert!(rt; got == wanted, "{got:?} where {wanted:?} is wanted");
 }

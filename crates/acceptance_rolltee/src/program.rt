@@ -14,7 +14,7 @@ use std::time::{Clock, Duration};
 use std::{env, fs, io, process, thread};
 use tracing_appender::rolling::{InitError, Rotation};
 
-// An input that can't be read behind these bytes.
+// An input that can't be read after these bytes.
 #[derive(Drop)]
 struct Broken<'a> {
     left: &'a [u8],
@@ -172,7 +172,7 @@ impl Logs for NoLogs {
     }
 }
 
-// A path of this test's own, where nothing stands.
+// A path of this test's own, that doesn't exist.
 fn fresh(rt: &HostRuntime, name: &str) -> io::Result<String> {
     let parent = env::temp_dir(rt)?;
     let path = path_in(rt, parent.as_str(), name)?;
@@ -194,7 +194,7 @@ fn texts_of(alloc: Global, words: &[&str]) -> Result<Vec<String>, AllocError> {
     Ok(texts)
 }
 
-// Runs the program over these logs, and compares its status and what it tells.
+// Runs the program over these logs, and compares its status and what it reports.
 fn check<R: Host + Abort, L: Logs, I: Read>(
     rt: R,
     logs: &L,
@@ -440,7 +440,7 @@ fn tells_a_folder_that_is_none(rt: HostRuntime) {
     fs::remove_file(&rt, path).expect(&rt, "a file");
 }
 
-// Also where there is no memory for an opening.
+// Also if there is no memory for an opening.
 #[test]
 fn tells_why_no_log_is_opened(rt: HostRuntime) {
     let arguments = ["never", "dir", "app"];

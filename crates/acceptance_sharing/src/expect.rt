@@ -2,12 +2,12 @@
 use std::fmt::Debug;
 use std::process::Abort;
 
-/// Ends the test where a value isn't the wanted one.
+/// Ends the test if a value isn't the expected one.
 pub(crate) fn expect_eq<T: Copy + PartialEq + Debug>(rt: &impl Abort, got: T, wanted: T) {
     assert!(rt; got == wanted, "{got:?} where {wanted:?} is wanted");
 }
 
-/// The same, and tells of what it is the value: a name, or the row of a table.
+/// The same, and prints which value it is: a name, or the row of a table.
 pub(crate) fn expect_eq_of<P: Copy + Debug, T: Copy + PartialEq + Debug>(
     rt: &impl Abort,
     place: P,
@@ -20,7 +20,7 @@ pub(crate) fn expect_eq_of<P: Copy + Debug, T: Copy + PartialEq + Debug>(
     );
 }
 
-/// Ends the test where the `Debug` text of a value isn't the wanted one.
+/// Ends the test if the `Debug` text of a value isn't the expected one.
 pub(crate) fn expect_shown<T: Copy + Debug>(
     rt: &(impl AllocGlobal + Abort),
     value: T,
@@ -29,7 +29,7 @@ pub(crate) fn expect_shown<T: Copy + Debug>(
     expect_eq(rt, debug_text(rt, value).as_str(), wanted);
 }
 
-/// Ends the test where the `Debug` text of a value doesn't begin with this.
+/// Ends the test if the `Debug` text of a value doesn't begin with this.
 pub(crate) fn expect_shown_start<T: Copy + Debug>(
     rt: &(impl AllocGlobal + Abort),
     value: T,
@@ -38,7 +38,7 @@ pub(crate) fn expect_shown_start<T: Copy + Debug>(
     expect_eq(rt, debug_text(rt, value).as_str().starts_with(start), true);
 }
 
-// The `Debug` text of a value.
+// Returns the `Debug` text of a value.
 fn debug_text<T: Copy + Debug>(rt: &(impl AllocGlobal + Abort), value: T) -> String {
     format!(in rt.alloc(); "{value:?}").expect(rt, "memory")
 }

@@ -21,7 +21,7 @@ const THREADS: usize = 8;
 const LINES: i64 = 51;
 
 // Writes a line of a thread. It says which thread wrote it, how many that had written, and what the
-// clock was to tell before its writer was made and while it was held.
+// clock was to return before its writer was made and while it was held.
 fn write_line<S: Folder, R: Wait + AllocGlobal + Drop>(
     rt: &R,
     appender: &RollingFileAppender<S, &SteppingClock, R>,
@@ -84,7 +84,7 @@ fn read_line(rt: &impl Abort, text: &str) -> [i64; 4] {
     numbers
 }
 
-// Checks a line of the file of an hour: it is whole, came in that hour, and follows the one before it
+// Checks a line of the file of an hour: it is whole, was written in that hour, and follows the one before it
 // of its thread.
 fn check_line(rt: &impl Abort, hour: i64, text: &str, last: &mut [i64; THREADS]) {
     let [thread, number, before, after] = read_line(rt, text);
@@ -131,7 +131,7 @@ fn check_all_named(rt: &impl FilesAndAbort, directory: &str, names: &Names, foun
     expect_eq(rt, last, [LINES - 1; THREADS]);
 }
 
-// Checks the five files that stand, and the link, whose name comes last.
+// Checks the five files that are left, and the link, whose name is last.
 fn check_files(rt: &impl FilesAndAbort, directory: &str, names: &Names) {
     let mut found = names_in(rt, directory);
     let link = found.pop().expect(rt, "a link");
@@ -151,7 +151,7 @@ fn check_log(rt: &impl FilesAndAbort, directory: &str, failures: u64) {
     clear(rt, directory);
 }
 
-// Writes the last line of each thread once all threads have written the others, and answers the log's
+// Writes the last line of each thread once all threads have written the others, and returns the log's
 // folder.
 fn write_all_in_threads<S: Folder + Send, R: FilesAndAbort + Threads + Wait + Sync>(
     rt: R,

@@ -25,7 +25,7 @@ const LINES: [&str; 10] = [
     "[INFO  db] row=09\n",
 ];
 
-// Ten threads log a record each by one sink, which loses none. Answers the folder.
+// Ten threads log a record each by one sink, which loses none. Returns the folder.
 fn folder_of<C: Clock + Sync, R: FilesAndAbort + Threads + Wait + Sync>(
     rt: R,
     clock: C,

@@ -23,14 +23,14 @@ use std::thread::Threads;
 use std::time::Duration;
 use std::{thread, time};
 
-// A folder of which the call behind an opening, a switch of two calls, and ten lines fails.
+// A folder of which the call after an opening, a switch of two calls, and ten lines fails.
 fn failing_folder(alloc: Global) -> Result<MemoryFolder, AllocError> {
     let mut folder = MemoryFolder::new(alloc);
     folder.fail_call(14)?;
     Ok(folder)
 }
 
-// Opens a log over this folder, to which ten threads write, and answers the folder.
+// Opens a log over this folder, to which ten threads write, and returns the folder.
 fn begin_one_file<R: FilesAndAbort + Threads + Wait + Sync>(
     rt: R,
     folder: MemoryFolder,
@@ -66,7 +66,7 @@ fn comes_soon(rt: &impl time::Clock, flag: &AtomicBool) -> bool {
     false
 }
 
-// Writes `c` by a writer of its own, and then sets the flag. Answers whether all of it was taken.
+// Writes `c` by a writer of its own, and then sets the flag. Returns whether all of it was taken.
 fn write_and_tell<C: Clock, R: Wait + Drop>(
     appender: &RollingFileAppender<MemoryFolder, C, R>,
     flag: &AtomicBool,
@@ -76,14 +76,14 @@ fn write_and_tell<C: Clock, R: Wait + Drop>(
     wrote
 }
 
-// Writes `b` by this writer, and answers whether it was taken and the flag was not set before.
+// Writes `b` by this writer, and returns whether it was taken and the flag was not set before.
 fn write_first(rt: &impl time::Clock, mut writer: impl Write + Drop, flag: &AtomicBool) -> bool {
     let waited = !comes_soon(rt, flag);
     let wrote = matches!(writer.write(b"b"), Ok(1)) && writer.flush().is_ok();
     wrote && waited
 }
 
-// Writes `b` by this writer, while another thread writes `c` by one of its own, and answers whether
+// Writes `b` by this writer, while another thread writes `c` by one of its own, and returns whether
 // that thread waited for this writer to be dropped.
 fn write_beside<C: Clock + Sync, R: Threads + Wait + time::Clock + Sync + Drop>(
     rt: &R,
@@ -113,7 +113,7 @@ fn write_across_hours<R: FilesAndAbort + Threads + Wait + time::Clock + Sync>(
     expect_eq(rt, write_beside(rt, appender, writer), true);
 }
 
-// Writes a log across two hours, and answers its folder.
+// Writes a log across two hours, and returns its folder.
 fn folder_across_hours<R: FilesAndAbort + Threads + Wait + time::Clock + Sync>(
     rt: R,
 ) -> MemoryFolder {
@@ -135,7 +135,7 @@ fn a_writer_keeps_its_file(rt: HostRuntime) {
     expect_across_hours(rt);
 }
 
-// A folder in which, behind the opening, the first and the fourth append take less than the line,
+// A folder in which, after the opening, the first and the fourth append take less than the line,
 // and the fifth nothing.
 fn short_folder(alloc: Global) -> Result<MemoryFolder, AllocError> {
     let mut folder = MemoryFolder::new(alloc);
@@ -152,7 +152,7 @@ fn write_three(rt: &impl Abort, mut writer: impl Write + Drop) {
     expect_kind(rt, writer.write_all(b"bye"), Some(ErrorKind::WriteZero));
 }
 
-// Writes three lines to a log over this folder, and answers the folder.
+// Writes three lines to a log over this folder, and returns the folder.
 fn folder_of_three<R: FilesAndAbort + Wait>(rt: R, folder: MemoryFolder) -> MemoryFolder {
     let clock = SteppingClock::new(START, 0);
     let appender = open_appender(rt, &hourly_log(&rt, "app"), folder, clock);
@@ -173,7 +173,7 @@ fn a_line_goes_on_behind_a_short_append(rt: HostRuntime) -> Result<(), Fail> {
     Ok(())
 }
 
-// Ten threads write to a log whose clock turns back and forth. Answers its folder.
+// Ten threads write to a log whose clock turns back and forth. Returns its folder.
 fn folder_of_turns<R: FilesAndAbort + Threads + Wait + Sync>(rt: R) -> MemoryFolder {
     let appender = in_memory(rt, Turning::new());
     write_in_threads(&rt, &appender);

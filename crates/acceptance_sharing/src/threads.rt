@@ -12,7 +12,7 @@ use std::sync::atomic::{AtomicI64, AtomicU64};
 use std::thread;
 use std::thread::Threads;
 
-/// A clock that goes on by so many seconds at each reading.
+/// A clock that advances by this number of seconds at each reading.
 #[derive(Drop)]
 pub(crate) struct SteppingClock {
     next: AtomicI64,
@@ -31,7 +31,7 @@ impl SteppingClock {
         self.next.store(moment, SeqCst);
     }
 
-    /// What the next reading tells.
+    /// What the next reading returns.
     pub(crate) fn next(&self) -> i64 {
         self.next.load(SeqCst)
     }
@@ -45,7 +45,7 @@ impl Clock for SteppingClock {
     }
 }
 
-/// A clock that tells 10:01 once, and then 11:00, for which it waits until ten threads ask, for a
+/// A clock that shows 10:01 once, and then 11:00, for which it waits until ten threads ask, for a
 /// bounded number of turns.
 #[derive(Drop)]
 pub(crate) struct Crowded {
@@ -77,7 +77,7 @@ impl Clock for Crowded {
     }
 }
 
-/// A clock that tells 10:01 once, and then 11:00 and 12:00 by turns.
+/// A clock that shows 10:01 once, and then 11:00 and 12:00 by turns.
 #[derive(Drop)]
 pub(crate) struct Turning {
     reads: AtomicU64,
@@ -116,7 +116,7 @@ pub(crate) fn in_memory<C: Clock, R: FilesAndAbort>(
     )
 }
 
-/// Writes a line by a writer of its own, and answers whether all of it was taken.
+/// Writes a line by a writer of its own, and returns whether all of it was taken.
 pub(crate) fn writes<S: Folder, C: Clock, R: Wait + Drop>(
     appender: &RollingFileAppender<S, C, R>,
     line: &str,
@@ -127,7 +127,7 @@ pub(crate) fn writes<S: Folder, C: Clock, R: Wait + Drop>(
     }
 }
 
-// Writes a line by this writer, and answers whether all of it was taken.
+// Writes a line by this writer, and returns whether all of it was taken.
 fn takes(mut writer: impl Write + Drop, line: &str) -> bool {
     writer.write_all(line.as_bytes()).is_ok()
 }

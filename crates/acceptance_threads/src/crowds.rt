@@ -33,7 +33,7 @@ impl<R: Host> Write for Counting<R> {
     }
 }
 
-// So many lines of one sender. Answers how many were queued.
+// This number of lines of one sender. Returns how many were queued.
 fn send<R: Wait + Drop>(mut sender: NonBlocking<R>, lines: usize) -> usize {
     let mut queued = 0usize;
     for _ in 0..lines {
@@ -54,7 +54,7 @@ struct Crowd {
     closes_early: bool,
 }
 
-// What became of a crowd: what the guard told, and how many lines were queued, and how many dropped.
+// The result of a crowd: that of the guard, and how many lines were queued, and how many dropped.
 #[derive(Clone, Copy)]
 struct Outcome {
     closing: Closing,
@@ -155,7 +155,7 @@ fn lines_left(rt: &impl Abort, closing: Closing, closes_early: bool) -> Option<u
     }
 }
 
-// Each line that was queued came or was left, and none was dropped.
+// Each line that was queued was written or left, and none was dropped.
 fn expect_all<R: Abort>(rt: &R, crowd: Crowd, outcome: Outcome, came: usize) {
     let Outcome {
         closing,
@@ -177,7 +177,7 @@ fn run<R: Host + Abort>(rt: R, crowd: Crowd) {
     expect_all(&rt, crowd, outcome, came.load(SeqCst));
 }
 
-// Plays a crowd whose guard closes early, ten thousand times, or for 20 seconds where other processes keep
+// Plays a crowd whose guard closes early, ten thousand times, or for 20 seconds if other processes keep
 // its threads waiting.
 fn run_often<R: Host + Abort>(rt: R, limit: usize) {
     let crowd = Crowd {

@@ -20,7 +20,7 @@ static DROPS: [WorkerStep; 10] = [
     WorkerStep::Opens,
     WorkerStep::Closes(Closing::Done { left: 0 }),
     WorkerStep::Came(b"g|a|"),
-    // Of three lines that were offered two came.
+    // Two of three offered lines were written.
     WorkerStep::HasCome(2),
     WorkerStep::Dropped(1),
 ];
@@ -30,7 +30,7 @@ fn a_lossy_queue_drops_what_finds_no_room(rt: HostRuntime) {
     play(rt, Queue::Lossy(1), b"g", &DROPS);
 }
 
-// The writer is in the first line until the write of the second one has answered.
+// The writer is in the first line until the write of the second one has returned.
 static HOLDS_NO_SENDER: [WorkerStep; 7] = [
     WorkerStep::Takes(b"1"),
     WorkerStep::IsHeld,
@@ -91,7 +91,7 @@ fn every_byte_comes_as_it_was(rt: HostRuntime) {
     play(rt, Queue::Named("bytes"), b"", &EVERY_BYTE);
 }
 
-// The shutdown stands before the lines that come later, though the queue takes them.
+// The shutdown is before the lines that are queued later, though the queue takes them.
 static BEHIND_THE_SHUTDOWN: [WorkerStep; 8] = [
     WorkerStep::Takes(b"g"),
     WorkerStep::IsHeld,
@@ -130,7 +130,7 @@ fn a_closed_queue_takes_no_line(rt: HostRuntime) {
 }
 
 // The guard finds no room for the shutdown, and says so. The worker ends with its last sender, and leaves
-// no line behind.
+// no line after.
 static STAYS_FULL: [WorkerStep; 7] = [
     WorkerStep::Takes(b"g"),
     WorkerStep::IsHeld,
@@ -160,7 +160,7 @@ impl Write for Failing {
     }
 }
 
-// Each line is given up, and the worker goes on to its end.
+// Each line is given up, and the worker continues to its end.
 #[test]
 fn a_writer_that_fails_ends_too(rt: HostRuntime) -> Result<(), Fail> {
     let (mut sender, guard) = non_blocking(rt, rt.alloc(), Failing)?;
@@ -174,7 +174,7 @@ fn a_writer_that_fails_ends_too(rt: HostRuntime) -> Result<(), Fail> {
     Ok(())
 }
 
-// The `Debug` text of a builder tells the limit.
+// The `Debug` text of a builder shows the limit.
 fn expect_limit_shown<R: Host + Abort>(rt: R) {
     let text = debug_text(&rt, &NonBlockingBuilder::default());
     assert!(rt; text.as_str().contains("128000"));
@@ -208,7 +208,7 @@ impl<R: Host> Write for Naming<R> {
     }
 }
 
-// Plays the steps over a writer that tells the worker's name.
+// Plays the steps over a writer that records the worker's name.
 fn play_named<R: Host + Abort>(rt: R, files: HostRuntime, queue: Queue, steps: &[WorkerStep]) {
     let (gate, seen) = new_gate(rt, b"").expect(&rt, "memory");
     play_over(rt, queue, Naming { files, gate }, seen, steps);

@@ -10,7 +10,7 @@ use std::process::Abort;
 use std::test::Fail;
 use std::{io, thread};
 
-// A queue of so many lines.
+// A queue of this number of lines.
 fn start<R: Host, W: Write + Send + Drop + 'static>(
     rt: R,
     lossy: bool,
@@ -30,7 +30,7 @@ fn log_request<R: Host>(rt: R, sink: &LogSink<'_, NonBlocking<R>>, id: usize) {
     info!(request; target: "db", rows = 3; "read");
 }
 
-// How often the line of such a record came.
+// Returns how often the line of such a record was written.
 fn count_of<R: Host + Abort>(rt: R, seen: &Seen, id: usize) -> usize {
     let line = format!(in rt.alloc(); "[INFO  db] request{{id={id}}}: read rows=3\n");
     let line = line.expect(&rt, "memory");

@@ -52,7 +52,7 @@ fn the_worker_ends_after_its_last_sender(rt: HostRuntime) -> Result<(), Fail> {
     Ok(())
 }
 
-// Writes so many lines, each by a clone that is dropped at once.
+// Writes this number of lines, each by a clone that is dropped at once.
 fn write_by_clones<R: Wait + Clone>(sender: NonBlocking<R>, lines: usize) {
     for _ in 0..lines {
         if let Ok(mut clone) = sender.clone() {
@@ -61,7 +61,7 @@ fn write_by_clones<R: Wait + Clone>(sender: NonBlocking<R>, lines: usize) {
     }
 }
 
-// Clones that threads make and drop at the same time count as one sender, until the last of them is gone.
+// Clones that threads make and drop at the same time count as one sender, until the last of them is dropped.
 #[test]
 fn the_worker_ends_after_the_last_clone(rt: HostRuntime) -> Result<(), Fail> {
     let (gate, seen) = new_gate(rt, b"held")?;

@@ -28,33 +28,33 @@ pub(crate) enum WorkerStep {
     Refuses(&'static [u8]),
     /// The sender flushes.
     Flushes,
-    /// The sender goes to a thread of its own, which writes a line.
+    /// The sender is moved to a thread, which writes a line.
     WritesInThread(&'static [u8]),
     /// Each of ten threads writes a line by a sender of its own.
     WritesInTenThreads(&'static [u8]),
-    /// So many threads end, and wrote their lines.
+    /// This number of threads end, and wrote their lines.
     ThreadsEnd(usize),
-    /// The writer comes to the line that the gate holds.
+    /// The writer reaches the line that the gate holds.
     IsHeld,
     /// The gate opens.
     Opens,
-    /// The guard is closed, and tells this.
+    /// The guard is closed, with this result.
     Closes(Closing),
     DropsGuard,
     DropsSender,
-    /// So many lines came, after a wait if need be.
+    /// This number of lines were written, after a wait if need be.
     Comes(usize),
-    /// So many lines have come.
+    /// This number of lines were written.
     HasCome(usize),
-    /// These are the lines that came.
+    /// These are the lines that were written.
     Came(&'static [u8]),
-    /// What `TakesEveryByte` wrote is the one line that came.
+    /// What `TakesEveryByte` wrote is the only line that was written.
     EveryByteCame,
-    /// So many flushes at least came behind the last line.
+    /// At least this number of flushes followed the last line.
     LastFlushes(usize),
-    /// So many flushes come behind the last line, after a wait if need be.
+    /// This number of flushes follow the last line, after a wait if need be.
     FlushesCome(usize),
-    /// So many lines were dropped.
+    /// This number of lines were dropped.
     Dropped(usize),
     /// Sender, guard and counter have their `Debug` texts.
     CanBeShown,
@@ -66,9 +66,9 @@ pub(crate) enum Queue {
     Default,
     /// A default one whose worker has this name.
     Named(&'static str),
-    /// A lossy one of so many lines.
+    /// A lossy one of this number of lines.
     Lossy(usize),
-    /// One of so many lines whose senders wait.
+    /// One of this number of lines whose senders wait.
     Waiting(usize),
 }
 
@@ -154,7 +154,7 @@ fn expect_refused<R: Host + Abort>(rt: R, sender: &mut NonBlocking<R>, line: &[u
     }
 }
 
-// Starts a thread that writes a line, and answers whether it was taken.
+// Starts a thread that writes a line, and returns whether it was taken.
 fn write_in_thread<R: Host>(
     rt: R,
     mut sender: NonBlocking<R>,
@@ -163,7 +163,7 @@ fn write_in_thread<R: Host>(
     Ok(thread::spawn(&rt, move || sender.write_all(line).is_ok())?)
 }
 
-// Each byte once, and these behind them.
+// Each byte once, and these after them.
 fn every_byte(alloc: Global, end: &[u8]) -> Result<Vec<u8>, AllocError> {
     let mut line = Vec::new(alloc);
     for byte in 0..=255u8 {
@@ -213,7 +213,7 @@ impl<R: Host + Abort> Scene<R> {
         self.takes(line.as_slice());
     }
 
-    // The queue closes once the worker takes the shutdown, and drops what comes then.
+    // The queue closes when the worker takes the shutdown, and drops what is offered then.
     fn takes_until_one_is_dropped(&mut self, line: &[u8]) {
         for _ in 0..10_000u32 {
             if self.counter.dropped_lines() > 0 {

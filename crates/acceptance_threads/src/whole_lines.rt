@@ -70,7 +70,7 @@ fn line_of(alloc: Global, length: usize) -> Result<Vec<u8>, AllocError> {
     Ok(line)
 }
 
-// Buffers of up to 512 bytes are used again: a longer line comes before and after each short one.
+// Buffers of up to 512 bytes are used again: a longer line is before and after each short one.
 #[test]
 fn long_lines_come_whole(rt: HostRuntime) -> Result<(), Fail> {
     let lengths = [513usize, 511, 1_048_576, 512, 5000, 1];
