@@ -13,7 +13,7 @@ use Rattle.appender_rolling.specs.Opening.{file_name_of}
 use Rattle.appender_rolling.specs.Roller.{Rolling, OpensNoRoller}
 use Rattle.appender_queue.specs.Queue.{Queue}
 use Rattle.appender_queue.specs.QueueReplies.{counts_of}
-use Rattle.appender_worker.specs.Core.{Core}
+use Rattle.tracing_appender.specs.Core.{Core}
 use Rattle.appender_replay.specs.Answers.{WorkerDoes}
 use Rattle.appender_replay.specs.Replay.{RollDoes, RunsFrom, with_replies}
 use Rattle.appender_replay.specs.Whole.{LinesFollow}
