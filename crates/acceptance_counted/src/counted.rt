@@ -72,7 +72,7 @@ struct Story {
 struct Stage<R: Host> {
     rt: R,
     seen: Arc<Seen, Global>,
-    // What the sender of each of ten threads was returned.
+    // The tickets of the sender of each of ten threads.
     told: Vec<Tickets>,
 }
 

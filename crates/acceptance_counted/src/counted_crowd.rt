@@ -9,7 +9,7 @@ use std::process::Abort;
 use std::thread::JoinHandle;
 use std::{io, thread};
 
-/// The tickets that a sender was returned, one for each of its lines.
+/// The tickets of a sender, one for each of its lines.
 #[derive(Drop)]
 pub(crate) struct Tickets {
     sender: usize,
@@ -35,7 +35,7 @@ fn tell_one<T: TicketSender, R: Host>(
     }
 }
 
-// Writes a hundred lines, and returns the sender with the tickets that it was returned.
+// Writes a hundred lines, and returns the sender with its tickets.
 fn write_hundred<T: TicketSender, R: Host>(rt: R, number: usize, mut sender: T) -> (T, Vec<u64>) {
     let mut tickets = Vec::new(rt.alloc());
     for line in 0..100usize {
@@ -68,7 +68,7 @@ fn start<T: TicketSender, R: Host + Abort>(
     running
 }
 
-// Joins a thread, returns its sender, and returns what tickets it was returned.
+// Joins a thread, and returns its sender and the sender's tickets.
 fn join_one<T: TicketSender, R: Host + Abort>(
     rt: R,
     thread: JoinHandle<(T, Vec<u64>)>,
@@ -80,7 +80,7 @@ fn join_one<T: TicketSender, R: Host + Abort>(
     tickets
 }
 
-/// Writes by ten threads, and returns what tickets the sender of each was returned.
+/// Writes by ten threads, and returns the tickets of the sender of each.
 pub(crate) fn write_by_ten<T: TicketSender, R: Host + Abort>(
     rt: R,
     senders: &mut Vec<T>,

@@ -185,7 +185,7 @@ fn write_at(
     write_log(*rt, builder, folder_at(*rt, path), steps, failures);
 }
 
-// Takes these steps in memory, where no call fails, and checks which files result.
+// Takes these steps in memory, and checks which files result. No call fails.
 fn write_in_memory(
     rt: &impl FilesAndAbort,
     builder: &Builder,
@@ -196,7 +196,7 @@ fn write_in_memory(
     expect_bytes(rt, &folder, files);
 }
 
-// Takes these steps in a fresh directory, where no call fails, and checks which files result.
+// Takes these steps in a fresh directory, and checks which files result. No call fails.
 fn write_in(
     rt: &impl FilesAndAbort,
     place: io::Result<String>,
@@ -321,7 +321,7 @@ fn expect_linked_whole(rt: &impl FilesAndAbort, directory: &str) {
     expect_linked(rt, directory, directory);
 }
 
-// Relative paths, and where they lead to.
+// Relative paths, and the directories that they name.
 static RELATIVE: [(&str, &str); 2] = [("relative", "relative"), ("./deep/logs", "deep/logs")];
 
 // Writes logs with links at a whole path and at two relative ones, which begin at the current

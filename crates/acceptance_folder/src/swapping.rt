@@ -7,8 +7,8 @@ use std::fs::{File, Metadata, OpenOptions};
 use std::io;
 use std::rt::Files;
 
-/// The system. Just before the next opening a link to `target` replaces what has the
-/// file's name, and just after it that link is removed again and an empty file has the name.
+/// The system. Just before the next opening a link to `target` replaces what has the file's name. Just after it
+/// that link is removed, and an empty file has the name.
 #[derive(Clone, Copy)]
 pub(crate) struct Swapping<'a> {
     rt: HostRuntime,

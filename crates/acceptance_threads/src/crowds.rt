@@ -54,7 +54,7 @@ struct Crowd {
     closes_early: bool,
 }
 
-// The result of a crowd: that of the guard, and how many lines were queued, and how many dropped.
+// The result of a crowd: that of its guard, and how many lines were queued and dropped.
 #[derive(Clone, Copy)]
 struct Outcome {
     closing: Closing,
