@@ -2,6 +2,7 @@
 use crate::expect::expect_eq;
 use acceptance_gate::new_gate;
 use appender_non_blocking::non_blocking::{Account, CountedWork, LineSender, NonBlockingBuilder};
+use std::io::ErrorKind;
 use std::sync::atomic::AtomicU64;
 use std::sync::atomic::Ordering::SeqCst;
 use std::test::Fail;
@@ -53,12 +54,26 @@ fn work_of_threads_has_an_account(rt: HostRuntime) -> Result<(), Fail> {
         let lines = (*threads as u64).saturating_mul(7);
         expect_eq(&rt, account, account_of(lines));
         expect_eq(&rt, seen.count() as u64, lines);
-        // Each number occurred once.
-        expect_eq(
-            &rt,
-            work.numbers.load(SeqCst).count_ones() as usize,
-            *threads,
-        );
+        // The work ran once with each number, and with no other.
+        let numbers = work.numbers.load(SeqCst);
+        expect_eq(&rt, numbers, (1u64 << *threads as u64).wrapping_sub(1));
     }
+    Ok(())
+}
+
+#[test]
+fn without_an_account_no_work_is_run(rt: HostRuntime) -> Result<(), Fail> {
+    let (gate, seen) = new_gate(rt, b"")?;
+    let work = Writes {
+        lines: 1,
+        numbers: AtomicU64::new(0),
+    };
+    // There is no part of a ledger for the guard.
+    let refused = NonBlockingBuilder::default()
+        .run_counted(rt, rt.alloc(), gate, usize::MAX, &work)
+        .map_err(|error| error.kind());
+    expect_eq(&rt, refused, Err(ErrorKind::OutOfMemory));
+    expect_eq(&rt, seen.count(), 0);
+    expect_eq(&rt, work.numbers.load(SeqCst), 0);
     Ok(())
 }

@@ -9,13 +9,13 @@ use std::alloc::{AllocError, Global};
 use std::fs::File;
 use std::io::{BufRead, BufReader, Read, Write};
 use std::marker::Brand;
+use std::sync::Arc;
 use std::sync::atomic::AtomicU64;
 use std::sync::atomic::Ordering::SeqCst;
 use std::sync::ledger::Ledger;
-use std::sync::{Arc, Wait};
 use std::thread::JoinHandle;
 use std::{io, thread};
-use tracing_appender::non_blocking::{Account, Blanks, CountedSender, NonBlockingBuilder};
+use tracing_appender::non_blocking::{Account, Blanks, LineSender, NonBlockingBuilder};
 use tracing_appender::rolling::InitError;
 use tracing_appender::worker::CountingWriter;
 
@@ -318,20 +318,6 @@ fn gather_by<
     }
 }
 
-// A counted sender without the names of its ledgers.
-trait LineSender {
-    // Waits until the line is queued.
-    fn send(&mut self, line: &[u8]) -> io::Result<()>;
-}
-
-impl<A: Ledger, H: Ledger, S: Ledger, C: Ledger, R: Wait + Drop> LineSender
-    for CountedSender<A, H, S, C, R> {
-    fn send(&mut self, line: &[u8]) -> io::Result<()> {
-        self.write_line(line)?;
-        Ok(())
-    }
-}
-
 // The lines of a source: a thread sends them, or they were sent.
 #[derive(Drop)]
 enum Sending<S: Drop> {
@@ -432,7 +418,7 @@ fn send_lines<S: LineSender, I: BufRead>(
             return Ok(());
         }
         end_line(&mut line)?;
-        sender.send(line.as_slice()).map_err(Fault::of_write)?;
+        sender.write_line(line.as_slice()).map_err(Fault::of_write)?;
     }
     Err(Fault::Read(io::Error::other("too many lines")))
 }
