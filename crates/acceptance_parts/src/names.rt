@@ -3,7 +3,7 @@
 use crate::expect::{AllocAndAbort, expect_eq, expect_eq_of};
 use appender_core::error::InitError;
 use appender_core::names::Names;
-use appender_core::rotation::{Rotation, in_range};
+use appender_core::rotation::{ParseRotationError, Rotation, in_range};
 use std::io;
 use std::process::Abort;
 
@@ -334,6 +334,26 @@ fn parts_of_names(rt: HostRuntime) {
         let made = Names::new(rt.alloc(), *rotation, prefix, suffix);
         expect_made(&rt, prefix, &made, *allowed);
     }
+}
+
+// Words for rotations, and texts that are none.
+static WORDS: [(&str, Option<Rotation>); 7] = [
+    ("minutely", Some(Rotation::MINUTELY)),
+    ("hourly", Some(Rotation::HOURLY)),
+    ("daily", Some(Rotation::DAILY)),
+    ("weekly", Some(Rotation::WEEKLY)),
+    ("never", Some(Rotation::NEVER)),
+    ("Hourly", None),
+    ("", None),
+];
+
+#[test]
+fn words_for_rotations(rt: HostRuntime) {
+    for (word, rotation) in &WORDS {
+        expect_eq_of(&rt, *word, word.parse::<Rotation>().ok(), *rotation);
+    }
+    let text = ParseRotationError.to_string(rt.alloc());
+    expect_eq(&rt, text.expect(&rt, "memory").as_str(), "unknown rotation");
 }
 
 // Checks the number of an error and its text, of which a part may be another's.
