@@ -94,7 +94,7 @@ impl<R: Files + AllocGlobal + Eprint + Clone + Drop> DirFolder<R> {
         is_named(&self.rt, self.path.as_str(), file, name)
     }
 
-    /// Returns the number of notices of a kind, modulo 2^64.
+    /// Returns the number of notices of a kind: at most `u64::MAX`, where it stays.
     pub fn notices(&self, kind: NoticeKind) -> u64
         ensures { result ≡ count_of kind (counts_of self.now.noted) }
     {
@@ -108,7 +108,7 @@ impl<R: Files + AllocGlobal + Eprint + Clone + Drop> DirFolder<R> {
         ensures noted { self.new.noted ≡ self.old.noted }
     {
         if answer.is_err() {
-            self.failures = self.failures.wrapping_add(1);
+            self.failures = self.failures.saturating_add(1);
         }
         answer
     }

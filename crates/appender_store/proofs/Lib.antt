@@ -4,3 +4,4 @@ pub mod MemoryCallLemmas
 pub mod MemoryEntryLemmas
 pub mod MemorySoundness
 pub mod NameLaws
+pub mod Rising

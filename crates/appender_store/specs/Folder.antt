@@ -1,5 +1,5 @@
 -- Counts, notices and listings of a folder.
-use Rattle.std.specs.Prelude.{◌≡◌, ◌⊎◌, ℕ, ◌+◌, ◌%◌, ◌^◌, ◌<◌, ℤ, Bool, List, map, Option, None, Some, Result, MatchResult, IsTrue, string_bytes}
+use Rattle.std.specs.Prelude.{◌≡◌, ◌⊎◌, ℕ, ◌+◌, ◌-◌, ◌^◌, ◌<◌, min, ℤ, Bool, List, map, Option, None, Some, Result, MatchResult, IsTrue, string_bytes}
 use Rattle.std.specs.Option.{option_map}
 use Rattle.std.specs.List.Sorted.{IsPermutation}
 use Rattle.std.specs.FinMap as fin
@@ -30,16 +30,16 @@ pub record AreCounts (n : Counts) : Type 0 where
   pub flushes : n.flushes < 2 ^ 64
   pub opens : n.opens < 2 ^ 64
 
--- a count of 64 bits that has gone up by one
-abbrev pub wrapping_next : ℕ → ℕ
-wrapping_next n = (n + 1) % 2 ^ 64
+-- The count after one call, failure or notice more. The greatest count of 64 bits stays, so that no count falls.
+abbrev pub saturating_next : ℕ → ℕ
+saturating_next n = min (n + 1) (2 ^ 64 - 1)
 
 -- the counts after one notice more of this kind
 abbrev pub after_note : NoticeKind → Counts → Counts
-after_note OfList n = record n { lists = wrapping_next n.lists }
-after_note OfRemove n = record n { removes = wrapping_next n.removes }
-after_note OfFlush n = record n { flushes = wrapping_next n.flushes }
-after_note OfOpen n = record n { opens = wrapping_next n.opens }
+after_note OfList n = record n { lists = saturating_next n.lists }
+after_note OfRemove n = record n { removes = saturating_next n.removes }
+after_note OfFlush n = record n { flushes = saturating_next n.flushes }
+after_note OfOpen n = record n { opens = saturating_next n.opens }
 
 -- the message of a notice: its kind, the fault, and for Remove the name
 pub data Noted : Type 0 where
@@ -80,9 +80,9 @@ entry_row (name, Folder) = (Some name, PlainFolder, None)
 abbrev pub Lists : Content → List Listed → Type 0
 Lists c all = IsPermutation (map listed_row all) (map entry_row (fin.entries c.names))
 
--- one failure more
+-- one failure more; the greatest count stays
 abbrev pub HasRisen : ℕ → ℕ → Type 0
-HasRisen old new = new ≡ wrapping_next old
+HasRisen old new = new ≡ saturating_next old
 
 -- An `Ok` counts no failure. An `Err` counts one, or memory was refused, or the content forbids the call.
 abbrev pub HasCause : {T : Type 0} → Bool → Type 0 → ℕ → ℕ → Result T Error → Type 0

@@ -1,5 +1,5 @@
 -- A folder in memory as its callers see it.
-use Rattle.std.specs.Prelude.{◌≡◌, ℕ, ◌+◌, ◌-◌, ◌^◌, Bool, true, false, List, [], ◌∷◌, ◌++◌, length, slice_get, min, ℤ, Option, None, Some, IsSome, unwrap_or, Result, MatchResult, IfOk, IsOk, OnErr, IsErrAnd, if◌then◌else◌}
+use Rattle.std.specs.Prelude.{◌≡◌, ℕ, Bool, true, false, List, [], ◌∷◌, ◌++◌, length, slice_get, min, ℤ, Option, None, Some, IsSome, unwrap_or, Result, MatchResult, IfOk, IsOk, OnErr, IsErrAnd, if◌then◌else◌}
 use Rattle.std.specs.Option.{option_map_or}
 use Rattle.std.specs.Ordering.{nat_cmp}
 use Rattle.std.specs.FinSet as set
@@ -9,15 +9,11 @@ use Rattle.std.specs.declared.io.Error.{Error}
 use Rattle.std.specs.declared.io.ErrorKind.{ErrorKind}
 use Rattle.std.specs.declared.io.ErrorKind.TheVariants.{NotFound, AlreadyExists, OutOfMemory, Other}
 use Rattle.appender_store.specs.Content.{Content, Entry, File, Link, Folder}
-use Rattle.appender_store.specs.Folder.{Counts, wrapping_next}
+use Rattle.appender_store.specs.Folder.{Counts, saturating_next}
 use Rattle.appender_store.specs.declared.store.Kind.{Kind}
 use Rattle.appender_store.specs.declared.store.Kind.TheVariants.{File as PlainFile, Folder as PlainFolder, Link as PlainLink}
 use Rattle.appender_store.specs.declared.store.NoticeKind.{NoticeKind}
 use Rattle.appender_store.specs.declared.store.NoticeKind.TheVariants.{List as OfList, Remove as OfRemove, Flush as OfFlush, Open as OfOpen}
-
--- calls are numbered from 1; the greatest number of 64 bits stays
-abbrev pub saturating_next : ℕ → ℕ
-saturating_next calls = min (calls + 1) (2 ^ 64 - 1)
 
 -- the numbers of the calls that are to fail
 abbrev pub FailingCalls : Type 0
@@ -55,7 +51,7 @@ empty_state there = record {
   noted = record { lists = 0; removes = 0; flushes = 0; opens = 0 };
 }
 
--- whether the next call is named to fail
+-- whether the next call is named to fail; calls are numbered from 1
 abbrev pub is_named : State → Bool
 is_named s = set.contains s.failing (saturating_next s.calls)
 
@@ -99,7 +95,7 @@ make_link_refusal true (Some entry) = Some AlreadyExists
 -- call that isn't named is refused where the content refuses it, by this kind, and beside that only if memory is refused.
 pub record IsCalled {T : Type 0} (old : State) (refusal : Option ErrorKind) (result : Result T Error) (new : State) : Type 0 where
   pub calls : new.calls ≡ saturating_next old.calls
-  pub failures : new.failures ≡ (if is_named old then wrapping_next old.failures else old.failures)
+  pub failures : new.failures ≡ (if is_named old then saturating_next old.failures else old.failures)
   pub named : is_named old ≡ true → IsErrAnd result (λ e. error_kind e ≡ Other)
   pub unnamed : is_named old ≡ false → MatchResult result (λ _. refusal ≡ None) (λ e. error_kind e ≡ unwrap_or refusal OutOfMemory)
   pub created : new.created ≡ old.created

@@ -85,10 +85,10 @@ pub trait Folder: Drop {
     /// The number of the body that an open file writes to.
     ghost body: { Self.File → ℕ };
 
-    /// The number of calls that failed by themselves, modulo 2^64.
+    /// The number of calls that failed by themselves: at most `u64::MAX`, where it stays.
     ghost failures: { Self → ℕ };
 
-    /// The count of each kind of notice, modulo 2^64.
+    /// The count of each kind of notice: at most `u64::MAX`, where it stays.
     ghost noted: { Self → Counts };
 
     // What else one call does, as the kind of folder defines it. Generic code can show it only by making
@@ -206,8 +206,8 @@ pub trait Folder: Drop {
         ensures notices { noted self.new ≡
             after_note (kind_of (message_of notice.entry)) (noted self.old) };
 
-    /// Returns the number of calls that failed by themselves, modulo 2^64. A call that the content forbids,
-    /// or that finds no memory, counts only if it also failed by itself.
+    /// Returns the number of calls that failed by themselves: at most `u64::MAX`, where it stays. A call that
+    /// the content forbids, or that finds no memory, counts only if it also failed by itself.
     fn failures(&self) -> u64
         ensures { result ≡ failures self.now };
 

@@ -4,7 +4,8 @@ use Rattle.std.specs.FinSet as set
 use Rattle.std.specs.FinMap as fin
 use Rattle.std.specs.BTreeSet.{BTreeSet}
 use Rattle.std.specs.BTreeMap.{BTreeMap}
-use Rattle.appender_store.specs.MemoryState.{FailingCalls, AppendLimits, saturating_next}
+use Rattle.appender_store.specs.MemoryState.{FailingCalls, AppendLimits}
+use Rattle.appender_store.specs.Folder.{saturating_next}
 use Rattle.appender_store.specs.declared.store.calls.Calls.{Calls}
 
 -- the set that the code's set represents
@@ -15,7 +16,7 @@ failing_calls_of s = set.from_list s.keys
 abbrev pub append_limits_of : BTreeMap ℕ ℕ → AppendLimits
 append_limits_of m = fin.from_entries m.entries
 
--- how often a call was made to fail, modulo 2^64
+-- how often a call was made to fail; the field has 64 bits
 abbrev pub failures_of : Calls → ℕ
 failures_of c = c.failed % 2 ^ 64
 

@@ -2,7 +2,7 @@
 ghost use Rattle.std.specs.Prelude.{◌≡◌, true, false, OnOk, OnErr, IfErr, if◌then◌else◌};
 ghost use Rattle.std.specs.IoError.{error_kind};
 ghost use Rattle.std.specs.declared.io.ErrorKind.TheVariants.{Other};
-ghost use Rattle.appender_store.specs.Folder.{wrapping_next};
+ghost use Rattle.appender_store.specs.Folder.{saturating_next};
 ghost use Rattle.std.specs.FinSet as set;
 ghost use Rattle.std.specs.FinMap as fin;
 
@@ -22,7 +22,7 @@ pub(crate) struct Calls {
 
 impl Calls {
     ghost use Rattle.appender_store.specs.Inside.Calls.{failing_calls_of, append_limits_of, failures_of, is_next_named};
-    ghost use Rattle.appender_store.specs.MemoryState.{saturating_next, lesser_limit};
+    ghost use Rattle.appender_store.specs.MemoryState.{lesser_limit};
 
     pub(crate) fn new(alloc: Global) -> Calls
         ensures made { result.made ≡ 0 }
@@ -44,13 +44,13 @@ impl Calls {
         ensures failing { self.new.failing ≡ self.old.failing }
         ensures shortened { self.new.shortened ≡ self.old.shortened }
         ensures failures { failures_of self.new ≡
-            (if is_next_named self.old then wrapping_next (failures_of self.old) else failures_of self.old) }
+            (if is_next_named self.old then saturating_next (failures_of self.old) else failures_of self.old) }
         ensures ok { OnOk result (is_next_named self.old ≡ false) }
         ensures err { IfErr result (λ e. (is_next_named self.old ≡ true) × (error_kind e ≡ Other)) }
     {
         self.made = self.made.saturating_add(1);
         if self.is_failing() {
-            self.failed = self.failed.wrapping_add(1);
+            self.failed = self.failed.saturating_add(1);
             return Err(io::Error::from(io::ErrorKind::Other));
         }
         Ok(())
@@ -76,7 +76,7 @@ impl Calls {
         self.shortened.get(&call).copied()
     }
 
-    // How often a call was made to fail, modulo 2^64.
+    // How often a call was made to fail: at most `u64::MAX`, where the count stays.
     pub(crate) fn failures(&self) -> u64
         ensures { result ≡ failures_of self.now }
     {

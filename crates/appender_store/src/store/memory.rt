@@ -196,7 +196,7 @@ impl MemoryFolder {
         all_names(self.alloc, &self.names)
     }
 
-    /// Returns the number of notices of a kind, modulo 2^64.
+    /// Returns the number of notices of a kind: at most `u64::MAX`, where it stays.
     pub fn notices(&self, kind: NoticeKind) -> u64
         ensures { result ≡ count_of kind (state_of self.now).noted }
     {

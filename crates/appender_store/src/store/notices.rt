@@ -18,7 +18,7 @@ impl Notice<'_> {
     }
 }
 
-/// The count of each kind of notice, modulo 2^64.
+/// The count of each kind of notice. Each is at most `u64::MAX`, where it stays.
 #[derive(Clone, Copy, Debug)]
 pub struct NoticeCounts {
     lists: u64,
@@ -49,10 +49,10 @@ impl NoticeCounts {
         ensures { counts_of self.new ≡ after_note kind (counts_of self.old) }
     {
         match kind {
-            NoticeKind::List => self.lists = self.lists.wrapping_add(1),
-            NoticeKind::Remove => self.removes = self.removes.wrapping_add(1),
-            NoticeKind::Flush => self.flushes = self.flushes.wrapping_add(1),
-            NoticeKind::Open => self.opens = self.opens.wrapping_add(1),
+            NoticeKind::List => self.lists = self.lists.saturating_add(1),
+            NoticeKind::Remove => self.removes = self.removes.saturating_add(1),
+            NoticeKind::Flush => self.flushes = self.flushes.saturating_add(1),
+            NoticeKind::Open => self.opens = self.opens.saturating_add(1),
         }
     }
 
