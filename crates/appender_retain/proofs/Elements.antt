@@ -1,5 +1,5 @@
 -- Elements of lists that are made of others.
-use Rattle.std.proofs.Common.{◌≡◌, ◌∙◌, ℕ, ◌+◌, ◌<◌, ◌≤◌, zero, suc, Bool, false, cond, List, [], ◌∷◌, ◌++◌, length, get_or, map, take, drop, add-one, drop-cons, Option, None, Some, refl, sym, ap, arith}
+use Rattle.std.proofs.Common.{◌≡◌, ◌∙◌, ℕ, ◌+◌, ◌<◌, zero, suc, Bool, false, cond, List, [], ◌∷◌, ◌++◌, length, get_or, map, take, drop, add-one, drop-cons, Option, None, Some, refl, sym, ap, arith}
 use Rattle.std.specs.Option.{option_map_or}
 use Rattle.std.specs.List.{Contains, AllPairs, count_by, filter_map, cons_option, enumerate_from, slice_get}
 use Rattle.std.proofs.lemmas.List.{length-map, get_or-map, take_more}
@@ -58,15 +58,6 @@ filter_map_Contains {X} {Y} h (x ∷ xs) y there = by (h x) refl (λ c. let w = 
     by None e later c = later c
     by (Some v) e later (zero, l, is) = (x, (0, omega arith, refl), e ∙ ap Some is)
     by (Some v) e later (suc k, l, is) = later (k, omega arith, is)
-
--- of each element it makes at most one value
-pub length_filter_map : {X Y : Type 0} (h : X → Option Y) (xs : List X) → length (filter_map h xs) ≤ length xs
-length_filter_map h [] = omega arith
-length_filter_map h (x ∷ xs) = by (h x) (filter_map h xs) (length_filter_map h xs)
-  where
-    by : {Y : Type 0} (o : Option Y) (ys : List Y) → length ys ≤ length xs → length (cons_option o ys) ≤ length (x ∷ xs)
-    by None ys l = omega arith
-    by (Some v) ys l = omega arith
 
 -- one element more makes one value more, if any
 pub filter_map_take : {X Y : Type 0} (h : X → Option Y) (xs : List X) (i : ℕ) (d : X) → i < length xs → filter_map h (take (i + 1) xs) ≡ filter_map h (take i xs) ++ cons_option (h (get_or xs i d)) []

@@ -7,3 +7,4 @@ pub mod Listing
 pub mod Standing
 pub mod Removals
 pub mod Planned
+pub mod Rising

@@ -1,5 +1,5 @@
 -- From a plan of a listing to the names of the folder.
-use Rattle.std.proofs.Common.{◌≡◌, ◌≢◌, ◌∙◌, ◌⊎◌, ◌||◌, ℕ, ◌+◌, ◌^◌, ◌<◌, IsTrue, length, arith, Bool, true, false, leb, List, filter_map, if◌then◌else◌, Option, None, Some, refl, sym, ap, inl, inr}
+use Rattle.std.proofs.Common.{◌≡◌, ◌≢◌, ◌∙◌, ◌⊎◌, ◌||◌, ℕ, ◌+◌, IsTrue, arith, Bool, true, false, leb, List, filter_map, if◌then◌else◌, Option, None, Some, refl, sym, ap, inl, inr}
 use Rattle.std.specs.Prelude.{◌==◌}
 use Rattle.std.specs.List.{Contains, slice_get}
 use Rattle.std.specs.Option.{option_map_or, option_and_then}
@@ -14,7 +14,7 @@ use Rattle.appender_retain.specs.Pruning.{IsQuiet, Prunes, PrunesListed, Removes
 use Rattle.appender_retain.specs.Inside.Files.{AreFiles}
 use Rattle.appender_retain.specs.Rank.{IsPlan, Rank, count_above, rank_at, survives}
 use Rattle.appender_retain.specs.Survival.{TakesOnlyOld, LeavesSurvivors, name_survives}
-use Rattle.appender_retain.proofs.Elements.{Contains_filter_map, filter_map_Contains, all_pairs_filter_map, length_filter_map}
+use Rattle.appender_retain.proofs.Elements.{Contains_filter_map, filter_map_Contains, all_pairs_filter_map}
 use Rattle.appender_retain.proofs.Listing.{IsListing, named_row, at_row, row_at, row_name, one_place, same_survival}
 use Rattle.appender_retain.proofs.Ranks.{candidate, row_of_rank}
 use Rattle.appender_retain.proofs.Removals.{AllRemoved, Removed, RemovesAmong, removed}
@@ -92,8 +92,8 @@ module _ (n : Naming) (max : ℕ) (old : Content) (rows : List Row) (gone : List
 
 module _ (maps : NameLaws) {S F : Type 0} (kind : Ghosts S F) (fit : (s : S) → AreCounts (kind.noted s)) where
   -- where a listing was had and its plan removed
-  pub prunes : (n : Naming) (max : ℕ) (old listed new : S) (rows : List Row) (gone : List ℕ) → max ≢ 0 → length gone < 2 ^ 64 → (IsTrue kind.is_known → IsListing (kind.content old).names rows) → (IsTrue kind.is_known → (kind.content old).there ≡ true) → IsPlan n max rows gone → kind.content listed ≡ kind.content old → kind.noted listed ≡ kind.noted old → RemovesEach kind (filter_map (name_at rows) gone) listed new → PrunesListed kind n max old new → Prunes kind n max old new
-  prunes n max old listed new rows gone some short all there plan content noted each calls = record {
+  pub prunes : (n : Naming) (max : ℕ) (old listed new : S) (rows : List Row) (gone : List ℕ) → max ≢ 0 → (IsTrue kind.is_known → IsListing (kind.content old).names rows) → (IsTrue kind.is_known → (kind.content old).there ≡ true) → IsPlan n max rows gone → kind.content listed ≡ kind.content old → kind.noted listed ≡ kind.noted old → RemovesEach kind (filter_map (name_at rows) gone) listed new → PrunesListed kind n max old new → Prunes kind n max old new
+  prunes n max old listed new rows gone some all there plan content noted each calls = record {
     none = λ zero. absurd (some zero);
     calls = λ more. calls;
     only_old = takes;
@@ -112,5 +112,5 @@ module _ (maps : NameLaws) {S F : Type 0} (kind : Ghosts S F) (fit : (s : S) →
       left : IsQuiet (kind.noted old) (kind.noted new) → IsTrue kind.is_known → LeavesSurvivors n max (kind.content old) (kind.content new)
       left quiet is_known =
           let start : (kind.noted listed).removes ≡ (kind.noted old).removes = ap (λ (c : Counts). c.removes) noted in
-          let none : effect.faults ≡ 0 = omega (arith, quiet.removes, start, effect.some, ap (λ (c : Counts). c.removes) effect.noted, length_filter_map (name_at rows) gone, (fit old).removes) in
+          let none : effect.faults ≡ 0 = omega (arith, quiet.removes, quiet.below.1, start, ap (λ (c : Counts). c.removes) effect.noted) in
           leaves_survivors n max (kind.content old) rows gone (all is_known) plan (kind.content new) (takes is_known) (effect.all none is_known)

@@ -1,12 +1,12 @@
 -- Removals, one after another.
-use Rattle.std.proofs.Common.{◌≡◌, ◌≢◌, ◌∙◌, ◌⊎◌, ℕ, ◌+◌, ◌%◌, ◌^◌, ◌<◌, ◌≤◌, zero, suc, List, [], ◌∷◌, ◌++◌, append-nil, length, get_or, take, drop, Option, Some, IsTrue, OnOk, OnErr, MatchResult, None, refl, sym, ap, subst, arith, inl, inr}
+use Rattle.std.proofs.Common.{◌≡◌, ◌≢◌, ◌∙◌, ◌⊎◌, ℕ, ◌+◌, ◌-◌, ◌^◌, ◌<◌, min, zero, suc, List, [], ◌∷◌, ◌++◌, append-nil, length, get_or, take, drop, Option, Some, IsTrue, OnOk, OnErr, MatchResult, None, refl, sym, ap, subst, arith, inl, inr}
 use Rattle.std.specs.List.{Contains, filter_map}
 use Rattle.std.specs.FinMap as fin
 use Rattle.std.specs.declared.io.Error.{Error}
 use Rattle.std.specs.Prelude.{Result, Ok, Err}
 use Rattle.std.proofs.lemmas.List.Elements.{Contains-append_left}
 use Rattle.appender_store.specs.Content.{Content, IsFile, Removes}
-use Rattle.appender_store.specs.Folder.{AreCounts, Counts, NotedRemove, after_note, wrapping_next}
+use Rattle.appender_store.specs.Folder.{AreCounts, Counts, NotedRemove, after_note, saturating_next}
 use Rattle.appender_store.specs.NameLaws.{NameLaws}
 use Rattle.appender_store.specs.Notes.{Notes}
 use Rattle.appender_store.specs.declared.store.Folder.{Ghosts}
@@ -104,20 +104,19 @@ pub record Progress {S F : Type 0} (kind : Ghosts S F) (names : ℕ → Option (
   pub done : RemovesEach kind (filter_map names (take i places)) old now
   pub rest : IsTrue kind.is_known → AreFiles (kind.content now).names (filter_map names (drop i places))
 
--- so many failed removals noted
+-- so many failed removals noted; the greatest count stays
 abbrev pub with_faults : ℕ → Counts → Counts
-with_faults k c = record c { removes = (c.removes + k) % 2 ^ 64 }
+with_faults k c = record c { removes = min (c.removes + k) (2 ^ 64 - 1) }
 
 -- one fault more
 one_fault_more : (k : ℕ) (c : Counts) → with_faults k (after_note OfRemove c) ≡ with_faults (suc k) c
 one_fault_more k c =
-    let same : (wrapping_next c.removes + k) % 2 ^ 64 ≡ (c.removes + suc k) % 2 ^ 64 = omega arith in
+    let same : min (saturating_next c.removes + k) (2 ^ 64 - 1) ≡ min (c.removes + suc k) (2 ^ 64 - 1) = omega arith in
     ap (λ (n : ℕ). record c { removes = n }) same
 
 -- What many removals leave: each that failed was noted once, so where none was noted all succeeded.
 pub record Removed {S F : Type 0} (kind : Ghosts S F) (gone : List (List ℕ)) (old new : S) : Type 0 where
   pub faults : ℕ
-  pub some : faults ≤ length gone
   pub noted : kind.noted new ≡ with_faults faults (kind.noted old)
   pub among : IsTrue kind.is_known → RemovesAmong gone (kind.content old) (kind.content new)
   pub all : faults ≡ 0 → IsTrue kind.is_known → AllRemoved gone (kind.content new)
@@ -156,10 +155,9 @@ module _ (maps : NameLaws) {S F : Type 0} (kind : Ghosts S F) where
   -- removals leave just that
   pub removed : ((s : S) → AreCounts (kind.noted s)) → (gone : List (List ℕ)) (old new : S) → RemovesEach kind gone old new → Removed kind gone old new
   removed fit [] old new same =
-      let none : (kind.noted old).removes ≡ ((kind.noted old).removes + 0) % 2 ^ 64 = omega (arith, (fit old).removes) in
+      let none : (kind.noted old).removes ≡ min ((kind.noted old).removes + 0) (2 ^ 64 - 1) = omega (arith, (fit old).removes) in
       record {
         faults = 0;
-        some = omega arith;
         noted = ap (λ (s : S). kind.noted s) same ∙ ap (λ (n : ℕ). record (kind.noted old) { removes = n }) none;
         among = λ is_known. among_none [] (kind.content old) (kind.content new) (ap (λ (s : S). kind.content s) same);
         all = λ z is_known name there. absurd (omega arith);
@@ -173,14 +171,12 @@ module _ (maps : NameLaws) {S F : Type 0} (kind : Ghosts S F) where
       by : FileEffect kind name old between → Removed kind rest between new → Removed kind (name ∷ rest) old new
       by (inl (counts, removes)) later = record {
         faults = later.faults;
-        some = omega (arith, later.some);
         noted = later.noted ∙ ap (with_faults later.faults) counts;
         among = λ is_known. more (among_one maps name (kind.content old) (kind.content between) (removes is_known)) (later.among is_known);
         all = λ z is_known. all_removed maps name (kind.content old) (kind.content between) (removes is_known) rest (kind.content new) (later.among is_known) (later.all z is_known);
       }
       by (inr (counts, same)) later = record {
         faults = suc later.faults;
-        some = omega (arith, later.some);
         noted = later.noted ∙ ap (with_faults later.faults) counts ∙ one_fault_more later.faults (kind.noted old);
         among = λ is_known. more (among_none (name ∷ []) (kind.content old) (kind.content between) same) (later.among is_known);
         all = λ z is_known. absurd (omega arith);

@@ -1,12 +1,12 @@
 -- What retention does to a folder. `kind` has the ghost members of a kind of folder.
-use Rattle.std.specs.Prelude.{◌≡◌, ◌≢◌, ◌⊎◌, ℕ, ◌<◌, true, false, List, [], ◌∷◌, map, filter_map, Option, Result, Vec, MatchResult, IfOk, OnOk, OnErr, IsTrue, slice_get, option_and_then}
+use Rattle.std.specs.Prelude.{◌≡◌, ◌≢◌, ◌⊎◌, ℕ, ◌-◌, ◌^◌, ◌<◌, true, false, List, [], ◌∷◌, map, filter_map, Option, Result, Vec, MatchResult, IfOk, OnOk, OnErr, IsTrue, slice_get, option_and_then}
 use Rattle.std.specs.IoError.{error_kind}
 use Rattle.std.specs.declared.alloc.Global.{Global}
 use Rattle.std.specs.declared.io.Error.{Error}
 use Rattle.std.specs.declared.io.ErrorKind.TheVariants.{OutOfMemory}
 use Rattle.appender_names.specs.Name.{Naming}
 use Rattle.appender_store.specs.Content.{Removes, ForbidsList}
-use Rattle.appender_store.specs.Folder.{Counts, HasCause, Lists, Row, NotedList, NotedRemove, listed_row, wrapping_next}
+use Rattle.appender_store.specs.Folder.{Counts, HasCause, Lists, Row, NotedList, NotedRemove, listed_row, saturating_next}
 use Rattle.appender_store.specs.Notes.{Notes}
 use Rattle.appender_store.specs.declared.store.Folder.{Ghosts}
 use Rattle.appender_store.specs.declared.store.Listed.{Listed}
@@ -52,10 +52,12 @@ pub record PrunesListed {S F : Type 0} (kind : Ghosts S F) (n : Naming) (max : �
   pub goes_on : MatchResult answer (λ all. RemovesPlanned kind n max (map listed_row all.items) listed new)
       (λ fault. Notes kind listed (NotedList fault) new)
 
--- neither List nor Remove was noted
+-- Neither List nor Remove was noted. At the greatest count one notice more changes nothing, so equal counts show this only
+-- below it.
 pub record IsQuiet (old new : Counts) : Type 0 where
   pub lists : new.lists ≡ old.lists
   pub removes : new.removes ≡ old.removes
+  pub below : (new.lists < 2 ^ 64 - 1) × (new.removes < 2 ^ 64 - 1)
 
 -- nor anything else
 pub record NotesNothingElse (old new : Counts) : Type 0 where
@@ -71,5 +73,5 @@ pub record Prunes {S F : Type 0} (kind : Ghosts S F) (n : Naming) (max : ℕ) (o
   pub only_old : IsTrue kind.is_known → TakesOnlyOld n max (kind.content old) (kind.content new)
   pub survivors : IsQuiet (kind.noted old) (kind.noted new) → IsTrue kind.is_known → LeavesSurvivors n max (kind.content old) (kind.content new)
   pub fewer : IsQuiet (kind.noted old) (kind.noted new) → IsTrue kind.is_known → 0 < max → candidates_in n (kind.content new) < max
-  pub absent : 0 < max → IsTrue kind.is_known → (kind.content old).there ≡ false → (kind.noted new).lists ≡ wrapping_next (kind.noted old).lists
+  pub absent : 0 < max → IsTrue kind.is_known → (kind.content old).there ≡ false → (kind.noted new).lists ≡ saturating_next (kind.noted old).lists
   pub nothing_else : NotesNothingElse (kind.noted old) (kind.noted new)

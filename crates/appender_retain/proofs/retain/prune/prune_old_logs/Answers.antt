@@ -1,4 +1,4 @@
-use Rattle.std.proofs.Common.{◌<◌, ◌^◌, length, map, filter_map, arith, inl, ap}
+use Rattle.std.proofs.Common.{map, filter_map, arith, inl}
 use Rattle.appender_store.specs.Folder.{listed_row}
 use Rattle.appender_store.specs.NameLaws.{NameLaws}
 use Rattle.appender_retain.specs.Pruning.{RemovesEach, name_at}
@@ -19,9 +19,8 @@ returns-in-Ok-plan g c =
     let plan : IsPlan c.args.names.now c.args.max rows gone = rw c.deref.ensures.value at c.in-Ok-plan.ensures in
     let each : RemovesEach g.S.Folder (filter_map (name_at rows) gone) c.list.new.self c.remove_planned.new.folder =
     rw (c.deref-in-Ok-plan.ensures.value, c.deref-in-Ok-plan-2.ensures.value) at c.remove_planned.ensures in
-    let short : length gone < 2 ^ 64 = omega (arith, c.deref-in-Ok-plan-2.type_inv.0, ap length c.deref-in-Ok-plan-2.ensures.value) in
     prunes maps g.S.Folder g.met.S.Folder.noted_fit c.args.names.now c.args.max c.args.folder.now c.list.new.self c.remove_planned.new.folder rows gone
-    (λ zero. absurd (omega arith)) short (λ is_known. record { moved = c.in-Ok.ensures.ok is_known }) c.in-Ok.ensures.there plan c.in-Ok.ensures.content c.in-Ok.ensures.notices each
+    (λ zero. absurd (omega arith)) (λ is_known. record { moved = c.in-Ok.ensures.ok is_known }) c.in-Ok.ensures.there plan c.in-Ok.ensures.content c.in-Ok.ensures.notices each
     (record {
       answer = c.list.result;
       listed = c.list.new.self;
