@@ -9,3 +9,4 @@ pub mod Pieces
 pub mod Numbered
 pub mod Fullness
 pub mod Numbers
+pub mod Rising

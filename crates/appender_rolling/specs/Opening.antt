@@ -80,6 +80,7 @@ pub record ListsNumbers {S F : Type 0} (kind : Ghosts S F) (n : Naming) (m : ℤ
   pub listed : S
   pub call : kind.list_gives old answer listed
   pub cause : HasCause kind.is_known (ForbidsList (kind.content old)) (kind.failures old) (kind.failures listed) answer
+  pub there : OnOk answer (IsTrue kind.is_known → (kind.content old).there ≡ true)
   pub content : kind.content listed ≡ kind.content old
   pub noted : kind.noted listed ≡ kind.noted old
   pub number_is : MatchResult answer (λ all. IsFirstNumber n m (IsListed (map listed_row all.items)) number × (new ≡ listed))

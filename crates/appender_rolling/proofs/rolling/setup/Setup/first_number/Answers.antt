@@ -28,6 +28,7 @@ returns-in-Ok g c =
         listed = c.list.new.self;
         call = c.list.ensures.call;
         cause = c.list.ensures.cause;
+        there = c.list.ensures.there;
         content = c.in-Ok.ensures.content;
         noted = c.in-Ok.ensures.notices;
         number_is = rw c.in-Ok.is (is_first, refl);
