@@ -15,3 +15,9 @@ pub mod Lines
 pub mod Texts
 pub mod Wholes
 pub mod Bounds
+pub mod Accounts
+pub mod FileAccounts
+pub mod NamesLead
+pub mod Counting
+pub mod Keeping
+pub mod Headlines

@@ -14,7 +14,7 @@ use Rattle.appender_replay.specs.Run.{Attempt, IsOther, NamesAfter}
 no_file : (target : List ℕ) (x : ℕ) (t : Option ℤ) → ¬ (◌≡◌ {A = Option Entry} (Some (Link target)) (Some (File x t)))
 no_file target x t e = cc
 
-none_of : (o : Option Entry) → is_some o ≡ false → o ≡ None
+pub none_of : (o : Option Entry) → is_some o ≡ false → o ≡ None
 none_of None e = refl
 none_of (Some x) e = absurd (let both : true ≡ false = e in cc)
 
@@ -44,25 +44,25 @@ module _ (maps : NameLaws) where
   leads_to m old new c (there, inl (t, at, same)) = (t, subst (λ (d : Content). fin.get d.names m ≡ Some (File c t)) (sym same) at)
   leads_to m old new c (there, inr (t, free, number, after)) = (t, subst (λ (d : Content). fin.get d.names m ≡ Some (File c t)) (sym after) (added_name old.names m (File c t)))
 
-  opened_other : (m : List ℕ) (old new : Content) (c : ℕ) (n : List ℕ) → Opens m old new c → n ≢ m → fin.get new.names n ≡ fin.get old.names n
+  pub opened_other : (m : List ℕ) (old new : Content) (c : ℕ) (n : List ℕ) → Opens m old new c → n ≢ m → fin.get new.names n ≡ fin.get old.names n
   opened_other m old new c n (there, inl (t, at, same)) ne = ap (λ (d : Content). fin.get d.names n) same
   opened_other m old new c n (there, inr (t, free, number, after)) ne = ap (λ (d : Content). fin.get d.names n) after ∙ added_other old.names m (File c t) n ne
 
-  freed_other : (link : List ℕ) (old freed : Content) (n : List ℕ) → MayRemoveLink link old freed → n ≢ link → fin.get freed.names n ≡ fin.get old.names n
+  pub freed_other : (link : List ℕ) (old freed : Content) (n : List ℕ) → MayRemoveLink link old freed → n ≢ link → fin.get freed.names n ≡ fin.get old.names n
   freed_other link old freed n (inl same) ne = ap (λ (d : Content). fin.get d.names n) same
   freed_other link old freed n (inr removes) ne = ap (λ (d : Content). fin.get d.names n) removes.after ∙ removed_other old.names link n ne
 
-  linked_other : (link name : List ℕ) (old new : Content) (n : List ℕ) → Linked link name old new → (n ≡ link → link ≡ []) → fin.get new.names n ≡ fin.get old.names n
+  pub linked_other : (link name : List ℕ) (old new : Content) (n : List ℕ) → Linked link name old new → (n ≡ link → link ≡ []) → fin.get new.names n ≡ fin.get old.names n
   linked_other [] name old new n same unset = ap (λ (d : Content). fin.get d.names n) same
   linked_other (b ∷ bs) name old new n (freed, frees, makes) unset =
       let ne : n ≢ b ∷ bs = λ is. let both : ◌≡◌ {A = List ℕ} (b ∷ bs) [] = unset is in cc in
       ap (λ (d : Content). fin.get d.names n) makes.after ∙ added_other freed.names (b ∷ bs) (Link name) n ne ∙ freed_other (b ∷ bs) old freed n frees ne
 
-  linked_name : (link name : List ℕ) (old new : Content) → Linked link name old new → link ≢ [] → fin.get new.names link ≡ Some (Link name)
+  pub linked_name : (link name : List ℕ) (old new : Content) → Linked link name old new → link ≢ [] → fin.get new.names link ≡ Some (Link name)
   linked_name [] name old new same is_set = absurd (is_set refl)
   linked_name (b ∷ bs) name old new (freed, frees, makes) is_set = ap (λ (d : Content). fin.get d.names (b ∷ bs)) makes.after ∙ added_name freed.names (b ∷ bs) (Link name)
 
-  apart_from_link : (link name : List ℕ) (old new : Content) (m : List ℕ) (x : ℕ) (t : Option ℤ) → Linked link name old new → fin.get old.names m ≡ Some (File x t) → m ≡ link → link ≡ []
+  pub apart_from_link : (link name : List ℕ) (old new : Content) (m : List ℕ) (x : ℕ) (t : Option ℤ) → Linked link name old new → fin.get old.names m ≡ Some (File x t) → m ≡ link → link ≡ []
   apart_from_link [] name old new m x t same at is = refl
   apart_from_link (b ∷ bs) name old new m x t (freed, inl same, makes) at is =
       absurd (let taken : fin.get freed.names (b ∷ bs) ≡ Some (File x t) = ap (λ (d : Content). fin.get d.names (b ∷ bs)) same ∙ ap (fin.get old.names) (sym is) ∙ at in

@@ -1,12 +1,12 @@
 -- A run of steps over a roller keeps to the laws of the clock and of the files.
 use Rattle.std.proofs.lemmas.Int.{ints}
-use Rattle.std.proofs.Common.{◌≡◌, ◌≢◌, ◌⊎◌, ◌<◌, ◌≤◌, nat_le, Bool, ℕ, ℤ, true, false, inl, inr, List, [], ◌∷◌, ◌++◌, length, Option, None, Some, IsTrue, arith, refl, ap, sym, ◌∙◌, subst, suc}
+use Rattle.std.proofs.Common.{◌≡◌, ◌≢◌, ◌⊎◌, ◌^◌, ◌<◌, ◌≤◌, nat_le, Bool, ℕ, ℤ, true, false, inl, inr, List, [], ◌∷◌, ◌++◌, length, Option, None, Some, IsTrue, arith, refl, ap, sym, ◌∙◌, subst, suc}
 use Rattle.appender_names.specs.Name.{NamesArePeriods}
 use Rattle.appender_names.specs.Rotation.{IsMoment, period_of}
 use Rattle.appender_store.specs.declared.store.Folder.{Ghosts}
 use Rattle.appender_store.specs.Content.{IsSound, after_append}
 use Rattle.appender_store.proofs.Appends.{after_append_nothing}
-use Rattle.appender_store.specs.Folder.{Counts}
+use Rattle.appender_store.specs.Folder.{AreCounts, Counts}
 use Rattle.appender_store.specs.NameLaws.{NameLaws}
 use Rattle.appender_retain.specs.Pruning.{IsQuiet}
 use Rattle.appender_rolling.specs.Config.{Config, naming_of, IsStamp, MayLimit, is_limited, last_of, stamp}
@@ -35,13 +35,15 @@ use Rattle.appender_replay.proofs.Unlimited.{switch_at_arrivals}
 same_moment : (a b : ℤ) → ◌≡◌ {A = Option ℤ} (Some a) (Some b) → a ≡ b
 same_moment a b e = cc
 
--- What a run rests on: the laws of periods, of names and of openings, and that a content that is known is sound.
+-- What a run rests on: the laws of periods, of names and of openings, that a content that is known is sound, and that counts have 64 bits.
 pub record Grounds {S F : Type 0} (kind : Ghosts S F) (config : Config) : Type 0 where
   pub laws : Laws config.rotation
   pub others : OtherNames config
   pub maps : NameLaws
   pub parts : PartsKeep
   pub sound : (folder : S) → IsTrue kind.is_known → IsSound (kind.content folder)
+  pub failures_fit : (folder : S) → kind.failures folder < 2 ^ 64
+  pub noted_fit : (folder : S) → AreCounts (kind.noted folder)
 
 -- the events of any kind of step, one after another
 abbrev pub TurnsFrom : {S F : Type 0} → Ghosts S F → List Event → Rolling S F → Rolling S F → Type 0

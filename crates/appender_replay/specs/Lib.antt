@@ -4,4 +4,6 @@ pub mod Retention
 pub mod Record
 pub mod Answers
 pub mod Whole
+pub mod Headline
+pub mod RollHeadline
 pub mod Inside

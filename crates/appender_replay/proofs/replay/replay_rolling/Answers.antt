@@ -4,6 +4,7 @@ use Rattle.std.proofs.lemmas.Int.{to_z-of_z}
 use Rattle.std.proofs.lemmas.List.{take_more, take_all}
 use Rattle.appender_rolling.specs.declared.rolling.setup.Stamp.{Stamp}
 use Rattle.appender_replay.specs.Replay.{with_replies}
+use Rattle.appender_replay.proofs.Headlines.{roll_headline}
 use Rattle.appender_replay.proofs.Runs.{Grounds, roll_law, follows, other_names, one_reply_more}
 use Rattle.appender_replay.proofs.replay.replay_rolling.Goals as goal
 
@@ -49,12 +50,16 @@ returns g c =
       maps = record { removals = c.names_change_one_at_a_time.ensures.removals; additions = c.names_change_one_at_a_time.ensures.additions };
       parts = c.openings_keep_files.ensures;
       sound = g.met.S.Folder.sound;
+      failures_fit = g.met.S.Folder.failures_fit;
+      noted_fit = g.met.S.Folder.noted_fit;
     } in
     let law = roll_law g.S.Folder c.args.builder.now c.args.start c.number-number.result c.args.folder (with_replies c.args.steps.now c.loop-step.replies.items) c.loop-step.roller grounds in
+    let rolls = follows _ _ _ _ _ _ _ _ _ law runs in
     record {
+      headline = roll_headline g.S.Folder c.args.builder.now grounds c.args.start c.number-number.result c.args.folder (with_replies c.args.steps.now c.loop-step.replies.items) c.loop-step.roller runs rolls;
       one_each = one_each;
       runs = runs;
-      roller = follows _ _ _ _ _ _ _ _ _ law runs;
+      roller = rolls;
       err = tt;
       memory = tt;
     }

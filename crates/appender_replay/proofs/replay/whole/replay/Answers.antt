@@ -4,6 +4,7 @@ use Rattle.std.proofs.lemmas.Int.{to_z-of_z}
 use Rattle.std.proofs.lemmas.List.{take_more, take_all}
 use Rattle.appender_replay.specs.Replay.{with_replies}
 use Rattle.appender_replay.specs.Inside.Steps.{parts}
+use Rattle.appender_replay.proofs.Headlines.{headline}
 use Rattle.appender_replay.proofs.Orders.{in_order, hands, labels}
 use Rattle.appender_replay.proofs.Runs.{Grounds, follows, other_names, one_reply_more}
 use Rattle.appender_replay.proofs.Texts.{WorkerLaws, text_law}
@@ -56,6 +57,8 @@ returns g c =
       maps = record { removals = c.names_change_one_at_a_time.ensures.removals; additions = c.names_change_one_at_a_time.ensures.additions };
       parts = c.openings_keep_files.ensures;
       sound = g.met.S.Folder.sound;
+      failures_fit = g.met.S.Folder.failures_fit;
+      noted_fit = g.met.S.Folder.noted_fit;
     } in
     let laws : WorkerLaws = record {
       waits = c.takes_wait_unless_lines_come.ensures;
@@ -64,7 +67,9 @@ returns g c =
     } in
     let law = whole_law g.S.Folder c.args.builder.now c.args.start c.number-number.result c.args.folder past c.loop-step.roller grounds in
     let handed = hands c.args.limit c.args.lossy past c.loop-step.queue (in_order c.args.limit c.args.lossy past goes.answers) goes.stands.queue in
+    let rolls = follows _ _ _ _ _ _ _ _ _ law goes.runs in
     record {
+      headline = headline g.S.Folder c.args.builder.now grounds c.args.limit c.args.lossy c.args.start c.number-number.result c.args.folder past c.loop-step.roller goes.answers goes.runs rolls;
       one_each = one_each;
       lines = record {
         answers = goes.answers;
@@ -76,6 +81,6 @@ returns g c =
       };
       clock_read = each_write_reads past;
       runs = goes.runs;
-      roller = follows _ _ _ _ _ _ _ _ _ law goes.runs;
+      roller = rolls;
       err = tt;
     }

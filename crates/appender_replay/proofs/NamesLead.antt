@@ -1,0 +1,207 @@
+-- The names that the attempts of a run leave, one after another.
+use Rattle.std.proofs.Common.{◌≡◌, ◌≢◌, ◌∙◌, ◌⊎◌, ℕ, ℤ, ◌+◌, ◌<◌, ◌≤◌, nat_le, Bool, true, false, ◌||◌, List, [], ◌∷◌, ◌++◌, length, length-append, map, All, Option, None, Some, is_some, inl, inr, refl, sym, ap, subst, arith}
+use Rattle.std.specs.Prelude.{if◌then◌else◌, ◌==◌, MatchOption}
+use Rattle.std.specs.Option.{option_map_or}
+use Rattle.std.specs.FinMap as fin
+use Rattle.std.proofs.lemmas.List.{length-set}
+use Rattle.std.proofs.lemmas.List.Elements.{All-head, All-tail}
+use Rattle.appender_store.specs.Content.{Content, NameMap, Entry, File, Opens, IsSound, after_make_folder, body_at}
+use Rattle.appender_store.specs.NameLaws.{NameLaws}
+use Rattle.appender_retain.specs.Pruning.{IsQuiet}
+use Rattle.appender_retain.specs.Rank.{Rank}
+use Rattle.appender_retain.specs.Survival.{TakesOnlyOld, name_rank, name_survives}
+use Rattle.appender_rolling.specs.Config.{Config, naming_of}
+use Rattle.appender_rolling.specs.Kept.{Keeps, PartsKeep}
+use Rattle.appender_rolling.specs.declared.rolling.setup.Stamp.{Stamp}
+use Rattle.appender_rolling.specs.Opening.{file_name_of, MayRemoveLink, Linked, LeavesLittle}
+use Rattle.appender_replay.specs.Run.{Event, Attempt, since, up_to, open_body, Carried, Leads, Succeeded, Tried, EachOf}
+use Rattle.appender_replay.specs.Headline.{IsOtherName, Leaves, LeaveAll, kept}
+use Rattle.appender_replay.proofs.NamesLeft.{nothing_survives, leads_to, opened_other, freed_other, linked_other, linked_name, apart_from_link}
+
+abbrev pub stamps_in : List Attempt → List Stamp
+stamps_in = map (λ (a : Attempt). a.stamp)
+
+carried_names : (o : Option ℕ) (bytes : List ℕ) (old new : Content) → Carried o bytes old new → new.names ≡ old.names
+carried_names None bytes old new is = ap (λ (d : Content). d.names) is
+carried_names (Some b) bytes old new is = ap (λ (d : Content). d.names) is
+
+-- ---- bodies
+
+-- no body goes
+abbrev pub HasAll : Content → Content → Type 0
+HasAll old new = (x : ℕ) → x < length old.bodies → x < length new.bodies
+
+carried_bodies : (o : Option ℕ) (bytes : List ℕ) (old new : Content) → Carried o bytes old new → HasAll old new
+carried_bodies None bytes old new is x lt = rw is lt
+carried_bodies (Some b) bytes old new is x lt = rw (is, length-set old.bodies b (body_at old b ++ bytes)) lt
+
+module _ (parts : PartsKeep) (c : Config) where
+  tried_bodies : (a : Attempt) → Tried c a → HasAll a.before a.after
+  tried_bodies a did = by a.body did
+    where
+      by : (o : Option ℕ) → MatchOption o (LeavesLittle c (file_name_of c a.stamp) a.before a.after) (Succeeded c a) → HasAll a.before a.after
+      by None did = (parts.refusal c (file_name_of c a.stamp) a.before a.after did).keeps.more
+      by (Some b) did = λ x lt.
+          (parts.link c.link (file_name_of c a.stamp) did.unlinked a.after did.links).keeps.more x
+          ((parts.opening (file_name_of c a.stamp) (after_make_folder did.pruned) did.unlinked b did.opens).keeps.more x
+          ((parts.folder did.pruned).keeps.more x ((parts.retention (naming_of c) c.max_files a.before did.pruned did.only_old).keeps.more x lt)))
+
+  pub leads_bodies : (attempts : List Attempt) (h : List Event) (first last : Content) → Leads c attempts h first last → HasAll first last
+  leads_bodies [] h first last leads x lt = rw leads lt
+  leads_bodies (a ∷ rest) h first last leads x lt =
+      carried_bodies (open_body (a ∷ rest)) (since a.step h) a.after last leads.2 x (tried_bodies a leads.1 x (leads_bodies rest (up_to a.step h) first a.before leads.0 x lt))
+
+at_least : (m n : ℕ) → ((x : ℕ) → x < m → x < n) → m ≤ n
+at_least m n more = by (nat_le m n) refl
+  where
+    by : (t : Bool) → nat_le m n ≡ t → m ≤ n
+    by true e = grind arith
+    by false e = let short : n < m = grind arith in let never : n < n = more n short in absurd (omega arith)
+
+-- ---- exactly the survivors
+
+module _ (maps : NameLaws) (c : Config) where
+  -- Why an attempt left exactly the survivors: there is no maximum, or it noted nothing, or the folder was absent.
+  abbrev pub PrunesAll : Attempt → Type 0
+  PrunesAll a = (c.max_files ≡ 0) ⊎ (IsQuiet a.noted_before a.noted_after ⊎ ((a.before.there ≡ false) × IsSound a.before))
+
+  all_survive : c.max_files ≡ 0 → (names : NameMap) (name : List ℕ) → name_survives (naming_of c) c.max_files names name ≡ true
+  all_survive none names name = rw none refl
+
+  pruned_is : (a : Attempt) (b : ℕ) (did : Succeeded c a b) → PrunesAll a → (name : List ℕ) → fin.get did.pruned.names name ≡ kept c a.before.names name
+  pruned_is a b did (inl none) name = elim (did.only_old.names name) [
+    | inl same ↦ same ∙ ap (λ (t : Bool). if t then fin.get a.before.names name else None) (sym (all_survive none a.before.names name))
+    | inr gone ↦ absurd (let both : true ≡ false = sym (all_survive none a.before.names name) ∙ gone.1 in cc)
+  ]
+  pruned_is a b did (inr (inl quiet)) name = did.survivors quiet name
+  pruned_is a b did (inr (inr absent)) name = nothing_survives (naming_of c) c.max_files a.before did.pruned absent.1 absent.0 did.only_old name
+
+  module _ (n : ℕ) (a : Attempt) (b : ℕ) (did : Succeeded c a b) (all : PrunesAll a) (more : (x : ℕ) → x < n → x < length a.before.bodies) where
+    abbrev own : List ℕ
+    own = file_name_of c a.stamp
+
+    abbrev Own : Type 0
+    Own = (b : ℕ) × (t : Option ℤ) × (fin.get a.after.names own ≡ Some (File b t)) × ((kept c a.before.names own ≡ Some (File b t)) ⊎ ((kept c a.before.names own ≡ None) × (n ≤ b)))
+
+    stays : (x : ℕ) (t : Option ℤ) → fin.get did.unlinked.names own ≡ Some (File x t) → fin.get a.after.names own ≡ Some (File x t)
+    stays x t at = linked_other maps c.link own did.unlinked a.after own did.links (apart_from_link maps c.link own did.unlinked a.after own x t did.links at) ∙ at
+
+    own_name : Opens own (after_make_folder did.pruned) did.unlinked b → Own
+    own_name (there, inl (t, at, same)) = (
+      b,
+      t,
+      stays b t (subst (λ (d : Content). fin.get d.names own ≡ Some (File b t)) (sym same) at),
+      inl (sym (pruned_is a b did all own) ∙ at),
+    )
+    own_name (there, inr (t, free, number, after)) =
+        let to = leads_to maps own (after_make_folder did.pruned) did.unlinked b (there, inr (t, free, number, after)) in
+        let size : length did.pruned.bodies ≡ length a.before.bodies = ap length did.only_old.bodies in
+        let least : n ≤ length a.before.bodies = at_least n (length a.before.bodies) more in (
+          b,
+          to.0,
+          stays b to.0 to.1,
+          inr (sym (pruned_is a b did all own) ∙ free, omega arith),
+        )
+
+    leaves : Leaves c n a.stamp a.before.names a.after.names
+    leaves = record {
+      own = own_name did.opens;
+      link = linked_name maps c.link own did.unlinked a.after did.links;
+      others = λ name other.
+          linked_other maps c.link own did.unlinked a.after name did.links (λ same. absurd (other.1 same)) ∙ opened_other maps own (after_make_folder did.pruned) did.unlinked b name did.opens other.0
+          ∙ pruned_is a b did all name;
+    }
+
+  -- the attempt succeeded, and left exactly the survivors
+  abbrev pub LeavesAll : Attempt → Type 0
+  LeavesAll a = (is_some a.body ≡ true) × PrunesAll a
+
+  some_is : (o : Option ℕ) → is_some o ≡ true → (b : ℕ) × (o ≡ Some b)
+  some_is None e = absurd (let both : false ≡ true = e in cc)
+  some_is (Some b) e = (b, refl)
+
+  all_leave : (parts : PartsKeep) (n : ℕ) (attempts : List Attempt) (h : List Event) (first last : Content) → ((x : ℕ) → x < n → x < length first.bodies)
+      → Leads c attempts h first last → EachOf LeavesAll attempts → LeaveAll c n (stamps_in attempts) first.names last.names
+  all_leave parts n [] h first last more leads all = ap (λ (d : Content). d.names) leads
+  all_leave parts n (a ∷ rest) h first last more leads all =
+      let some = some_is a.body all.0.0 in
+      let did : Succeeded c a some.0 = subst (λ (o : Option ℕ). MatchOption o (LeavesLittle c (file_name_of c a.stamp) a.before a.after) (Succeeded c a)) some.1 leads.1 in
+      let names : last.names ≡ a.after.names = carried_names (open_body (a ∷ rest)) (since a.step h) a.after last leads.2 in
+      let grown = leads_bodies parts c rest (up_to a.step h) first a.before leads.0 in (
+        a.before.names,
+        all_leave parts n rest (up_to a.step h) first a.before more leads.0 all.1,
+        subst (λ (m : NameMap). Leaves c n a.stamp a.before.names m) (sym names) (leaves n a some.0 did all.0.1 (λ x lt. grown x (more x lt))),
+      )
+
+  pub names_lead : (parts : PartsKeep) (attempts : List Attempt) (h : List Event) (first last : Content) → Leads c attempts h first last → EachOf LeavesAll attempts
+      → LeaveAll c (length first.bodies) (stamps_in attempts) first.names last.names
+  names_lead parts attempts h first last leads all = all_leave parts (length first.bodies) attempts h first last (λ x lt. lt) leads all
+
+  -- ---- other names
+
+  module _ (name : List ℕ) where
+    -- a name leads to what it led to, or it was a candidate's and is removed
+    abbrev pub MayGo : NameMap → NameMap → Type 0
+    MayGo old new = (fin.get new name ≡ fin.get old name) ⊎ ((fin.get new name ≡ None) × (c.max_files ≢ 0) × (is_some (name_rank (naming_of c) old name) ≡ true))
+
+    same_rank : (old new : NameMap) → fin.get new name ≡ fin.get old name → is_some (name_rank (naming_of c) new name) ≡ is_some (name_rank (naming_of c) old name)
+    same_rank old new same = rw same refl
+
+    may_go_on : (first between last : NameMap) → MayGo first between → MayGo between last → MayGo first last
+    may_go_on first between last (inl one) (inl two) = inl (two ∙ one)
+    may_go_on first between last (inl one) (inr two) = inr (two.0, two.1, sym (same_rank first between one) ∙ two.2)
+    may_go_on first between last (inr one) (inl two) = inr (two ∙ one.0, one.1, one.2)
+    may_go_on first between last (inr one) (inr two) = inr (two.0, one.1, one.2)
+
+    then_same : (first between last : NameMap) → MayGo first between → fin.get last name ≡ fin.get between name → MayGo first last
+    then_same first between last may same = may_go_on first between last may (inl same)
+
+    candidate : (z : Bool) (o : Option Rank) (f : Rank → Bool) → (z || option_map_or f o true) ≡ false → (z ≡ false) × (is_some o ≡ true)
+    candidate true o f e = absurd (let both : true ≡ false = e in cc)
+    candidate false None f e = absurd (let both : true ≡ false = e in cc)
+    candidate false (Some a) f e = (refl, refl)
+
+    pruned_may : (old new : Content) → TakesOnlyOld (naming_of c) c.max_files old new → MayGo old.names new.names
+    pruned_may old new only = elim (only.names name) [
+      | inl same ↦ inl same
+      | inr gone ↦
+          let was = candidate (c.max_files == 0) (name_rank (naming_of c) old.names name) _ gone.1 in
+          let set : c.max_files ≢ 0 = λ e. let zero : (c.max_files == 0) ≡ true = grind arith in let both : true ≡ false = sym zero ∙ was.0 in cc in
+          inr (gone.0, set, was.1)
+    ]
+
+    module _ (s : Stamp) (other : IsOtherName c name s) where
+      abbrev file : List ℕ
+      file = file_name_of c s
+
+      opened_may : (old pruned unlinked : Content) (b : ℕ) → TakesOnlyOld (naming_of c) c.max_files old pruned → Opens file (after_make_folder pruned) unlinked b → MayGo old.names unlinked.names
+      opened_may old pruned unlinked b only opens =
+          then_same old.names pruned.names unlinked.names (pruned_may old pruned only) (opened_other maps file (after_make_folder pruned) unlinked b name opens other.0)
+
+      little_may : (old new : Content) → LeavesLittle c file old new → MayGo old.names new.names
+      little_may old new little = elim little.rest [
+        | inl same ↦ then_same old.names little.pruned.names new.names (pruned_may old little.pruned little.only_old) (ap (λ (d : Content). fin.get d.names name) same)
+        | inr (inl same) ↦ then_same old.names little.pruned.names new.names (pruned_may old little.pruned little.only_old) (ap (λ (d : Content). fin.get d.names name) same)
+        | inr (inr (unlinked, b, opens, frees)) ↦
+            then_same old.names unlinked.names new.names (opened_may old little.pruned unlinked b little.only_old opens) (freed_other maps c.link unlinked new name frees other.1)
+      ]
+
+      succeeded_may : (a : Attempt) (b : ℕ) → a.stamp ≡ s → Succeeded c a b → MayGo a.before.names a.after.names
+      succeeded_may a b is did =
+          then_same a.before.names did.unlinked.names a.after.names
+          (opened_may a.before did.pruned did.unlinked b did.only_old (subst (λ (x : Stamp). Opens (file_name_of c x) (after_make_folder did.pruned) did.unlinked b) is did.opens))
+          (linked_other maps c.link (file_name_of c a.stamp) did.unlinked a.after name did.links (λ same. absurd (other.1 same)))
+
+    tried_may : (a : Attempt) → Tried c a → IsOtherName c name a.stamp → MayGo a.before.names a.after.names
+    tried_may a did other = by a.body did
+      where
+        by : (o : Option ℕ) → MatchOption o (LeavesLittle c (file_name_of c a.stamp) a.before a.after) (Succeeded c a) → MayGo a.before.names a.after.names
+        by None did = little_may a.stamp other a.before a.after did
+        by (Some b) did = succeeded_may a.stamp other a b refl did
+
+    pub others_stay : (attempts : List Attempt) (h : List Event) (first last : Content) → Leads c attempts h first last → All (IsOtherName c name) (stamps_in attempts) → MayGo first.names last.names
+    others_stay [] h first last leads others = inl (ap (λ (d : Content). fin.get d.names name) leads)
+    others_stay (a ∷ rest) h first last leads others =
+        then_same first.names a.after.names last.names
+        (may_go_on first.names a.before.names a.after.names (others_stay rest (up_to a.step h) first a.before leads.0 (All-tail (IsOtherName c name) a.stamp (stamps_in rest) others)) (tried_may a leads.1 (All-head (IsOtherName c name) a.stamp (stamps_in rest) others)))
+        (ap (λ (m : NameMap). fin.get m name) (carried_names (open_body (a ∷ rest)) (since a.step h) a.after last leads.2))

@@ -1,0 +1,227 @@
+-- The headline of a run. An account follows the run by its steps and replies alone: which reply each step gets, which files are begun, and
+-- which file each byte goes to. The folder then contains what it contained before, and exactly that.
+use Rattle.std.specs.Prelude.{◌≡◌, ◌≢◌, ◌⊎◌, ◌↔◌, IsTrue, ℕ, ◌+◌, ◌-◌, ◌^◌, ◌<◌, ◌≤◌, nat_lt, min, ◌==◌, ℤ, Bool, true, false, not, ◌&&◌, if◌then◌else◌, List, [], ◌∷◌, ◌++◌, length, take, drop, get_or, All, Option, None, Some, is_some, unwrap_or, Result, Ok, Err}
+use Rattle.std.specs.Int.{int_max}
+use Rattle.std.specs.Str.{bytes_eq}
+use Rattle.std.specs.FinMap as fin
+use Rattle.std.specs.declared.io.ErrorKind.{ErrorKind}
+use Rattle.std.specs.declared.io.ErrorKind.TheVariants.{OutOfMemory}
+use Rattle.appender_names.specs.Rotation.{is_moment, period_of, is_same_start}
+use Rattle.appender_store.specs.Content.{Content, NameMap, Entry, File, Link, body_at}
+use Rattle.appender_store.specs.declared.store.Folder.{Ghosts}
+use Rattle.appender_store.specs.Folder.{Counts}
+use Rattle.appender_retain.specs.Survival.{name_rank, name_survives}
+use Rattle.appender_rolling.specs.Config.{Config, is_limited, naming_of, stamp}
+use Rattle.appender_rolling.specs.Opening.{file_name_of, IsFirstNumber, HasEntry}
+use Rattle.appender_rolling.specs.Roller.{count_of, wanted}
+use Rattle.appender_rolling.specs.declared.rolling.setup.Stamp.{Stamp}
+use Rattle.appender_worker.specs.CoreReplies.{is_interruption}
+use Rattle.appender_queue.specs.Queue.{saturating_next, one_less}
+use Rattle.appender_queue.specs.declared.queue.Shut.TheVariants.{Sent, Already, Full as ShutFull, Closed as ShutClosed}
+use Rattle.appender_rolling.specs.declared.rolling.Switch.{Switch}
+use Rattle.appender_rolling.specs.declared.rolling.Switch.TheVariants.{None as Stayed, Opened as Switched}
+use Rattle.appender_replay.specs.declared.replay.whole.Step.{Step}
+use Rattle.appender_replay.specs.declared.replay.whole.Step.TheVariants.{Offer, Shut, AddSender, DropSender, Work}
+use Rattle.appender_replay.specs.declared.replay.whole.Reply.{Reply}
+use Rattle.appender_replay.specs.declared.replay.whole.Reply.TheVariants.{Accepted, Full, Closed, NoMemory, Shut as DidShut, Senders, Took, TookShutdown, TookGone, TookEmpty, Wrote, Flushed, Ended}
+
+-- The files. The latest moment that was read; the attempts to open a file, each by the moment and the number in its name: the newest, those
+-- before it, the newest first, and how many failed; the bytes written since the newest; the name of the open file; what each write took, the
+-- newest first, with the name of its file; and how many writes and flushes failed, but for want of memory.
+pub record Files : Type 0 where
+  pub latest : ℤ
+  pub newest : Stamp
+  pub earlier : List Stamp
+  pub failed : ℕ
+  pub since : ℕ
+  pub file : List ℕ
+  pub writes : List (List ℕ × List ℕ)
+  pub faults : ℕ
+
+-- The queue: all lines that were accepted, in order, and how many of them were handed to the worker; how many had been accepted when the
+-- shutdown was sent, if it was; whether the worker found the end; the senders; whether the last take was one that waits, and found nothing.
+-- The worker: the rest of the line in hand, and how often a write of it was interrupted; whether that line was written whole, with no flush
+-- since; how many flushes it makes next.
+pub record Account : Type 0 where
+  pub accepted : List (List ℕ)
+  pub handed : ℕ
+  pub shutdown : Option ℕ
+  pub closed : Bool
+  pub senders : ℕ
+  pub idle : Bool
+  pub rest : List ℕ
+  pub interrupted : ℕ
+  pub whole : Bool
+  pub flushes : ℕ
+  pub files : Files
+
+-- after the opening of the first file
+abbrev pub opened : Config → Stamp → Files
+opened c s = record { latest = s.moment; newest = s; earlier = []; failed = 0; since = 0; file = file_name_of c s; writes = []; faults = 0 }
+
+abbrev pub opening : Config → Stamp → Account
+opening c s = record { accepted = []; handed = 0; shutdown = None; closed = false; senders = 1; idle = false; rest = []; interrupted = 0; whole = false; flushes = 0; files = opened c s }
+
+-- ---- the reply to a step
+
+-- the shutdown takes a place too
+abbrev pub taken_places : Account → ℕ
+taken_places a = length a.accepted - a.handed + (if is_some a.shutdown then 1 else 0)
+
+-- with the limit 0 there is room for one line, while the worker waits
+abbrev pub has_room : ℕ → Account → Bool
+has_room limit a = if limit == 0 then ((taken_places a == 0) && a.idle) else nat_lt (taken_places a) limit
+
+-- tickets have 64 bits
+abbrev pub offer_answer : ℕ → Account → Reply
+offer_answer limit a =
+    if not a.closed && nat_lt (length a.accepted) (2 ^ 64 - 1) then (if has_room limit a then Accepted (length a.accepted + 1) else Full) else Closed
+
+abbrev pub shut_answer : ℕ → Account → Reply
+shut_answer limit a =
+    DidShut (if a.closed then ShutClosed else if is_some a.shutdown then Already else if has_room limit a then Sent else ShutFull)
+
+-- the first line that was not handed, if it was accepted before the shutdown
+abbrev pub take_answer : Account → Reply
+take_answer a =
+    if a.closed then Ended
+    else if nat_lt a.handed (length a.accepted) && nat_lt a.handed (unwrap_or a.shutdown (length a.accepted)) then Took (a.handed + 1)
+    else if is_some a.shutdown then TookShutdown
+    else if a.senders == 0 then TookGone
+    else TookEmpty
+
+-- moments outside the years 1 to 9998 count as not read
+abbrev pub later : ℤ → ℤ → ℤ
+later latest m = if is_moment m then int_max m latest else latest
+
+-- The file that is due at m, with so many bytes to write, if one is. If m brings the latest moment to another period, it is the first of
+-- that period. With a limit of bytes it is the next of the same period, if what was written since the newest attempt and these bytes, or one,
+-- are more than the limit.
+abbrev pub due_file : Config → Files → ℤ → ℕ → Option Stamp
+due_file c f m len =
+    if not (is_same_start (period_of c.rotation (later f.latest m)) (period_of c.rotation f.latest)) then Some (stamp (later f.latest m) 0)
+    else if is_limited c && nat_lt f.newest.number 999999 && nat_lt 0 f.since && nat_lt c.max_bytes (f.since + wanted len)
+    then Some (stamp f.newest.moment (f.newest.number + 1))
+    else None
+
+-- A line is accepted exactly if the queue is open and has room, and memory was there for its copy; an empty one needs none. The worker writes
+-- on if a line is in hand, makes the flushes that are due, or else takes the first line that was not handed.
+abbrev pub Replies : ℕ → Config → Account → Step × Reply → Type 0
+Replies limit c a (Offer label line, reply) = ((reply ≡ NoMemory) × (line.items ≢ [])) ⊎ (reply ≡ offer_answer limit a)
+Replies limit c a (Shut, reply) = reply ≡ shut_answer limit a
+Replies limit c a (AddSender, reply) = reply ≡ Senders (saturating_next a.senders)
+Replies limit c a (DropSender, reply) = reply ≡ Senders (one_less a.senders)
+Replies limit c a (Work m, Wrote switch answer) =
+    (a.rest ≢ []) × (count_of answer ≤ length a.rest) × ((switch ≡ Stayed) ↔ (due_file c a.files m (length a.rest) ≡ None))
+Replies limit c a (Work m, Flushed answer) = (a.rest ≡ []) × (0 < a.flushes)
+Replies limit c a (Work m, reply) = (a.rest ≡ []) × (a.flushes ≡ 0) × (reply ≡ take_answer a)
+
+-- ---- what follows from a step and its reply
+
+-- a file that could not be opened leaves the last one open
+abbrev pub after_attempt : Config → Option Stamp → Switch → Files → Files
+after_attempt c None switch f = f
+after_attempt c (Some s) Switched f = record f { newest = s; earlier = f.newest ∷ f.earlier; since = 0; file = file_name_of c s }
+after_attempt c (Some s) switch f = record f { newest = s; earlier = f.newest ∷ f.earlier; since = 0; failed = f.failed + 1 }
+
+-- a check of the clock at m, with so many bytes to write
+abbrev pub after_look : Config → ℤ → ℕ → Switch → Files → Files
+after_look c m len switch f = after_attempt c (due_file c f m len) switch (record f { latest = later f.latest m })
+
+abbrev pub faults_in : {T : Type 0} → Result T ErrorKind → ℕ
+faults_in (Ok x) = 0
+faults_in (Err OutOfMemory) = 0
+faults_in (Err kind) = 1
+
+-- a write of these bytes to the open file
+abbrev pub after_write : List ℕ → Result ℕ ErrorKind → Files → Files
+after_write bytes answer f =
+    record f { since = f.since + length (take (count_of answer) bytes); writes = (f.file, take (count_of answer) bytes) ∷ f.writes; faults = f.faults + faults_in answer }
+
+abbrev pub after_flush : Result (Unit {0}) ErrorKind → Files → Files
+after_flush answer f = record f { faults = f.faults + faults_in answer }
+
+-- a line is given up at a write of no byte, at the 101st interruption and at any other error
+abbrev pub after_answer : Result ℕ ErrorKind → Account → Account
+after_answer (Ok n) a = record a { rest = if n == 0 then [] else drop n a.rest; whole = not (n == 0) }
+after_answer (Err kind) a = if is_interruption kind && nat_lt a.interrupted 100 then record a { interrupted = a.interrupted + 1 } else record a { rest = []; whole = false }
+
+abbrev pub after : Config → Account → Step × Reply → Account
+after c a (Offer label line, Accepted ticket) = record a { accepted = a.accepted ++ line.items ∷ [] }
+after c a (Shut, DidShut Sent) = record a { shutdown = Some (length a.accepted) }
+after c a (AddSender, reply) = record a { senders = saturating_next a.senders }
+after c a (DropSender, reply) = record a { senders = one_less a.senders }
+after c a (Work m, Took ticket) = record a { handed = a.handed + 1; rest = get_or a.accepted a.handed []; interrupted = 0; whole = true; idle = false }
+after c a (Work m, TookShutdown) = record a { closed = true; idle = false; flushes = 2 }
+after c a (Work m, TookGone) = record a { closed = true; idle = false; flushes = 2 }
+after c a (Work m, TookEmpty) = record a { idle = not a.whole; flushes = if a.whole then 1 else 0 }
+after c a (Work m, Flushed answer) = record a { whole = false; flushes = a.flushes - 1; files = after_flush answer a.files }
+after c a (Work m, Wrote switch answer) = record (after_answer answer a) { files = after_write a.rest answer (after_look c m (length a.rest) switch a.files) }
+after c a t = a
+
+-- a run: its steps with their replies, the newest first
+abbrev pub account : Config → Stamp → List (Step × Reply) → Account
+account c start [] = opening c start
+account c start (t ∷ past) = after c (account c start past) t
+
+abbrev pub Follows : ℕ → Config → Stamp → List (Step × Reply) → Type 0
+Follows limit c start [] = Unit {0}
+Follows limit c start (t ∷ past) = Follows limit c start past × Replies limit c (account c start past) t
+
+-- ---- the folder
+
+-- what was written to the file of this name
+abbrev pub written : List ℕ → List (List ℕ × List ℕ) → List ℕ
+written name [] = []
+written name ((file, bytes) ∷ earlier) = written name earlier ++ (if bytes_eq file name then bytes else [])
+
+-- what retention leaves under a name
+abbrev pub kept : Config → NameMap → List ℕ → Option Entry
+kept c names name = if name_survives (naming_of c) c.max_files names name then fin.get names name else None
+
+-- neither the name of this file nor that of the link, which is empty if none is set
+abbrev pub IsOtherName : Config → List ℕ → Stamp → Type 0
+IsOtherName c name s = (name ≢ file_name_of c s) × (name ≢ c.link)
+
+-- The names after the opening of a file: what retention leaves of those before, the file's own, and the link. The file is the one that had
+-- the name, or a new one, whose body is none of those that the folder had at first.
+pub record Leaves (c : Config) (bodies : ℕ) (s : Stamp) (old new : NameMap) : Type 0 where
+  pub own : (b : ℕ) × (t : Option ℤ) × (fin.get new (file_name_of c s) ≡ Some (File b t))
+      × ((kept c old (file_name_of c s) ≡ Some (File b t)) ⊎ ((kept c old (file_name_of c s) ≡ None) × (bodies ≤ b)))
+  pub link : c.link ≢ [] → fin.get new c.link ≡ Some (Link (file_name_of c s))
+  pub others : (name : List ℕ) → IsOtherName c name s → fin.get new name ≡ kept c old name
+
+-- the same of one file after another, the newest first
+abbrev pub LeaveAll : Config → ℕ → List Stamp → NameMap → NameMap → Type 0
+LeaveAll c bodies [] first last = last ≡ first
+LeaveAll c bodies (s ∷ earlier) first last = (between : NameMap) × LeaveAll c bodies earlier first between × Leaves c bodies s between last
+
+-- Every listing and every removal succeeded, but for the listings of an absent folder at the opening. Counts at their greatest don't show it.
+pub record RetentionSucceeded (c : Config) (there : Bool) (old new : Counts) : Type 0 where
+  pub lists : new.lists ≡ old.lists + (if there then 0 else (if is_limited c then 1 else 0) + (if c.max_files == 0 then 0 else 1))
+  pub removes : new.removes ≡ old.removes
+  pub below : (new.lists < 2 ^ 64 - 1) × (new.removes < 2 ^ 64 - 1)
+
+-- What a folder with known content contains after a run whose first file was this.
+pub record Contains (c : Config) (start : Stamp) (f : Files) (first last : Content) (noted_first noted_last : Counts) : Type 0 where
+  -- A file holds what it held at first, which is nothing if it is new, and then exactly what was written while it was the open one.
+  pub bytes : (name : List ℕ) (b : ℕ) (t : Option ℤ) → fin.get last.names name ≡ Some (File b t) → body_at last b ≡ body_at first b ++ written name f.writes
+  -- Whatever fails, no other name changes, but that log files may be removed if there is a maximum of them.
+  pub others : (name : List ℕ) → All (IsOtherName c name) (f.newest ∷ f.earlier)
+      → (fin.get last.names name ≡ fin.get first.names name) ⊎ ((fin.get last.names name ≡ None) × (c.max_files ≢ 0) × (is_some (name_rank (naming_of c) first.names name) ≡ true))
+  -- If each attempt succeeded, and each listing and removal, the names are exactly these. Without a maximum nothing is listed for retention.
+  pub names : f.failed ≡ 0 → ((c.max_files ≡ 0) ⊎ RetentionSucceeded c first.there noted_first noted_last)
+      → LeaveAll c (length first.bodies) (f.newest ∷ f.earlier) first.names last.names
+  -- With a limit of bytes the first number is the next after those that the folder had in that period.
+  pub number : is_limited c ≡ true → RetentionSucceeded c first.there noted_first noted_last → IsFirstNumber (naming_of c) start.moment (HasEntry first) start.number
+
+-- The folder after a run: it noted each attempt that failed, and counted each write and each flush that failed.
+pub record Keeps {S F : Type 0} (kind : Ghosts S F) (c : Config) (start : Stamp) (f : Files) (first last : S) : Type 0 where
+  pub failed : (kind.noted last).opens ≡ min ((kind.noted first).opens + f.failed) (2 ^ 64 - 1)
+  pub faults : min (kind.failures first + f.faults) (2 ^ 64 - 1) ≤ kind.failures last
+  pub unnumbered : is_limited c ≡ false → start.number ≡ 0
+  pub content : IsTrue kind.is_known → Contains c start f (kind.content first) (kind.content last) (kind.noted first) (kind.noted last)
+
+pub record Headline {S F : Type 0} (kind : Ghosts S F) (limit : ℕ) (c : Config) (start : Stamp) (past : List (Step × Reply)) (first last : S) : Type 0 where
+  pub replies : Follows limit c start past
+  pub folder : Keeps kind c start (account c start past).files first last
