@@ -122,7 +122,7 @@ module _ (c : Config) (start : Stamp) where
 
 pub roll_headline : {S F : Type 0} (kind : Ghosts S F) (c : Config) (grounds : Grounds kind c) (moment : ℤ) (number : ℕ) (folder : S) (past : List RollAnswered) (last : Rolling S F)
     → RunsFrom kind (RollDoes kind) c moment number folder past last → RollerFollows kind (RollDoes kind) roll_event c moment number folder past last
-    → RollHeadline kind c (stamp moment number) past folder last.folder
+    → RollHeadline kind c moment number past folder last.folder
 roll_headline kind c grounds moment number folder past last run rolls =
     let start : Stamp = stamp moment number in
     let so = roll_known c start kind grounds past run.first last run.runs rolls.switches in
@@ -257,7 +257,7 @@ module _ (c : Config) (start : Stamp) where
 
 pub headline : {S F : Type 0} (kind : Ghosts S F) (c : Config) (grounds : Grounds kind c) (limit : ℕ) (lossy : Bool) (moment : ℤ) (number : ℕ) (folder : S) (past : List Answered) (last : Rolling S F)
     → Answers limit lossy past → RunsFrom kind (WorkerDoes kind) c moment number folder past last → RollerFollows kind (WorkerDoes kind) worker_event c moment number folder past last
-    → Headline kind limit c (stamp moment number) past folder last.folder
+    → Headline kind limit c moment number past folder last.folder
 headline kind c grounds limit lossy moment number folder past last all run rolls =
     let start : Stamp = stamp moment number in
     let so = known c start limit lossy past all rolls.switches in

@@ -247,7 +247,7 @@ module _ {S F : Type 0} (kind : Ghosts S F) (failures_fit : (s : S) → kind.fai
                 record {
                   bytes = λ name b t at. law.bodies b ∙ ap (λ (xs : List ℕ). body_at (kind.content folder) b ++ xs)
                       (text_same c start (kind.content last.folder) name b t at law.attempts (events_by event past) f law.are_times law.under_its_name law.names_its_body so);
-                  others = λ name others. others_stay maps c name law.attempts (events_by event past) (kind.content folder) (kind.content last.folder) law.leads (rw stamps others);
+                  others = λ name others not_link. others_stay maps c name not_link law.attempts (events_by event past) (kind.content folder) (kind.content last.folder) law.leads (rw stamps others);
                   names = λ none fine.
                       let opened : AllOpened (map time_of law.attempts) = rw law.are_times (all_opened c start (events_by event past) rolls.switches (none_failed (events_by event past) (so.failed ∙ none))) in
                       let prunes : EachOf (PrunesAll maps c) law.attempts = each_prunes law.attempts law.are_seen (elim fine [

@@ -15,7 +15,7 @@ use Rattle.appender_rolling.specs.Kept.{Keeps, PartsKeep}
 use Rattle.appender_rolling.specs.declared.rolling.setup.Stamp.{Stamp}
 use Rattle.appender_rolling.specs.Opening.{file_name_of, MayRemoveLink, Linked, LeavesLittle}
 use Rattle.appender_replay.specs.Run.{Event, Attempt, since, up_to, open_body, Carried, Leads, Succeeded, Tried, EachOf}
-use Rattle.appender_replay.specs.Headline.{IsOtherName, Leaves, LeaveAll, kept}
+use Rattle.appender_replay.specs.Headline.{Leaves, LeaveAll, kept}
 use Rattle.appender_replay.proofs.NamesLeft.{nothing_survives, leads_to, opened_other, freed_other, linked_other, linked_name, apart_from_link}
 
 abbrev pub stamps_in : List Attempt → List Stamp
@@ -107,8 +107,8 @@ module _ (maps : NameLaws) (c : Config) where
     leaves = record {
       own = own_name did.opens;
       link = linked_name maps c.link own did.unlinked a.after did.links;
-      others = λ name other.
-          linked_other maps c.link own did.unlinked a.after name did.links (λ same. absurd (other.1 same)) ∙ opened_other maps own (after_make_folder did.pruned) did.unlinked b name did.opens other.0
+      others = λ name not_own not_link.
+          linked_other maps c.link own did.unlinked a.after name did.links (λ same. absurd (not_link same)) ∙ opened_other maps own (after_make_folder did.pruned) did.unlinked b name did.opens not_own
           ∙ pruned_is a b did all name;
     }
 
@@ -139,7 +139,7 @@ module _ (maps : NameLaws) (c : Config) where
 
   -- ---- other names
 
-  module _ (name : List ℕ) where
+  module _ (name : List ℕ) (not_link : name ≢ c.link) where
     -- a name leads to what it led to, or it was a candidate's and is removed
     abbrev pub MayGo : NameMap → NameMap → Type 0
     MayGo old new = (fin.get new name ≡ fin.get old name) ⊎ ((fin.get new name ≡ None) × (c.max_files ≢ 0) × (is_some (name_rank (naming_of c) old name) ≡ true))
@@ -170,38 +170,38 @@ module _ (maps : NameLaws) (c : Config) where
           inr (gone.0, set, was.1)
     ]
 
-    module _ (s : Stamp) (other : IsOtherName c name s) where
+    module _ (s : Stamp) (not_own : name ≢ file_name_of c s) where
       abbrev file : List ℕ
       file = file_name_of c s
 
       opened_may : (old pruned unlinked : Content) (b : ℕ) → TakesOnlyOld (naming_of c) c.max_files old pruned → Opens file (after_make_folder pruned) unlinked b → MayGo old.names unlinked.names
       opened_may old pruned unlinked b only opens =
-          then_same old.names pruned.names unlinked.names (pruned_may old pruned only) (opened_other maps file (after_make_folder pruned) unlinked b name opens other.0)
+          then_same old.names pruned.names unlinked.names (pruned_may old pruned only) (opened_other maps file (after_make_folder pruned) unlinked b name opens not_own)
 
       little_may : (old new : Content) → LeavesLittle c file old new → MayGo old.names new.names
       little_may old new little = elim little.rest [
         | inl same ↦ then_same old.names little.pruned.names new.names (pruned_may old little.pruned little.only_old) (ap (λ (d : Content). fin.get d.names name) same)
         | inr (inl same) ↦ then_same old.names little.pruned.names new.names (pruned_may old little.pruned little.only_old) (ap (λ (d : Content). fin.get d.names name) same)
         | inr (inr (unlinked, b, opens, frees)) ↦
-            then_same old.names unlinked.names new.names (opened_may old little.pruned unlinked b little.only_old opens) (freed_other maps c.link unlinked new name frees other.1)
+            then_same old.names unlinked.names new.names (opened_may old little.pruned unlinked b little.only_old opens) (freed_other maps c.link unlinked new name frees not_link)
       ]
 
       succeeded_may : (a : Attempt) (b : ℕ) → a.stamp ≡ s → Succeeded c a b → MayGo a.before.names a.after.names
       succeeded_may a b is did =
           then_same a.before.names did.unlinked.names a.after.names
           (opened_may a.before did.pruned did.unlinked b did.only_old (subst (λ (x : Stamp). Opens (file_name_of c x) (after_make_folder did.pruned) did.unlinked b) is did.opens))
-          (linked_other maps c.link (file_name_of c a.stamp) did.unlinked a.after name did.links (λ same. absurd (other.1 same)))
+          (linked_other maps c.link (file_name_of c a.stamp) did.unlinked a.after name did.links (λ same. absurd (not_link same)))
 
-    tried_may : (a : Attempt) → Tried c a → IsOtherName c name a.stamp → MayGo a.before.names a.after.names
-    tried_may a did other = by a.body did
+    tried_may : (a : Attempt) → Tried c a → name ≢ file_name_of c a.stamp → MayGo a.before.names a.after.names
+    tried_may a did not_own = by a.body did
       where
         by : (o : Option ℕ) → MatchOption o (LeavesLittle c (file_name_of c a.stamp) a.before a.after) (Succeeded c a) → MayGo a.before.names a.after.names
-        by None did = little_may a.stamp other a.before a.after did
-        by (Some b) did = succeeded_may a.stamp other a b refl did
+        by None did = little_may a.stamp not_own a.before a.after did
+        by (Some b) did = succeeded_may a.stamp not_own a b refl did
 
-    pub others_stay : (attempts : List Attempt) (h : List Event) (first last : Content) → Leads c attempts h first last → All (IsOtherName c name) (stamps_in attempts) → MayGo first.names last.names
+    pub others_stay : (attempts : List Attempt) (h : List Event) (first last : Content) → Leads c attempts h first last → All (λ s. name ≢ file_name_of c s) (stamps_in attempts) → MayGo first.names last.names
     others_stay [] h first last leads others = inl (ap (λ (d : Content). fin.get d.names name) leads)
     others_stay (a ∷ rest) h first last leads others =
         then_same first.names a.after.names last.names
-        (may_go_on first.names a.before.names a.after.names (others_stay rest (up_to a.step h) first a.before leads.0 (All-tail (IsOtherName c name) a.stamp (stamps_in rest) others)) (tried_may a leads.1 (All-head (IsOtherName c name) a.stamp (stamps_in rest) others)))
+        (may_go_on first.names a.before.names a.after.names (others_stay rest (up_to a.step h) first a.before leads.0 (All-tail (λ s. name ≢ file_name_of c s) a.stamp (stamps_in rest) others)) (tried_may a leads.1 (All-head (λ s. name ≢ file_name_of c s) a.stamp (stamps_in rest) others)))
         (ap (λ (m : NameMap). fin.get m name) (carried_names (open_body (a ∷ rest)) (since a.step h) a.after last leads.2))

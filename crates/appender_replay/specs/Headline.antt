@@ -11,8 +11,8 @@ use Rattle.appender_store.specs.Content.{Content, NameMap, Entry, File, Link, bo
 use Rattle.appender_store.specs.declared.store.Folder.{Ghosts}
 use Rattle.appender_store.specs.Folder.{Counts}
 use Rattle.appender_retain.specs.Survival.{name_rank, name_survives}
-use Rattle.appender_rolling.specs.Config.{Config, is_limited, naming_of, stamp}
-use Rattle.appender_rolling.specs.Opening.{file_name_of, IsFirstNumber, HasEntry}
+use Rattle.appender_rolling.specs.Config.{Config, is_limited, naming_of}
+use Rattle.appender_rolling.specs.Opening.{file_name_of, IsFirstNumber}
 use Rattle.appender_rolling.specs.Roller.{count_of, wanted}
 use Rattle.appender_rolling.specs.declared.rolling.setup.Stamp.{Stamp}
 use Rattle.appender_worker.specs.CoreReplies.{is_interruption}
@@ -74,12 +74,7 @@ has_room limit a = if limit == 0 then ((taken_places a == 0) && a.idle) else nat
 
 -- tickets have 64 bits
 abbrev pub offer_answer : ℕ → Account → Reply
-offer_answer limit a =
-    if not a.closed && nat_lt (length a.accepted) (2 ^ 64 - 1) then (if has_room limit a then Accepted (length a.accepted + 1) else Full) else Closed
-
-abbrev pub shut_answer : ℕ → Account → Reply
-shut_answer limit a =
-    DidShut (if a.closed then ShutClosed else if is_some a.shutdown then Already else if has_room limit a then Sent else ShutFull)
+offer_answer limit a = if not a.closed && nat_lt (length a.accepted) (2 ^ 64 - 1) then (if has_room limit a then Accepted (length a.accepted + 1) else Full) else Closed
 
 -- the first line that was not handed, if it was accepted before the shutdown
 abbrev pub take_answer : Account → Reply
@@ -99,20 +94,19 @@ later latest m = if is_moment m then int_max m latest else latest
 -- are more than the limit.
 abbrev pub due_file : Config → Files → ℤ → ℕ → Option Stamp
 due_file c f m len =
-    if not (is_same_start (period_of c.rotation (later f.latest m)) (period_of c.rotation f.latest)) then Some (stamp (later f.latest m) 0)
+    if not (is_same_start (period_of c.rotation (later f.latest m)) (period_of c.rotation f.latest)) then Some (record { moment = later f.latest m; number = 0 })
     else if is_limited c && nat_lt f.newest.number 999999 && nat_lt 0 f.since && nat_lt c.max_bytes (f.since + wanted len)
-    then Some (stamp f.newest.moment (f.newest.number + 1))
+    then Some (record { moment = f.newest.moment; number = f.newest.number + 1 })
     else None
 
 -- A line is accepted exactly if the queue is open and has room, and memory was there for its copy; an empty one needs none. The worker writes
 -- on if a line is in hand, makes the flushes that are due, or else takes the first line that was not handed.
 abbrev pub Replies : ℕ → Config → Account → Step × Reply → Type 0
 Replies limit c a (Offer label line, reply) = ((reply ≡ NoMemory) × (line.items ≢ [])) ⊎ (reply ≡ offer_answer limit a)
-Replies limit c a (Shut, reply) = reply ≡ shut_answer limit a
+Replies limit c a (Shut, reply) = reply ≡ DidShut (if a.closed then ShutClosed else if is_some a.shutdown then Already else if has_room limit a then Sent else ShutFull)
 Replies limit c a (AddSender, reply) = reply ≡ Senders (saturating_next a.senders)
 Replies limit c a (DropSender, reply) = reply ≡ Senders (one_less a.senders)
-Replies limit c a (Work m, Wrote switch answer) =
-    (a.rest ≢ []) × (count_of answer ≤ length a.rest) × ((switch ≡ Stayed) ↔ (due_file c a.files m (length a.rest) ≡ None))
+Replies limit c a (Work m, Wrote switch answer) = (a.rest ≢ []) × (count_of answer ≤ length a.rest) × ((switch ≡ Stayed) ↔ (due_file c a.files m (length a.rest) ≡ None))
 Replies limit c a (Work m, Flushed answer) = (a.rest ≡ []) × (0 < a.flushes)
 Replies limit c a (Work m, reply) = (a.rest ≡ []) × (a.flushes ≡ 0) × (reply ≡ take_answer a)
 
@@ -135,11 +129,7 @@ faults_in (Err kind) = 1
 
 -- a write of these bytes to the open file
 abbrev pub after_write : List ℕ → Result ℕ ErrorKind → Files → Files
-after_write bytes answer f =
-    record f { since = f.since + length (take (count_of answer) bytes); writes = (f.file, take (count_of answer) bytes) ∷ f.writes; faults = f.faults + faults_in answer }
-
-abbrev pub after_flush : Result (Unit {0}) ErrorKind → Files → Files
-after_flush answer f = record f { faults = f.faults + faults_in answer }
+after_write bytes answer f = record f { since = f.since + length (take (count_of answer) bytes); writes = (f.file, take (count_of answer) bytes) ∷ f.writes; faults = f.faults + faults_in answer }
 
 -- a line is given up at a write of no byte, at the 101st interruption and at any other error
 abbrev pub after_answer : Result ℕ ErrorKind → Account → Account
@@ -155,7 +145,7 @@ after c a (Work m, Took ticket) = record a { handed = a.handed + 1; rest = get_o
 after c a (Work m, TookShutdown) = record a { closed = true; idle = false; flushes = 2 }
 after c a (Work m, TookGone) = record a { closed = true; idle = false; flushes = 2 }
 after c a (Work m, TookEmpty) = record a { idle = not a.whole; flushes = if a.whole then 1 else 0 }
-after c a (Work m, Flushed answer) = record a { whole = false; flushes = a.flushes - 1; files = after_flush answer a.files }
+after c a (Work m, Flushed answer) = record a { whole = false; flushes = a.flushes - 1; files = record a.files { faults = a.files.faults + faults_in answer } }
 after c a (Work m, Wrote switch answer) = record (after_answer answer a) { files = after_write a.rest answer (after_look c m (length a.rest) switch a.files) }
 after c a t = a
 
@@ -179,17 +169,13 @@ written name ((file, bytes) ∷ earlier) = written name earlier ++ (if bytes_eq 
 abbrev pub kept : Config → NameMap → List ℕ → Option Entry
 kept c names name = if name_survives (naming_of c) c.max_files names name then fin.get names name else None
 
--- neither the name of this file nor that of the link, which is empty if none is set
-abbrev pub IsOtherName : Config → List ℕ → Stamp → Type 0
-IsOtherName c name s = (name ≢ file_name_of c s) × (name ≢ c.link)
-
 -- The names after the opening of a file: what retention leaves of those before, the file's own, and the link. The file is the one that had
 -- the name, or a new one, whose body is none of those that the folder had at first.
 pub record Leaves (c : Config) (bodies : ℕ) (s : Stamp) (old new : NameMap) : Type 0 where
   pub own : (b : ℕ) × (t : Option ℤ) × (fin.get new (file_name_of c s) ≡ Some (File b t))
       × ((kept c old (file_name_of c s) ≡ Some (File b t)) ⊎ ((kept c old (file_name_of c s) ≡ None) × (bodies ≤ b)))
   pub link : c.link ≢ [] → fin.get new c.link ≡ Some (Link (file_name_of c s))
-  pub others : (name : List ℕ) → IsOtherName c name s → fin.get new name ≡ kept c old name
+  pub others : (name : List ℕ) → name ≢ file_name_of c s → name ≢ c.link → fin.get new name ≡ kept c old name
 
 -- the same of one file after another, the newest first
 abbrev pub LeaveAll : Config → ℕ → List Stamp → NameMap → NameMap → Type 0
@@ -207,13 +193,13 @@ pub record Contains (c : Config) (start : Stamp) (f : Files) (first last : Conte
   -- A file holds what it held at first, which is nothing if it is new, and then exactly what was written while it was the open one.
   pub bytes : (name : List ℕ) (b : ℕ) (t : Option ℤ) → fin.get last.names name ≡ Some (File b t) → body_at last b ≡ body_at first b ++ written name f.writes
   -- Whatever fails, no other name changes, but that log files may be removed if there is a maximum of them.
-  pub others : (name : List ℕ) → All (IsOtherName c name) (f.newest ∷ f.earlier)
+  pub others : (name : List ℕ) → All (λ s. name ≢ file_name_of c s) (f.newest ∷ f.earlier) → name ≢ c.link
       → (fin.get last.names name ≡ fin.get first.names name) ⊎ ((fin.get last.names name ≡ None) × (c.max_files ≢ 0) × (is_some (name_rank (naming_of c) first.names name) ≡ true))
   -- If each attempt succeeded, and each listing and removal, the names are exactly these. Without a maximum nothing is listed for retention.
   pub names : f.failed ≡ 0 → ((c.max_files ≡ 0) ⊎ RetentionSucceeded c first.there noted_first noted_last)
       → LeaveAll c (length first.bodies) (f.newest ∷ f.earlier) first.names last.names
   -- With a limit of bytes the first number is the next after those that the folder had in that period.
-  pub number : is_limited c ≡ true → RetentionSucceeded c first.there noted_first noted_last → IsFirstNumber (naming_of c) start.moment (HasEntry first) start.number
+  pub number : is_limited c ≡ true → RetentionSucceeded c first.there noted_first noted_last → IsFirstNumber (naming_of c) start.moment (λ name. (e : Entry) × (fin.get first.names name ≡ Some e)) start.number
 
 -- The folder after a run: it noted each attempt that failed, and counted each write and each flush that failed.
 pub record Keeps {S F : Type 0} (kind : Ghosts S F) (c : Config) (start : Stamp) (f : Files) (first last : S) : Type 0 where
@@ -222,6 +208,6 @@ pub record Keeps {S F : Type 0} (kind : Ghosts S F) (c : Config) (start : Stamp)
   pub unnumbered : is_limited c ≡ false → start.number ≡ 0
   pub content : IsTrue kind.is_known → Contains c start f (kind.content first) (kind.content last) (kind.noted first) (kind.noted last)
 
-pub record Headline {S F : Type 0} (kind : Ghosts S F) (limit : ℕ) (c : Config) (start : Stamp) (past : List (Step × Reply)) (first last : S) : Type 0 where
-  pub replies : Follows limit c start past
-  pub folder : Keeps kind c start (account c start past).files first last
+pub record Headline {S F : Type 0} (kind : Ghosts S F) (limit : ℕ) (c : Config) (moment : ℤ) (number : ℕ) (past : List (Step × Reply)) (first last : S) : Type 0 where
+  pub replies : Follows limit c (record { moment = moment; number = number }) past
+  pub folder : Keeps kind c (record { moment = moment; number = number }) (account c (record { moment = moment; number = number }) past).files first last

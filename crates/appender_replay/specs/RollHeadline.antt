@@ -1,11 +1,11 @@
 -- The headline of a run of a roller alone, over the same account of the files.
-use Rattle.std.specs.Prelude.{◌≡◌, ◌↔◌, ◌≤◌, List, [], ◌∷◌, length, None}
+use Rattle.std.specs.Prelude.{◌≡◌, ◌↔◌, ℕ, ◌+◌, ◌≤◌, ℤ, List, [], ◌∷◌, length, None}
 use Rattle.appender_store.specs.declared.store.Folder.{Ghosts}
 use Rattle.appender_rolling.specs.Config.{Config}
 use Rattle.appender_rolling.specs.Roller.{count_of}
 use Rattle.appender_rolling.specs.declared.rolling.setup.Stamp.{Stamp}
 use Rattle.appender_rolling.specs.declared.rolling.Switch.TheVariants.{None as Stayed}
-use Rattle.appender_replay.specs.Headline.{Files, Keeps, opened, due_file, after_look, after_write, after_flush}
+use Rattle.appender_replay.specs.Headline.{Files, Keeps, opened, due_file, after_look, after_write, faults_in}
 use Rattle.appender_replay.specs.declared.replay.RollStep.{RollStep}
 use Rattle.appender_replay.specs.declared.replay.RollStep.TheVariants.{See, Put, Write, Flush}
 use Rattle.appender_replay.specs.declared.replay.RollReply.{RollReply}
@@ -24,7 +24,7 @@ abbrev pub roll_after : Config → Files → RollStep × RollReply → Files
 roll_after c f (See m, Saw switch) = after_look c m 0 switch f
 roll_after c f (Put m bytes, DidPut switch answer) = after_write bytes.items answer (after_look c m (length bytes.items) switch f)
 roll_after c f (Write bytes, Wrote answer) = after_write bytes.items answer f
-roll_after c f (Flush, Flushed answer) = after_flush answer f
+roll_after c f (Flush, Flushed answer) = record f { faults = f.faults + faults_in answer }
 roll_after c f t = f
 
 abbrev pub roll_account : Config → Stamp → List (RollStep × RollReply) → Files
@@ -35,6 +35,6 @@ abbrev pub RollFollows : Config → Stamp → List (RollStep × RollReply) → T
 RollFollows c start [] = Unit {0}
 RollFollows c start (t ∷ past) = RollFollows c start past × RollReplies c (roll_account c start past) t
 
-pub record RollHeadline {S F : Type 0} (kind : Ghosts S F) (c : Config) (start : Stamp) (past : List (RollStep × RollReply)) (first last : S) : Type 0 where
-  pub replies : RollFollows c start past
-  pub folder : Keeps kind c start (roll_account c start past) first last
+pub record RollHeadline {S F : Type 0} (kind : Ghosts S F) (c : Config) (moment : ℤ) (number : ℕ) (past : List (RollStep × RollReply)) (first last : S) : Type 0 where
+  pub replies : RollFollows c (record { moment = moment; number = number }) past
+  pub folder : Keeps kind c (record { moment = moment; number = number }) (roll_account c (record { moment = moment; number = number }) past) first last

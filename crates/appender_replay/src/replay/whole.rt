@@ -5,7 +5,6 @@ ghost use Rattle.appender_replay.specs.Replay.{with_replies, RunsFrom, RollerFol
 ghost use Rattle.appender_replay.specs.Answers.{WorkerDoes, worker_event, events};
 ghost use Rattle.appender_replay.specs.Inside.Steps.{offered_reply, taken_reply, OffersCopy, WorkDoes, StepDoes, parts};
 ghost use Rattle.appender_replay.specs.Whole.{LinesFollow};
-ghost use Rattle.appender_rolling.specs.Config.{stamp};
 ghost use Rattle.appender_replay.specs.Headline.{Headline};
 
 use crate::replay::{ReplayError, by_kind};
@@ -186,7 +185,7 @@ pub fn replay<S: Folder>(
     start: i64,
     steps: &[Step],
 ) -> Result<Run<S>, ReplayError<S>>
-    ensures headline { IfOk result (λ run. Headline S.Folder limit builder.now (stamp start run.number)
+    ensures headline { IfOk result (λ run. Headline S.Folder limit builder.now start run.number
         (with_replies steps.now run.replies.items) folder run.roller.folder) }
     ensures one_each { IfOk result (λ run. length run.replies.items ≡ length steps.now) }
     ensures lines { IfOk result (λ run. LinesFollow limit lossy (with_replies steps.now run.replies.items)
