@@ -12,13 +12,12 @@ use Rattle.appender_rolling.specs.declared.rolling.setup.Stamp.{Stamp}
 use Rattle.appender_rolling.specs.Kept.{Keeps, KeepsFiles, KeepsOtherFiles, PartsKeep}
 use Rattle.appender_rolling.specs.Opening.{file_name_of, LeavesLittle}
 use Rattle.appender_rolling.specs.declared.rolling.Switch.TheVariants.{Opened as Switched, Failed as SwitchFailed}
-use Rattle.appender_replay.specs.Run.{Event, Attempt, Seen, IsSeenAtItsStep, time_of, times, carrier, passes, bytes_of_attempt, bytes_to_body, is_number, since, up_to, open_body, Carried, Succeeded, Tried, Leads, NamesLead, NotesLead, FileLaw, FilesHoldTheirPeriods, Key, key_of, key_at, stamp_at, NoneFailed, EachWriteReadsClock, KeepsToLimit, EachOf}
+use Rattle.appender_replay.specs.Run.{Event, Attempt, Seen, IsSeenAtItsStep, time_of, times, carrier, passes, bytes_of_attempt, bytes_to_body, is_number, since, up_to, open_body, Carried, Succeeded, Tried, Leads, FileLaw, Key, key_of, key_at, stamp_at, NoneFailed, EachWriteReadsClock, KeepsToLimit, EachOf}
 use Rattle.appender_replay.proofs.NamesLeft.{leads_to}
-use Rattle.appender_replay.proofs.Left.{left_so_far}
 use Rattle.appender_replay.proofs.Periods.{Laws, IsLaterKey}
 use Rattle.appender_replay.proofs.Keys.{none_in_later}
-use Rattle.appender_replay.proofs.Unlimited.{carry_their_periods, hold_their_periods}
-use Rattle.appender_replay.proofs.Owners.{AreOwners, OtherNames, each_holds, each_stamp, each_in_its_number, each_name, each_stands, each_holds_its_number, open_in_its_number, then_later, pieces_before, owners_stay, owners_kept, owners_with_piece, owners_with_failure, owners_with_success, owners_begin}
+use Rattle.appender_replay.proofs.Unlimited.{carry_their_periods}
+use Rattle.appender_replay.proofs.Owners.{AreOwners, OtherNames, each_holds, each_stamp, each_in_its_number, each_name, each_stands, open_in_its_number, then_later, pieces_before, owners_stay, owners_kept, owners_with_piece, owners_with_failure, owners_with_success, owners_begin}
 
 -- ---- steps before and after an attempt
 
@@ -61,13 +60,11 @@ newest (a ∷ rest) = a.step
 
 -- What is known after the switches of some events were replied and the pieces of some were written: the two are the same but
 -- within a step, between its attempt and its piece.
-pub record FilesSoFar (c : Config) (start : Stamp) (seen : ℕ → Seen) (past h : List Event) (first now : Content) (noted_first noted_now : Counts) (opened : Stamp) (b : ℕ) : Type 0 where
+pub record FilesSoFar (c : Config) (start : Stamp) (seen : ℕ → Seen) (past h : List Event) (first now : Content) (noted_first : Counts) (opened : Stamp) (b : ℕ) : Type 0 where
   pub attempts : List Attempt
   pub are_times : map time_of attempts ≡ times c start past
   pub are_seen : EachOf (IsSeenAtItsStep first noted_first seen) attempts
   pub leads : Leads c attempts h first now
-  pub names : NamesLead attempts first.names now.names
-  pub notes : NotesLead attempts noted_first noted_now
   pub bodies : (x : ℕ) → body_at now x ≡ body_at first x ++ bytes_to_body x attempts h
   pub file : Attempt
   pub carries : (i : ℕ) → length past ≤ i → carrier attempts i ≡ Some file
@@ -96,8 +93,8 @@ keeps_on a b c k l = record {
 module _ (c : Config) (start : Stamp) (seen : ℕ → Seen) where
   -- ---- after a whole step
 
-  module _ (h : List Event) (first last : Content) (noted_first noted_last : Counts) (opened : Stamp) (b : ℕ) (so : FilesSoFar c start seen h h first last noted_first noted_last opened b) where
-    pub law_so_far : IsStamp c start → (is_limited c ≡ true → NoneFailed h → EachWriteReadsClock h → EachOf (KeepsToLimit c so.attempts h) so.attempts) → FileLaw c start h first last noted_first noted_last seen opened b
+  module _ (h : List Event) (first last : Content) (noted_first : Counts) (opened : Stamp) (b : ℕ) (so : FilesSoFar c start seen h h first last noted_first opened b) where
+    pub law_so_far : IsStamp c start → (is_limited c ≡ true → NoneFailed h → EachWriteReadsClock h → EachOf (KeepsToLimit c so.attempts h) so.attempts) → FileLaw c start h first last noted_first seen opened b
     law_so_far starts bound =
         let here = so.carries (length h) (omega arith) in
         let stamps = each_stamp c start h h so.attempts last so.file b so.owners in
@@ -107,10 +104,7 @@ module _ (c : Config) (start : Stamp) (seen : ℕ → Seen) where
           are_times = so.are_times;
           are_seen = so.are_seen;
           leads = so.leads;
-          names = so.names;
           keeps_to_limit = bound;
-          left = left_so_far c first noted_first seen start h last so.attempts so.are_times so.leads so.are_seen;
-          notes = so.notes;
           bodies = so.bodies;
           open_file = record {
             file = so.file;
@@ -130,26 +124,13 @@ module _ (c : Config) (start : Stamp) (seen : ℕ → Seen) where
           stamps = stamps;
         }
 
-    pub periods_so_far : IsStamp c start → FilesHoldTheirPeriods c start h first last noted_first seen
-    periods_so_far starts = record {
-      attempts = so.attempts;
-      are_times = so.are_times;
-      are_seen = so.are_seen;
-      leads = so.leads;
-      named = each_name c start h h so.attempts last so.file b so.owners;
-      holds = λ unlimited fine. hold_their_periods c start unlimited starts h last so.attempts (each_stamp c start h h so.attempts last so.file b so.owners) (each_holds_its_number c start h h so.attempts last so.file b so.owners fine);
-      holds_number = each_holds_its_number c start h h so.attempts last so.file b so.owners;
-    }
-
   -- where the step makes no attempt
-  pub no_attempt : (e : Event) (h : List Event) (first now : Content) (noted_first noted_now : Counts) (opened : Stamp) (b : ℕ) → stamp_at c start (times c start h) e h ≡ None → key_at c start (e ∷ h) ≡ key_at c start h → FilesSoFar c start seen h h first now noted_first noted_now opened b → FilesSoFar c start seen (e ∷ h) h first now noted_first noted_now opened b
-  no_attempt e h first now noted_first noted_now opened b none same so = record {
+  pub no_attempt : (e : Event) (h : List Event) (first now : Content) (noted_first : Counts) (opened : Stamp) (b : ℕ) → stamp_at c start (times c start h) e h ≡ None → key_at c start (e ∷ h) ≡ key_at c start h → FilesSoFar c start seen h h first now noted_first opened b → FilesSoFar c start seen (e ∷ h) h first now noted_first opened b
+  no_attempt e h first now noted_first opened b none same so = record {
     attempts = so.attempts;
     are_times = so.are_times ∙ rw none refl;
     are_seen = so.are_seen;
     leads = so.leads;
-    names = so.names;
-    notes = so.notes;
     bodies = so.bodies;
     file = so.file;
     carries = λ i le. so.carries i (omega arith);
@@ -175,8 +156,8 @@ module _ (c : Config) (start : Stamp) (seen : ℕ → Seen) where
       )
 
   -- a step's piece
-  pub a_piece : (e : Event) (h : List Event) (first now : Content) (noted_first noted_now : Counts) (opened : Stamp) (b : ℕ) → FilesSoFar c start seen (e ∷ h) h first now noted_first noted_now opened b → FilesSoFar c start seen (e ∷ h) (e ∷ h) first (after_append now b e.piece) noted_first noted_now opened b
-  a_piece e h first now noted_first noted_now opened b so =
+  pub a_piece : (e : Event) (h : List Event) (first now : Content) (noted_first : Counts) (opened : Stamp) (b : ℕ) → FilesSoFar c start seen (e ∷ h) h first now noted_first opened b → FilesSoFar c start seen (e ∷ h) (e ∷ h) first (after_append now b e.piece) noted_first opened b
+  a_piece e h first now noted_first opened b so =
       let here = so.carries (suc (length h)) (omega arith) in
       let own : bytes_of_attempt so.file.step so.attempts (e ∷ h) ≡ bytes_of_attempt so.file.step so.attempts h ++ e.piece =
       rw (here, same_number so.file.step) refl in
@@ -185,8 +166,6 @@ module _ (c : Config) (start : Stamp) (seen : ℕ → Seen) where
         are_times = so.are_times;
         are_seen = so.are_seen;
         leads = leads_more so.attempts e h first now b so.open_is so.at_step so.leads;
-        names = so.names;
-        notes = so.notes;
         bodies = λ x.
             let to : passes (λ f. is_number x f.body) (carrier so.attempts (suc (length h))) ≡ (b == x) = rw (here, so.body) refl in
             after_append_at now b x e.piece so.there ∙ ap (λ w. w ++ (if b == x then e.piece else [])) (so.bodies x)
@@ -228,7 +207,7 @@ module _ (c : Config) (start : Stamp) (seen : ℕ → Seen) where
     tried : (a : Attempt) (b : ℕ) → a.body ≡ Some b → Succeeded c a b → Tried c a
     tried a b body did = subst (λ (o : Option ℕ). MatchOption o (LeavesLittle c (file_name_of c a.stamp) a.before a.after) (Succeeded c a)) (sym body) did
 
-    pub files_begin : (a : Attempt) (b : ℕ) → a.step ≡ 0 → start ≡ a.stamp → a.body ≡ Some b → IsStamp c a.stamp → Succeeds c a b → IsSeenAtItsStep a.before a.noted_before seen a → FilesSoFar c start seen [] [] a.before a.after a.noted_before a.noted_after a.stamp b
+    pub files_begin : (a : Attempt) (b : ℕ) → a.step ≡ 0 → start ≡ a.stamp → a.body ≡ Some b → IsStamp c a.stamp → Succeeds c a b → IsSeenAtItsStep a.before a.noted_before seen a → FilesSoFar c start seen [] [] a.before a.after a.noted_before a.stamp b
     files_begin a b at starts body g did at_step =
         let keeps = keeps_parts a b did.did in
         let ready = after_make_folder did.did.pruned in
@@ -237,8 +216,6 @@ module _ (c : Config) (start : Stamp) (seen : ℕ → Seen) where
           are_times = rw (at, body, starts) refl;
           are_seen = (at_step, tt);
           leads = (refl, tried a b body did.did, rw body (sym (after_append_nothing a.after b)));
-          names = (refl, refl);
-          notes = (refl, refl);
           bodies = λ x. keeps.all.bytes x ∙ sym (append-nil (body_at a.before x));
           file = a;
           carries = λ i le. let from = from_on 0 i le in rw (at, body, from) refl;
@@ -254,7 +231,7 @@ module _ (c : Config) (start : Stamp) (seen : ℕ → Seen) where
 
     module _ (laws : Laws c.rotation) (others : OtherNames c) (starts : IsMoment start.moment) (e : Event) (h : List Event) (first : Content) (noted_first : Counts) (opened : Stamp) (b : ℕ) (s : Stamp) (came : stamp_at c start (times c start h) e h ≡ Some s) (range : IsStamp c s) (key : key_of c s ≡ key_at c start (e ∷ h)) (later : IsLaterKey (key_at c start h) (key_at c start (e ∷ h))) where
       -- one that fails
-      pub a_failure : (old new : Content) (noted_old noted_new : Counts) → e.switch ≡ SwitchFailed → LeavesLittle c (file_name_of c s) old new → IsSeenAtItsStep first noted_first seen (record { step = suc (length h); stamp = s; body = None; before = old; after = new; noted_before = noted_old; noted_after = noted_new }) → FilesSoFar c start seen h h first old noted_first noted_old opened b → FilesSoFar c start seen (e ∷ h) h first new noted_first noted_new opened b
+      pub a_failure : (old new : Content) (noted_old noted_new : Counts) → e.switch ≡ SwitchFailed → LeavesLittle c (file_name_of c s) old new → IsSeenAtItsStep first noted_first seen (record { step = suc (length h); stamp = s; body = None; before = old; after = new; noted_before = noted_old; noted_after = noted_new }) → FilesSoFar c start seen h h first old noted_first opened b → FilesSoFar c start seen (e ∷ h) h first new noted_first opened b
       a_failure old new noted_old noted_new is little at_step so =
           let a : Attempt = record { step = suc (length h); stamp = s; body = None; before = old; after = new; noted_before = noted_old; noted_after = noted_new } in
           let keeps = parts.refusal c (file_name_of c s) old new little in
@@ -267,8 +244,6 @@ module _ (c : Config) (start : Stamp) (seen : ℕ → Seen) where
               little,
               rw (so.open_is, since_now h (suc (length h)) (omega arith)) (sym (after_append_nothing new b)),
             );
-            names = (so.names, refl);
-            notes = (so.notes, refl);
             bodies = λ x. rw (pieces_before (λ f. is_number x f.body) a so.attempts h (omega arith)) (keeps.keeps.bytes x ∙ so.bodies x);
             file = so.file;
             carries = λ i le. let from = from_on (suc (length h)) i le in rw from (so.carries i (omega arith));
@@ -285,7 +260,7 @@ module _ (c : Config) (start : Stamp) (seen : ℕ → Seen) where
           }
 
       -- one that succeeds
-      pub a_success : (a : Attempt) (x : ℕ) → e.switch ≡ Switched → a.step ≡ suc (length h) → a.stamp ≡ s → a.body ≡ Some x → Succeeds c a x → IsSeenAtItsStep first noted_first seen a → FilesSoFar c start seen h h first a.before noted_first a.noted_before opened b → FilesSoFar c start seen (e ∷ h) h first a.after noted_first a.noted_after a.stamp x
+      pub a_success : (a : Attempt) (x : ℕ) → e.switch ≡ Switched → a.step ≡ suc (length h) → a.stamp ≡ s → a.body ≡ Some x → Succeeds c a x → IsSeenAtItsStep first noted_first seen a → FilesSoFar c start seen h h first a.before noted_first opened b → FilesSoFar c start seen (e ∷ h) h first a.after noted_first a.stamp x
       a_success a x is at moment body did at_step so =
           let rest = so.attempts in
           let keeps = keeps_parts a x did.did in
@@ -302,8 +277,6 @@ module _ (c : Config) (start : Stamp) (seen : ℕ → Seen) where
               tried a x body did.did,
               rw (body, since_now h a.step lt) (sym (after_append_nothing a.after x)),
             );
-            names = (so.names, refl);
-            notes = (so.notes, refl);
             bodies = λ y. rw (pieces_before (λ f. is_number y f.body) a rest h lt) (keeps.all.bytes y ∙ so.bodies y);
             file = a;
             carries = λ i le. let from = from_on a.step i (rw at le) in rw (from, body) refl;

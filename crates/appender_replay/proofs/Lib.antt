@@ -4,15 +4,12 @@ pub mod Turns
 pub mod Clocks
 pub mod Owners
 pub mod Unlimited
-pub mod Left
 pub mod Files
 pub mod Runs
-pub mod Retention
 pub mod Records
 pub mod Orders
 pub mod Keys
 pub mod Lines
-pub mod Texts
 pub mod Wholes
 pub mod Bounds
 pub mod Accounts

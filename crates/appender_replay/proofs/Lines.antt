@@ -10,7 +10,7 @@ use Rattle.appender_worker.specs.CoreReplies.{is_interruption}
 use Rattle.appender_queue.specs.Queue.{Queue, has_line, is_sent}
 use Rattle.appender_replay.specs.Record.{Answered, Offered, WrittenLine, taken_line, after_write, with_write, written_by, written_lines, text_of_lines, whole_lines, accepted_lines, handed_lines, handed_by, with_ticket, at_end, worker_event, worker_after, after_event, queue_after}
 use Rattle.appender_replay.specs.Answers.{StepAnswers, WorkAnswers, Answers, file_event, events, text_of_events}
-use Rattle.appender_replay.specs.Whole.{IsDone, AreDone, IsBegun}
+use Rattle.appender_replay.specs.Whole.{IsDone, AreDone, IsBegun, TextLaw}
 use Rattle.appender_replay.specs.declared.replay.whole.Step.TheVariants.{Offer, Shut, AddSender, DropSender, Work}
 use Rattle.appender_replay.specs.declared.replay.whole.Reply.{Reply}
 use Rattle.appender_replay.specs.declared.replay.whole.Reply.TheVariants.{Took, TookShutdown, TookGone, TookEmpty, Wrote, Flushed}
@@ -261,3 +261,8 @@ are_done (Taking waits) (w ∷ earlier) done = ((λ yes. All-head IsDone w earli
 are_done Flushing (w ∷ earlier) done = ((λ yes. All-head IsDone w earlier done), All-tail IsDone w earlier done)
 are_done (Ending n) (w ∷ earlier) done = ((λ yes. All-head IsDone w earlier done), All-tail IsDone w earlier done)
 are_done Over (w ∷ earlier) done = ((λ yes. All-head IsDone w earlier done), All-tail IsDone w earlier done)
+
+pub text_law : (limit : ℕ) (lossy : Bool) (past : List Answered) → Answers limit lossy past → TextLaw past
+text_law limit lossy past a =
+    let so = lines_so_far limit lossy past a in
+    record { lines = so.lines; text = so.text; begun = so.begun; done = are_done (worker_after past) (written_lines past) so.done }

@@ -1,13 +1,13 @@
 -- Lines are handed in the order in which they were accepted.
 use Rattle.std.proofs.Common.{◌≡◌, ℕ, ◌+◌, ◌-◌, ◌<◌, ◌≤◌, Bool, true, false, ◌&&◌, List, [], ◌∷◌, ◌++◌, length, map, drop, take, get_or, refl, ap, sym, ◌∙◌, arith, length-append}
 use Rattle.std.specs.Prelude.{if◌then◌else◌, ◌==◌, nat_lt, filter}
-use Rattle.std.proofs.lemmas.List.{map-append, drop-map, take-append-le, take-append-drop, take_more, length-drop}
+use Rattle.std.proofs.lemmas.List.{map-append, take-append-le, take-append-drop, take_more}
 use Rattle.std.proofs.lemmas.List.Elements.{filter-append}
 use Rattle.appender_worker.specs.Core.{Core, Taking, Writing, Flushing, Ending, Over, is_taking}
-use Rattle.appender_queue.specs.Queue.{Queue, has_line, is_before, is_sent, left_of}
+use Rattle.appender_queue.specs.Queue.{Queue, has_line, is_before, is_sent}
 use Rattle.appender_replay.specs.Record.{Answered, Offered, accepted_lines, handed_lines, is_closed, shutdown_place, with_ticket, worker_after, queue_after}
 use Rattle.appender_replay.specs.Answers.{WorkAnswers, Answers}
-use Rattle.appender_replay.specs.Whole.{HandsInOrder, HandsLabelInOrder, labelled}
+use Rattle.appender_replay.specs.Whole.{HandsLabelInOrder, labelled}
 use Rattle.appender_replay.specs.declared.replay.whole.Step.TheVariants.{Offer, Work}
 use Rattle.appender_replay.specs.declared.replay.whole.Reply.{Reply}
 use Rattle.appender_replay.specs.declared.replay.whole.Reply.TheVariants.{Accepted, Took, TookShutdown, TookGone, TookEmpty}
@@ -70,26 +70,13 @@ in_order limit lossy ((Work m, Took k) ∷ past) a =
     }
 in_order limit lossy ((s, r) ∷ past) a = let so = in_order limit lossy past a.0 in record { most = so.most; first = so.first }
 
-pub hands : (limit : ℕ) (lossy : Bool) (past : List Answered) (q : Queue) → InOrder past → q ≡ queue_after limit lossy past → HandsInOrder past q
-hands limit lossy past q so is =
-    let h : ℕ = length (handed_lines past) in
+pub labels : (limit : ℕ) (lossy : Bool) (past : List Answered) (label : ℕ) → InOrder past → HandsLabelInOrder past label
+labels limit lossy past label so =
+    let rest : List Offered = drop (length (handed_lines past)) (accepted_lines past) in
+    let first : accepted_lines past ≡ handed_lines past ++ rest = sym (take-append-drop (length (handed_lines past)) (accepted_lines past)) ∙ ap (λ xs. xs ++ rest) (sym so.first) in
     record {
-      rest = drop h (accepted_lines past);
-      first = sym (take-append-drop h (accepted_lines past)) ∙ ap (λ xs. xs ++ drop h (accepted_lines past)) (sym so.first);
-      queued = λ unclosed.
-          let c : is_closed past ≡ false = sym (ap (λ (q : Queue). q.closed) is) ∙ unclosed in
-          let lines : (queue_after limit lossy past).lines ≡ map (λ (o : Offered). o.1) (drop h (accepted_lines past)) = rw c (drop-map (λ (o : Offered). o.1) h (accepted_lines past)) in
-          ap (λ (q : Queue). q.lines) is ∙ lines;
-      left = λ closed.
-          let c : is_closed past ≡ true = sym (ap (λ (q : Queue). q.closed) is) ∙ closed in
-          let left : left_of (queue_after limit lossy past) ≡ length (drop h (accepted_lines past)) = rw c (sym (length-drop h (accepted_lines past))) in
-          ap left_of is ∙ left;
+      rest = labelled label rest;
+      first = ap (labelled label) first
+          ∙ ap (map (λ (o : Offered). o.1)) (filter-append (λ (o : Offered). o.0 == label) (handed_lines past) rest)
+          ∙ map-append (λ (o : Offered). o.1) (filter (λ (o : Offered). o.0 == label) (handed_lines past)) (filter (λ (o : Offered). o.0 == label) rest);
     }
-
-pub labels : (limit : ℕ) (lossy : Bool) (past : List Answered) (q : Queue) (label : ℕ) → HandsInOrder past q → HandsLabelInOrder past label
-labels limit lossy past q label so = record {
-  rest = labelled label so.rest;
-  first = ap (labelled label) so.first
-      ∙ ap (map (λ (o : Offered). o.1)) (filter-append (λ (o : Offered). o.0 == label) (handed_lines past) so.rest)
-      ∙ map-append (λ (o : Offered). o.1) (filter (λ (o : Offered). o.0 == label) (handed_lines past)) (filter (λ (o : Offered). o.0 == label) so.rest);
-}

@@ -9,7 +9,7 @@ use Rattle.appender_rolling.specs.declared.rolling.setup.Stamp.{Stamp}
 use Rattle.appender_rolling.specs.Kept.{Keeps, KeepsOtherFiles, FileStays}
 use Rattle.appender_rolling.specs.Opening.{file_name_of}
 use Rattle.appender_rolling.specs.declared.rolling.Switch.TheVariants.{Failed as SwitchFailed}
-use Rattle.appender_replay.specs.Run.{Event, Attempt, Key, is_same_key, key_of, key_at, carrier, passes, bytes_where, bytes_of_attempt, bytes_under, NoneFailed, OpensNoneOf, AreApart, HoldsItsOwn, HasItsName, NamesItsBody, CarriesItsNumber, HoldsItsNumber, EachOf}
+use Rattle.appender_replay.specs.Run.{Event, Attempt, Key, is_same_key, key_of, key_at, carrier, passes, bytes_where, bytes_of_attempt, bytes_under, NoneFailed, OpensNoneOf, AreApart, HoldsItsOwn, HasItsName, NamesItsBody, CarriesItsNumber, EachOf}
 use Rattle.appender_names.specs.Rotation.{is_same_start}
 use Rattle.appender_names.proofs.Periods.{is_same_to}
 use Rattle.appender_replay.proofs.Periods.{IsLaterKey, same_key_is_same, later_key_differs, later_key_still}
@@ -124,13 +124,6 @@ module _ (c : Config) (start : Stamp) where
 
     pub each_in_its_number : NoneFailed past → EachOf (CarriesItsNumber c start attempts h) attempts
     each_in_its_number fine = each_map Owner (CarriesItsNumber c start attempts h) attempts (λ a o. o.in_its_number fine) so.owners
-
-    -- what has its name is what the attempt opened, and holds what the attempt carries
-    pub each_holds_its_number : NoneFailed past → EachOf (HoldsItsNumber c start h now) attempts
-    each_holds_its_number fine = each_map Owner (HoldsItsNumber c start h now) attempts
-        (λ a o x is y t at.
-        let it : y ≡ x = o.stands x is y t at in
-        rw it (o.holds x is ∙ ap (λ w. body_at a.before x ++ w) (o.in_its_number fine x is))) so.owners
 
     -- unless a switch failed, the open file is that of the latest moment's period
     pub open_in_its_number : (i : ℕ) → carrier attempts i ≡ Some file → file.body ≡ Some b → NoneFailed past → key_of c file.stamp ≡ key_at c start past

@@ -28,7 +28,7 @@ use Rattle.appender_replay.proofs.Turns.{LooksBy, Turns, step_turns}
 use Rattle.appender_replay.proofs.Clocks.{ClockSoFar, Comes, Stays, Goes, comes, stamp_by, clock_begins, clock_goes_on, turn_decides, turn_keeps}
 use Rattle.appender_replay.proofs.Owners.{OtherNames}
 use Rattle.appender_replay.proofs.NamesLeft.{names_after, nothing_survives}
-use Rattle.appender_replay.proofs.Files.{FilesSoFar, Succeeds, no_attempt, a_failure, a_success, a_piece, files_begin, law_so_far, periods_so_far}
+use Rattle.appender_replay.proofs.Files.{FilesSoFar, Succeeds, no_attempt, a_failure, a_success, a_piece, files_begin, law_so_far}
 use Rattle.appender_replay.proofs.Bounds.{keeps_to_limit}
 use Rattle.appender_replay.proofs.Unlimited.{switch_at_arrivals}
 
@@ -79,7 +79,7 @@ module _ {S F : Type 0} (kind : Ghosts S F) (config : Config) (start : Stamp) (f
   -- the law of the files for a roller
   abbrev pub Holds : List Event → List Event → Rolling S F → Type 0
   Holds past h now =
-      FilesSoFar config start seen past h (kind.content first) (kind.content now.folder) begin (kind.noted now.folder) now.opened (kind.body now.file)
+      FilesSoFar config start seen past h (kind.content first) (kind.content now.folder) begin now.opened (kind.body now.file)
 
   -- What is known after a run.
   pub record RunSoFar (h : List Event) (now : Rolling S F) : Type 0 where
@@ -140,7 +140,7 @@ module _ {S F : Type 0} (kind : Ghosts S F) (config : Config) (start : Stamp) (f
           config_is = o.config_is;
           is_stamp = is_stamp;
           clock = clock_begins config start grounds.laws now is_stamp (o.last ∙ same) o.boundary o.room;
-          files = λ is_known. subst (λ (x : Stamp). FilesSoFar config start seen [] [] (kind.content first) (kind.content now.folder) begin (kind.noted now.folder) x (kind.body now.file)) (sym (o.opened ∙ same))
+          files = λ is_known. subst (λ (x : Stamp). FilesSoFar config start seen [] [] (kind.content first) (kind.content now.folder) begin x (kind.body now.file)) (sym (o.opened ∙ same))
               (rw (← o.finds.content, ← counts) (files_begin config start seen grounds.parts grounds.maps (attempted 0 start o.listed now.folder now.file) (kind.body now.file) refl refl refl is_stamp (succeeds 0 start o.listed now.folder now.folder now.file is_known opens refl (λ quiet. quiet))
               (record { before = refl; noted_before = refl; after = rw is_seen_now (sym (after_append_nothing (kind.content now.folder) (kind.body now.file))); noted_after = sym (ap (λ (s : Seen). s.noted) is_seen_now) })));
           opened_is = o.opened ∙ same;
@@ -178,17 +178,17 @@ module _ {S F : Type 0} (kind : Ghosts S F) (config : Config) (start : Stamp) (f
         where
           by : (read : Option ℤ) → e.read ≡ read → (switch : Switch) → e.switch ≡ switch → Comes config start grounds.laws e h old → LooksBy kind read e.offered switch old now → Holds (e ∷ h) h now
           by None read switch is (Stays none agrees stays) looks =
-              rw looks.1 (no_attempt config start seen e h (kind.content first) (kind.content old.folder) begin (kind.noted old.folder) old.opened (kind.body old.file) none (same_key e h none stays) so)
+              rw looks.1 (no_attempt config start seen e h (kind.content first) (kind.content old.folder) begin old.opened (kind.body old.file) none (same_key e h none stays) so)
           by None read switch is (Goes s some agrees is_stamp period later) looks = absurd (let none : ◌≡◌ {A = Option Stamp} None (Some s) = rw read at agrees in cc)
           by (Some m) read Stayed is (Stays none agrees stays) looks =
-              rw looks.1 (no_attempt config start seen e h (kind.content first) (kind.content old.folder) begin (kind.noted old.folder) old.opened (kind.body old.file) none (same_key e h none stays) so)
+              rw looks.1 (no_attempt config start seen e h (kind.content first) (kind.content old.folder) begin old.opened (kind.body old.file) none (same_key e h none stays) so)
           by (Some m) read Stayed is (Goes s some agrees is_stamp period later) looks = absurd (let both : ◌≡◌ {A = Option Stamp} None (Some s) = sym looks.0 ∙ (rw read at agrees) in cc)
           by (Some m) read Switched is (Stays none agrees stays) looks = absurd (let both : ◌≡◌ {A = Option Stamp} None (Some looks.at_stamp) = sym (rw read at agrees) ∙ looks.cause in cc)
           by (Some m) read Switched is (Goes s some agrees is_stamp period later) looks =
               let it : looks.at_stamp ≡ s = same_stamp looks.at_stamp s (sym looks.cause ∙ (rw read at agrees)) in
               let opens : OpensFile kind config (file_name_of config s) old.folder now.file looks.ready = rw (← same, ← it) looks.opens in
               let did = succeeds (suc (length h)) s old.folder looks.ready now.folder now.file is_known opens looks.content looks.quiet in
-              subst (λ (x : Stamp). FilesSoFar config start seen (e ∷ h) h (kind.content first) (kind.content now.folder) begin (kind.noted now.folder) x (kind.body now.file)) (sym (looks.opened ∙ it))
+              subst (λ (x : Stamp). FilesSoFar config start seen (e ∷ h) h (kind.content first) (kind.content now.folder) begin x (kind.body now.file)) (sym (looks.opened ∙ it))
               (a_success config start seen grounds.parts grounds.maps grounds.laws grounds.others starts e h (kind.content first) begin old.opened (kind.body old.file) s some is_stamp (key s e h some period) (later_key s e h some later)
               (attempted (suc (length h)) s old.folder now.folder now.file) (kind.body now.file) is refl refl refl did (record { before = at_step.before; noted_before = at_step.noted_before; after = at_step.after; noted_after = at_step.noted_after }) so)
           by (Some m) read SwitchFailed is (Stays none agrees stays) looks = absurd (let both : ◌≡◌ {A = Option Stamp} None (Some looks.at_stamp) = sym (rw read at agrees) ∙ looks.cause in cc)
@@ -203,8 +203,8 @@ module _ {S F : Type 0} (kind : Ghosts S F) (config : Config) (start : Stamp) (f
       turned : (e : Event) (h : List Event) (old new : Rolling S F) → IsTrue kind.is_known → Comes config start grounds.laws e h old → old.config ≡ config → Holds h h old → (t : Turns kind e old new) → AtStep e h old t.between → Holds (e ∷ h) (e ∷ h) new
       turned e h old new is_known come same so t at_step =
           let between = looked e h old t.between at_step is_known same come so e.switch refl t.looks in
-          rw (t.content is_known, t.stays.opened, t.stays.file, t.stays.noted)
-          (a_piece config start seen e h (kind.content first) (kind.content t.between.folder) begin (kind.noted t.between.folder) t.between.opened (kind.body t.between.file) between)
+          rw (t.content is_known, t.stays.opened, t.stays.file)
+          (a_piece config start seen e h (kind.content first) (kind.content t.between.folder) begin t.between.opened (kind.body t.between.file) between)
 
       opened_by : (e : Event) (h : List Event) (old now : Rolling S F) (read : Option ℤ) → e.read ≡ read → (switch : Switch) → e.switch ≡ switch → Comes config start grounds.laws e h old → LooksBy kind read e.offered switch old now
           → old.opened ≡ last_opened start (times config start h) → now.opened ≡ last_opened start (times config start (e ∷ h))
@@ -279,8 +279,7 @@ follows kind does event config start number folder past last law run =
       arrivals = λ unlimited. switch_at_arrivals config _ unlimited _ so.clock.switches;
       boundary_is = so.clock.boundary_is;
       opened_is = so.opened_is;
-      files = λ known run. law_so_far _ _ _ _ _ _ _ _ _ _ ((law run).files known) (law run).is_stamp (keeps_to_limit config _ _ _ ((law run).files known).are_times (law run).clock.switches (law run).fit);
-      standing_files = λ known run. periods_so_far _ _ _ _ _ _ _ _ _ _ ((law run).files known) (law run).is_stamp;
+      files = λ known run. law_so_far _ _ _ _ _ _ _ _ _ ((law run).files known) (law run).is_stamp (keeps_to_limit config _ _ _ ((law run).files known).are_times (law run).clock.switches (law run).fit);
       notices = λ run. (law run).noted;
     }
 

@@ -7,7 +7,7 @@ use Rattle.appender_store.specs.Content.{Content, body_at}
 use Rattle.appender_rolling.specs.Config.{Config, is_limited, IsStamp, last_of, stamp}
 use Rattle.appender_rolling.specs.declared.rolling.setup.Stamp.{Stamp}
 use Rattle.appender_rolling.specs.Roller.{wanted}
-use Rattle.appender_replay.specs.Run.{count_since, Event, Attempt, Time, arrives, is_full, latest_moment, period_at, last_stamp, stamp_at, times, with_time, is_opened, bytes_in_period, bytes_under, CarriesItsPeriod, CarriesItsNumber, HoldsItsPeriod, HoldsItsNumber, SwitchesAtArrivals, SwitchesAtAttempts, EachOf}
+use Rattle.appender_replay.specs.Run.{count_since, Event, Attempt, Time, arrives, is_full, latest_moment, period_at, last_stamp, stamp_at, times, with_time, is_opened, bytes_in_period, bytes_under, CarriesItsPeriod, CarriesItsNumber, SwitchesAtArrivals, SwitchesAtAttempts, EachOf}
 
 module _ (c : Config) (start : Stamp) (unlimited : is_limited c ≡ false) where
   none_greater : (s : Stamp) → IsStamp c s → s.number ≡ 0
@@ -58,13 +58,6 @@ module _ (c : Config) (start : Stamp) (unlimited : is_limited c ≡ false) where
     carry_their_periods attempts h (a ∷ rest) stamps all = (
       λ b is. all.0 b is ∙ same_bytes (period_of c.rotation a.stamp.moment) a.stamp.number (none_greater a.stamp stamps.0) h,
       carry_their_periods attempts h rest stamps.1 all.1,
-    )
-
-    pub hold_their_periods : (h : List Event) (last : Content) (some : List Attempt) → EachOf (λ a. IsStamp c a.stamp) some → EachOf (HoldsItsNumber c start h last) some → EachOf (HoldsItsPeriod c start.moment h last) some
-    hold_their_periods h last [] stamps all = tt
-    hold_their_periods h last (a ∷ rest) stamps all = (
-      λ b is x t at. all.0 b is x t at ∙ ap (λ bytes. body_at a.before x ++ bytes) (same_bytes (period_of c.rotation a.stamp.moment) a.stamp.number (none_greater a.stamp stamps.0) h),
-      hold_their_periods h last rest stamps.1 all.1,
     )
 
   -- and switches are replied at arrivals alone

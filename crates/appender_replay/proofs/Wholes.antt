@@ -67,15 +67,6 @@ roller_turns kind core (Work m, Flushed shown) old new does = record {
 }
 roller_turns kind core (s, r) old new does = quiet_turn kind old new does
 
--- a step that writes reads the clock
-event_reads : (core : Core) (t : Answered) → (file_event core t).read ≡ None → (file_event core t).piece ≡ []
-event_reads core (Work m, Wrote switch shown) none = absurd (let both : ◌≡◌ {A = Option ℤ} (Some m) None = none in cc)
-event_reads core (s, r) none = refl
-
-pub each_write_reads : (past : List Answered) → EachWriteReadsClock (events past)
-each_write_reads [] = tt
-each_write_reads (t ∷ past) = (event_reads (worker_after past) t, each_write_reads past)
-
 -- a run keeps to the laws of the clock and of the files
 pub whole_law : {S F : Type 0} (kind : Ghosts S F) (config : Config) (start : ℤ) (number : ℕ) (folder : S) (past : List Answered) (last : Rolling S F) → Grounds kind config → (run : RunsFrom kind (WorkerDoes kind) config start number folder past last) → RunSoFar kind config (stamp start number) folder (kind.noted run.opens.listed) (seen_in worker_event run) (events past) last
 whole_law kind config start number folder past last =

@@ -117,11 +117,6 @@ abbrev pub worker_after : List Answered → Core
 worker_after [] = Taking true
 worker_after (t ∷ earlier) = after_event (worker_after earlier) (worker_event (accepted_lines earlier) t)
 
--- all that was passed to the worker, in order
-abbrev pub worker_events : List Answered → List Event
-worker_events [] = []
-worker_events (t ∷ earlier) = at_end (worker_events earlier) (worker_event (accepted_lines earlier) t)
-
 abbrev pub takes : Answered → Bool
 takes (Work m, Took ticket) = true
 takes (Work m, TookShutdown) = true

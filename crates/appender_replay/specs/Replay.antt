@@ -7,7 +7,7 @@ use Rattle.appender_store.specs.declared.store.Folder.{Ghosts}
 use Rattle.appender_names.specs.Rotation.{next_of}
 use Rattle.appender_rolling.specs.Config.{Config, stamp, is_limited}
 use Rattle.appender_rolling.specs.Roller.{Rolling, OpensRoller, OpensNoRoller, Sees, Writes, Puts, Flushes, count_of}
-use Rattle.appender_replay.specs.Run.{Event, Seen, FileLaw, FilesHoldTheirPeriods, NotedAtAttempts, SwitchesAtAttempts, SwitchesAtArrivals, latest_moment, last_opened, times}
+use Rattle.appender_replay.specs.Run.{Event, Seen, FileLaw, NotedAtAttempts, SwitchesAtAttempts, SwitchesAtArrivals, latest_moment, last_opened, times}
 use Rattle.appender_rolling.specs.declared.rolling.Switch.{Switch}
 use Rattle.appender_rolling.specs.declared.rolling.Switch.TheVariants.{None as Stayed}
 use Rattle.appender_replay.specs.declared.replay.RollStep.{RollStep}
@@ -98,12 +98,8 @@ seen_in {S} {F} {T} {kind} {does} {config} {start} {number} {folder} {past} {las
 module _ {S F T : Type 0} (kind : Ghosts S F) (does : List T → T → Rolling S F → Rolling S F → Type 0) (event : List T → T → Event) (config : Config) (start : ℤ) (number : ℕ) (folder : S) (past : List T) (last : Rolling S F) where
   abbrev pub FilesFollow : Type 0
   FilesFollow = (run : RunsFrom kind does config start number folder past last)
-      → FileLaw config (stamp start number) (events_by event past) (kind.content folder) (kind.content last.folder) (kind.noted run.opens.listed) (kind.noted last.folder)
+      → FileLaw config (stamp start number) (events_by event past) (kind.content folder) (kind.content last.folder) (kind.noted run.opens.listed)
       (seen_in event run) last.opened (kind.body last.file)
-
-  abbrev pub StandingFilesFollow : Type 0
-  StandingFilesFollow = (run : RunsFrom kind does config start number folder past last)
-      → FilesHoldTheirPeriods config (stamp start number) (events_by event past) (kind.content folder) (kind.content last.folder) (kind.noted run.opens.listed) (seen_in event run)
 
   abbrev pub NoticesFollow : Type 0
   NoticesFollow = (run : RunsFrom kind does config start number folder past last)
@@ -118,7 +114,6 @@ module _ {S F T : Type 0} (kind : Ghosts S F) (does : List T → T → Rolling S
     pub boundary_is : last.boundary ≡ next_of config.rotation (latest_moment start (events_by event past))
     pub opened_is : last.opened ≡ last_opened (stamp start number) (times config (stamp start number) (events_by event past))
     pub files : IsTrue kind.is_known → FilesFollow
-    pub standing_files : IsTrue kind.is_known → StandingFilesFollow
     pub notices : NoticesFollow
 
 -- what a step of a roller alone does, whatever came before it

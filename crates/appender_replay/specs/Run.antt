@@ -275,18 +275,6 @@ Leads c (a ∷ rest) h first last =
     × Tried c a
     × Carried (open_body (a ∷ rest)) (since a.step h) a.after last
 
--- What changes at attempts alone is a chain, one link for each attempt, that begins with the first and ends with the last.
-abbrev pub Chain : {A X : Type 0} → (A → X) → (A → X) → List A → X → X → Type 0
-Chain before after [] first last = last ≡ first
-Chain before after (a ∷ rest) first last = Chain before after rest first (before a) × (last ≡ after a)
-
--- so are the maps of names, and the counts of notices
-abbrev pub NamesLead : List Attempt → NameMap → NameMap → Type 0
-NamesLead = Chain (λ a. a.before.names) (λ a. a.after.names)
-
-abbrev pub NotesLead : List Attempt → Counts → Counts → Type 0
-NotesLead = Chain (λ a. a.noted_before) (λ a. a.noted_after)
-
 -- Notices are noted at attempts alone, for any kind of folder: a step that makes none leaves the counts as the step before it did.
 abbrev pub NotedAtAttempts : Config → Stamp → (ℕ → Seen) → List Event → Type 0
 NotedAtAttempts c start seen [] = Unit {0}
@@ -314,26 +302,6 @@ pub record OpenFileLaw (c : Config) (first : Stamp) (h : List Event) (attempts :
 abbrev pub OpensNoneOf : Attempt → List Attempt → Type 0
 OpensNoneOf a [] = Unit {0}
 OpensNoneOf a (e ∷ rest) = ((b : ℕ) → a.body ≡ Some b → e.body ≡ Some b → ⊥) × OpensNoneOf a rest
-
--- The new names are the survivors of the old ones, the name of this stamp, which leads to a file, and the link, if one is set.
-pub record LeavesJustSurvivors (c : Config) (s : Stamp) (old new : NameMap) : Type 0 where
-  pub own : (b : ℕ) × (t : Option ℤ) × (fin.get new (file_name_of c s) ≡ Some (File b t))
-  pub link : c.link ≢ [] → fin.get new c.link ≡ Some (Link (file_name_of c s))
-  pub others : (name : List ℕ) → IsOther c s name
-      → fin.get new name ≡ (if name_survives (naming_of c) c.max_files old name then fin.get old name else None)
-
--- one of these
-abbrev pub IsAmong : Time → List Time → Type 0
-IsAmong t [] = ⊥
-IsAmong t (u ∷ us) = (t ≡ u) ⊎ IsAmong t us
-
--- Each step at which an attempt succeeded left exactly the survivors of the names that the step before left, its own name and the
--- link, if neither List nor Remove was noted in it, or there was no folder.
-abbrev pub LeaveJustSurvivors : Config → Content → Counts → (ℕ → Seen) → List Time → Type 0
-LeaveJustSurvivors c first noted_first seen ts =
-    (n : ℕ) (s : Stamp) → IsAmong (n, s, true) ts
-    → (IsQuiet (counts_before noted_first seen n) (seen n).noted ⊎ ((content_before first seen n).there ≡ false))
-    → LeavesJustSurvivors c s (content_before first seen n).names (seen n).content.names
 
 -- no two attempts opened one body
 abbrev pub AreApart : List Attempt → Type 0
@@ -370,31 +338,6 @@ abbrev pub EachOf : (Attempt → Type 0) → List Attempt → Type 0
 EachOf P [] = Unit {0}
 EachOf P (a ∷ rest) = P a × EachOf P rest
 
--- where a plain file stands at the end under the name of what the attempt opened, it holds what it held at that opening,
--- followed by exactly the pieces of the steps at which the latest moment was in the attempt's period
-abbrev pub HoldsItsPeriod : Config → ℤ → List Event → Content → Attempt → Type 0
-HoldsItsPeriod c start h last a =
-    (b : ℕ) → a.body ≡ Some b → (x : ℕ) (t : Option ℤ) → fin.get last.names (file_name_of c a.stamp) ≡ Some (File x t)
-    → body_at last x ≡ body_at a.before x ++ bytes_in_period c.rotation start (period_of c.rotation a.stamp.moment) h
-
--- followed by exactly those at which the attempt's number also was the last begun there
-abbrev pub HoldsItsNumber : Config → Stamp → List Event → Content → Attempt → Type 0
-HoldsItsNumber c first h last a =
-    (b : ℕ) → a.body ≡ Some b → (x : ℕ) (t : Option ℤ) → fin.get last.names (file_name_of c a.stamp) ≡ Some (File x t)
-    → body_at last x ≡ body_at a.before x ++ bytes_under c first (key_of c a.stamp) h
-
--- While no switch fails, every file that the run opened and that still has its name holds what it held at that opening,
--- and then exactly what was written while the latest moment was one of its period; with a limit of bytes, while its number also was
--- the last begun there. The attempts are those of the run, and no name but an attempt's own leads to what it opened.
-pub record FilesHoldTheirPeriods (c : Config) (start : Stamp) (h : List Event) (first last : Content) (noted_first : Counts) (seen : ℕ → Seen) : Type 0 where
-  pub attempts : List Attempt
-  pub are_times : map time_of attempts ≡ times c start h
-  pub are_seen : EachOf (IsSeenAtItsStep first noted_first seen) attempts
-  pub leads : Leads c attempts h first last
-  pub named : EachOf (HasItsName c last) attempts
-  pub holds : is_limited c ≡ false → NoneFailed h → EachOf (HoldsItsPeriod c start.moment h last) attempts
-  pub holds_number : NoneFailed h → EachOf (HoldsItsNumber c start h last) attempts
-
 -- ---- the limit of bytes
 
 -- every step that wrote had read the clock
@@ -422,14 +365,11 @@ PiecesFit (e ∷ earlier) = (length e.piece ≤ e.offered) × PiecesFit earlier
 -- exactly what was written to it. What each attempt opened holds what it held then, followed by what the attempt carries,
 -- which is, unless a switch failed, exactly what was written while the latest moment was in its period; with a limit of bytes, while
 -- its number also was the last begun there. Contents and counts of the attempts are those that were seen at their steps.
-pub record FileLaw (c : Config) (start : Stamp) (h : List Event) (first last : Content) (noted_first noted_last : Counts) (seen : ℕ → Seen) (opened : Stamp) (b : ℕ) : Type 0 where
+pub record FileLaw (c : Config) (start : Stamp) (h : List Event) (first last : Content) (noted_first : Counts) (seen : ℕ → Seen) (opened : Stamp) (b : ℕ) : Type 0 where
   pub attempts : List Attempt
   pub are_times : map time_of attempts ≡ times c start h
   pub are_seen : EachOf (IsSeenAtItsStep first noted_first seen) attempts
   pub leads : Leads c attempts h first last
-  pub names : NamesLead attempts first.names last.names
-  pub notes : NotesLead attempts noted_first noted_last
-  pub left : LeaveJustSurvivors c first noted_first seen (times c start h)
   pub bodies : (x : ℕ) → body_at last x ≡ body_at first x ++ bytes_to_body x attempts h
   pub open_file : OpenFileLaw c start h attempts last opened b
   pub apart : AreApart attempts

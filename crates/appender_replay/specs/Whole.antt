@@ -3,17 +3,10 @@ use Rattle.std.specs.Prelude.{◌≡◌, ◌⊎◌, ℕ, ◌<◌, ◌==◌, List
 use Rattle.appender_worker.specs.Core.{Core, Taking, Last, is_writing}
 use Rattle.appender_queue.specs.Queue.{Queue, left_of}
 use Rattle.appender_worker.specs.Runs.{Event as WorkerEvent, Took, IsEnd, passes_of, WaitsFollow, FlushesFollow}
-use Rattle.appender_replay.specs.Record.{Answered, Offered, WrittenLine, accepted_lines, handed_lines, queue_after, worker_after, worker_events, written_lines, text_of_lines, whole_lines}
+use Rattle.appender_replay.specs.Record.{Answered, Offered, WrittenLine, accepted_lines, handed_lines, queue_after, worker_after, written_lines, text_of_lines, whole_lines}
 use Rattle.appender_replay.specs.Answers.{Answers, events, text_of_events}
 
 -- ---- lines
-
--- The handed lines are the first of the accepted lines. The rest, in order, is queued, or once the queue is closed it is left.
-pub record HandsInOrder (past : List Answered) (q : Queue) : Type 0 where
-  pub rest : List Offered
-  pub first : accepted_lines past ≡ handed_lines past ++ rest
-  pub queued : q.closed ≡ false → q.lines ≡ map (λ (o : Offered). o.1) rest
-  pub left : q.closed ≡ true → left_of q ≡ length rest
 
 -- the lines with this label, in order
 abbrev pub labelled : ℕ → List Offered → List (List ℕ)
@@ -40,25 +33,19 @@ pub record IsBegun (w : WrittenLine) : Type 0 where
   pub beginning : w.written ≡ take (length w.written) w.line
   pub cut_short : w.is_given_up ≡ true → length w.written < length w.line
 
--- The worker took the handed lines, in their order. What was written are the bytes of these, line after line: of each a
--- beginning, and the whole line unless it was given up or is still in hand. A take waits unless the one before it gave a line
--- that was not given up; one that found nothing is followed by one flush where it didn't wait, and by none where it did; the
--- end is followed by two flushes, and then by nothing for good.
+-- What was written are the bytes of the handed lines, line after line: of each a beginning, and the whole line unless it was given up
+-- or is still in hand.
 pub record TextLaw (past : List Answered) : Type 0 where
   pub lines : whole_lines (written_lines past) ≡ map (λ (o : Offered). o.1) (handed_lines past)
   pub text : text_of_events (events past) ≡ text_of_lines (written_lines past)
   pub begun : All IsBegun (written_lines past)
   pub done : AreDone (is_writing (worker_after past)) (written_lines past)
-  pub waits : WaitsFollow true (passes_of (Taking true) (worker_events past))
-  pub flushes : FlushesFollow (passes_of (Taking true) (worker_events past))
-  pub ends : (es fs : List WorkerEvent) → worker_events past ≡ es ++ Took Last ∷ fs → IsEnd fs (worker_after past)
 
--- What follows of the lines: each reply is the one that the steps before it demand, and these lead to this queue and this worker;
--- lines were handed in order, those of each label too; and what the worker wrote is of these lines.
+-- What follows of the lines: each reply is the one that the steps before it demand, and these lead to this queue and this worker; the
+-- lines of each label were handed in order; and what the worker wrote is of these lines.
 pub record LinesFollow (limit : ℕ) (lossy : Bool) (past : List Answered) (queue : Queue) (worker : Core) : Type 0 where
   pub answers : Answers limit lossy past
   pub queue_is : queue ≡ queue_after limit lossy past
   pub worker_is : worker ≡ worker_after past
-  pub handed : HandsInOrder past queue
   pub labels : (label : ℕ) → HandsLabelInOrder past label
   pub text : TextLaw past

@@ -1,6 +1,5 @@
 //! Runs of an appender that are given as lists of steps, for tests and scripts.
 ghost use Rattle.std.specs.Prelude.{◌≡◌, length, IfOk, IfErr};
-ghost use Rattle.appender_replay.specs.Retention.{QuietAttemptsPrune, QuietRunsHaveQuietAttempts};
 ghost use Rattle.appender_replay.specs.RollHeadline.{RollHeadline};
 ghost use Rattle.appender_replay.specs.Replay.{by_kind, with_replies, roll_event, StepDoes, RollDoes, RunsFrom, RollerFollows, IsNotRun, HasSteps};
 
@@ -83,13 +82,6 @@ fn run_step<S: Folder>(roller: &mut Roller<S>, step: &RollStep) -> RollReply
         RollStep::Flush => RollReply::Flushed(by_kind(&roller.flush())),
     }
 }
-
-// What the law of the files refuses: an attempt that noted nothing and left a log file that doesn't survive, and, in a run that noted
-// nothing, an attempt with other counts of notices.
-fn quiet_attempts_prune()
-    ensures prune { QuietAttemptsPrune }
-    ensures counts { QuietRunsHaveQuietAttempts }
-{}
 
 /// Opens a roller over the folder at `start`, in seconds of UTC since the epoch, and runs the steps
 /// in order. Room for all replies is taken before the opening.

@@ -32,7 +32,8 @@ pub use Rattle.appender_non_blocking.specs.Counted
 pub use Rattle.appender_non_blocking.specs.Work
 pub use Rattle.appender_replay.specs.Run
 pub use Rattle.appender_replay.specs.Replay
-pub use Rattle.appender_replay.specs.Retention
+pub use Rattle.appender_replay.specs.Headline
+pub use Rattle.appender_replay.specs.RollHeadline
 pub use Rattle.appender_replay.specs.Record
 pub use Rattle.appender_replay.specs.Answers
 pub use Rattle.appender_replay.specs.Whole

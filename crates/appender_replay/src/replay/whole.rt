@@ -1,8 +1,7 @@
 // Runs of a queue, a worker and a roller together, as senders and a worker drive them.
 ghost use Rattle.std.specs.Prelude.{◌≡◌, [], length, IfOk, IfErr, IsOk};
-ghost use Rattle.appender_replay.specs.Run.{EachWriteReadsClock};
 ghost use Rattle.appender_replay.specs.Replay.{with_replies, RunsFrom, RollerFollows, IsNotRun};
-ghost use Rattle.appender_replay.specs.Answers.{WorkerDoes, worker_event, events};
+ghost use Rattle.appender_replay.specs.Answers.{WorkerDoes, worker_event};
 ghost use Rattle.appender_replay.specs.Inside.Steps.{offered_reply, taken_reply, OffersCopy, WorkDoes, StepDoes, parts};
 ghost use Rattle.appender_replay.specs.Whole.{LinesFollow};
 ghost use Rattle.appender_replay.specs.Headline.{Headline};
@@ -14,7 +13,6 @@ use appender_rolling::laws::openings_keep_files;
 use appender_rolling::rolling::{Builder, Roller, Switch};
 use appender_store::laws::names_change_one_at_a_time;
 use appender_store::store::Folder;
-use appender_worker::laws::{runs_end_for_good, takes_are_flushed, takes_wait_unless_lines_come};
 use appender_worker::worker::{Want, WorkerCore};
 use std::alloc::{AllocError, Global};
 use std::io;
@@ -190,7 +188,6 @@ pub fn replay<S: Folder>(
     ensures one_each { IfOk result (λ run. length run.replies.items ≡ length steps.now) }
     ensures lines { IfOk result (λ run. LinesFollow limit lossy (with_replies steps.now run.replies.items)
         run.queue run.worker) }
-    ensures clock_read { IfOk result (λ run. EachWriteReadsClock (events (with_replies steps.now run.replies.items))) }
     ensures runs { IfOk result (λ run. RunsFrom S.Folder (WorkerDoes S.Folder) builder.now start run.number folder
         (with_replies steps.now run.replies.items) run.roller) }
     ensures roller { IfOk result (λ run. RollerFollows S.Folder (WorkerDoes S.Folder) worker_event builder.now start
@@ -201,9 +198,6 @@ pub fn replay<S: Folder>(
     openings_keep_files();
     periods_lie_between_boundaries();
     names_are_periods();
-    takes_wait_unless_lines_come();
-    takes_are_flushed();
-    runs_end_for_good();
     let mut replies = match Vec::with_capacity(alloc, steps.len()) {
         Ok(replies) => replies,
         Err(_) => return Err(ReplayError::Memory(folder)),

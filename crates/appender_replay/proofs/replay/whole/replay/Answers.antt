@@ -5,10 +5,10 @@ use Rattle.std.proofs.lemmas.List.{take_more, take_all}
 use Rattle.appender_replay.specs.Replay.{with_replies}
 use Rattle.appender_replay.specs.Inside.Steps.{parts}
 use Rattle.appender_replay.proofs.Headlines.{headline}
-use Rattle.appender_replay.proofs.Orders.{in_order, hands, labels}
+use Rattle.appender_replay.proofs.Orders.{in_order, labels}
 use Rattle.appender_replay.proofs.Runs.{Grounds, follows, other_names, one_reply_more}
-use Rattle.appender_replay.proofs.Texts.{WorkerLaws, text_law}
-use Rattle.appender_replay.proofs.Wholes.{GoesFrom, goes_begins, goes_on, whole_law, each_write_reads}
+use Rattle.appender_replay.proofs.Lines.{text_law}
+use Rattle.appender_replay.proofs.Wholes.{GoesFrom, goes_begins, goes_on, whole_law}
 use Rattle.appender_replay.proofs.replay.whole.replay.Goals as goal
 
 pub loop-step-init : goal.loop-step-init
@@ -60,13 +60,7 @@ returns g c =
       failures_fit = g.met.S.Folder.failures_fit;
       noted_fit = g.met.S.Folder.noted_fit;
     } in
-    let laws : WorkerLaws = record {
-      waits = c.takes_wait_unless_lines_come.ensures;
-      flushes = c.takes_are_flushed.ensures;
-      ends_for_good = c.runs_end_for_good.ensures;
-    } in
     let law = whole_law g.S.Folder c.args.builder.now c.args.start c.number-number.result c.args.folder past c.loop-step.roller grounds in
-    let handed = hands c.args.limit c.args.lossy past c.loop-step.queue (in_order c.args.limit c.args.lossy past goes.answers) goes.stands.queue in
     let rolls = follows _ _ _ _ _ _ _ _ _ law goes.runs in
     record {
       headline = headline g.S.Folder c.args.builder.now grounds c.args.limit c.args.lossy c.args.start c.number-number.result c.args.folder past c.loop-step.roller goes.answers goes.runs rolls;
@@ -75,11 +69,9 @@ returns g c =
         answers = goes.answers;
         queue_is = goes.stands.queue;
         worker_is = goes.stands.worker;
-        handed = handed;
-        labels = λ label. labels c.args.limit c.args.lossy past c.loop-step.queue label handed;
-        text = text_law c.args.limit c.args.lossy past laws goes.answers;
+        labels = λ label. labels c.args.limit c.args.lossy past label (in_order c.args.limit c.args.lossy past goes.answers);
+        text = text_law c.args.limit c.args.lossy past goes.answers;
       };
-      clock_read = each_write_reads past;
       runs = goes.runs;
       roller = rolls;
       err = tt;
