@@ -18,3 +18,4 @@ pub mod NamesLead
 pub mod Counting
 pub mod Keeping
 pub mod Headlines
+pub mod Refusals

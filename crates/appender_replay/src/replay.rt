@@ -3,6 +3,7 @@ ghost use Rattle.std.specs.Prelude.{◌≡◌, length, IfOk, IfErr};
 ghost use Rattle.appender_replay.specs.RollHeadline.{RollHeadline};
 ghost use Rattle.appender_replay.specs.Replay.{by_kind, with_replies, roll_event, StepDoes, RollDoes, RunsFrom, RollerFollows, IsNotRun, HasSteps};
 
+mod refused;
 mod whole;
 
 use appender_names::laws::{names_are_periods, periods_lie_between_boundaries};

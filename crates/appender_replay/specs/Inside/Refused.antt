@@ -1,0 +1,86 @@
+-- Wrong runs. The headline alone refuses each of them.
+use Rattle.std.specs.Prelude.{◌≡◌, IsTrue, ℕ, ◌-◌, ◌^◌, ◌<◌, ℤ, pos, true, false, List, [], ◌∷◌, Option, Some, Ok, Vec}
+use Rattle.std.specs.declared.alloc.Global.{Global}
+use Rattle.std.specs.FinMap as fin
+use Rattle.appender_names.specs.Rotation.{rotation_of}
+use Rattle.appender_names.specs.declared.rotation.RotationKind.TheVariants.{Hourly, Never}
+use Rattle.appender_store.specs.Content.{File, body_at}
+use Rattle.appender_store.specs.declared.store.Folder.{Ghosts}
+use Rattle.appender_queue.specs.declared.queue.Shut.TheVariants.{Sent}
+use Rattle.appender_rolling.specs.Config.{Config}
+use Rattle.appender_rolling.specs.declared.rolling.Switch.TheVariants.{None as Stayed, Opened as Switched}
+use Rattle.appender_rolling.specs.Opening.{file_name_of}
+use Rattle.appender_replay.specs.Headline.{Headline}
+use Rattle.appender_replay.specs.Record.{Answered}
+use Rattle.appender_replay.specs.declared.replay.whole.Step.TheVariants.{Offer, Shut, Work}
+use Rattle.appender_replay.specs.declared.replay.whole.Reply.TheVariants.{Accepted, Shut as DidShut, Took, Wrote}
+
+-- one file for all time, whose name is `a`, with a maximum of files
+abbrev pub one_file : ℕ → Config
+one_file max = record { rotation = rotation_of Never; prefix = 97 ∷ []; suffix = []; link = []; max_files = max; max_bytes = 0 }
+
+-- a file each hour, with the prefix `a`
+abbrev pub hourly : Config
+hourly = record { rotation = rotation_of Hourly; prefix = 97 ∷ []; suffix = []; link = []; max_files = 0; max_bytes = 0 }
+
+-- the file of this name has a body that was empty at first, and these bytes at the end
+pub record Holds {S F : Type 0} (kind : Ghosts S F) (name bytes : List ℕ) (first last : S) : Type 0 where
+  pub is_known : IsTrue kind.is_known
+  pub body : ℕ
+  pub created : Option ℤ
+  pub at : fin.get (kind.content last).names name ≡ Some (File body created)
+  pub empty : body_at (kind.content first) body ≡ []
+  pub now : body_at (kind.content last) body ≡ bytes
+
+-- after these steps the file of this name can't hold these bytes
+abbrev pub NeverHolds : {S F : Type 0} → Ghosts S F → Config → List Answered → List ℕ → List ℕ → Type 0
+NeverHolds {S} {F} kind c past name bytes =
+    (limit : ℕ) (first last : S) → Holds kind name bytes first last → Headline kind limit c (pos 0) 0 past first last → ⊥
+
+-- The line `xy` is written whole. The file holds it twice, or it lacks a byte.
+abbrev pub one_line : Vec ℕ Global → List Answered
+one_line line = (Work (pos 0), Wrote Stayed (Ok 2)) ∷ (Work (pos 0), Took 1) ∷ (Offer 0 line, Accepted 1) ∷ []
+
+abbrev pub WritesTwice : {S F : Type 0} → Ghosts S F → Type 0
+WritesTwice {S} {F} kind = (line : Vec ℕ Global) → line.items ≡ 120 ∷ 121 ∷ [] → NeverHolds kind (one_file 0) (one_line line) (97 ∷ []) (120 ∷ 121 ∷ 120 ∷ 121 ∷ [])
+
+abbrev pub LosesByte : {S F : Type 0} → Ghosts S F → Type 0
+LosesByte {S} {F} kind = (line : Vec ℕ Global) → line.items ≡ 120 ∷ 121 ∷ [] → NeverHolds kind (one_file 0) (one_line line) (97 ∷ []) (120 ∷ [])
+
+-- the lines `x` and `y` are written, and the file holds `y` first
+abbrev pub WritesOutOfOrder : {S F : Type 0} → Ghosts S F → Type 0
+WritesOutOfOrder {S} {F} kind = (x y : Vec ℕ Global) → x.items ≡ 120 ∷ [] → y.items ≡ 121 ∷ []
+    → NeverHolds kind (one_file 0)
+    ((Work (pos 0), Wrote Stayed (Ok 1)) ∷ (Work (pos 0), Took 2) ∷ (Work (pos 0), Wrote Stayed (Ok 1)) ∷ (Work (pos 0), Took 1) ∷ (Offer 0 y, Accepted 2) ∷ (Offer 0 x, Accepted 1) ∷ [])
+    (97 ∷ []) (121 ∷ 120 ∷ [])
+
+-- the second of two lines is taken first
+abbrev pub TakesOutOfOrder : {S F : Type 0} → Ghosts S F → Type 0
+TakesOutOfOrder {S} {F} kind = (limit : ℕ) (c : Config) (number : ℕ) (x y : Vec ℕ Global) (first last : S)
+    → Headline kind limit c (pos 0) number ((Work (pos 0), Took 2) ∷ (Offer 0 y, Accepted 2) ∷ (Offer 0 x, Accepted 1) ∷ []) first last → ⊥
+
+-- a queue of one place accepts a line after the shutdown was sent
+abbrev pub ShutdownTakesNoPlace : {S F : Type 0} → Ghosts S F → Type 0
+ShutdownTakesNoPlace {S} {F} kind = (c : Config) (number : ℕ) (line : Vec ℕ Global) (first last : S)
+    → Headline kind 1 c (pos 0) number ((Offer 0 line, Accepted 1) ∷ (Shut, DidShut Sent) ∷ []) first last → ⊥
+
+-- With a maximum of one file, the log file `ab` is still there, and no listing or removal was noted as failed.
+abbrev pub NeverPrunes : {S F : Type 0} → Ghosts S F → Type 0
+NeverPrunes {S} {F} kind = (limit : ℕ) (first last : S) (b : ℕ) (created : ℤ) → IsTrue kind.is_known → (kind.content first).there ≡ true
+    → (kind.noted last).lists ≡ (kind.noted first).lists → (kind.noted last).removes ≡ (kind.noted first).removes
+    → (kind.noted last).lists < 2 ^ 64 - 1 → (kind.noted last).removes < 2 ^ 64 - 1
+    → fin.get (kind.content first).names (97 ∷ 98 ∷ []) ≡ Some (File b (Some created)) → fin.get (kind.content last).names (97 ∷ 98 ∷ []) ≡ Some (File b (Some created))
+    → Headline kind limit (one_file 1) (pos 0) 0 [] first last → ⊥
+
+-- `x` is written at 01:00:00, and `y` at 00:59:59 to the file of 00 o'clock
+abbrev pub FollowsClockBack : {S F : Type 0} → Ghosts S F → Type 0
+FollowsClockBack {S} {F} kind = (x y : Vec ℕ Global) → x.items ≡ 120 ∷ [] → y.items ≡ 121 ∷ []
+    → NeverHolds kind hourly
+    ((Work (pos 3599), Wrote Stayed (Ok 1)) ∷ (Work (pos 0), Took 2) ∷ (Work (pos 3600), Wrote Switched (Ok 1)) ∷ (Work (pos 0), Took 1) ∷ (Offer 0 y, Accepted 2) ∷ (Offer 0 x, Accepted 1) ∷ [])
+    (file_name_of hourly (record { moment = pos 0; number = 0 })) (121 ∷ [])
+
+-- the file `b`, which is no log's, is replaced by another
+abbrev pub ChangesOtherNames : {S F : Type 0} → Ghosts S F → Type 0
+ChangesOtherNames {S} {F} kind = (limit : ℕ) (first last : S) (b c : ℕ) (t u : Option ℤ) → IsTrue kind.is_known
+    → fin.get (kind.content first).names (98 ∷ []) ≡ Some (File b t) → fin.get (kind.content last).names (98 ∷ []) ≡ Some (File c u) → (b ≡ c → ⊥)
+    → Headline kind limit (one_file 1) (pos 0) 0 [] first last → ⊥

@@ -1,0 +1,19 @@
+// Wrong runs that the headline refuses, whichever other clauses there are.
+ghost use Rattle.appender_replay.specs.Inside.Refused.{WritesTwice, LosesByte, WritesOutOfOrder, TakesOutOfOrder, ShutdownTakesNoPlace, NeverPrunes, FollowsClockBack, ChangesOtherNames};
+
+use appender_names::laws::names_are_periods;
+use appender_store::store::Folder;
+
+// Does nothing. Each clause is that a wrong run contradicts the headline.
+fn headline_refuses<S: Folder>()
+    ensures writes_twice { WritesTwice S.Folder }
+    ensures loses_byte { LosesByte S.Folder }
+    ensures writes_out_of_order { WritesOutOfOrder S.Folder }
+    ensures takes_out_of_order { TakesOutOfOrder S.Folder }
+    ensures shutdown_takes_no_place { ShutdownTakesNoPlace S.Folder }
+    ensures never_prunes { NeverPrunes S.Folder }
+    ensures follows_clock_back { FollowsClockBack S.Folder }
+    ensures changes_other_names { ChangesOtherNames S.Folder }
+{
+    names_are_periods();
+}
