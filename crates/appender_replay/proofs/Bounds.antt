@@ -7,10 +7,15 @@ use Rattle.appender_rolling.specs.Roller.{wanted}
 use Rattle.appender_rolling.specs.declared.rolling.setup.Stamp.{Stamp}
 use Rattle.appender_rolling.specs.declared.rolling.Switch.{Switch}
 use Rattle.appender_rolling.specs.declared.rolling.Switch.TheVariants.{None as Stayed, Opened as Switched, Failed as SwitchFailed}
-use Rattle.appender_replay.specs.Run.{Event, Attempt, Time, time_of, times, with_time, stamp_at, arrives, is_full, latest_moment, last_stamp, last_step, count_since, since, carrier, bytes_of_attempt, is_switch, is_opened, SwitchesAtAttempts, NoneFailed, EachWriteReadsClock, PiecesFit, IsOnePiece, KeepsToLimit, EachOf}
+use Rattle.appender_replay.specs.Run.{Event, Attempt, Time, time_of, times, with_time, stamp_at, arrives, is_full, latest_moment, last_stamp, last_step, count_since, since, carrier, bytes_of_attempt, is_switch, is_opened, SwitchesAtAttempts, NoneFailed, EachWriteReadsClock, IsOnePiece, KeepsToLimit, EachOf}
 use Rattle.appender_replay.proofs.Clocks.{since_now}
 use Rattle.appender_replay.proofs.Owners.{each_map, pieces_before}
 use Rattle.appender_replay.proofs.Files.{nothing_later}
+
+-- no step took more bytes than it offered
+abbrev pub PiecesFit : List Event → Type 0
+PiecesFit [] = Unit {0}
+PiecesFit (e ∷ earlier) = (length e.piece ≤ e.offered) × PiecesFit earlier
 
 -- ---- lists
 

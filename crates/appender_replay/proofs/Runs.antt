@@ -21,7 +21,7 @@ use Rattle.appender_rolling.specs.Opening.{file_name_of, OpensFile, LeavesLittle
 use Rattle.appender_rolling.specs.Roller.{Rolling, OpensRoller}
 use Rattle.appender_rolling.specs.declared.rolling.Switch.{Switch}
 use Rattle.appender_rolling.specs.declared.rolling.Switch.TheVariants.{None as Stayed, Opened as Switched, Failed as SwitchFailed}
-use Rattle.appender_replay.specs.Run.{Event, Attempt, period_at, stamp_at, last_stamp, last_opened, times, key_of, key_at, Seen, NotedAtAttempts, PiecesFit}
+use Rattle.appender_replay.specs.Run.{Event, Attempt, period_at, stamp_at, last_stamp, last_opened, times, key_of, key_at, Seen, NotedAtAttempts}
 use Rattle.appender_replay.specs.Replay.{RollAnswered, RollerFollows, LeadsTo, RunsFrom, RollDoes, roll_event, events_by, with_replies_onto, seen_of, seen_after, seen_in}
 use Rattle.appender_replay.proofs.Periods.{Laws, IsLater, IsLaterKey}
 use Rattle.appender_replay.proofs.Turns.{LooksBy, Turns, step_turns}
@@ -29,7 +29,7 @@ use Rattle.appender_replay.proofs.Clocks.{ClockSoFar, Comes, Stays, Goes, comes,
 use Rattle.appender_replay.proofs.Owners.{OtherNames}
 use Rattle.appender_replay.proofs.NamesLeft.{names_after, nothing_survives}
 use Rattle.appender_replay.proofs.Files.{FilesSoFar, Succeeds, no_attempt, a_failure, a_success, a_piece, files_begin, law_so_far}
-use Rattle.appender_replay.proofs.Bounds.{keeps_to_limit}
+use Rattle.appender_replay.proofs.Bounds.{PiecesFit, keeps_to_limit}
 use Rattle.appender_replay.proofs.Unlimited.{switch_at_arrivals}
 
 same_moment : (a b : ℤ) → ◌≡◌ {A = Option ℤ} (Some a) (Some b) → a ≡ b

@@ -164,7 +164,3 @@ event_of (step, reply) = record { read = read_by step; offered = length (offered
 
 abbrev pub roll_event : List RollAnswered → RollAnswered → Event
 roll_event earlier = event_of
-
--- the run's history, the newest step first
-abbrev pub history : List RollStep → List RollReply → List Event
-history steps replies = events_by roll_event (with_replies steps replies)

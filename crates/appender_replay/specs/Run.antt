@@ -356,11 +356,6 @@ KeepsToLimit c attempts h a =
     a.stamp.number < 999999 → (length (bytes_of_attempt a.step attempts h) ≤ c.max_bytes)
     ⊎ (IsOnePiece (bytes_of_attempt a.step attempts h) h × (bytes_of_attempt a.step attempts h ≢ []))
 
--- no step took more bytes than it offered
-abbrev pub PiecesFit : List Event → Type 0
-PiecesFit [] = Unit {0}
-PiecesFit (e ∷ earlier) = (length e.piece ≤ e.offered) × PiecesFit earlier
-
 -- The law of the files of a run: every body, whether or not a name leads to it, holds what it held at first, followed by
 -- exactly what was written to it. What each attempt opened holds what it held then, followed by what the attempt carries,
 -- which is, unless a switch failed, exactly what was written while the latest moment was in its period; with a limit of bytes, while
