@@ -7,7 +7,7 @@ use Rattle.appender_rolling.specs.Roller.{wanted}
 use Rattle.appender_rolling.specs.declared.rolling.setup.Stamp.{Stamp}
 use Rattle.appender_rolling.specs.declared.rolling.Switch.{Switch}
 use Rattle.appender_rolling.specs.declared.rolling.Switch.TheVariants.{None as Stayed, Opened as Switched, Failed as SwitchFailed}
-use Rattle.appender_replay.specs.Run.{Event, Attempt, Time, time_of, times, with_time, stamp_at, arrives, is_full, latest_moment, last_stamp, last_step, count_since, since, carrier, bytes_of_attempt, is_switch, is_opened, SwitchesAtAttempts, NoneFailed, EachWriteReadsClock, IsOnePiece, KeepsToLimit, EachOf}
+use Rattle.appender_replay.specs.Run.{Event, Attempt, Time, time_of, times, with_time, stamp_at, arrives, is_full, latest_moment, last_stamp, last_step, count_since, since, carrier, bytes_of_attempt, is_switch, is_opened, SwitchesAtAttempts, NoneFailed, EachWriteReadsClock, pieces_of_attempt, passes, KeepsToLimit, EachOf}
 use Rattle.appender_replay.proofs.Clocks.{since_now}
 use Rattle.appender_replay.proofs.Owners.{each_map, pieces_before}
 use Rattle.appender_replay.proofs.Files.{nothing_later}
@@ -50,9 +50,27 @@ empty_list : (xs : List ℕ) → length xs ≡ 0 → xs ≡ []
 empty_list [] e = refl
 empty_list (x ∷ xs) e = absurd (omega arith)
 
-some_list : (xs : List ℕ) (n : ℕ) → (length xs ≤ n) ⊎ (xs ≢ [])
+some_list : (xs : List ℕ) (n : ℕ) → (length xs ≤ n) ⊎ (nat_lt 0 (length xs) ≡ true)
 some_list [] n = inl (omega arith)
-some_list (x ∷ xs) n = inr (λ e. cc)
+some_list (x ∷ xs) n = inr (grind (arith, nat_tests))
+
+left_empty : (xs ys : List ℕ) → xs ++ ys ≡ [] → xs ≡ []
+left_empty [] ys e = refl
+left_empty (x ∷ xs) ys e = absurd (let both : ◌≡◌ {A = List ℕ} (x ∷ xs ++ ys) [] = e in cc)
+
+-- where an attempt carries no byte, no step that it carries wrote something
+no_pieces : (j : ℕ) (attempts : List Attempt) (h : List Event) → bytes_of_attempt j attempts h ≡ [] → pieces_of_attempt j attempts h ≡ 0
+no_pieces j attempts [] none = refl
+no_pieces j attempts (e ∷ h) none =
+    let before : bytes_of_attempt j attempts h ≡ [] = left_empty (bytes_of_attempt j attempts h) _ none in
+    by (passes (λ a. a.step == j) (carrier attempts (suc (length h)))) before (no_pieces j attempts h before) none
+  where
+    by : (carried : Bool) → bytes_of_attempt j attempts h ≡ [] → pieces_of_attempt j attempts h ≡ 0 → bytes_of_attempt j attempts h ++ (if carried then e.piece else []) ≡ [] → pieces_of_attempt j attempts h + (if carried && nat_lt 0 (length e.piece) then 1 else 0) ≡ 0
+    by false before so is = rw so refl
+    by true before so is =
+        let empty : length e.piece ≡ 0 = ap length (sym (ap (λ xs. xs ++ e.piece) before) ∙ is) in
+        let no : nat_lt 0 (length e.piece) ≡ false = grind (arith, nat_tests) in
+        rw (so, no) refl
 
 module _ (c : Config) (first : Stamp) (limited : is_limited c ≡ true) where
   -- What is known of the attempts of a history: each keeps to the limit, was made and succeeded, and the last one, a, carries all that
@@ -66,13 +84,13 @@ module _ (c : Config) (first : Stamp) (limited : is_limited c ≡ true) where
     pub stamp_is : a.stamp ≡ last_stamp first (times c first h)
     pub step_is : a.step ≡ last_step (times c first h)
 
-  -- one piece more of a file that isn't full
-  more : (n bytes : List ℕ) (h : List Event) (e : Event) (max count : ℕ) → max ≡ c.max_bytes → length bytes ≡ count → length e.piece ≤ e.offered
+  -- one piece more of a file that isn't full: it keeps to the limit, or held nothing, and the piece is not empty
+  more : (bytes : List ℕ) (e : Event) (max count : ℕ) → max ≡ c.max_bytes → length bytes ≡ count → length e.piece ≤ e.offered
       → (nat_lt 0 count && nat_lt max (count + wanted e.offered)) ≡ false
-      → (length (bytes ++ e.piece) ≤ c.max_bytes) ⊎ (IsOnePiece (bytes ++ e.piece) (e ∷ h) × ((bytes ++ e.piece) ≢ []))
-  more n bytes h e max count is counted fits room = by (nat_lt 0 count) refl
+      → (length (bytes ++ e.piece) ≤ c.max_bytes) ⊎ ((bytes ≡ []) × (nat_lt 0 (length e.piece) ≡ true))
+  more bytes e max count is counted fits room = by (nat_lt 0 count) refl
     where
-      by : (b : Bool) → nat_lt 0 count ≡ b → (length (bytes ++ e.piece) ≤ c.max_bytes) ⊎ (IsOnePiece (bytes ++ e.piece) (e ∷ h) × ((bytes ++ e.piece) ≢ []))
+      by : (b : Bool) → nat_lt 0 count ≡ b → (length (bytes ++ e.piece) ≤ c.max_bytes) ⊎ ((bytes ≡ []) × (nat_lt 0 (length e.piece) ≡ true))
       by true some =
           let low : count + wanted e.offered ≤ max = (let r = room in grind (arith, nat_tests, r, some)) in
           let most : e.offered ≤ wanted e.offered = grind (arith, nat_tests) in
@@ -82,17 +100,17 @@ module _ (c : Config) (first : Stamp) (limited : is_limited c ≡ true) where
           let empty : bytes ≡ [] = empty_list bytes (counted ∙ zero) in
           elim (some_list e.piece c.max_bytes) [
             | inl small ↦ inl (omega (arith, length-append bytes e.piece, ap length empty, small))
-            | inr some ↦ inr (inl (ap (λ xs. xs ++ e.piece) empty), λ never. some (sym (ap (λ xs. xs ++ e.piece) empty) ∙ never))
+            | inr some ↦ inr (empty, some)
           ]
 
   abbrev pub Known : List Attempt → List Event → Type 0
   Known [] h = Unit {0}
   Known (a ∷ rest) h = IsBounded a rest h
 
-  keeps_on : (attempts : List Attempt) (e : Event) (h : List Event) (f : Attempt) → bytes_of_attempt f.step attempts (e ∷ h) ≡ bytes_of_attempt f.step attempts h → KeepsToLimit c attempts h f → KeepsToLimit c attempts (e ∷ h) f
-  keeps_on attempts e h f same keeps low = elim (keeps low) [
+  keeps_on : (attempts some : List Attempt) (e : Event) (h : List Event) (f : Attempt) → bytes_of_attempt f.step attempts (e ∷ h) ≡ bytes_of_attempt f.step some h → pieces_of_attempt f.step attempts (e ∷ h) ≡ pieces_of_attempt f.step some h → KeepsToLimit c some h f → KeepsToLimit c attempts (e ∷ h) f
+  keeps_on attempts some e h f same pieces keeps low = elim (keeps low) [
     | inl small ↦ inl (omega (arith, ap length same, small))
-    | inr one ↦ inr (inr (subst (λ xs. IsOnePiece xs h) (sym same) one.0), λ never. one.1 (sym same ∙ never))
+    | inr one ↦ inr (pieces ∙ one)
   ]
 
   -- a step that makes no attempt
@@ -108,6 +126,12 @@ module _ (c : Config) (first : Stamp) (limited : is_limited c ≡ true) where
 
     others : (f : Attempt) → f.step < a.step → bytes_of_attempt f.step (a ∷ rest) (e ∷ h) ≡ bytes_of_attempt f.step (a ∷ rest) h
     others f lt = let t : (a.step == f.step) ≡ false = grind (arith, lt) in rw (here, t) (append-nil (bytes_of_attempt f.step (a ∷ rest) h))
+
+    other_pieces : (f : Attempt) → f.step < a.step → pieces_of_attempt f.step (a ∷ rest) (e ∷ h) ≡ pieces_of_attempt f.step (a ∷ rest) h
+    other_pieces f lt = let t : (a.step == f.step) ≡ false = grind (arith, lt) in rw (here, t) (omega arith)
+
+    own_pieces : pieces_of_attempt a.step (a ∷ rest) (e ∷ h) ≡ pieces_of_attempt a.step (a ∷ rest) h + (if nat_lt 0 (length e.piece) then 1 else 0)
+    own_pieces = let t : (a.step == a.step) ≡ true = grind arith in rw (here, t) refl
 
     not_full : e.read ≢ None → a.stamp.number < 999999 → (nat_lt 0 (count_since (times c first h) h) && nat_lt c.max_bytes (count_since (times c first h) h + wanted e.offered)) ≡ false
     not_full read low = by (arrives c.rotation first.moment e h) (is_full c first (times c first h) e h) refl refl none
@@ -132,17 +156,23 @@ module _ (c : Config) (first : Stamp) (limited : is_limited c ≡ true) where
         counted : length (since a.step h) ≡ count_since (times c first h) h
         counted = ap (λ j. length (since j h)) k.step_is
 
-        by : (read : Option ℤ) → e.read ≡ read → (length (bytes_of_attempt a.step (a ∷ rest) (e ∷ h)) ≤ c.max_bytes) ⊎ (IsOnePiece (bytes_of_attempt a.step (a ∷ rest) (e ∷ h)) (e ∷ h) × (bytes_of_attempt a.step (a ∷ rest) (e ∷ h) ≢ []))
+        by : (read : Option ℤ) → e.read ≡ read → (length (bytes_of_attempt a.step (a ∷ rest) (e ∷ h)) ≤ c.max_bytes) ⊎ (pieces_of_attempt a.step (a ∷ rest) (e ∷ h) ≡ 1)
         by None is =
             let nothing : bytes_of_attempt a.step (a ∷ rest) (e ∷ h) ≡ bytes_of_attempt a.step (a ∷ rest) h = own ∙ ap (λ xs. since a.step h ++ xs) (blind is) ∙ append-nil (since a.step h) ∙ sym k.carries in
-            keeps_on (a ∷ rest) e h a nothing k.each.0 low
+            let no : nat_lt 0 (length e.piece) ≡ false = let empty : length e.piece ≡ 0 = ap length (blind is) in grind (arith, nat_tests) in
+            let none_more : pieces_of_attempt a.step (a ∷ rest) (e ∷ h) ≡ pieces_of_attempt a.step (a ∷ rest) h = own_pieces ∙ rw no (omega arith) in
+            keeps_on (a ∷ rest) (a ∷ rest) e h a nothing none_more k.each.0 low
         by (Some m) is =
-            subst (λ (xs : List ℕ). (length xs ≤ c.max_bytes) ⊎ (IsOnePiece xs (e ∷ h) × (xs ≢ []))) (sym own)
-            (more [] (since a.step h) h e c.max_bytes (count_since (times c first h) h) refl counted fits (not_full (λ never. let both : ◌≡◌ {A = Option ℤ} (Some m) None = sym is ∙ never in cc) low))
+            elim (more (since a.step h) e c.max_bytes (count_since (times c first h) h) refl counted fits (not_full (λ never. let both : ◌≡◌ {A = Option ℤ} (Some m) None = sym is ∙ never in cc) low)) [
+              | inl small ↦ inl (omega (arith, ap length own, small))
+              | inr alone ↦
+                  let before : pieces_of_attempt a.step (a ∷ rest) h ≡ 0 = no_pieces a.step (a ∷ rest) h (k.carries ∙ alone.0) in
+                  inr (own_pieces ∙ rw (alone.1, before) refl)
+            ]
 
     pub stays : IsBounded a rest (e ∷ h)
     stays = record {
-      each = (newest, both_map (λ f. f.step < a.step) (KeepsToLimit c (a ∷ rest) h) (KeepsToLimit c (a ∷ rest) (e ∷ h)) rest (λ f lt keeps. keeps_on (a ∷ rest) e h f (others f lt) keeps) k.falls k.each.1);
+      each = (newest, both_map (λ f. f.step < a.step) (KeepsToLimit c (a ∷ rest) h) (KeepsToLimit c (a ∷ rest) (e ∷ h)) rest (λ f lt keeps. keeps_on (a ∷ rest) (a ∷ rest) e h f (others f lt) (other_pieces f lt) keeps) k.falls k.each.1);
       made = (let le = k.made in omega (arith, le));
       opened = k.opened;
       falls = k.falls;
@@ -171,15 +201,27 @@ module _ (c : Config) (first : Stamp) (limited : is_limited c ≡ true) where
         let t : (a.step == f.step) ≡ false = grind (arith, less) in
         rw (now, t) (append-nil (bytes_of_attempt f.step (a ∷ rest) h) ∙ pieces_before (λ g. g.step == f.step) a rest h lt)
 
+    pieces_earlier : (some : List Event) → length some < a.step → (j : ℕ) → pieces_of_attempt j (a ∷ rest) some ≡ pieces_of_attempt j rest some
+    pieces_earlier [] less j = refl
+    pieces_earlier (x ∷ xs) less j =
+        let no : nat_le a.step (suc (length xs)) ≡ false = grind arith in
+        rw (pieces_earlier xs (omega arith) j, no) refl
+
+    earlier_pieces : (f : Attempt) → f.step < a.step → pieces_of_attempt f.step (a ∷ rest) (e ∷ h) ≡ pieces_of_attempt f.step rest h
+    earlier_pieces f less = let t : (a.step == f.step) ≡ false = grind (arith, less) in rw (now, t) (let same = pieces_earlier h lt f.step in omega arith)
+
+    alone_pieces : nat_lt 0 (length e.piece) ≡ true → pieces_of_attempt a.step (a ∷ rest) (e ∷ h) ≡ 1
+    alone_pieces some =
+        let t : (a.step == a.step) ≡ true = grind arith in
+        let before : pieces_of_attempt a.step (a ∷ rest) h ≡ 0 = no_pieces a.step (a ∷ rest) h nothing in
+        rw (now, t, some, before) refl
+
     steps : (attempts : List Attempt) → Known attempts h → EachOf (λ f. f.step < a.step) attempts
     steps [] known = tt
     steps (b ∷ more) known = (let made = known.made in omega (arith, made, lt), each_map (λ f. f.step < b.step) (λ f. f.step < a.step) more (λ f less. let made = known.made in omega (arith, made, lt, less)) known.falls)
 
     keep : (f : Attempt) → f.step < a.step → KeepsToLimit c rest h f → KeepsToLimit c (a ∷ rest) (e ∷ h) f
-    keep f less keeps low = elim (keeps low) [
-      | inl small ↦ inl (omega (arith, ap length (earlier f less), small))
-      | inr one ↦ inr (inr (subst (λ xs. IsOnePiece xs h) (sym (earlier f less)) one.0), λ never. one.1 (sym (earlier f less) ∙ never))
-    ]
+    keep f less keeps = keeps_on (a ∷ rest) rest e h f (earlier f less) (earlier_pieces f less) keeps
 
     all : (attempts : List Attempt) → attempts ≡ rest → Known attempts h → EachOf (KeepsToLimit c rest h) attempts
     all [] is known = tt
@@ -190,7 +232,7 @@ module _ (c : Config) (first : Stamp) (limited : is_limited c ≡ true) where
       each = (
         λ low. elim (some_list e.piece c.max_bytes) [
           | inl small ↦ inl (omega (arith, ap length alone, small))
-          | inr full ↦ inr (inl alone, λ never. full (sym alone ∙ never))
+          | inr full ↦ inr (alone_pieces full)
         ],
         both_map (λ f. f.step < a.step) (KeepsToLimit c rest h) (KeepsToLimit c (a ∷ rest) (e ∷ h)) rest keep (steps rest k) (all rest refl k),
       );

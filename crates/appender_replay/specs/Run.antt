@@ -345,16 +345,16 @@ abbrev pub EachWriteReadsClock : List Event → Type 0
 EachWriteReadsClock [] = Unit {0}
 EachWriteReadsClock (e ∷ earlier) = (e.read ≡ None → e.piece ≡ []) × EachWriteReadsClock earlier
 
--- this is the piece of one step
-abbrev pub IsOnePiece : List ℕ → List Event → Type 0
-IsOnePiece bytes [] = ⊥
-IsOnePiece bytes (e ∷ earlier) = (bytes ≡ e.piece) ⊎ IsOnePiece bytes earlier
+-- how many of the steps that attempt j carries wrote something
+abbrev pub pieces_of_attempt : ℕ → List Attempt → List Event → ℕ
+pieces_of_attempt j attempts [] = 0
+pieces_of_attempt j attempts (e ∷ earlier) =
+    pieces_of_attempt j attempts earlier + (if passes (λ a. a.step == j) (carrier attempts (suc (length earlier))) && nat_lt 0 (length e.piece) then 1 else 0)
 
 -- what the attempt carries is no more than the limit, or it is one piece, which isn't empty
 abbrev pub KeepsToLimit : Config → List Attempt → List Event → Attempt → Type 0
 KeepsToLimit c attempts h a =
-    a.stamp.number < 999999 → (length (bytes_of_attempt a.step attempts h) ≤ c.max_bytes)
-    ⊎ (IsOnePiece (bytes_of_attempt a.step attempts h) h × (bytes_of_attempt a.step attempts h ≢ []))
+    a.stamp.number < 999999 → (length (bytes_of_attempt a.step attempts h) ≤ c.max_bytes) ⊎ (pieces_of_attempt a.step attempts h ≡ 1)
 
 -- The law of the files of a run: every body, whether or not a name leads to it, holds what it held at first, followed by
 -- exactly what was written to it. What each attempt opened holds what it held then, followed by what the attempt carries,

@@ -1,5 +1,6 @@
 -- What a worker does and writes over a whole run.
-use Rattle.std.specs.Prelude.{◌≡◌, ℕ, ◌+◌, ◌<◌, ◌≤◌, List, [], ◌∷◌, ◌++◌, Bool, true, false, ◌&&◌, ◌||◌, ◌==◌, nat_le, length, take}
+use Rattle.std.specs.Prelude.{◌≡◌, ℕ, ◌+◌, ◌<◌, ◌≤◌, List, [], ◌∷◌, ◌++◌, Bool, true, false, ◌&&◌, ◌||◌, ◌==◌, nat_le, length, take, Option}
+use Rattle.std.specs.Io.KnownBytes.{Appends}
 use Rattle.appender_worker.specs.Core.{Core, Taking, Writing, Ending, Over, Answer, Wrote, Interrupted, Failed, Found, Line, Last, Nothing, most_repeats, after_took, after_wrote, after_flushed, is_taking, is_writing, is_flushing}
 
 -- a result that was passed to the worker: what a take found, the result of a write, or that a flush was made
@@ -34,6 +35,11 @@ runs core (e ∷ es) = in_turn core e && runs (after core e) es
 abbrev pub piece : Core → Event → List ℕ
 piece (Writing rest repeats) (Write (Wrote n)) = take n rest
 piece core e = []
+
+-- One write of the rest of the line in hand has this answer: what was taken of the rest was added to known bytes, and the worker has the
+-- answer.
+abbrev pub WritesOnce : Core → Core → Option (List ℕ) → Option (List ℕ) → Type 0
+WritesOnce old new before now = (answer : Answer) × (new ≡ after_wrote old answer) × Appends before now (piece old (Write answer))
 
 -- all that is written
 abbrev pub text_of : Core → List Event → List ℕ

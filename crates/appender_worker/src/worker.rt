@@ -78,6 +78,7 @@ impl WorkerCore {
       is_flushing,
     };
     ghost use Rattle.appender_worker.specs.CoreReplies.{Wants, found_in};
+    ghost use Rattle.appender_worker.specs.Runs.{WritesOnce};
 
     /// Returns a worker that begins with a take that waits.
     pub fn new() -> WorkerCore
@@ -133,6 +134,18 @@ impl WorkerCore {
                 _ => State::Take { waits: true },
             },
         };
+    }
+
+    /// Makes one write of the rest of the line in hand, and passes on its result.
+    pub fn write<W: Write>(&mut self, writer: &mut W)
+        requires { is_writing self.old ≡ true }
+        ensures { WritesOnce self.old self.new (W.contents writer.old) (W.contents writer.new) }
+    {
+        let Want::Write(rest) = self.want() else {
+            unreachable!()
+        };
+        let answer = writer.write(rest);
+        self.wrote(answer);
     }
 
     /// Passes on the result of a write.

@@ -97,10 +97,7 @@ pub(super) fn serve<B: Books, W: Write, R: Wait + Eprint>(
                 }
                 core.took(taken);
             }
-            Want::Write(rest) => {
-                let answer = writer.write(rest);
-                core.wrote(answer);
-            }
+            Want::Write(_) => core.write(writer),
             Want::Flush => flush(rt, &mut core, writer),
             Want::Ended => break,
         }
