@@ -1,5 +1,5 @@
 -- What a folder counts over a run: failed attempts as notices, and errors of writes and flushes as failures.
-use Rattle.std.proofs.Common.{◌≡◌, ◌∙◌, ℕ, ℤ, ◌+◌, ◌-◌, ◌^◌, ◌<◌, ◌≤◌, nat_le, suc, min, Bool, true, false, List, [], ◌∷◌, length, map, Result, Ok, Err, MatchResult, Vec, inl, inr, refl, ap, sym, subst, arith}
+use Rattle.std.proofs.Common.{◌≡◌, ◌∙◌, ℕ, ℤ, ◌+◌, ◌-◌, ◌^◌, ◌<◌, ◌≤◌, min, Bool, true, false, List, [], ◌∷◌, length, map, Result, Ok, Err, MatchResult, Vec, inl, inr, refl, ap, arith}
 use Rattle.std.specs.IoError.{error_kind}
 use Rattle.std.specs.declared.alloc.Global.{Global}
 use Rattle.std.specs.declared.io.Error.{Error}
@@ -7,7 +7,7 @@ use Rattle.std.specs.declared.io.ErrorKind.{ErrorKind}
 use Rattle.std.specs.declared.io.ErrorKind.TheVariants.{OutOfMemory}
 use Rattle.appender_names.specs.declared.error.InitError.{InitError}
 use Rattle.appender_names.specs.declared.error.InitError.TheVariants.{Directory, File, Symlink, Moment, Name, Memory, Limit}
-use Rattle.appender_store.specs.Folder.{AreCounts, Counts, HasCause, NotedFlush, NotedOpen, NotedList, listed_row}
+use Rattle.appender_store.specs.Folder.{AreCounts, Counts, HasCause, NotedFlush, NotedList, listed_row}
 use Rattle.appender_store.specs.Notes.{CountsRise, Notes}
 use Rattle.appender_store.specs.declared.store.Folder.{Ghosts}
 use Rattle.appender_store.specs.declared.store.Listed.{Listed}
@@ -18,7 +18,7 @@ use Rattle.appender_rolling.specs.Roller.{Rolling, Looks, Writes, Puts, Flushes,
 use Rattle.appender_rolling.specs.declared.rolling.Switch.{Switch}
 use Rattle.appender_rolling.specs.declared.rolling.Switch.TheVariants.{None as Stayed, Opened as Switched, Failed as SwitchFailed}
 use Rattle.appender_rolling.proofs.Rising.{finds_rise, opens_rise, looks_rise, writes_rise, flushes_rise}
-use Rattle.appender_replay.specs.Replay.{by_kind, LeadsTo}
+use Rattle.appender_replay.specs.Replay.{by_kind}
 use Rattle.appender_replay.specs.Headline.{faults_in}
 use Rattle.appender_replay.proofs.FileAccounts.{failed_by}
 

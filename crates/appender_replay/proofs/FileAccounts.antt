@@ -1,22 +1,21 @@
 -- The files of an account are those of a run's events.
-use Rattle.std.proofs.Common.{◌≡◌, ◌≢◌, ℕ, ℤ, suc, ◌+◌, ◌<◌, ◌≤◌, nat_lt, nat_le, Bool, true, false, not, ◌&&◌, cond, List, [], ◌∷◌, ◌++◌, length, map, take, filter, Option, None, Some, is_some, Result, refl, ap, sym, ◌∙◌, subst, arith}
+use Rattle.std.proofs.Common.{◌≡◌, ℕ, ℤ, suc, ◌+◌, ◌≤◌, nat_lt, nat_le, Bool, true, false, not, ◌&&◌, cond, List, [], ◌∷◌, ◌++◌, length, map, filter, Option, None, Some, is_some, refl, ap, sym, ◌∙◌, subst, arith}
 use Rattle.std.specs.Prelude.{if◌then◌else◌, ◌==◌, ◌↔◌}
 use Rattle.std.specs.List.{filter_map}
 use Rattle.std.specs.Int.{int_max}
 use Rattle.std.specs.Str.{bytes_eq}
 use Rattle.std.specs.FinMap as fin
-use Rattle.std.specs.declared.io.ErrorKind.{ErrorKind}
-use Rattle.std.proofs.lemmas.List.{append-nil, length-take-le}
+use Rattle.std.proofs.lemmas.List.{append-nil}
 use Rattle.std.proofs.lemmas.Slice.Eq.{bytes_eq-Decides}
 use Rattle.appender_names.specs.Rotation.{is_moment, period_of, is_same_start}
 use Rattle.appender_store.specs.Content.{Content, File}
 use Rattle.appender_rolling.specs.Config.{Config, is_limited, stamp}
 use Rattle.appender_rolling.specs.Opening.{file_name_of}
-use Rattle.appender_rolling.specs.Roller.{count_of, wanted}
+use Rattle.appender_rolling.specs.Roller.{wanted}
 use Rattle.appender_rolling.specs.declared.rolling.setup.Stamp.{Stamp}
 use Rattle.appender_rolling.specs.declared.rolling.Switch.{Switch}
 use Rattle.appender_rolling.specs.declared.rolling.Switch.TheVariants.{None as Stayed, Opened as Switched, Failed as SwitchFailed}
-use Rattle.appender_replay.specs.Run.{Event, Attempt, Time, time_of, greatest, latest_moment, is_switch, is_opened, stamp_at, times, last_stamp, last_opened, count_since, carrier, passes, is_number, bytes_to_body, NoneFailed, SwitchesAtAttempts, EachOf, HasItsName, NamesItsBody}
+use Rattle.appender_replay.specs.Run.{Event, Attempt, Time, time_of, greatest, latest_moment, is_switch, is_opened, stamp_at, times, last_stamp, last_opened, count_since, carrier, passes, is_number, bytes_to_body, NoneFailed, EachOf, HasItsName, NamesItsBody}
 use Rattle.appender_replay.specs.Headline as head
 use Rattle.appender_replay.specs.Headline.{Files, written}
 use Rattle.appender_replay.proofs.Clocks.{count_stays, count_begins}

@@ -1,6 +1,6 @@
 -- The headlines of runs: each reply is the one that the account demands, and the folder keeps what the account says.
-use Rattle.std.proofs.Common.{◌≡◌, ◌≢◌, ◌∙◌, ℕ, ℤ, ◌+◌, ◌≤◌, Bool, true, false, List, [], ◌∷◌, length, take, Option, None, Some, is_some, Result, refl, ap, sym, subst, arith}
-use Rattle.std.specs.Prelude.{if◌then◌else◌, ◌==◌, ◌↔◌}
+use Rattle.std.proofs.Common.{◌≡◌, ◌∙◌, ℕ, ℤ, ◌+◌, ◌≤◌, Bool, true, false, List, [], ◌∷◌, length, take, Option, None, Some, is_some, Result, refl, ap, sym, subst, arith}
+use Rattle.std.specs.Prelude.{if◌then◌else◌, ◌==◌}
 use Rattle.std.specs.declared.io.Error.{Error}
 use Rattle.std.specs.declared.io.ErrorKind.{ErrorKind}
 use Rattle.appender_queue.specs.Queue.{Queue, has_line, is_sent}
@@ -28,7 +28,7 @@ use Rattle.appender_replay.proofs.Turns.{count_by_kind}
 use Rattle.appender_replay.proofs.Runs.{Grounds}
 use Rattle.appender_replay.proofs.Counting.{Counted, counted_same, looks_counted, puts_counted, writes_counted, flushes_counted}
 use Rattle.appender_replay.proofs.FileAccounts.{FilesAre, failed_by, files_begin, files_look, files_see, files_write, files_stay, with_faults, switches_if_due}
-use Rattle.appender_replay.proofs.Accounts.{Same, CoreOf, SwitchesIfDue, rest_same, same_all, step_gets}
+use Rattle.appender_replay.proofs.Accounts.{Same, CoreOf, SwitchesIfDue, same_all, step_gets}
 use Rattle.appender_replay.proofs.Keeping.{keeps, sum_by}
 
 -- a check of the clock counts no error

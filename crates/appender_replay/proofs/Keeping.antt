@@ -1,11 +1,9 @@
 -- What a folder contains and counts after a run, by the files of its account.
-use Rattle.std.proofs.Common.{◌≡◌, ◌≢◌, ◌∙◌, ◌⊎◌, ℕ, ℤ, zero, suc, ◌+◌, ◌-◌, ◌^◌, ◌<◌, ◌≤◌, nat_le, min, Bool, true, false, List, [], ◌∷◌, ◌++◌, length, map, Option, None, Some, is_some, Result, Ok, Err, MatchResult, Vec, IsTrue, inl, inr, refl, ap, sym, subst, arith}
+use Rattle.std.proofs.Common.{◌≡◌, ◌≢◌, ◌∙◌, ◌⊎◌, ℕ, ℤ, zero, suc, ◌+◌, ◌^◌, ◌<◌, ◌≤◌, nat_le, Bool, true, false, List, [], ◌∷◌, ◌++◌, length, map, Option, None, Some, is_some, Result, Ok, Err, MatchResult, Vec, IsTrue, inl, inr, refl, ap, sym, subst, arith}
 use Rattle.std.specs.Prelude.{if◌then◌else◌, ◌==◌, OnOk, IsOk}
-use Rattle.std.specs.FinMap as fin
 use Rattle.std.specs.declared.alloc.Global.{Global}
 use Rattle.std.specs.declared.io.Error.{Error}
-use Rattle.appender_names.specs.Name.{Naming}
-use Rattle.appender_store.specs.Content.{Content, Entry, File, IsSound, body_at}
+use Rattle.appender_store.specs.Content.{Content, Entry, IsSound, body_at}
 use Rattle.appender_store.specs.Folder.{AreCounts, Counts, NotedList, listed_row, saturating_next}
 use Rattle.appender_store.specs.NameLaws.{NameLaws}
 use Rattle.appender_store.specs.Notes.{Notes}
@@ -14,13 +12,13 @@ use Rattle.appender_store.specs.declared.store.Listed.{Listed}
 use Rattle.appender_retain.specs.Pruning.{IsQuiet}
 use Rattle.appender_rolling.specs.Config.{Config, is_limited, naming_of, stamp}
 use Rattle.appender_rolling.specs.Kept.{PartsKeep}
-use Rattle.appender_rolling.specs.Opening.{IsFirstNumber, IsListed, HasEntry, ListsNumbers, file_name_of}
+use Rattle.appender_rolling.specs.Opening.{IsFirstNumber, IsListed, HasEntry, ListsNumbers}
 use Rattle.appender_rolling.specs.Roller.{Rolling}
 use Rattle.appender_rolling.specs.declared.rolling.setup.Stamp.{Stamp}
 use Rattle.appender_rolling.specs.declared.rolling.Switch.{Switch}
 use Rattle.appender_rolling.specs.declared.rolling.Switch.TheVariants.{None as Stayed, Opened as Switched, Failed as SwitchFailed}
 use Rattle.appender_rolling.proofs.Rising.{finds_rise, opens_rise, absent_finds, absent_opens}
-use Rattle.appender_replay.specs.Run.{Event, Seen, Attempt, Time, time_of, content_before, counts_before, IsSeenAtItsStep, times, stamp_at, is_switch, is_opened, with_time, NoneFailed, SwitchesAtAttempts, EachOf}
+use Rattle.appender_replay.specs.Run.{Event, Attempt, Time, time_of, content_before, counts_before, IsSeenAtItsStep, times, stamp_at, is_switch, is_opened, with_time, NoneFailed, SwitchesAtAttempts, EachOf}
 use Rattle.appender_replay.specs.Replay.{LeadsTo, RunsFrom, RollerFollows, events_by, seen_of, seen_after, seen_in}
 use Rattle.appender_replay.specs.Headline.{Files, Keeps, LeaveAll, RetentionSucceeded}
 use Rattle.appender_replay.proofs.NamesLeft.{none_of}

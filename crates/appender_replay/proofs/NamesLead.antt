@@ -1,19 +1,19 @@
 -- The names that the attempts of a run leave, one after another.
-use Rattle.std.proofs.Common.{◌≡◌, ◌≢◌, ◌∙◌, ◌⊎◌, ℕ, ℤ, ◌+◌, ◌<◌, ◌≤◌, nat_le, Bool, true, false, ◌||◌, List, [], ◌∷◌, ◌++◌, length, length-append, map, All, Option, None, Some, is_some, inl, inr, refl, sym, ap, subst, arith}
+use Rattle.std.proofs.Common.{◌≡◌, ◌≢◌, ◌∙◌, ◌⊎◌, ℕ, ℤ, ◌<◌, ◌≤◌, nat_le, Bool, true, false, ◌||◌, List, [], ◌∷◌, ◌++◌, length, map, All, Option, None, Some, is_some, inl, inr, refl, sym, ap, subst, arith}
 use Rattle.std.specs.Prelude.{if◌then◌else◌, ◌==◌, MatchOption}
 use Rattle.std.specs.Option.{option_map_or}
 use Rattle.std.specs.FinMap as fin
 use Rattle.std.proofs.lemmas.List.{length-set}
 use Rattle.std.proofs.lemmas.List.Elements.{All-head, All-tail}
-use Rattle.appender_store.specs.Content.{Content, NameMap, Entry, File, Opens, IsSound, after_make_folder, body_at}
+use Rattle.appender_store.specs.Content.{Content, NameMap, File, Opens, IsSound, after_make_folder, body_at}
 use Rattle.appender_store.specs.NameLaws.{NameLaws}
 use Rattle.appender_retain.specs.Pruning.{IsQuiet}
 use Rattle.appender_retain.specs.Rank.{Rank}
 use Rattle.appender_retain.specs.Survival.{TakesOnlyOld, name_rank, name_survives}
 use Rattle.appender_rolling.specs.Config.{Config, naming_of}
-use Rattle.appender_rolling.specs.Kept.{Keeps, PartsKeep}
+use Rattle.appender_rolling.specs.Kept.{PartsKeep}
 use Rattle.appender_rolling.specs.declared.rolling.setup.Stamp.{Stamp}
-use Rattle.appender_rolling.specs.Opening.{file_name_of, MayRemoveLink, Linked, LeavesLittle}
+use Rattle.appender_rolling.specs.Opening.{file_name_of, LeavesLittle}
 use Rattle.appender_replay.specs.Run.{Event, Attempt, since, up_to, open_body, Carried, Leads, Succeeded, Tried, EachOf}
 use Rattle.appender_replay.specs.Headline.{Leaves, LeaveAll, kept}
 use Rattle.appender_replay.proofs.NamesLeft.{nothing_survives, leads_to, opened_other, freed_other, linked_other, linked_name, apart_from_link}

@@ -5,7 +5,7 @@ use Rattle.std.proofs.lemmas.List.{map-append, take-append-le, take-append-drop,
 use Rattle.std.proofs.lemmas.List.Elements.{filter-append}
 use Rattle.appender_worker.specs.Core.{Core, Taking, Writing, Flushing, Ending, Over, is_taking}
 use Rattle.appender_queue.specs.Queue.{Queue, has_line, is_before, is_sent}
-use Rattle.appender_replay.specs.Record.{Answered, Offered, accepted_lines, handed_lines, is_closed, shutdown_place, with_ticket, worker_after, queue_after}
+use Rattle.appender_replay.specs.Record.{Answered, Offered, accepted_lines, handed_lines, shutdown_place, with_ticket, worker_after, queue_after}
 use Rattle.appender_replay.specs.Answers.{WorkAnswers, Answers}
 use Rattle.appender_replay.specs.Whole.{HandsLabelInOrder, labelled}
 use Rattle.appender_replay.specs.declared.replay.whole.Step.TheVariants.{Offer, Work}

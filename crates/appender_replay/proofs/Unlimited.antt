@@ -1,9 +1,8 @@
 -- Without a limit of bytes every number is 0, so that a file is told by its period alone.
-use Rattle.std.proofs.Common.{◌≡◌, ◌∙◌, ℕ, suc, ◌+◌, ◌==◌, ◌&&◌, ℤ, Bool, true, false, if◌then◌else◌, List, [], ◌∷◌, ◌++◌, length, Option, None, Some, is_some, arith, refl, ap, sym}
+use Rattle.std.proofs.Common.{◌≡◌, ◌∙◌, ℕ, suc, ◌+◌, ◌==◌, ◌&&◌, ℤ, Bool, true, false, if◌then◌else◌, List, [], ◌∷◌, length, Option, None, Some, is_some, arith, refl, ap, sym}
 use Rattle.std.specs.Prelude.{nat_lt, unwrap_or}
 use Rattle.appender_names.specs.Rotation.{period_of, is_same_start}
 use Rattle.appender_names.specs.Name.{last_by}
-use Rattle.appender_store.specs.Content.{Content, body_at}
 use Rattle.appender_rolling.specs.Config.{Config, is_limited, IsStamp, last_of, stamp}
 use Rattle.appender_rolling.specs.declared.rolling.setup.Stamp.{Stamp}
 use Rattle.appender_rolling.specs.Roller.{wanted}

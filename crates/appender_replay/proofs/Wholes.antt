@@ -1,5 +1,5 @@
 -- A run of queue, worker and roller keeps to its laws.
-use Rattle.std.proofs.Common.{◌≡◌, ℕ, ℤ, ◌+◌, ◌≤◌, Bool, true, false, if◌then◌else◌, List, [], ◌∷◌, length, Option, None, Some, inl, inr, refl, ap, sym, ◌∙◌, subst, arith}
+use Rattle.std.proofs.Common.{◌≡◌, ℕ, ℤ, ◌+◌, ◌≤◌, Bool, true, false, if◌then◌else◌, List, [], ◌∷◌, length, None, inl, inr, refl, ap, sym, ◌∙◌, subst, arith}
 use Rattle.std.specs.Prelude.{◌==◌}
 use Rattle.appender_worker.specs.Core.{Core, Taking, Writing, Flushing, Ending, Over}
 use Rattle.appender_queue.specs.Queue.{Queue, has_line, is_sent, fresh}
@@ -8,7 +8,7 @@ use Rattle.appender_store.proofs.Appends.{after_append_nothing}
 use Rattle.appender_rolling.specs.Config.{Config}
 use Rattle.appender_rolling.specs.Roller.{Rolling, OpensRoller, StaysOpen}
 use Rattle.appender_rolling.specs.declared.rolling.Switch.TheVariants.{None as Stayed}
-use Rattle.appender_replay.specs.Run.{Event, EachWriteReadsClock}
+use Rattle.appender_replay.specs.Run.{Event}
 use Rattle.appender_replay.specs.Replay.{RunsFrom, seen_in}
 use Rattle.appender_replay.specs.Record.{Answered, worker_after, queue_after}
 use Rattle.appender_replay.specs.Answers.{StepAnswers, WorkAnswers, Answers, RollerDoes, WorkerDoes, rest_of, file_event, worker_event, events}

@@ -6,7 +6,7 @@ use Rattle.std.specs.Int.{int_max}
 use Rattle.appender_names.specs.declared.rotation.Rotation.{Rotation}
 use Rattle.appender_names.specs.Rotation.{is_moment, period_of, is_same_start}
 use Rattle.std.specs.FinMap as fin
-use Rattle.appender_store.specs.Content.{Content, NameMap, File, Link, Opens, after_append, after_make_folder, body_at}
+use Rattle.appender_store.specs.Content.{Content, File, Link, Opens, after_append, after_make_folder, body_at}
 use Rattle.appender_store.specs.Folder.{Counts}
 use Rattle.appender_retain.specs.Survival.{TakesOnlyOld, LeavesSurvivors, name_survives, candidates_in}
 use Rattle.appender_retain.specs.Pruning.{IsQuiet}

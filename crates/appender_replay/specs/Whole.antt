@@ -1,8 +1,7 @@
 -- What follows of a whole run: which lines were handed, and what the worker wrote of them.
 use Rattle.std.specs.Prelude.{◌≡◌, ◌⊎◌, ℕ, ◌<◌, ◌==◌, List, [], ◌∷◌, ◌++◌, Bool, true, false, All, length, map, take, filter}
-use Rattle.appender_worker.specs.Core.{Core, Taking, Last, is_writing}
-use Rattle.appender_queue.specs.Queue.{Queue, left_of}
-use Rattle.appender_worker.specs.Runs.{Event as WorkerEvent, Took, IsEnd, passes_of, WaitsFollow, FlushesFollow}
+use Rattle.appender_worker.specs.Core.{Core, is_writing}
+use Rattle.appender_queue.specs.Queue.{Queue}
 use Rattle.appender_replay.specs.Record.{Answered, Offered, WrittenLine, accepted_lines, handed_lines, queue_after, worker_after, written_lines, text_of_lines, whole_lines}
 use Rattle.appender_replay.specs.Answers.{Answers, events, text_of_events}
 

@@ -1,5 +1,5 @@
 -- Wrong runs. The headline alone refuses each of them.
-use Rattle.std.specs.Prelude.{◌≡◌, IsTrue, ℕ, ◌-◌, ◌^◌, ◌<◌, ℤ, pos, true, false, List, [], ◌∷◌, Option, Some, Ok, Vec}
+use Rattle.std.specs.Prelude.{◌≡◌, IsTrue, ℕ, ◌-◌, ◌^◌, ◌<◌, ℤ, pos, true, List, [], ◌∷◌, Option, Some, Ok, Vec}
 use Rattle.std.specs.declared.alloc.Global.{Global}
 use Rattle.std.specs.FinMap as fin
 use Rattle.appender_names.specs.Rotation.{rotation_of}
