@@ -25,12 +25,12 @@ module _ (s : Scheduled) (room : ℕ) (m : ℤ) (len : ℕ) where
       by false false e = refl
       by false true e = absurd (let both : true ≡ false = e in cc)
 
-  -- if none begins, no boundary was reached and the file is not full
-  pub none_begins : is_some (next_with s room m len) ≡ false → (is_due s.boundary m ≡ false) × (is_full_with s room len ≡ false)
+  -- if none begins, no boundary was reached
+  pub none_begins : is_some (next_with s room m len) ≡ false → is_due s.boundary m ≡ false
   none_begins e = by (is_due s.boundary m) (is_full_with s room len) e
     where
-      by : (due full : Bool) → is_some (Either due full) ≡ false → (due ≡ false) × (full ≡ false)
-      by false false e = (refl, refl)
+      by : (due full : Bool) → is_some (Either due full) ≡ false → due ≡ false
+      by false false e = refl
       by false true e = absurd (let both : true ≡ false = e in cc)
       by true full e = absurd (let both : true ≡ false = e in cc)
 
@@ -41,9 +41,8 @@ module _ {S F C : Type 0} (kind : Ghosts S F) (time : Readings C) where
     moment = m;
     reading = reading;
     in_its_period = by (is_limited s.config) refl;
-    has_room = λ limited. let (found, is) = asks.limited limited in (found, (none_begins s found.room m 0 (sym is)).1);
   }
     where
       by : (limited : Bool) → is_limited s.config ≡ limited → is_due s.boundary m ≡ false
       by false e = sym (asks.plain e)
-      by true e = let (found, is) = asks.limited e in (none_begins s found.room m 0 (sym is)).0
+      by true e = let (found, is) = asks.limited e in none_begins s found.room m 0 (sym is)

@@ -8,7 +8,7 @@ use Rattle.appender_store.specs.declared.store.Folder.{Ghosts}
 use Rattle.appender_rolling.specs.declared.rolling.clock.Clock.{Ghosts as Readings}
 use Rattle.appender_rolling.specs.declared.rolling.Switch.{Switch}
 use Rattle.appender_rolling.specs.Config.{Config, defaults, is_limited}
-use Rattle.appender_rolling.specs.Roller.{Rolling, Scheduled, Held, rolling_of, OpensRoller, OpensNoRoller, Sees, Writes, WritesAll, Puts, Flushes, is_due, is_full, next_stamp}
+use Rattle.appender_rolling.specs.Roller.{Rolling, Scheduled, Held, rolling_of, OpensRoller, OpensNoRoller, Sees, Writes, WritesAll, Puts, Flushes, is_due, next_stamp}
 
 -- only these are set
 abbrev pub plain_config : Rotation → List ℕ → Config
@@ -112,13 +112,11 @@ pub record PutsSome {S F : Type 0} (kind : Ghosts S F) (m : ℤ) (bytes : List �
   pub left : Held S F
   pub puts : Puts kind m bytes switch answer (rolling_of old found) (rolling_of new left)
 
--- The clock was read, and at the moment that it returned no file was due: no boundary was reached and, with a limit of bytes, the open
--- file was found to have room.
+-- The clock was read, and at the moment that it returned no boundary was reached.
 pub record LooksNow {S F C : Type 0} (kind : Ghosts S F) (time : Readings C) (clock : C) (s : Holding) : Type 0 where
   pub moment : ℤ
   pub reading : time.now_gives clock moment
   pub in_its_period : is_due s.boundary moment ≡ false
-  pub has_room : is_limited s.config ≡ true → (found : Held S F) × (is_full (rolling_of s found) 0 ≡ false)
 
 -- the bytes were written to the open file of a roller with this schedule
 pub record WritesSome {S F : Type 0} (kind : Ghosts S F) (s : Scheduled) (bytes : List ℕ) (answer : Result ℕ Error) : Type 0 where

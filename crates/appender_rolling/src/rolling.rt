@@ -36,8 +36,8 @@ pub enum Switch {
     None,
     /// The next file is open now.
     Opened,
-    /// The next file could not be opened. The last one stays open until the next boundary, or until as many
-    /// bytes as the limit were written to it again.
+    /// The next file could not be opened, and the last one stays open. The next boundary is an attempt again. With a
+    /// limit of bytes the count begins anew, and a put that does not fit in the limit is an attempt too.
     Failed,
 }
 
@@ -111,8 +111,8 @@ impl<S: Folder> Roller<S> {
     }
 
     /// Checks the clock. If a boundary was reached, opens the file of the moment's period in place of the last
-    /// one; if the last one is full, the next of its period. A failure is noted, and not tried again before
-    /// the next boundary, or before as many bytes as the limit were written again.
+    /// one; if the last one is full, the next of its period. A failure is noted, and tried again at the next boundary
+    /// or, with a limit of bytes, at the next put that does not fit in the limit counted anew.
     pub fn see(&mut self, moment: i64) -> Switch
         ensures { Sees S.Folder moment result self.old self.new }
     {
