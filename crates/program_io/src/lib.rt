@@ -6,6 +6,7 @@ ghost use Rattle.std.specs.Prelude.{◌≡◌, ◌≢◌, ℕ, List, [], Some, O
 ghost use Rattle.std.specs.Io.BufRead.{take_through, drop_through};
 ghost use Rattle.std.specs.Io.KnownBytes.{Appends, IsAtEnd};
 ghost use Rattle.program_io.specs.Line.{ended};
+ghost use Rattle.program_io.specs.Report.{AppendsBeginning};
 
 pub mod options;
 pub mod report;
@@ -134,6 +135,8 @@ pub fn copy_lines<I: BufRead, W: Write>(
         Appends (W.contents writer.old) (W.contents writer.new) text) }
     ensures end { OnOk result ((text : List ℕ) → I.remaining input.old ≡ Some text →
         I.remaining input.new ≡ Some []) }
+    ensures beginning { OnErr result ((text : List ℕ) → I.remaining input.old ≡ Some text →
+        AppendsBeginning (W.contents writer.old) (W.contents writer.new) text) }
 {
     let mut line = Vec::new(alloc);
     for _ in 0..u64::MAX {
@@ -146,7 +149,9 @@ pub fn copy_lines<I: BufRead, W: Write>(
 }
 
 fn write_line<W: Write>(line: &[u8], writer: &mut W) -> Result<(), CopyFault>
-    ensures { OnOk result (Appends (W.contents writer.old) (W.contents writer.new) line.now) }
+    ensures whole { OnOk result (Appends (W.contents writer.old) (W.contents writer.new) line.now) }
+    ensures beginning { OnErr result
+        (AppendsBeginning (W.contents writer.old) (W.contents writer.new) line.now) }
 {
     match writer.write(line) {
         Ok(taken) if taken < line.len() => Err(CopyFault::Cut),
