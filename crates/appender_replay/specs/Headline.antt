@@ -1,5 +1,5 @@
--- The headline of a run. An account follows the run by its steps and replies alone: which reply each step gets, which files are begun, and
--- which file each byte goes to. The folder then contains what it contained before, and exactly that.
+-- The headline of a run. An account follows from the steps and replies alone: which reply each step gets, which files are begun, and what is
+-- written to each. The folder then contains what it contained before, and exactly that.
 use Rattle.std.specs.Prelude.{◌≡◌, ◌≢◌, ◌⊎◌, ◌↔◌, IsTrue, ℕ, ◌+◌, ◌-◌, ◌^◌, ◌<◌, ◌≤◌, nat_lt, min, ◌==◌, ℤ, Bool, true, false, not, ◌&&◌, if◌then◌else◌, List, [], ◌∷◌, ◌++◌, length, take, drop, get_or, All, Option, None, Some, is_some, unwrap_or, Result, Ok, Err}
 use Rattle.std.specs.Int.{int_max}
 use Rattle.std.specs.Str.{bytes_eq}
@@ -89,9 +89,9 @@ take_answer a =
 abbrev pub later : ℤ → ℤ → ℤ
 later latest m = if is_moment m then int_max m latest else latest
 
--- The file that is due at m, with so many bytes to write, if one is. If m brings the latest moment to another period, it is the first of
--- that period. With a limit of bytes it is the next of the same period, if what was written since the newest attempt and these bytes, or one,
--- are more than the limit.
+-- The file that is due at m, with so many bytes to write, if one is. If the latest moment is in another period with m, it is the first of
+-- that period. With a limit of bytes it is the next of the same period, if what was written since the newest attempt and these bytes, at
+-- least one, are more than the limit.
 abbrev pub due_file : Config → Files → ℤ → ℕ → Option Stamp
 due_file c f m len =
     if not (is_same_start (period_of c.rotation (later f.latest m)) (period_of c.rotation f.latest)) then Some (record { moment = later f.latest m; number = 0 })
@@ -182,7 +182,7 @@ abbrev pub LeaveAll : Config → ℕ → List Stamp → NameMap → NameMap → 
 LeaveAll c bodies [] first last = last ≡ first
 LeaveAll c bodies (s ∷ earlier) first last = (between : NameMap) × LeaveAll c bodies earlier first between × Leaves c bodies s between last
 
--- Every listing and every removal succeeded, but for the listings of an absent folder at the opening. Counts at their greatest don't show it.
+-- Every listing and every removal succeeded, except the listings of an absent folder at the opening. Counts at their greatest don't show it.
 pub record RetentionSucceeded (c : Config) (there : Bool) (old new : Counts) : Type 0 where
   pub lists : new.lists ≡ old.lists + (if there then 0 else (if is_limited c then 1 else 0) + (if c.max_files == 0 then 0 else 1))
   pub removes : new.removes ≡ old.removes
@@ -192,7 +192,7 @@ pub record RetentionSucceeded (c : Config) (there : Bool) (old new : Counts) : T
 pub record Contains (c : Config) (start : Stamp) (f : Files) (first last : Content) (noted_first noted_last : Counts) : Type 0 where
   -- A file holds what it held at first, which is nothing if it is new, and then exactly what was written while it was the open one.
   pub bytes : (name : List ℕ) (b : ℕ) (t : Option ℤ) → fin.get last.names name ≡ Some (File b t) → body_at last b ≡ body_at first b ++ written name f.writes
-  -- Whatever fails, no other name changes, but that log files may be removed if there is a maximum of them.
+  -- Whatever fails, no other name changes, except that log files may be removed if there is a maximum of them.
   pub others : (name : List ℕ) → All (λ s. name ≢ file_name_of c s) (f.newest ∷ f.earlier) → name ≢ c.link
       → (fin.get last.names name ≡ fin.get first.names name) ⊎ ((fin.get last.names name ≡ None) × (c.max_files ≢ 0) × (is_some (name_rank (naming_of c) first.names name) ≡ true))
   -- If each attempt succeeded, and each listing and removal, the names are exactly these. Without a maximum nothing is listed for retention.
