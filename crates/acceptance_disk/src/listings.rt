@@ -1,8 +1,9 @@
 // What retention does with a folder that lists less than it should.
 
 use crate::expect::{AllocAndAbort, expect_eq, expect_eq_of, pair_text};
-use crate::runs::list_folder;
-use crate::scene::{disk_of, put_file, write_log};
+use crate::logs::hourly_log;
+use crate::runs::{list_folder, run_log};
+use crate::scene::{START, disk_of, put_file, write_log};
 use fake_files::disk::{Disk, DiskFault};
 use std::io::ErrorKind;
 
@@ -119,5 +120,23 @@ fn without_creation_moments_the_dates_decide(rt: HostRuntime) {
         &disk,
         2,
         "app.2020-02-01-09 c\napp.2020-02-01-10 \napp.notes x\nfailures 0\n",
+    );
+}
+
+static DOTTED: [(&str, &str); 2] = [(".app.2020-02-01-08", "a"), (".app.2020-02-01-09", "b")];
+
+// Opens a log with the prefix `.app` that keeps two files, and returns the files.
+fn open_dotted(rt: &impl AllocAndAbort) -> String {
+    let builder = hourly_log(rt, 2, "").filename_prefix(rt.alloc(), ".app");
+    let builder = builder.expect(rt, "memory");
+    run_log(rt, &disk_of(rt, &DOTTED), &builder, START, &[]).files
+}
+
+#[test]
+fn names_that_begin_with_a_dot_are_listed(rt: HostRuntime) {
+    expect_eq(
+        &rt,
+        open_dotted(&rt).as_str(),
+        ".app.2020-02-01-09 b\n.app.2020-02-01-10 \n",
     );
 }
