@@ -1,5 +1,5 @@
-// Ways of a fault over an appender in memory: what its files hold, and how many calls of the folder were
-// made.
+// Ways of a fault over an appender in memory, and of a limit of bytes: what its files hold, and how many calls of
+// the folder were made.
 
 use crate::expect::{AllocAndAbort, expect_eq_of};
 use crate::logs::{expect_count, hourly_log};
@@ -138,14 +138,14 @@ fn take<R: AllocAndAbort + Wait + Drop>(
     }
 }
 
-// Opens the log of a case.
+// Opens the log of a case in this folder.
 fn open<'a, R: AllocAndAbort + Copy + Drop>(
     rt: R,
     case: &Case,
+    folder: MemoryFolder,
     clock: &'a TestClock,
 ) -> Appender<'a, R> {
     let builder = hourly_log(&rt, 0, "").max_file_bytes(case.limit);
-    let folder = failing_folder(&rt, case.failing);
     match builder.build_in(rt, rt.alloc(), folder, clock) {
         Ok(appender) => appender,
         Err((error, _folder, _clock)) => rt.panic(error),
@@ -153,11 +153,16 @@ fn open<'a, R: AllocAndAbort + Copy + Drop>(
 }
 
 // Takes the steps of a case in this way, and returns the log's folder.
-fn run<R: AllocAndAbort + Wait + Copy + Drop>(rt: R, case: &Case, way: Way) -> MemoryFolder {
+fn run<R: AllocAndAbort + Wait + Copy + Drop>(
+    rt: R,
+    case: &Case,
+    folder: MemoryFolder,
+    way: Way,
+) -> MemoryFolder {
     let clock = TestClock {
         moment: Cell::new(START),
     };
-    let mut appender = open(rt, case, &clock);
+    let mut appender = open(rt, case, folder, &clock);
     for step in case.steps {
         take(&rt, &mut appender, &clock, way, *step);
     }
@@ -187,12 +192,22 @@ fn expect_calls(
     expect_eq_of(rt, (way, calls), folder.list().is_err(), true);
 }
 
+// Checks a case in one way to write, over this folder.
+fn expect_way<R: AllocAndAbort + Wait + Copy + Drop>(
+    rt: R,
+    case: &Case,
+    folder: MemoryFolder,
+    way: Way,
+) {
+    let folder = run(rt, case, folder, way);
+    expect_files(&rt, &folder, case.files, way);
+    expect_calls(&rt, folder, case.failing.len(), case.calls, way);
+}
+
 // Checks a case in each way to write.
 fn expect_case<R: AllocAndAbort + Wait + Copy + Drop>(rt: R, case: &Case) {
     for way in &WAYS {
-        let folder = run(rt, case, *way);
-        expect_files(&rt, &folder, case.files, *way);
-        expect_calls(&rt, folder, case.failing.len(), case.calls, *way);
+        expect_way(rt, case, failing_folder(&rt, case.failing), *way);
     }
 }
 
@@ -344,4 +359,96 @@ static FAILED_LAST_FLUSH: Case = Case {
 fn a_failed_flush_writes_nothing(rt: HostRuntime) {
     expect_case(rt, &FAILED_FLUSH);
     expect_case(rt, &FAILED_LAST_FLUSH);
+}
+
+// With a limit of two bytes: a longer line is in the file that was opened for it.
+static LONG_FIRST: Case = Case {
+    limit: 2,
+    failing: &[],
+    steps: &[
+        AppenderCall::Write(START, "abc", true),
+        AppenderCall::Write(START, "d", true),
+    ],
+    files: &[
+        ("app.2020-02-01-10.000000", "abc"),
+        ("app.2020-02-01-10.000001", "d"),
+    ],
+    calls: 6,
+};
+
+// A full file is followed by the next one of its hour, whatever the clock shows. The hour ends as before.
+static FULL: Case = Case {
+    limit: 2,
+    failing: &[],
+    steps: &[
+        AppenderCall::Write(START, "ab", true),
+        AppenderCall::Write(0, "c", true),
+        AppenderCall::Write(ELEVEN - 1, "d", true),
+        AppenderCall::Write(ELEVEN, "e", true),
+    ],
+    files: &[
+        ("app.2020-02-01-10.000000", "ab"),
+        ("app.2020-02-01-10.000001", "cd"),
+        ("app.2020-02-01-11.000000", "e"),
+    ],
+    calls: 10,
+};
+
+#[test]
+fn a_limit_moves_no_boundary(rt: HostRuntime) {
+    expect_case(rt, &LONG_FIRST);
+    expect_case(rt, &FULL);
+}
+
+// With a limit of four bytes, of which the first append takes one: that byte counts alone.
+static SHORT_WRITE: Case = Case {
+    limit: 4,
+    failing: &[],
+    steps: &[
+        AppenderCall::Write(START, "abcd", false),
+        AppenderCall::Write(START, "xyz", true),
+        AppenderCall::Write(START, "q", true),
+    ],
+    files: &[
+        ("app.2020-02-01-10.000000", "axyz"),
+        ("app.2020-02-01-10.000001", "q"),
+    ],
+    calls: 7,
+};
+
+// The rest of the line is written to the same file.
+static SHORT_WRITE_ALL: Case = Case {
+    limit: 4,
+    failing: &[],
+    steps: &[
+        AppenderCall::Write(START, "abcd", true),
+        AppenderCall::Write(START, "xyz", true),
+        AppenderCall::Write(START, "q", true),
+    ],
+    files: &[
+        ("app.2020-02-01-10.000000", "abcd"),
+        ("app.2020-02-01-10.000001", "xyzq"),
+    ],
+    calls: 8,
+};
+
+// A folder whose third call, the first append, takes one byte.
+fn short_folder(rt: &impl AllocAndAbort) -> MemoryFolder {
+    let mut folder = MemoryFolder::new(rt.alloc());
+    folder.short_append(3, 1).expect(rt, "memory");
+    folder
+}
+
+fn expect_short<R: AllocAndAbort + Wait + Copy + Drop>(rt: R) {
+    for way in [Way::Write, Way::WriterWrite] {
+        expect_way(rt, &SHORT_WRITE, short_folder(&rt), way);
+    }
+    for way in [Way::WriteAll, Way::WriterWriteAll] {
+        expect_way(rt, &SHORT_WRITE_ALL, short_folder(&rt), way);
+    }
+}
+
+#[test]
+fn a_short_append_counts_what_it_takes(rt: HostRuntime) {
+    expect_short(rt);
 }

@@ -1,10 +1,12 @@
-// What a roller and a builder show, and bodies that names don't lead to any more.
+// What a roller and a builder show, bodies that names don't lead to any more, and how often a clock is read.
 
 use crate::expect::{AllocAndAbort, expect_eq, expect_eq_of, expect_shown};
 use crate::logs::{expect_count, folder_with, hourly_log};
+use std::cell::Cell;
+use std::io::Write;
 use std::process::Abort;
-use tracing_appender::rolling::{Builder, InitError, Roller, Switch};
-use tracing_appender::store::MemoryFolder;
+use tracing_appender::rolling::{Builder, Clock, InitError, Roller, RollingFile, Switch};
+use tracing_appender::store::{Folder, MemoryFolder};
 
 // 2020-02-01 10:01:00.
 const START: i64 = 1_580_551_260;
@@ -130,4 +132,80 @@ fn bodies_stay_without_a_name(rt: HostRuntime) {
     let folder = write_failing(&rt);
     expect_count(&rt, &folder, 0);
     expect_bodies(&rt, &folder, &[b"x", b"y"]);
+}
+
+// A clock that shows a moment and counts its readings.
+#[derive(Drop)]
+struct CountingClock {
+    moment: Cell<i64>,
+    reads: Cell<u64>,
+}
+
+impl Clock for CountingClock {
+    ghost now_gives = { λ clock m. Unit {0} };
+
+    fn now(&self) -> i64 {
+        self.reads.set(self.reads.get().wrapping_add(1));
+        self.moment.get()
+    }
+}
+
+// A call of a log for one thread.
+#[derive(Clone, Copy, Debug)]
+enum Call {
+    Put,
+    Write,
+    Moment,
+    Due,
+    See,
+    Append,
+    Flush,
+}
+
+fn make_call<S: Folder, C: Clock>(log: &mut RollingFile<S, C>, moment: i64, call: Call) -> bool {
+    match call {
+        Call::Put => log.put(b"a").1.is_ok(),
+        Call::Write => log.write(b"a").is_ok(),
+        Call::Moment => log.moment() == moment,
+        Call::Due => !log.due(moment),
+        Call::See => log.see(moment) == Switch::None,
+        Call::Append => log.append(b"a").is_ok(),
+        Call::Flush => log.flush().is_ok(),
+    }
+}
+
+// Moments with a call at each, and how often that reads the clock: a `put` does so once at a boundary too.
+static READS: [(i64, Call, u64); 8] = [
+    (START, Call::Put, 1),
+    (ELEVEN, Call::Put, 1),
+    (TWELVE, Call::Write, 1),
+    (TWELVE, Call::Moment, 1),
+    (TWELVE, Call::Due, 0),
+    (TWELVE, Call::See, 0),
+    (TWELVE, Call::Append, 0),
+    (TWELVE, Call::Flush, 0),
+];
+
+// Opens a log, which reads the clock once, and makes the calls.
+fn expect_reads(rt: &impl AllocAndAbort, clock: &CountingClock) {
+    let folder = MemoryFolder::new(rt.alloc());
+    let Ok(mut log) = hourly_log(rt, 0, "").open_in(rt.alloc(), folder, clock) else {
+        rt.panic("a log that is not opened");
+    };
+    expect_eq(rt, clock.reads.get(), 1);
+    for (moment, call, reads) in &READS {
+        clock.moment.set(*moment);
+        clock.reads.set(0);
+        expect_eq_of(rt, *call, make_call(&mut log, *moment, *call), true);
+        expect_eq_of(rt, *call, clock.reads.get(), *reads);
+    }
+}
+
+#[test]
+fn a_call_reads_the_clock_once_at_most(rt: HostRuntime) {
+    let clock = CountingClock {
+        moment: Cell::new(START),
+        reads: Cell::new(0),
+    };
+    expect_reads(&rt, &clock);
 }
