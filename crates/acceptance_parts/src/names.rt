@@ -337,13 +337,14 @@ fn parts_of_names(rt: HostRuntime) {
 }
 
 // Words for rotations, and texts that are none.
-static WORDS: [(&str, Option<Rotation>); 7] = [
+static WORDS: [(&str, Option<Rotation>); 8] = [
     ("minutely", Some(Rotation::MINUTELY)),
     ("hourly", Some(Rotation::HOURLY)),
     ("daily", Some(Rotation::DAILY)),
     ("weekly", Some(Rotation::WEEKLY)),
     ("never", Some(Rotation::NEVER)),
     ("Hourly", None),
+    ("hour", None),
     ("", None),
 ];
 

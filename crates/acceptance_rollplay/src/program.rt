@@ -157,7 +157,7 @@ fn tells_why_nothing_is_opened(rt: HostRuntime) {
 
 // Scripts and their first faulty lines.
 static FAULTY: Table = Table {
-    rows: 166,
+    rows: 167,
     text: concat!(
         // No `start`.
         "|1|",
@@ -178,6 +178,7 @@ static FAULTY: Table = Table {
         // Words and the spaces between them.
         "rotation yearly|1|",
         "rotation Hourly\nstart 0\n|1|",
+        "rotation hour\nstart 0\n|1|",
         "rotation\nstart 0\n|1|",
         "rotation  hourly\nstart 0\n|1|",
         "rotation hourly \nstart 0\n|1|",

@@ -19,7 +19,7 @@ pub fn first_row(text: &str) -> Option<(&str, &str, &str)> {
 
 /// Scripts without a queue whose log is opened, and their pages.
 pub static PLAYED: Table = Table {
-    rows: 58,
+    rows: 59,
     text: concat!(
         // Arrivals an hour apart; a clock that is set back keeps the file.
         "rotation hourly\nprefix app\nstart 1580551260\nput 1580554800 a\nput 1580554799 b\n|",
@@ -148,6 +148,9 @@ pub static PLAYED: Table = Table {
         // With a limit of bytes a full file is followed by the next number, and a later period begins at 0 again.
         "rotation hourly\nprefix app\nbytes 4\nstart 1580551260\nput 1580551260 abc\nput 1580551260 d\nput 1580551260 e\nput 1580551260 longer\nput 1580551260 x\nput 1580554800 y\n|",
         "open app.2020-02-01-10.000000\nnone ok 3\nnone ok 1\nopened ok 1\nopened ok 6\nopened ok 1\nopened ok 1\nfile app.2020-02-01-10.000000 4 abcd\nfile app.2020-02-01-10.000001 1 e\nfile app.2020-02-01-10.000002 6 longer\nfile app.2020-02-01-10.000003 1 x\nfile app.2020-02-01-11.000000 1 y\n|",
+        // A limit of 2^32 + 1 bytes.
+        "rotation hourly\nprefix app\nbytes 4294967297\nstart 1580551260\nput 1580551260 ab\nput 1580551260 c\n|",
+        "open app.2020-02-01-10.000000\nnone ok 2\nnone ok 1\nfile app.2020-02-01-10.000000 3 abc\n|",
         // A full file whose next one can't be opened takes the limit once more.
         "rotation hourly\nprefix app\nbytes 4\nfail 4\nfail 6\nstart 1580551260\nput 1580551260 abcd\nput 1580551260 e\nput 1580551260 fgh\nput 1580551260 i\n|",
         "open app.2020-02-01-10.000000\nnone ok 4\nfailed ok 1\nnone ok 3\nopened ok 1\nfile app.2020-02-01-10.000000 8 abcdefgh\nfile app.2020-02-01-10.000002 1 i\n|",
