@@ -1,12 +1,16 @@
-// What another process may do to the files of a log: a second name for one, or another name or file in its place.
+// What another process may do to the files of a log: a second name for one, another name or file in its place, or a
+// change.
 
 use crate::expect::{expect_eq, expect_eq_of};
 use crate::scene::{
-    FilesAndAbort, at, clear, expect_text, folder_at, fresh, kind_of_error, place_of,
+    Entry, FilesAndAbort, START, TestClock, at, clear, expect_files, expect_text, fill, folder_at,
+    fresh, hourly_log, kind_of_error, open_appender, place_of,
 };
 use appender_store::store::Folder;
-use std::fs;
+use std::fs::{FileTimes, OpenOptions};
 use std::io::ErrorKind;
+use std::time::{Duration, UNIX_EPOCH};
+use std::{fs, io};
 
 #[test]
 fn a_log_with_a_second_hard_link_is_refused(rt: HostRuntime) {
@@ -84,4 +88,39 @@ fn a_folder_tells_whether_a_name_leads_to_an_open_file(rt: HostRuntime) {
         let named = is_named_after(rt, place.as_str(), *deed);
         expect_eq_of(&rt, *deed, named, *wanted);
     }
+}
+
+static TWO_LOGS: [Entry; 2] = [
+    Entry::File("app.2020-02-01-08", "a"),
+    Entry::File("app.2020-02-01-09", "b"),
+];
+
+// The first one is gone.
+static KEPT: [(&str, &str); 2] = [("app.2020-02-01-09", "b"), ("app.2020-02-01-10", "")];
+
+// Sets the last change of a file to a moment that is far ahead, in 2106.
+fn set_changed(rt: HostRuntime, path: &str) -> io::Result<()> {
+    let since = Duration::from_secs(u64::from(u32::MAX));
+    let moment = UNIX_EPOCH.checked_add(since).ok_or(ErrorKind::Other)?;
+    let file = OpenOptions::new().append(true).open(&rt, path)?;
+    file.set_times(FileTimes::new().set_modified(moment))
+}
+
+// Opens a log that keeps two files.
+fn open_keeping_two<R: FilesAndAbort>(rt: R, directory: &str) {
+    let builder = hourly_log(&rt, "app").max_log_files(2);
+    let clock = TestClock::new(START);
+    drop(open_appender(rt, &builder, folder_at(rt, directory), &clock));
+}
+
+#[test]
+fn the_file_that_was_made_first_is_the_oldest(rt: HostRuntime) {
+    let directory = fresh(&rt, place_of(rt, "changed"));
+    let directory = directory.as_str();
+    fill(&rt, directory, &TWO_LOGS);
+    let first = at(&rt, directory, "app.2020-02-01-08");
+    set_changed(rt, first.as_str()).expect(&rt, "a change");
+    open_keeping_two(rt, directory);
+    expect_files(&rt, directory, &KEPT);
+    clear(&rt, directory);
 }
