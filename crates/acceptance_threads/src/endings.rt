@@ -158,3 +158,34 @@ fn a_worker_whose_flushes_fail_ends_after_two(rt: HostRuntime) {
         &FLUSHES_FAIL,
     );
 }
+
+// A writer that takes one byte at a time.
+#[derive(Drop)]
+struct Nibbling<R: Host> {
+    gate: Gate<R>,
+}
+
+impl<R: Host> Write for Nibbling<R> {
+    fn write(&mut self, buf: &[u8]) -> io::Result<usize> {
+        self.gate.write(&buf[..buf.len().min(1)])
+    }
+
+    fn flush(&mut self) -> io::Result<()> {
+        self.gate.flush()
+    }
+}
+
+static BYTE_BY_BYTE: [WorkerStep; 5] = [
+    WorkerStep::Takes(b"ab"),
+    WorkerStep::Takes(b"cde"),
+    WorkerStep::Closes(Closing::Done { left: 0 }),
+    WorkerStep::Came(b"a|b|c|d|e|"),
+    WorkerStep::Dropped(0),
+];
+
+#[test]
+fn a_line_is_written_whole_in_parts(rt: HostRuntime) {
+    let (gate, seen) = new_gate(rt, b"").expect(&rt, "memory");
+    let writer = Nibbling { gate };
+    play_over(rt, Queue::Waiting(4), writer, seen, &BYTE_BY_BYTE);
+}

@@ -1,9 +1,9 @@
 // Records of the crate `log` through the queue: each is one line.
-use crate::expect::expect_eq;
+use crate::expect::{expect_eq, expect_text};
 use acceptance_gate::{Seen, new_gate};
 use appender_log::LogSink;
 use appender_non_blocking::non_blocking::{Closing, NonBlocking, NonBlockingBuilder, WorkerGuard};
-use log::{Level, Log, Logged, info};
+use log::{Level, Log, Logged, debug, error, info, trace, warn};
 use program_io::Host;
 use std::io::Write;
 use std::process::Abort;
@@ -81,5 +81,42 @@ fn a_lossy_queue_drops_whole_records(rt: HostRuntime) -> Result<(), Fail> {
     expect_eq(&rt, seen.count(), 2);
     expect_eq(&rt, count_of(rt, &seen, 0), 1);
     expect_eq(&rt, count_of(rt, &seen, 1), 1);
+    Ok(())
+}
+
+// A record of each level is one line, of the least and the greatest too.
+#[test]
+fn a_record_of_each_level_is_written_once(rt: HostRuntime) -> Result<(), Fail> {
+    let (writer, seen) = new_gate(rt, b"")?;
+    let (sender, guard) = start(rt, false, 8, writer)?;
+    let sink = LogSink::new(rt.alloc(), &sender);
+    let logger = Logged::new(rt, Level::Trace, &sink);
+    error!(logger; target: "db", "row");
+    warn!(logger; target: "db", "row");
+    info!(logger; target: "db", "row");
+    debug!(logger; target: "db", "row");
+    trace!(logger; target: "db", "row");
+    expect_eq(&rt, guard.close(), Closing::Done { left: 0 });
+    expect_eq(&rt, sink.lost(), 0);
+    expect_text(
+        rt,
+        &seen,
+        b"[ERROR db] row\n|[WARN  db] row\n|[INFO  db] row\n|[DEBUG db] row\n|[TRACE db] row\n|",
+    );
+    Ok(())
+}
+
+// The queue is closed, so that each record is lost.
+#[test]
+fn every_lost_record_is_counted(rt: HostRuntime) -> Result<(), Fail> {
+    let (writer, seen) = new_gate(rt, b"")?;
+    let (sender, guard) = start(rt, false, 4, writer)?;
+    let sink = LogSink::new(rt.alloc(), &sender);
+    expect_eq(&rt, guard.close(), Closing::Done { left: 0 });
+    for id in 0..1_200usize {
+        log_request(rt, &sink, id);
+    }
+    expect_eq(&rt, sink.lost(), 1_200);
+    expect_eq(&rt, seen.count(), 0);
     Ok(())
 }

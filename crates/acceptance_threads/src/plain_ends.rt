@@ -4,6 +4,7 @@ use acceptance_gate::{Gate, new_gate};
 use appender_non_blocking::non_blocking::{Closing, NonBlocking, NonBlockingBuilder};
 use program_io::Host;
 use std::io::Write;
+use std::process::Abort;
 use std::sync::Wait;
 use std::test::Fail;
 use std::{io, thread};
@@ -88,16 +89,16 @@ fn the_worker_ends_after_the_last_clone(rt: HostRuntime) -> Result<(), Fail> {
     Ok(())
 }
 
-#[test]
-fn a_queue_of_three_drops_what_follows(rt: HostRuntime) -> Result<(), Fail> {
+// Offers this number of lines, of which none is to be dropped, and then five more, of which each is.
+fn fill<R: Host + Abort>(rt: R, limit: usize) -> Result<(), Fail> {
     let (gate, seen) = new_gate(rt, b"held")?;
     let (mut sender, guard) = NonBlockingBuilder::default()
-        .buffered_lines_limit(3)
+        .buffered_lines_limit(limit)
         .finish(rt, rt.alloc(), gate)?;
     let counter = sender.error_counter()?;
     sender.write_all(b"held")?;
     assert!(rt; seen.is_held(rt));
-    for _ in 0..3u32 {
+    for _ in 0..limit {
         sender.write_all(b"a")?;
     }
     expect_eq(&rt, counter.dropped_lines(), 0);
@@ -107,5 +108,38 @@ fn a_queue_of_three_drops_what_follows(rt: HostRuntime) -> Result<(), Fail> {
     expect_eq(&rt, counter.dropped_lines(), 5);
     seen.opens();
     expect_eq(&rt, guard.close(), Closing::Done { left: 0 });
+    expect_eq(&rt, seen.count(), limit.saturating_add(1));
+    Ok(())
+}
+
+#[test]
+fn a_queue_has_as_many_places_as_its_limit(rt: HostRuntime) -> Result<(), Fail> {
+    for limit in [1, 3, 4, 64] {
+        fill(rt, limit)?;
+    }
+    Ok(())
+}
+
+// Each sender's counter counts the lines that all of them drop.
+#[test]
+fn dropped_lines_are_those_of_all_senders(rt: HostRuntime) -> Result<(), Fail> {
+    let (gate, seen) = new_gate(rt, b"held")?;
+    let (mut sender, guard) = NonBlockingBuilder::default()
+        .buffered_lines_limit(1)
+        .finish(rt, rt.alloc(), gate)?;
+    let mut other = sender.clone()?;
+    let (counter, other_counter) = (sender.error_counter()?, other.error_counter()?);
+    sender.write_all(b"held")?;
+    assert!(rt; seen.is_held(rt));
+    other.write_all(b"a")?;
+    for dropped in 1..=3usize {
+        sender.write_all(b"b")?;
+        expect_eq(&rt, other_counter.dropped_lines(), 2 * dropped - 1);
+        other.write_all(b"c")?;
+        expect_eq(&rt, counter.dropped_lines(), 2 * dropped);
+    }
+    seen.opens();
+    expect_eq(&rt, guard.close(), Closing::Done { left: 0 });
+    expect_eq(&rt, seen.count(), 2);
     Ok(())
 }
