@@ -110,7 +110,18 @@ fn new_turns<R: Host>(rt: R) -> Result<&'static Turns, Fail> {
     Ok(Box::leak(Box::new(rt.alloc(), turns)?))
 }
 
-// Offers a line once the shutdown is sent, and then lets worker and guard go on.
+// Lets the worker end while the guard is about to wait for that, and then lets the guard go on. Returns whether the
+// worker made its two last flushes.
+fn end_first<R: Host>(rt: R, turns: &Turns, seen: &Seen) -> bool {
+    seen.opens();
+    let is_flushed = seen.flushes_come(rt, 2);
+    // A worker that announces its end too early has time to do so.
+    thread::sleep(&rt, Duration::from_millis(50));
+    turns.allowed.store(usize::MAX, SeqCst);
+    is_flushed
+}
+
+// Offers a line once the shutdown is sent, and then lets the worker end.
 fn offer_late<R: Host>(
     rt: R,
     mut sender: NonBlocking<InTurn<R>>,
@@ -119,9 +130,7 @@ fn offer_late<R: Host>(
 ) -> bool {
     let is_late = reaches(rt, &turns.reads, 1);
     let is_taken = sender.write(b"late").is_ok();
-    seen.opens();
-    turns.allowed.store(usize::MAX, SeqCst);
-    is_late && is_taken
+    end_first(rt, turns, seen) && is_late && is_taken
 }
 
 #[test]
@@ -137,22 +146,16 @@ fn a_guard_counts_the_lines_that_it_leaves(rt: HostRuntime) -> Result<(), Fail> 
     Ok(())
 }
 
-// Lets the worker end while the guard is about to wait for that, and then lets the guard go on.
-fn end_first<R: Host>(rt: R, turns: &Turns, seen: &Seen) -> bool {
-    let is_sent = reaches(rt, &turns.reads, 1);
-    seen.opens();
-    let is_flushed = seen.flushes_come(rt, 2);
-    // A worker that announces its end too early has time to do so.
-    thread::sleep(&rt, Duration::from_millis(50));
-    turns.allowed.store(usize::MAX, SeqCst);
-    is_sent && is_flushed
+// Lets the worker end once the shutdown is sent.
+fn end_shut<R: Host>(rt: R, turns: &Turns, seen: &Seen) -> bool {
+    reaches(rt, &turns.reads, 1) && end_first(rt, turns, seen)
 }
 
 // Returns whether a guard is woken by the worker's end, and not by the end of its own time of a second.
 fn is_woken<R: Host + Abort>(rt: R) -> Result<bool, Fail> {
     let turns = new_turns(rt)?;
     let (_sender, guard, seen) = start(rt, turns)?;
-    let ends = thread::spawn(&rt, move || end_first(rt, turns, &*seen))?;
+    let ends = thread::spawn(&rt, move || end_shut(rt, turns, &*seen))?;
     let start = Instant::now(&rt)?;
     let _ = guard.close();
     let is_soon = start.elapsed(&rt)? < Duration::from_millis(1000);
