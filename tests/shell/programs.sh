@@ -136,6 +136,46 @@ else
   skip "no /dev/null" "$(head -1 "$err")"
 fi
 
+# ---- standard streams that are open the wrong way round
+
+# run_turned STREAM PROGRAM ARGUMENT..: the same, with this standard stream open the wrong way round: the input only for
+# writing, or an output only for reading.
+run_turned() {
+  local turned
+  case $1 in 0) turned='0> /dev/null' ;; *) turned="$1< /dev/null" ;; esac
+  shift
+  run bash -c "exec \"\$@\" $turned" run_turned "$@"
+}
+
+# Such a stream is no closed one: an input that can't be read is a fault, and so is an output that can't be written.
+for stream in 0 1 2; do
+  name="stream $stream the wrong way round"
+  case $stream in
+    0) lines_wanted='[]' tee_told='1||read failed' trail_status=1 play_told='2||read failed' ;;
+    1) lines_wanted=$'[one\ntwo]' tee_told='0||' trail_status=0 play_told='2||' ;;
+    2) lines_wanted=$'[one\ntwo]' tee_told='0||' trail_status=0 play_told="0|$played|" ;;
+  esac
+  folder=$work/turned$stream
+  run_turned "$stream" "$rolltee" never "$folder" app < "$lines"
+  check "rolltee, $name" "$tee_told" "$(told)"
+  check "rolltee, $name: the log" "$lines_wanted" "$(content "$folder/app")"
+  run_turned "$stream" "$audit_trail" "$folder" < "$lines"
+  check "audit_trail, $name" "$trail_status" "$status"
+  check "audit_trail, $name: the log" "$lines_wanted" "$(content "$folder/latest.log")"
+  run_turned "$stream" "$rollplay" < "$script"
+  check "rollplay, $name" "$play_told" "$(told)"
+done
+# Where errors can't be reported, the status does it.
+run_turned 2 "$rolltee" never "$work/turned" app < /
+check 'rolltee, stream 2 the wrong way round: no input' '1||' "$(told)"
+run_turned 2 "$rollplay" < "$lines"
+check 'rollplay, stream 2 the wrong way round: a fault' '2||' "$(told)"
+for name in rolltee audit_trail rollplay; do
+  case $name in rollplay) failed_print=2 ;; *) failed_print=1 ;; esac
+  run_turned 1 "$top/crates/$name/out/$name" --help < /dev/null
+  check "$name --help, stream 1 the wrong way round" "$failed_print||" "$(told)"
+done
+
 # ---- options
 
 for name in rolltee audit_trail rollplay; do
@@ -229,6 +269,47 @@ if mount -t tmpfs -o size=16k programs "$disk" 2> "$err"; then
   check 'rolltee, a disk with room: the log' $'[one\ntwo]' "$(content "$disk/logs/app")"
 else
   skip 'rolltee, a full disk' "$(head -1 "$err")"
+fi
+
+# ---- a folder that another file system covers
+
+# Runs audit_trail in a file system of its own. Another one then covers that, whose log file has the same inode number.
+# Ends with the status of audit_trail, or with 77 if there is no such file.
+run_covered() {
+  local running log number turn
+  mount -t tmpfs first "$covered" || exit 77
+  "$audit_trail" "$covered" < "$covered.lines" &
+  running=$!
+  exec 9> "$covered.lines"
+  echo one >&9
+  for ((turn = 0; turn < 200; turn++)); do
+    [ ! -s "$covered/latest.log" ] || break
+    sleep 0.01
+  done
+  log=$(readlink "$covered/latest.log")
+  number=$(stat -c %i "$covered/$log")
+  mount -t tmpfs second "$covered"
+  for ((turn = 0; turn < 20; turn++)); do
+    : > "$covered/$turn"
+    [ "$(stat -c %i "$covered/$turn")" != "$number" ] || mv "$covered/$turn" "$covered/$log"
+  done
+  exec 9>&-
+  wait "$running"
+  status=$?
+  [ -f "$covered/$log" ] || status=77
+  exit "$status"
+}
+export -f run_covered
+export audit_trail covered=$work/covered
+mkdir "$covered"
+mkfifo "$covered.lines"
+run unshare -m bash -c run_covered
+if [ "$status" = 77 ] || ! unshare -m true 2> /dev/null; then
+  skip 'audit_trail, a covered folder' "$(head -1 "$err")"
+else
+  check 'audit_trail, a covered folder' 1 "$status"
+  check 'audit_trail, a covered folder: the log file is another one' 1 \
+    "$(grep -c ': log file removed, renamed or replaced$' "$err")"
 fi
 
 # ---- a run that is killed
