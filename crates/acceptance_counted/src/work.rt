@@ -1,30 +1,72 @@
 // Work with counted senders, and its account.
-use crate::expect::expect_eq;
+use crate::expect::{expect_eq, expect_eq_of, expect_shown, put};
 use acceptance_gate::new_gate;
-use appender_non_blocking::non_blocking::{Account, CountedWork, LineSender, NonBlockingBuilder};
+use appender_non_blocking::non_blocking::{
+    Account, CountedWork, LineSender, NonBlockingBuilder, Sent,
+};
+use std::alloc::Global;
+use std::io;
 use std::io::ErrorKind;
-use std::sync::atomic::AtomicU64;
-use std::sync::atomic::Ordering::SeqCst;
+use std::process::Abort;
 use std::test::Fail;
 
-// Writes this number of lines by each sender, and counts the threads by their numbers.
-#[derive(Drop)]
+// Writes this number of lines, and counts its runs and the lines that were queued.
+#[derive(Clone, Copy, PartialEq, Eq, Debug)]
 struct Writes {
     lines: u64,
-    numbers: AtomicU64,
+    runs: u64,
+    queued: u64,
 }
 
 impl CountedWork for Writes {
     ghost does = { λ _ _ _ _. Unit {0} };
 
-    fn run<L: LineSender>(&self, number: usize, sender: &mut L)
+    fn run<L: LineSender>(&mut self, sender: &mut L)
         ensures { Unit {0} }
     {
         for _ in 0..self.lines {
-            let _ = sender.write_line(b"a").is_ok();
+            if let Ok(Sent::Queued(_)) = sender.write_line(b"a") {
+                self.queued = self.queued.saturating_add(1);
+            }
         }
-        self.numbers.fetch_add(1u64 << (number as u64 % 64), SeqCst);
+        self.runs = self.runs.saturating_add(1);
     }
+}
+
+// This number of works. Each has one line more than the one before it.
+fn works<R: Abort>(rt: &R, alloc: Global, count: u64) -> Vec<Writes> {
+    let mut works = Vec::new(alloc);
+    for lines in 0..count {
+        let (runs, queued) = (0, 0);
+        put(rt, &mut works, Writes { lines, runs, queued });
+    }
+    works
+}
+
+// The number of works and the number of their lines.
+static WORKS: [(u64, u64); 3] = [(0, 0), (1, 0), (5, 10)];
+
+#[test]
+fn work_of_threads_has_an_account(rt: HostRuntime) -> Result<(), Fail> {
+    for (count, lines) in &WORKS {
+        let (gate, seen) = new_gate(rt, b"")?;
+        let (done, account) = NonBlockingBuilder::default()
+            .lossy(false)
+            .buffered_lines_limit(4)
+            .run_counted(rt, rt.alloc(), gate, works(&rt, rt.alloc(), *count))
+            .map_err(io::Error::from)?;
+        expect_eq_of(&rt, *count, account, account_of(*lines));
+        expect_eq_of(&rt, *count, seen.count() as u64, *lines);
+        // Each work was run once, and they are returned in their order.
+        expect_eq(&rt, done.len() as u64, *count);
+        let (mut lines, runs) = (0, 1);
+        for work in &done {
+            let queued = lines;
+            expect_eq_of(&rt, *count, *work, Writes { lines, runs, queued });
+            lines += 1;
+        }
+    }
+    Ok(())
 }
 
 // An account of lines that were all handed.
@@ -37,43 +79,17 @@ fn account_of(lines: u64) -> Account {
     }
 }
 
-static THREADS: [usize; 3] = [0, 1, 5];
-
-#[test]
-fn work_of_threads_has_an_account(rt: HostRuntime) -> Result<(), Fail> {
-    for threads in &THREADS {
-        let (gate, seen) = new_gate(rt, b"")?;
-        let work = Writes {
-            lines: 7,
-            numbers: AtomicU64::new(0),
-        };
-        let account = NonBlockingBuilder::default()
-            .lossy(false)
-            .buffered_lines_limit(4)
-            .run_counted(rt, rt.alloc(), gate, *threads, &work)?;
-        let lines = (*threads as u64).saturating_mul(7);
-        expect_eq(&rt, account, account_of(lines));
-        expect_eq(&rt, seen.count() as u64, lines);
-        // The work ran once with each number, and with no other.
-        let numbers = work.numbers.load(SeqCst);
-        expect_eq(&rt, numbers, (1u64 << *threads as u64).wrapping_sub(1));
-    }
-    Ok(())
-}
-
 #[test]
 fn without_an_account_no_work_is_run(rt: HostRuntime) -> Result<(), Fail> {
     let (gate, seen) = new_gate(rt, b"")?;
-    let work = Writes {
-        lines: 1,
-        numbers: AtomicU64::new(0),
-    };
-    // There is no part of a ledger for the guard.
-    let refused = NonBlockingBuilder::default()
-        .run_counted(rt, rt.alloc(), gate, usize::MAX, &work)
-        .map_err(|error| error.kind());
-    expect_eq(&rt, refused, Err(ErrorKind::OutOfMemory));
+    // There is no memory for such a queue.
+    let unstarted = NonBlockingBuilder::default()
+        .buffered_lines_limit(usize::MAX)
+        .run_counted(rt, rt.alloc(), gate, works(&rt, rt.alloc(), 3))
+        .expect_err(&rt, "no account");
     expect_eq(&rt, seen.count(), 0);
-    expect_eq(&rt, work.numbers.load(SeqCst), 0);
+    expect_eq(&rt, unstarted.works.as_slice(), works(&rt, rt.alloc(), 3).as_slice());
+    expect_shown(&rt, &unstarted, "Unstarted { .. }");
+    expect_eq(&rt, io::Error::from(unstarted).kind(), ErrorKind::OutOfMemory);
     Ok(())
 }

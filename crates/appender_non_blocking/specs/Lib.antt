@@ -1,5 +1,6 @@
 pub mod Account
 pub mod Counted
+pub mod Inside
 pub mod Mode
 pub mod Refusal
 pub mod Work

@@ -19,4 +19,4 @@ pub use builder::{DEFAULT_BUFFERED_LINES_LIMIT, NonBlockingBuilder, non_blocking
 pub use counted::CountedSender;
 pub use guard::{Closing, WorkerGuard};
 pub use sender::{ErrorCounter, NonBlocking, Sent};
-pub use work::{CountedWork, LineSender};
+pub use work::{CountedWork, LineSender, Unstarted};

@@ -20,9 +20,10 @@ pub fn audit<R: Host + Sync, W: Write + Send + Drop + 'static>(
 {
     let (log, counts) = CountingWriter::new(rt.alloc(), log)?;
     let count = lines.len() as u64;
-    let account = NonBlockingBuilder::default()
+    let works = vec![in rt.alloc(); Lines { lines }]?;
+    let (_, account) = NonBlockingBuilder::default()
         .lossy(false)
-        .run_counted(rt, rt.alloc(), log, 1, &Lines { lines })?;
+        .run_counted(rt, rt.alloc(), log, works)?;
     if account.accepted != count || account.dropped != 0 || counts.lost() > 0 {
         return Err(io::Error::other("lines were not written whole"));
     }
@@ -38,7 +39,7 @@ impl<'a> CountedWork for Lines<'a> {
     // The account has the number of queued lines.
     ghost does = { λ _ _ _ _. Unit {0} };
 
-    fn run<L: LineSender>(&self, _number: usize, sender: &mut L)
+    fn run<L: LineSender>(&mut self, sender: &mut L)
         ensures { Unit {0} }
     {
         for line in self.lines {

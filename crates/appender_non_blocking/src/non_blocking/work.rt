@@ -1,5 +1,6 @@
-// Counted senders for threads that send lines, and the account of the lines.
-ghost use Rattle.std.specs.Prelude.{◌≡◌, ◌≢◌, ◌+◌, Ok, IfOk, IfErr, List, map, length, slice_index_or, ◌<◌, ℕ, false};
+// Works of threads, each with a counted sender of its own, and the account of their lines.
+ghost use Rattle.std.specs.Prelude.{◌≡◌, ◌≢◌, ◌≤◌, Ok, IfOk, IfErr, List, [], length, reverse, vec_len, false};
+ghost use Rattle.std.specs.Vec.{vec_capacity};
 ghost use Rattle.std.specs.IoError.{error_kind};
 ghost use Rattle.appender_non_blocking.specs.Account.{
   IsAccount,
@@ -11,19 +12,21 @@ ghost use Rattle.appender_non_blocking.specs.Account.{
 ghost use Rattle.appender_non_blocking.specs.Refusal.{IsRefusal};
 ghost use Rattle.appender_non_blocking.specs.Counted.{after_line};
 ghost use Rattle.appender_non_blocking.specs.Work.{Worked};
+ghost use Rattle.appender_non_blocking.specs.Inside.Jobs.{senders_of, works_of, AllDo, AllDid};
 
 use super::account::{Account, Blanks};
 use super::builder::NonBlockingBuilder;
 use super::counted::CountedSender;
 use super::sender::Sent;
 use std::alloc::Global;
-use std::io::{ErrorKind, Write};
+use std::fmt::{Debug, Formatter};
+use std::io::Write;
 use std::marker::Brand;
 use std::sync::Wait;
 use std::sync::ledger::Ledger;
 use std::thread::Threads;
 use std::time::Clock;
-use std::{io, thread};
+use std::{fmt, io, thread};
 
 /// A sender that counts, as `CountedSender` does, without the names of its ledgers.
 pub trait LineSender {
@@ -70,41 +73,47 @@ impl<A: Ledger, H: Ledger, S: Ledger, C: Ledger, R: Wait + Drop> LineSender
     }
 }
 
-/// What threads do with counted senders. Each thread has one.
+/// What a thread does with a counted sender. Each work has a thread and a sender of its own.
 pub trait CountedWork {
-    /// What the thread with this number may do: its sender's sums before, and after.
-    ghost does: { Self → ℕ → Sums → Sums → Type 0 };
+    /// What the work may do: it and its sender's sums before, and both after.
+    ghost does: { Self → Sums → Self → Sums → Type 0 };
 
-    /// Sends the lines of one thread. `number` counts the threads from 0.
-    fn run<L: LineSender>(&self, number: usize, sender: &mut L)
-        ensures { does self.now number (L.sums sender.old) (L.sums sender.new) };
+    /// Sends the lines of this work.
+    fn run<L: LineSender>(&mut self, sender: &mut L)
+        ensures { does self.old (L.sums sender.old) self.new (L.sums sender.new) };
+}
+
+/// No work was run. All works are returned as they were.
+#[derive(Drop)]
+pub struct Unstarted<K: Drop> {
+    /// The works.
+    pub works: Vec<K>,
+    /// Why: an error of `NonBlockingBuilder::finish`.
+    pub error: io::Error,
 }
 
 impl NonBlockingBuilder {
-    /// Starts the worker, runs the work in this number of threads, each with a counted sender, and waits for
-    /// them and for the worker's end. Returns the account of all lines. If a thread can't be made, its work
-    /// is run by another one. Errors are those of `finish`; then no work was run.
+    /// Starts the worker, runs each work once with a counted sender of its own, and waits for all of them and
+    /// for the worker's end. Returns the works, in their order, and the account of all lines. Each work has a
+    /// thread; if one can't be made, another thread runs its work. Errors are those of `finish`.
     pub fn run_counted<
-        K: CountedWork + Sync,
+        K: CountedWork + Send + Drop,
         W: Write + Send + Drop + 'static,
         R: Threads + Wait + Clock + Print + Eprint + Copy + Send + Sync + 'static,
-    >(self, rt: R, alloc: Global, writer: W, threads: usize, work: &K) -> io::Result<Account>
-        ensures account { IfOk result (λ a. (ended : List Sums)
-            × Worked (K.CountedWork.does work.now) self.lossy threads ended
-            × IsAccount a.accepted a.handed a.left a.dropped (new_guard threads) ended) }
+    >(
+        self,
+        rt: R,
+        alloc: Global,
+        writer: W,
+        works: Vec<K>,
+    ) -> Result<(Vec<K>, Account), Unstarted<K>>
+        ensures account { IfOk result (λ ran. (ended : List Sums)
+            × Worked K.CountedWork.does self.lossy works.items ran.0.items ended
+            × IsAccount ran.1.accepted ran.1.handed ran.1.left ran.1.dropped (new_guard (vec_len works)) ended) }
+        ensures not_run { IfErr result (λ unstarted. unstarted.works ≡ works) }
     {
-        if threads == usize::MAX {
-            return Err(io::Error::from(ErrorKind::OutOfMemory));
-        }
-        run_by::<Brand, Brand, Brand, Brand, K, W, R>(
-            self,
-            rt,
-            alloc,
-            writer,
-            threads,
-            work,
-            Blanks::new(threads),
-        )
+        let blanks = Blanks::new(works.len());
+        run_by::<Brand, Brand, Brand, Brand, K, W, R>(self, rt, alloc, writer, works, blanks)
     }
 }
 
@@ -114,7 +123,7 @@ fn run_by<
     H: Ledger + Send + Sync + 'static,
     S: Ledger + Send + Sync + 'static,
     C: Ledger + Send + Sync + 'static,
-    K: CountedWork + Sync,
+    K: CountedWork + Send + Drop,
     W: Write + Send + Drop + 'static,
     R: Threads + Wait + Clock + Print + Eprint + Copy + Send + Sync + 'static,
 >(
@@ -122,53 +131,154 @@ fn run_by<
     rt: R,
     alloc: Global,
     writer: W,
-    threads: usize,
-    work: &K,
+    works: Vec<K>,
     blanks: Blanks,
-) -> io::Result<Account>
-    requires { AreBlanksOf A.Ledger H.Ledger S.Ledger C.Ledger threads blanks }
-    ensures account { IfOk result (λ a. (ended : List Sums)
-        × Worked (K.CountedWork.does work.now) builder.lossy threads ended
-        × IsAccount a.accepted a.handed a.left a.dropped (new_guard threads) ended) }
+) -> Result<(Vec<K>, Account), Unstarted<K>>
+    requires { AreBlanksOf A.Ledger H.Ledger S.Ledger C.Ledger (vec_len works) blanks }
+    ensures account { IfOk result (λ ran. (ended : List Sums)
+        × Worked K.CountedWork.does builder.lossy works.items ran.0.items ended
+        × IsAccount ran.1.accepted ran.1.handed ran.1.left ran.1.dropped (new_guard (vec_len works)) ended) }
+    ensures not_run { IfErr result (λ unstarted. unstarted.works ≡ works) }
 {
-    let (senders, guard) = builder.finish_counted::<A, H, S, C, W, R>(
-        rt, alloc, writer, threads, blanks,
-    )?;
-    match guard.settle(run_all(&rt, work, senders)) {
-        Ok(account) => Ok(account),
+    // All memory is allocated before the worker starts.
+    let jobs = match Vec::with_capacity(alloc, works.len()) {
+        Ok(jobs) => jobs,
+        Err(error) => return Err(Unstarted {
+            works,
+            error: io::Error::from(error),
+        }),
+    };
+    let started = builder.finish_counted::<A, H, S, C, W, R>(
+        rt,
+        alloc,
+        writer,
+        works.len(),
+        blanks,
+    );
+    let (senders, guard) = match started {
+        Ok(started) => started,
+        Err(error) => return Err(Unstarted { works, error }),
+    };
+    let (senders, works) = run_all(&rt, senders, works, jobs);
+    match guard.settle(senders) {
+        Ok(account) => Ok((works, account)),
         Err(_) => unreachable!(),
     }
 }
 
-// Runs the work with each sender, in a thread of its own if one can be made.
-fn run_all<L: LineSender + Send, K: CountedWork + Sync, R: Threads + Sync>(
-    rt: &R,
-    work: &K,
-    senders: Vec<L>,
-) -> Vec<L>
-    ensures long { length result.items ≡ length senders.items }
-    ensures each { (i : ℕ) (d : L) → i < length senders.items → K.CountedWork.does work.now i
-        (L.sums (slice_index_or senders.items i d)) (L.sums (slice_index_or result.items i d)) }
-{
-    let mut senders = senders;
-    run_each(rt, work, senders.as_mut_slice());
-    senders
+// A work and the sender of its lines.
+#[derive(Drop)]
+struct Job<L: Drop, K: Drop> {
+    sender: L,
+    work: K,
 }
 
-fn run_each<L: LineSender + Send, K: CountedWork + Sync, R: Threads + Sync>(
+// Runs each work with the sender at its place, in a thread of its own if one can be made. `jobs` is memory for them.
+fn run_all<L: LineSender + Send + Drop, K: CountedWork + Send + Drop, R: Threads + Sync>(
     rt: &R,
-    work: &K,
-    senders: &mut [L],
-)
-    ensures long { length senders.new ≡ length senders.old }
-    ensures each { (i : ℕ) (d : L) → i < length senders.old → K.CountedWork.does work.now i
-        (L.sums (slice_index_or senders.old i d)) (L.sums (slice_index_or senders.new i d)) }
+    senders: Vec<L>,
+    works: Vec<K>,
+    jobs: Vec<Job<L, K>>,
+) -> (Vec<L>, Vec<K>)
+    requires long { vec_len works ≡ vec_len senders }
+    requires room { vec_len senders ≤ vec_capacity jobs }
+    requires empty { jobs.items ≡ [] }
+    ensures senders { length result.0.items ≡ length senders.items }
+    ensures works { length result.1.items ≡ length works.items }
+    ensures each { AllDid K.CountedWork.does L.sums senders.items works.items result.0.items result.1.items }
 {
-    let threads = senders.len().max(1);
+    let (senders, works, jobs) = pair(senders, works, jobs);
+    let jobs = run_jobs(rt, jobs);
+    part(jobs, senders, works)
+}
+
+// Puts each work beside the sender at its place, the last ones first. Returns both emptied.
+#[tactic(auto, using(crate::proofs::Jobs::more_senders, crate::proofs::Jobs::more_works))]
+fn pair<L: Drop, K: Drop>(
+    senders: Vec<L>,
+    works: Vec<K>,
+    jobs: Vec<Job<L, K>>,
+) -> (Vec<L>, Vec<K>, Vec<Job<L, K>>)
+    requires long { vec_len works ≡ vec_len senders }
+    requires room { vec_len senders ≤ vec_capacity jobs }
+    requires empty { jobs.items ≡ [] }
+    ensures senders { reverse (senders_of result.2.items) ≡ senders.items }
+    ensures works { reverse (works_of result.2.items) ≡ works.items }
+    ensures long { vec_len result.2 ≡ vec_len senders }
+    ensures no_sender { result.0.items ≡ [] }
+    ensures no_work { result.1.items ≡ [] }
+    ensures room_for_senders { vec_capacity result.0 ≡ vec_capacity senders }
+    ensures room_for_works { vec_capacity result.1 ≡ vec_capacity works }
+{
+    let (mut senders, mut works, mut jobs) = (senders, works, jobs);
+    while let Some(sender) = senders.pop() {
+        let Some(work) = works.pop() else {
+            unreachable!()
+        };
+        jobs.push_reserved(Job { sender, work });
+    }
+    (senders, works, jobs)
+}
+
+fn run_jobs<L: LineSender + Send + Drop, K: CountedWork + Send + Drop, R: Threads + Sync>(
+    rt: &R,
+    jobs: Vec<Job<L, K>>,
+) -> Vec<Job<L, K>>
+    ensures long { vec_len result ≡ vec_len jobs }
+    ensures each { AllDo K.CountedWork.does L.sums jobs.items result.items }
+{
+    let mut jobs = jobs;
+    run_each(rt, jobs.as_mut_slice());
+    jobs
+}
+
+fn run_each<L: LineSender + Send + Drop, K: CountedWork + Send + Drop, R: Threads + Sync>(
+    rt: &R,
+    jobs: &mut [Job<L, K>],
+)
+    ensures long { length jobs.new ≡ length jobs.old }
+    ensures each { AllDo K.CountedWork.does L.sums jobs.old jobs.new }
+{
+    let threads = jobs.len().max(1);
     thread::for_each_mut(
         rt,
-        senders,
+        jobs,
         threads,
-        &|number, sender: &mut L| work.run(number, sender),
+        &|_place, job: &mut Job<L, K>| { job.work.run(&mut job.sender) },
     );
+}
+
+// Takes them apart again, which restores the order. The senders and works are put into these two, which are empty.
+#[tactic(auto, using(crate::proofs::Jobs::more_senders, crate::proofs::Jobs::more_works))]
+fn part<L: Drop, K: Drop>(jobs: Vec<Job<L, K>>, senders: Vec<L>, works: Vec<K>) -> (Vec<L>, Vec<K>)
+    requires room_for_senders { vec_len jobs ≤ vec_capacity senders }
+    requires room_for_works { vec_len jobs ≤ vec_capacity works }
+    requires no_sender { senders.items ≡ [] }
+    requires no_work { works.items ≡ [] }
+    ensures senders { result.0.items ≡ reverse (senders_of jobs.items) }
+    ensures works { result.1.items ≡ reverse (works_of jobs.items) }
+{
+    let (mut jobs, mut senders, mut works) = (jobs, senders, works);
+    while let Some(job) = jobs.pop() {
+        let Job { sender, work } = job;
+        senders.push_reserved(sender);
+        works.push_reserved(work);
+    }
+    (senders, works)
+}
+
+impl<K: Drop> From<Unstarted<K>> for io::Error {
+    /// Returns the error. The works are dropped.
+    fn from(unstarted: Unstarted<K>) -> io::Error
+        ensures { result ≡ unstarted.error }
+    {
+        let Unstarted { works: _, error } = unstarted;
+        error
+    }
+}
+
+impl<K: Drop> Debug for Unstarted<K> {
+    fn fmt<W: fmt::Write>(&self, f: &mut Formatter<W>) -> fmt::Result {
+        f.pad("Unstarted { .. }")
+    }
 }
