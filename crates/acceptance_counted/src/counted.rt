@@ -3,10 +3,10 @@ ghost use Rattle.std.specs.Prelude.{◌≡◌, ◌+◌, ◌<◌};
 ghost use Rattle.appender_non_blocking.specs.Account.{AreBlanksOf};
 
 use crate::counted_crowd::{Tickets, expect_in_order, write_by_ten};
-use crate::expect::{expect_eq, expect_shown, expect_text, put};
+use crate::expect::{Totals, expect_eq, expect_shown, expect_text, put};
 use acceptance_gate::{Gate, Seen, new_gate};
 use appender_non_blocking::non_blocking::{
-    Account, Blanks, CountedGuard, CountedSender, NonBlockingBuilder, Sent, Shut, Unsettled,
+    Blanks, CountedGuard, CountedSender, NonBlockingBuilder, Sent, Shut, Unsettled,
 };
 use program_io::Host;
 use std::alloc::{AllocError, Global};
@@ -36,13 +36,13 @@ enum SenderStep {
 #[derive(Clone, Copy)]
 enum End {
     // All are settled, with this account.
-    Settles(Account),
+    Settles(Totals),
     // The queue is shut. Then these steps follow, and all are settled.
-    Shuts(&'static [SenderStep], Account),
+    Shuts(&'static [SenderStep], Totals),
     // As `Shuts`, and the worker's share is returned with the account.
-    ShutsWithShare(&'static [SenderStep], Account),
+    ShutsWithShare(&'static [SenderStep], Totals),
     // They are settled without one of them, and then with it.
-    LacksOne(Account),
+    LacksOne(Totals),
     // The guard is dropped, the gate opens, and the senders are dropped.
     DropsGuard,
     CanBeShown,
@@ -152,12 +152,12 @@ fn settles<A: Ledger, H: Ledger, S: Ledger, C: Ledger, R: Host + Abort>(
     rt: R,
     senders: Vec<CountedSender<A, H, S, C, R>>,
     guard: CountedGuard<A, H, S, C, R>,
-    wanted: Account,
+    wanted: Totals,
 )
     requires { (A.parts ≡ guard.made + 1) × (H.parts ≡ 1) × (S.parts ≡ 1) × (C.parts ≡ 1) }
 {
     match guard.settle(senders) {
-        Ok(account) => expect_eq(&rt, account, wanted),
+        Ok(account) => expect_eq(&rt, Totals::of(account), wanted),
         Err(_) => rt.panic("senders are missing"),
     }
 }
@@ -174,7 +174,7 @@ fn shuts<
     mut senders: Vec<CountedSender<A, H, S, C, R>>,
     mut guard: CountedGuard<A, H, S, C, R>,
     steps: &[SenderStep],
-    wanted: Account,
+    wanted: Totals,
 )
     requires { (A.parts ≡ guard.made + 1) × (H.parts ≡ 1) × (S.parts ≡ 1) × (C.parts ≡ 1) }
 {
@@ -195,7 +195,7 @@ fn shuts_with_share<
     mut senders: Vec<CountedSender<A, H, S, C, R>>,
     mut guard: CountedGuard<A, H, S, C, R>,
     steps: &[SenderStep],
-    wanted: Account,
+    wanted: Totals,
 )
     requires { (A.parts ≡ guard.made + 1) × (H.parts ≡ 1) × (S.parts ≡ 1) × (C.parts ≡ 1) }
 {
@@ -204,7 +204,7 @@ fn shuts_with_share<
     match guard.settle_with_share(senders) {
         Ok(settled) => {
             expect_shown(&stage.rt, &settled, "Settled { .. }");
-            expect_eq(&stage.rt, settled.account, wanted);
+            expect_eq(&stage.rt, Totals::of(settled.account), wanted);
         }
         Err(_) => stage.rt.panic("senders are missing"),
     }
@@ -228,7 +228,7 @@ fn lacks_one<A: Ledger, H: Ledger, S: Ledger, C: Ledger, R: Host + Abort>(
     rt: R,
     mut senders: Vec<CountedSender<A, H, S, C, R>>,
     guard: CountedGuard<A, H, S, C, R>,
-    wanted: Account,
+    wanted: Totals,
 )
     requires { (A.parts ≡ guard.made + 1) × (H.parts ≡ 1) × (S.parts ≡ 1) × (C.parts ≡ 1) }
 {
@@ -335,7 +335,7 @@ impl<R: Host + Abort> Stage<R> {
     }
 }
 
-const NONE: Account = Account {
+const NONE: Totals = Totals {
     accepted: 0,
     handed: 0,
     left: 0,
@@ -347,7 +347,7 @@ static TELLS_TICKETS: Story = Story {
     lossy: false,
     senders: 10,
     steps: &[SenderStep::TellsByTen],
-    end: End::Settles(Account {
+    end: End::Settles(Totals {
         accepted: 1000,
         handed: 1000,
         left: 0,
@@ -376,7 +376,7 @@ static LEAVES_LINES: Story = Story {
             SenderStep::Counts(3, 0),
             SenderStep::Opens,
         ],
-        Account {
+        Totals {
             accepted: 3,
             handed: 2,
             left: 1,
@@ -405,7 +405,7 @@ static SETTLES_WITH_SHARE: Story = Story {
             SenderStep::Tells(b"c", Sent::Queued(3)),
             SenderStep::Opens,
         ],
-        Account {
+        Totals {
             accepted: 3,
             handed: 1,
             left: 2,
@@ -462,7 +462,7 @@ static DROPS_LINES: Story = Story {
         SenderStep::LastTicket(2),
         SenderStep::Opens,
     ],
-    end: End::Settles(Account {
+    end: End::Settles(Totals {
         accepted: 2,
         handed: 2,
         left: 0,

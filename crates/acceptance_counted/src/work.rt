@@ -1,9 +1,7 @@
 // Work with counted senders, and its account.
-use crate::expect::{expect_eq, expect_eq_of, expect_shown, put};
+use crate::expect::{Totals, expect_eq, expect_eq_of, expect_shown, put};
 use acceptance_gate::new_gate;
-use appender_non_blocking::non_blocking::{
-    Account, CountedWork, LineSender, NonBlockingBuilder, Sent,
-};
+use appender_non_blocking::non_blocking::{CountedWork, LineSender, NonBlockingBuilder, Sent};
 use std::alloc::Global;
 use std::io;
 use std::io::ErrorKind;
@@ -38,7 +36,15 @@ fn works<R: Abort>(rt: &R, alloc: Global, count: u64) -> Vec<Writes> {
     let mut works = Vec::new(alloc);
     for lines in 0..count {
         let (runs, queued) = (0, 0);
-        put(rt, &mut works, Writes { lines, runs, queued });
+        put(
+            rt,
+            &mut works,
+            Writes {
+                lines,
+                runs,
+                queued,
+            },
+        );
     }
     works
 }
@@ -55,23 +61,32 @@ fn work_of_threads_has_an_account(rt: HostRuntime) -> Result<(), Fail> {
             .buffered_lines_limit(4)
             .run_counted(rt, rt.alloc(), gate, works(&rt, rt.alloc(), *count))
             .map_err(io::Error::from)?;
-        expect_eq_of(&rt, *count, account, account_of(*lines));
+        expect_eq_of(&rt, *count, Totals::of(account), all_handed(*lines));
         expect_eq_of(&rt, *count, seen.count() as u64, *lines);
         // Each work was run once, and they are returned in their order.
         expect_eq(&rt, done.len() as u64, *count);
         let (mut lines, runs) = (0, 1);
         for work in &done {
             let queued = lines;
-            expect_eq_of(&rt, *count, *work, Writes { lines, runs, queued });
+            expect_eq_of(
+                &rt,
+                *count,
+                *work,
+                Writes {
+                    lines,
+                    runs,
+                    queued,
+                },
+            );
             lines += 1;
         }
     }
     Ok(())
 }
 
-// An account of lines that were all handed.
-fn account_of(lines: u64) -> Account {
-    Account {
+// The account of lines that were all handed.
+fn all_handed(lines: u64) -> Totals {
+    Totals {
         accepted: lines,
         handed: lines,
         left: 0,
@@ -88,8 +103,16 @@ fn without_an_account_no_work_is_run(rt: HostRuntime) -> Result<(), Fail> {
         .run_counted(rt, rt.alloc(), gate, works(&rt, rt.alloc(), 3))
         .expect_err(&rt, "no account");
     expect_eq(&rt, seen.count(), 0);
-    expect_eq(&rt, unstarted.works.as_slice(), works(&rt, rt.alloc(), 3).as_slice());
+    expect_eq(
+        &rt,
+        unstarted.works.as_slice(),
+        works(&rt, rt.alloc(), 3).as_slice(),
+    );
     expect_shown(&rt, &unstarted, "Unstarted { .. }");
-    expect_eq(&rt, io::Error::from(unstarted).kind(), ErrorKind::OutOfMemory);
+    expect_eq(
+        &rt,
+        io::Error::from(unstarted).kind(),
+        ErrorKind::OutOfMemory,
+    );
     Ok(())
 }

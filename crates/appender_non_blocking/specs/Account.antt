@@ -30,6 +30,17 @@ pub record Sums : Type 0 where
   -- whether its queue is lossy
   pub lossy : Bool
 
+-- what an account shows
+pub record Totals : Type 0 where
+  -- how many lines were queued
+  pub accepted : ℕ
+  -- how many of them the worker took
+  pub handed : ℕ
+  -- how many of them were left after a shutdown
+  pub left : ℕ
+  -- how many lines were dropped
+  pub dropped : ℕ
+
 -- how many senders were made with a guard, and whether a shutdown that it tried to send was sent
 pub record Guard : Type 0 where
   pub made : ℕ

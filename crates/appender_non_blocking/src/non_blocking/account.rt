@@ -62,17 +62,53 @@ impl Blanks {
     }
 }
 
-/// What became of all lines of a guard's senders.
+/// What became of all lines of a guard's senders. Only a guard makes one, when it settles.
 #[derive(Clone, Copy, PartialEq, Eq, Debug)]
 pub struct Account {
-    /// Lines that were queued.
-    pub accepted: u64,
-    /// Lines that the worker took, and wrote or gave up.
-    pub handed: u64,
-    /// Lines that were queued after a shutdown, and were not written.
-    pub left: u64,
-    /// Lines that a lossy queue refused, at most `usize::MAX`.
-    pub dropped: usize,
+    accepted: u64,
+    handed: u64,
+    left: u64,
+    dropped: usize,
+}
+
+impl Model for Account {
+    ghost use Rattle.appender_non_blocking.specs.Account.{Totals};
+
+    ghost Value = { Totals };
+
+    ghost view = { λ a. record { accepted = a.accepted; handed = a.handed; left = a.left; dropped = a.dropped } };
+
+    ghost inverse = { λ t. record { accepted = t.accepted; handed = t.handed; left = t.left; dropped = t.dropped } };
+}
+
+impl Account {
+    /// Returns the number of lines that were queued.
+    pub fn accepted(&self) -> u64
+        ensures { result ≡ self.now.accepted }
+    {
+        self.accepted
+    }
+
+    /// Returns the number of lines that the worker took, and wrote or gave up.
+    pub fn handed(&self) -> u64
+        ensures { result ≡ self.now.handed }
+    {
+        self.handed
+    }
+
+    /// Returns the number of lines that were queued after a shutdown, and were not written.
+    pub fn left(&self) -> u64
+        ensures { result ≡ self.now.left }
+    {
+        self.left
+    }
+
+    /// Returns the number of lines that a lossy queue refused, at most `usize::MAX`.
+    pub fn dropped(&self) -> usize
+        ensures { result ≡ self.now.dropped }
+    {
+        self.dropped
+    }
 }
 
 /// The guard of counted senders, which are settled with it. It counts as a sender. Dropped, it does what
@@ -184,7 +220,7 @@ impl<
         ensures given_back { IfErr result (λ u. (u.guard ≡ self) × (u.senders ≡ senders)) }
     {
         match self.settle_with_share(senders) {
-            Ok(Settled { account, handed: _ }) => Ok(account),
+            Ok(settled) => Ok(settled.account),
             Err(unsettled) => Err(unsettled),
         }
     }
