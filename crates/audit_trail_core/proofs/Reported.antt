@@ -1,7 +1,7 @@
 -- The reports on the errors, and their statuses.
 use Rattle.std.proofs.Common.{◌≡◌, ◌⊎◌, ◌∙◌, ℕ, ◌≤◌, List, Option, None, Some, inl, inr, refl, sym, subst, arith}
-use Rattle.std.specs.Io.KnownBytes.{Keeps}
-use Rattle.audit_trail_core.specs.Fault.{status_of, ReportsStatus}
+use Rattle.std.specs.Io.KnownBytes.{Appends, Keeps}
+use Rattle.audit_trail_core.specs.Fault.{account_text, status_of, ReportsStatus}
 use Rattle.audit_trail_core.specs.declared.trail.Fault.{Fault}
 use Rattle.audit_trail_core.specs.declared.trail.Fault.TheVariants.{Usage, Argument, Open, Read, Write, Cut, Lost, Gone, Own, Account, Thread, Unsettled, Memory}
 
@@ -15,7 +15,7 @@ keeps_twice (Some xs) None d h k = absurd h
 keeps_twice (Some xs) (Some ys) None h k = k
 keeps_twice (Some xs) (Some ys) (Some zs) h k = k ∙ h
 
-some_status : (fault : Fault) → ¬ (status_of fault ≡ 0)
+pub some_status : (fault : Fault) → ¬ (status_of fault ≡ 0)
 some_status Usage e = omega (arith, e)
 some_status Argument e = omega (arith, e)
 some_status (Open error) e = omega (arith, e)
@@ -47,3 +47,13 @@ reported_both s t r a b d one first second before after = record {
   ];
   silent = λ none. keeps_twice a b d (before.silent (omega (arith, first, none))) (after.silent (omega (arith, second, none)));
 }
+
+-- all lines of an account were handed to the log
+pub all_handed : (old new : Option (List ℕ)) (accepted handed left dropped : ℕ) → handed ≡ accepted → left ≡ 0 → dropped ≡ 0
+    → Appends old new (account_text accepted handed left dropped) → (lines : ℕ) × Appends old new (account_text lines lines 0 0)
+all_handed old new accepted handed left dropped same none_left none_dropped printed = (
+  accepted,
+  subst (λ n. Appends old new (account_text accepted n 0 0)) same
+      (subst (λ n. Appends old new (account_text accepted handed n 0)) none_left
+      (subst (λ n. Appends old new (account_text accepted handed left n)) none_dropped printed)),
+)

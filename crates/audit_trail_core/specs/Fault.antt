@@ -1,5 +1,6 @@
 -- Faults as they are reported, and the status of a process.
 use Rattle.std.specs.Prelude.{◌≡◌, ◌⊎◌, ℕ, ◌==◌, if◌then◌else◌, List, [], ◌∷◌, ◌++◌, Option, None, Some, IfSome, codes}
+use Rattle.std.specs.Fmt.{decimal}
 use Rattle.std.specs.Io.KnownBytes.{Keeps}
 use Rattle.std.specs.IoError.{error_kind}
 use Rattle.std.specs.declared.io.Error.{Error}
@@ -63,3 +64,9 @@ pub record ReportsFault (fault : Fault) (status : ℕ) (errors_old errors_new : 
 pub record ReportsStatus (status : ℕ) (errors_old errors_new : Option (List ℕ)) : Type 0 where
   pub status_is : (status ≡ 0) ⊎ ((fault : Fault) × (status ≡ status_of fault))
   pub silent : status ≡ 0 → Keeps errors_old errors_new
+
+-- the account of lines as it is printed, on a line
+abbrev pub account_text : (accepted handed left dropped : ℕ) → List ℕ
+account_text accepted handed left dropped =
+    codes "accepted " ++ decimal accepted ++ codes " handed " ++ decimal handed
+    ++ codes " left " ++ decimal left ++ codes " dropped " ++ decimal dropped ++ (10 ∷ [])

@@ -1,21 +1,18 @@
 //! The lines of several sources in one log, and the account of them.
-ghost use Rattle.std.specs.Prelude.{◌≡◌, ◌⊎◌, ◌+◌, ◌≤◌, IfOk, vec_len};
-ghost use Rattle.appender_non_blocking.specs.Account.{AreBlanksOf};
-ghost use Rattle.audit_trail_core.specs.Fault.{status_of, ReportsStatus};
+ghost use Rattle.std.specs.Prelude.{◌≡◌, ◌⊎◌, ℕ, ◌+◌, ◌^◌, ◌<◌, ◌≤◌, IfOk, sum_by, vec_len};
+ghost use Rattle.std.specs.Io.KnownBytes.{Appends};
+ghost use Rattle.audit_trail_core.specs.Fault.{account_text, status_of, ReportsStatus};
 
 use crate::trail::{Fault, TrailLog, open_trail, report_fault, zero};
 use program_io::{Host, ShortLines, end_line, read_line};
 use std::alloc::{AllocError, Global};
 use std::fs::File;
+use std::io;
 use std::io::{BufRead, BufReader, Read, Write};
-use std::marker::Brand;
 use std::sync::Arc;
 use std::sync::atomic::AtomicU64;
 use std::sync::atomic::Ordering::SeqCst;
-use std::sync::ledger::Ledger;
-use std::thread::JoinHandle;
-use std::{io, thread};
-use tracing_appender::non_blocking::{Account, Blanks, LineSender, NonBlockingBuilder};
+use tracing_appender::non_blocking::{Account, CountedWork, LineSender, NonBlockingBuilder, Sent};
 use tracing_appender::rolling::InitError;
 use tracing_appender::worker::CountingWriter;
 
@@ -67,7 +64,8 @@ impl Trails for HostRuntime {
 /// Writes the lines of each source, which is a file, to the log of the day in a folder, and the account of all lines
 /// to `output`. A source that can't be read to its end is reported on `errors` with its path; the others are read. The
 /// numbers of lines that the log didn't take whole, and of log files that were not found again, are reported too.
-/// Returns the status of the process, as `trail::keep` has it: the greatest of those of all faults.
+/// Returns the status of the process, as `trail::keep` has it: the greatest of those of all faults. It is 0 only if the
+/// account was written, and every line of it was handed to the log.
 pub fn keep_all<R: Host, T: Trails, O: Write, E: Write>(
     rt: R,
     trails: &T,
@@ -76,7 +74,9 @@ pub fn keep_all<R: Host, T: Trails, O: Write, E: Write>(
     output: &mut O,
     errors: &mut E,
 ) -> u8
-    ensures { ReportsStatus result (E.contents errors.old) (E.contents errors.new) }
+    ensures reported { ReportsStatus result (E.contents errors.old) (E.contents errors.new) }
+    ensures all_handed { result ≡ 0 → (lines : ℕ) × Appends (O.contents output.old) (O.contents output.new)
+        (account_text lines lines 0 0) }
 {
     match open_watched(rt, trails, directory) {
         Ok((log, gone)) => {
@@ -108,7 +108,9 @@ fn keep_sources<
     O: Write,
     E: Write,
 >(rt: R, log: L, sources: Sources<'_, I>, gone: &AtomicU64, output: &mut O, errors: &mut E) -> u8
-    ensures { ReportsStatus result (E.contents errors.old) (E.contents errors.new) }
+    ensures reported { ReportsStatus result (E.contents errors.old) (E.contents errors.new) }
+    ensures all_handed { result ≡ 0 → (lines : ℕ) × Appends (O.contents output.old) (O.contents output.new)
+        (account_text lines lines 0 0) }
 {
     let Sources { paths, inputs } = sources;
     match gather_counting(rt, log, inputs) {
@@ -132,11 +134,15 @@ fn greater(one: u8, other: u8) -> u8
 }
 
 // Gathers the lines of the sources, and returns also how many the log did not take whole.
-fn gather_counting<L: Write + Send + Drop + 'static, I: Read + Send + Drop + 'static, R: Host>(
+fn gather_counting<L: Write + Send + Drop + 'static, I: Read + Send + Drop, R: Host>(
     rt: R,
     log: L,
     sources: Vec<I>,
-) -> Result<(Account, u64, Vec<Result<(), Fault>>), Fault> {
+) -> Result<(Account, u64, Vec<Sending<I>>), Fault>
+    ensures handed { IfOk result (λ gathered. gathered.0.handed ≡ gathered.0.accepted) }
+    ensures left { IfOk result (λ gathered. gathered.0.left ≡ 0) }
+    ensures dropped { IfOk result (λ gathered. gathered.0.dropped ≡ 0) }
+{
     let (log, counts) = CountingWriter::new(rt.alloc(), log)?;
     let (account, sent) = gather(rt, log, sources)?;
     Ok((account, counts.lost(), sent))
@@ -233,29 +239,35 @@ fn open_one<'a, T: Trails>(
 }
 
 // Reports each source that was not sent to its end, and returns the greatest status of these.
-fn report_ends<E: Write>(paths: Vec<&str>, sent: Vec<Result<(), Fault>>, errors: &mut E) -> u8
+fn report_ends<I: Drop, E: Write>(paths: Vec<&str>, sent: Vec<Sending<I>>, errors: &mut E) -> u8
     ensures { ReportsStatus result (E.contents errors.old) (E.contents errors.new) }
 {
     let mut status = 0;
     for (path, sent) in paths.into_iter().zip(sent) {
-        if let Err(fault) = sent {
-            let reported = report_source(path, &fault, errors);
-            status = greater(status, reported);
-        }
+        let reported = report_end(path, sent.ended, errors);
+        status = greater(status, reported);
     }
     status
 }
 
-// Writes the account, and returns the status of that. A fault is reported.
-fn print_account<O: Write, E: Write>(account: Account, output: &mut O, errors: &mut E) -> u8
+// Reports a source that was not sent to its end, and returns the status of that.
+fn report_end<E: Write>(path: &str, ended: Result<(), Fault>, errors: &mut E) -> u8
     ensures { ReportsStatus result (E.contents errors.old) (E.contents errors.new) }
 {
-    let Account {
-        accepted,
-        handed,
-        left,
-        dropped,
-    } = account;
+    match ended {
+        Ok(()) => 0,
+        Err(fault) => report_source(path, &fault, errors),
+    }
+}
+
+// Writes the account, and returns the status of that. A fault is reported.
+fn print_account<O: Write, E: Write>(account: Account, output: &mut O, errors: &mut E) -> u8
+    ensures reported { ReportsStatus result (E.contents errors.old) (E.contents errors.new) }
+    ensures printed { result ≡ 0 → Appends (O.contents output.old) (O.contents output.new)
+        (account_text account.accepted account.handed account.left account.dropped) }
+{
+    let (accepted, handed) = (account.accepted(), account.handed());
+    let (left, dropped) = (account.left(), account.dropped());
     match writeln!(
         output,
         "accepted {accepted} handed {handed} left {left} dropped {dropped}"
@@ -273,152 +285,126 @@ fn report_source<E: Write>(path: &str, fault: &Fault, errors: &mut E) -> u8
     report_fault(fault, errors)
 }
 
-/// Sends the lines of all sources, each read by a thread of its own if one can be made. Returns their account, and
-/// how the sending of each source ended. Every line that was queued was handed to the log, and none is left.
-pub fn gather<L: Write + Send + Drop + 'static, I: Read + Send + Drop + 'static, R: Host>(
-    rt: R,
-    log: L,
-    sources: Vec<I>,
-) -> Result<(Account, Vec<Result<(), Fault>>), Fault>
-    ensures handed { IfOk result (λ gathered. gathered.0.handed ≡ gathered.0.accepted) }
-    ensures left { IfOk result (λ gathered. gathered.0.left ≡ 0) }
-{
-    let blanks = Blanks::new(sources.len());
-    gather_by::<Brand, Brand, Brand, Brand, L, I, R>(rt, log, sources, blanks)
+/// A source whose lines are sent, and what was counted and reported.
+#[derive(Drop)]
+pub struct Sending<I: Drop> {
+    alloc: Global,
+    source: I,
+    /// The number of its lines that were queued.
+    pub queued: u64,
+    /// Whether all of its lines were sent, or why not.
+    pub ended: Result<(), Fault>,
 }
 
-// The same by these ledgers.
-fn gather_by<
-    A: Ledger + Send + Sync + 'static,
-    H: Ledger + Send + Sync + 'static,
-    S: Ledger + Send + Sync + 'static,
-    C: Ledger + Send + Sync + 'static,
-    L: Write + Send + Drop + 'static,
-    I: Read + Send + Drop + 'static,
-    R: Host,
->(
+impl<I: Read + Drop> CountedWork for Sending<I> {
+    // The lines that the sender queued are those that were counted.
+    ghost does = { λ _ before new after. before.queued + new.queued ≡ after.queued };
+
+    fn run<S: LineSender>(&mut self, sender: &mut S)
+        ensures { (S.sums sender.old).queued + self.new.queued ≡ (S.sums sender.new).queued }
+    {
+        let (queued, ended) = send_source(self.alloc, sender, &mut self.source);
+        self.queued = queued;
+        self.ended = ended;
+    }
+}
+
+/// Sends the lines of all sources, each read by a thread of its own if one can be made. Returns their account, and
+/// how the sending of each source ended. Every line that was queued was handed to the log. None is left or dropped.
+pub fn gather<L: Write + Send + Drop + 'static, I: Read + Send + Drop, R: Host>(
     rt: R,
     log: L,
     sources: Vec<I>,
-    blanks: Blanks,
-) -> Result<(Account, Vec<Result<(), Fault>>), Fault>
-    requires { AreBlanksOf A.Ledger H.Ledger S.Ledger C.Ledger (vec_len sources) blanks }
+) -> Result<(Account, Vec<Sending<I>>), Fault>
+    ensures each { IfOk result (λ gathered. vec_len gathered.1 ≡ vec_len sources) }
+    ensures accepted { IfOk result (λ gathered. gathered.0.accepted ≡ sum_by (λ s. s.queued) gathered.1.items) }
     ensures handed { IfOk result (λ gathered. gathered.0.handed ≡ gathered.0.accepted) }
     ensures left { IfOk result (λ gathered. gathered.0.left ≡ 0) }
+    ensures dropped { IfOk result (λ gathered. gathered.0.dropped ≡ 0) }
 {
-    let (senders, guard) = NonBlockingBuilder::default()
+    let works = sendings(rt.alloc(), sources)?;
+    let ran = NonBlockingBuilder::default()
         .lossy(false)
         .buffered_lines_limit(WAITING_LINES)
-        .finish_counted::<A, H, S, C, L, R>(rt, rt.alloc(), log, sources.len(), blanks)
-        .map_err(|fault| Fault::Thread.unless_memory(fault.kind()))?;
-    let (back, sent) = send_all(rt, senders, sources)?;
-    match guard.settle(back) {
-        Ok(account) => Ok((account, sent)),
-        Err(_) => Err(Fault::Unsettled),
+        .run_counted(rt, rt.alloc(), log, works);
+    match ran {
+        Ok((sent, account)) if account.dropped() == 0 => Ok((account, sent)),
+        Ok(_) => Err(Fault::Unsettled),
+        Err(unstarted) => Err(Fault::Thread.unless_memory(unstarted.error.kind())),
     }
 }
 
-// The lines of a source: a thread sends them, or they were sent.
-#[derive(Drop)]
-enum Sending<S: Drop> {
-    Runs(JoinHandle<(S, Result<(), Fault>)>),
-    Ended(S, Result<(), Fault>),
+// Returns the sources, of which no line was sent.
+fn sendings<I: Drop>(alloc: Global, sources: Vec<I>) -> Result<Vec<Sending<I>>, AllocError>
+    ensures { IfOk result (λ sendings. vec_len sendings ≡ vec_len sources) }
+{
+    let unsent = |source| Sending {
+        alloc,
+        source,
+        queued: 0,
+        ended: Ok(()),
+    };
+    sources.into_iter().map(unsent).collect(alloc)
 }
 
-// Sends the lines of each source, and returns the senders and how each ended. Memory for all of them is allocated
-// before the first line is sent, so that a refusal loses no account.
-fn send_all<S: LineSender + Send + Drop + 'static, I: Read + Send + Drop + 'static, R: Host>(
-    rt: R,
-    senders: Vec<S>,
-    sources: Vec<I>,
-) -> Result<(Vec<S>, Vec<Result<(), Fault>>), Fault> {
-    let count = sources.len();
-    let (mut back, mut sent) = (
-        Vec::with_capacity(rt.alloc(), count)?,
-        Vec::with_capacity(rt.alloc(), count)?,
-    );
-    let sending = start_all(rt, senders, sources)?;
-    end_each(rt, sending, &mut back, &mut sent)?;
-    Ok((back, sent))
-}
-
-fn start_all<S: LineSender + Send + Drop + 'static, I: Read + Send + Drop + 'static, R: Host>(
-    rt: R,
-    senders: Vec<S>,
-    sources: Vec<I>,
-) -> Result<Vec<Sending<S>>, AllocError> {
-    let mut all = Vec::with_capacity(rt.alloc(), sources.len())?;
-    for (sender, source) in senders.into_iter().zip(sources) {
-        all.push(start(rt, sender, source))?;
-    }
-    Ok(all)
-}
-
-// Starts a thread that sends the lines of a source. If none can be made, sends them.
-fn start<S: LineSender + Send + Drop + 'static, I: Read + Send + Drop + 'static, R: Host>(
-    rt: R,
-    sender: S,
-    source: I,
-) -> Sending<S> {
-    match thread::spawn(&rt, move || send_source(rt.alloc(), sender, source)) {
-        Ok(thread) => Sending::Runs(thread),
-        Err(refused) => {
-            let (sender, sent) = (refused.value)();
-            Sending::Ended(sender, sent)
-        }
-    }
-}
-
-// Waits for the threads, and adds senders and ends to these two.
-fn end_each<S: Drop, R: Host>(
-    rt: R,
-    sending: Vec<Sending<S>>,
-    back: &mut Vec<S>,
-    sent: &mut Vec<Result<(), Fault>>,
-) -> Result<(), AllocError> {
-    for one in sending {
-        let (sender, ended) = match one {
-            Sending::Runs(thread) => thread.join(&rt),
-            Sending::Ended(sender, ended) => (sender, ended),
-        };
-        back.push(sender)?;
-        sent.push(ended)?;
-    }
-    Ok(())
-}
-
-// The work of a source's thread. It returns its sender, also after a fault.
-fn send_source<S: LineSender, I: Read + Drop>(
+// Sends the lines of a source. Returns how many were queued, and the fault that ended them, if there was one.
+fn send_source<S: LineSender, I: Read>(
     alloc: Global,
-    sender: S,
-    source: I,
-) -> (S, Result<(), Fault>) {
-    let (mut sender, mut source) = (sender, source);
-    let sent = send_buffered(alloc, &mut sender, &mut source);
-    (sender, sent)
+    sender: &mut S,
+    source: &mut I,
+) -> (u64, Result<(), Fault>)
+    ensures { (S.sums sender.old).queued + result.0 ≡ (S.sums sender.new).queued }
+{
+    let mut queued = 0;
+    let ended = send_buffered(alloc, sender, source, &mut queued);
+    (queued, ended)
 }
 
 fn send_buffered<S: LineSender, I: Read>(
     alloc: Global,
     sender: &mut S,
     source: &mut I,
-) -> Result<(), Fault> {
+    queued: &mut u64,
+) -> Result<(), Fault>
+    requires { queued.old ≡ 0 }
+    ensures { (S.sums sender.old).queued + queued.new ≡ (S.sums sender.new).queued }
+{
     let mut input = BufReader::new(alloc, ShortLines::new(source))?;
-    send_lines(alloc, sender, &mut input)
+    send_lines(alloc, sender, &mut input, queued)
 }
 
+// Sends each line with its newline, and counts those that are queued.
 fn send_lines<S: LineSender, I: BufRead>(
     alloc: Global,
     sender: &mut S,
     input: &mut I,
-) -> Result<(), Fault> {
+    queued: &mut u64,
+) -> Result<(), Fault>
+    requires { queued.old ≡ 0 }
+    ensures { (S.sums sender.old).queued + queued.new ≡ (S.sums sender.new).queued }
+{
     let mut line = Vec::new(alloc);
     for _ in 0..u64::MAX {
         if !read_line(input, &mut line)? {
             return Ok(());
         }
         end_line(&mut line)?;
-        sender.write_line(line.as_slice()).map_err(Fault::of_write)?;
+        send_line(sender, line.as_slice(), queued)?;
     }
     Err(Fault::Read(io::Error::other("too many lines")))
+}
+
+fn send_line<S: LineSender>(sender: &mut S, line: &[u8], queued: &mut u64) -> Result<(), Fault>
+    requires { queued.old + 1 < 2 ^ 64 }
+    ensures counted { (S.sums sender.old).queued + queued.new ≡ (S.sums sender.new).queued + queued.old }
+    ensures one { queued.new ≤ queued.old + 1 }
+{
+    match sender.write_line(line) {
+        Ok(Sent::Queued(_)) => {
+            *queued += 1;
+            Ok(())
+        }
+        Ok(Sent::Dropped) => Ok(()),
+        Err(fault) => Err(Fault::of_write(fault)),
+    }
 }

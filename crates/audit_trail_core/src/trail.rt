@@ -62,7 +62,7 @@ pub enum Fault {
     /// The thread that writes was not made.
     #[error("no thread")]
     Thread,
-    /// A sender is missing.
+    /// Lines were dropped, so there is no account of all of them.
     #[error("no account")]
     Unsettled,
     /// Memory was refused.

@@ -9,7 +9,7 @@ use tracing_appender::worker::CountingWriter;
 
 /// Writes each line to the log by a worker thread, and returns the account of the lines. It is an error if the log did
 /// not take one of them whole.
-pub fn audit<R: Host + Sync, W: Write + Send + Drop + 'static>(
+pub fn audit<R: Host, W: Write + Send + Drop + 'static>(
     rt: R,
     log: W,
     lines: &[&[u8]],
@@ -24,7 +24,7 @@ pub fn audit<R: Host + Sync, W: Write + Send + Drop + 'static>(
     let (_, account) = NonBlockingBuilder::default()
         .lossy(false)
         .run_counted(rt, rt.alloc(), log, works)?;
-    if account.accepted != count || account.dropped != 0 || counts.lost() > 0 {
+    if account.accepted() != count || account.dropped() != 0 || counts.lost() > 0 {
         return Err(io::Error::other("lines were not written whole"));
     }
     Ok(account)

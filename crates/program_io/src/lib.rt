@@ -21,9 +21,19 @@ use std::time::Clock;
 use std::{env, io};
 
 /// The runtime of a program that starts threads.
-pub trait Host: AllocGlobal + Threads + Wait + Clock + Print + Eprint + Copy + Send + 'static {}
+pub trait Host: AllocGlobal
+    + Threads
+    + Wait
+    + Clock
+    + Print
+    + Eprint
+    + Copy
+    + Send
+    + Sync
+    + 'static {}
 
-impl<R: AllocGlobal + Threads + Wait + Clock + Print + Eprint + Copy + Send + 'static> Host for R {}
+impl<R: AllocGlobal + Threads + Wait + Clock + Print + Eprint + Copy + Send + Sync + 'static> Host
+    for R {}
 
 /// Returns the arguments after the program's name. The error is that of the runtime if one of them is not UTF-8, or
 /// `OutOfMemory`.
