@@ -23,7 +23,8 @@ pub fn audit<R: Host, W: Write + Send + Drop + 'static>(
     let works = vec![in rt.alloc(); Lines { lines }]?;
     let (_, account) = NonBlockingBuilder::default()
         .lossy(false)
-        .run_counted(rt, rt.alloc(), log, works)?;
+        .run_counted(rt, rt.alloc(), log, works)
+        .map_err(|unstarted| unstarted.error)?;
     if account.accepted() != count || account.dropped() != 0 || counts.lost() > 0 {
         return Err(io::Error::other("lines were not written whole"));
     }
