@@ -11,4 +11,6 @@ mod program;
 #[cfg(test)]
 mod short_lines;
 #[cfg(test)]
+mod side_by_side;
+#[cfg(test)]
 mod sources;

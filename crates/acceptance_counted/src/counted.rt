@@ -41,6 +41,8 @@ enum End {
     Shuts(&'static [SenderStep], Totals),
     // As `Shuts`, and the worker's share is returned with the account.
     ShutsWithShare(&'static [SenderStep], Totals),
+    // The queue has no room for the shutdown. The gate opens, and all are settled.
+    FindsNoRoom(Totals),
     // They are settled without one of them, and then with it.
     LacksOne(Totals),
     // The guard is dropped, the gate opens, and the senders are dropped.
@@ -138,6 +140,7 @@ fn play<
         End::ShutsWithShare(steps, wanted) => {
             shuts_with_share(stage, senders, guard, steps, wanted);
         }
+        End::FindsNoRoom(wanted) => finds_no_room(stage, senders, guard, wanted),
         End::LacksOne(wanted) => lacks_one(stage.rt, senders, guard, wanted),
         End::DropsGuard => {
             drop(guard);
@@ -221,6 +224,22 @@ fn expect_shut<A: Ledger, H: Ledger, S: Ledger, C: Ledger, R: Host + Abort>(
     expect_eq(&rt, guard.shut(), Shut::Sent);
     expect_eq(&rt, guard.sent(), true);
     expect_eq(&rt, guard.shut(), Shut::Already);
+}
+
+// The shutdown is refused at each try, and none was sent.
+fn finds_no_room<A: Ledger, H: Ledger, S: Ledger, C: Ledger, R: Host + Abort>(
+    stage: &mut Stage<R>,
+    senders: Vec<CountedSender<A, H, S, C, R>>,
+    mut guard: CountedGuard<A, H, S, C, R>,
+    wanted: Totals,
+)
+    requires { (A.parts ≡ guard.made + 1) × (H.parts ≡ 1) × (S.parts ≡ 1) × (C.parts ≡ 1) }
+{
+    expect_eq(&stage.rt, guard.shut(), Shut::Full);
+    expect_eq(&stage.rt, guard.shut(), Shut::Full);
+    expect_eq(&stage.rt, guard.sent(), false);
+    stage.seen.opens();
+    settles(stage.rt, senders, guard, wanted);
 }
 
 // A sender is missing: nothing is settled, and all is given back.
@@ -474,6 +493,29 @@ static DROPS_LINES: Story = Story {
 #[test]
 fn dropped_lines_are_on_the_account(rt: HostRuntime) {
     run(rt, &DROPS_LINES);
+}
+
+static FINDS_NO_ROOM: Story = Story {
+    limit: 1,
+    lossy: false,
+    senders: 1,
+    steps: &[
+        SenderStep::Tells(b"held", Sent::Queued(1)),
+        SenderStep::IsHeld,
+        SenderStep::Tells(b"a", Sent::Queued(2)),
+    ],
+    end: End::FindsNoRoom(Totals {
+        accepted: 2,
+        handed: 2,
+        left: 0,
+        dropped: 0,
+    }),
+    came: Came::Lines(b"held|a|"),
+};
+
+#[test]
+fn a_full_queue_takes_no_shutdown(rt: HostRuntime) {
+    run(rt, &FINDS_NO_ROOM);
 }
 
 // The guard finds no room for its shutdown. The worker ends with its last sender, and leaves no line.
