@@ -3,14 +3,13 @@ use crate::expect::expect_eq;
 use audit_trail_core::gather::{Trails, keep_all};
 use audit_trail_core::trail::Fault;
 use std::alloc::Global;
-use std::io;
 use std::io::{Read, Write};
 use std::sync::Arc;
 use std::sync::atomic::AtomicU64;
 use std::sync::atomic::Ordering::SeqCst;
 use std::test::Fail;
-use std::thread;
 use std::time::Duration;
+use std::{io, thread};
 use tracing_appender::rolling::InitError;
 
 // The number of lines of each source: more than the queue has places.

@@ -230,7 +230,11 @@ fn ends_a_part_of_a_line_that_another_run_left(rt: HostRuntime) -> Result<(), Fa
     let lacks = fresh(&rt, "lacking")?;
     let faults = format!(in alloc; "{lacks}: read failed: {LACKING}\n")?;
     let paths = [source(&rt, "after_cut", "next\n")?, lacks];
-    for (left, wanted) in [("a\n", "a\nnext\n"), ("a\npar", "a\npar\nnext\n"), ("p", "p\nnext\n")] {
+    for (left, wanted) in [
+        ("a\n", "a\nnext\n"),
+        ("a\npar", "a\npar\nnext\n"),
+        ("p", "p\nnext\n"),
+    ] {
         open_trail(&rt, directory.as_str(), Arc::new(alloc, AtomicU64::new(0))?)?;
         fs::write(&rt, latest(&rt, directory.as_str()), left)?;
         let account = account_of(alloc, 1)?;

@@ -65,8 +65,8 @@ fn work_of_threads_has_an_account(rt: HostRuntime) -> Result<(), Fail> {
         expect_eq_of(&rt, *count, seen.count() as u64, *lines);
         // Each work was run once, and they are returned in their order.
         expect_eq(&rt, done.len() as u64, *count);
-        let (mut lines, runs) = (0, 1);
-        for work in &done {
+        for (place, work) in done.iter().enumerate() {
+            let (lines, runs) = (place as u64, 1);
             let queued = lines;
             expect_eq_of(
                 &rt,
@@ -78,7 +78,6 @@ fn work_of_threads_has_an_account(rt: HostRuntime) -> Result<(), Fail> {
                     queued,
                 },
             );
-            lines += 1;
         }
     }
     Ok(())
