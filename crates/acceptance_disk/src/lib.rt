@@ -7,8 +7,6 @@ mod expect;
 #[cfg(test)]
 mod faults;
 #[cfg(test)]
-mod interrupted;
-#[cfg(test)]
 mod listings;
 #[cfg(test)]
 mod logs;
