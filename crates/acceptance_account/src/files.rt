@@ -46,7 +46,7 @@ pub struct Files {
     file: String,
     // The newest first.
     writes: Vec<FileWrite>,
-    // How many writes and flushes failed, but for lack of memory.
+    // The number of writes and flushes that failed for another reason than memory.
     faults: u64,
 }
 
@@ -84,7 +84,7 @@ fn later(latest: i64, moment: i64) -> i64
     }
 }
 
-// Returns how many bytes a write of so many asks for: one at least.
+// Returns the length that counts towards the limit: that of the bytes, and at least 1.
 fn wanted(len: usize) -> u64
     ensures { result ≡ wanted_of len }
 {
@@ -119,7 +119,7 @@ fn taken(bytes: &[u8], answer: Result<usize, ErrorKind>) -> &[u8]
     &bytes[..count]
 }
 
-// Returns 1 for a fault, but for lack of memory.
+// Returns 1 for an error other than `OutOfMemory`, else 0.
 fn faults_in<T: Copy>(answer: Result<T, ErrorKind>) -> u64
     ensures { result ≡ spec.faults_in answer }
 {
@@ -173,14 +173,14 @@ impl Files {
         self.failed
     }
 
-    /// Returns how many writes and flushes failed, but for lack of memory.
+    /// Returns the number of writes and flushes that failed for another reason than memory.
     pub fn faults(&self) -> u64
         ensures { result ≡ self.now.faults }
     {
         self.faults
     }
 
-    /// Returns the stamp of the file that is due at a moment, with so many bytes to write, if one is due.
+    /// Returns the stamp of the file that is due before a write of `len` bytes at this moment, if one is due.
     pub fn due_file(&self, settings: &Settings, moment: i64, len: usize) -> Option<FileStamp>
         ensures value { result ≡ spec.due_file settings.now self.now moment len }
         ensures number { IfSome result (λ due. due.number ≤ last_of settings.now) }
@@ -195,7 +195,7 @@ impl Files {
         None
     }
 
-    // Returns whether so many bytes are too many for the newest file, and there is a next number.
+    // Returns whether a write of `len` bytes would exceed the limit of the newest file, and there is a next number.
     fn is_full(&self, settings: &Settings, len: usize) -> bool
         ensures { result ≡ is_full settings.now self.now len }
     {
@@ -205,8 +205,8 @@ impl Files {
             && exceeds(settings.max_bytes(), self.since, wanted(len))
     }
 
-    /// Returns whether this is the reply of a check of the clock at a moment, with so many bytes to write: whether a file
-    /// was due. Whether it was opened is for the folder to choose.
+    /// Returns whether this may be the reply to a check of the clock before a write of `len` bytes. It must say whether
+    /// a file was due. The folder decides whether it was opened.
     pub fn demands_switch(
         &self,
         settings: &Settings,
@@ -220,8 +220,8 @@ impl Files {
         stayed == self.due_file(settings, moment, len).is_none()
     }
 
-    /// Returns whether these are the reply of a check of the clock and of a write of these bytes after it: whether a file was
-    /// due, and that no more bytes were taken than there are.
+    /// Returns whether these may be the replies to a check of the clock and a write of these bytes. They must say whether
+    /// a file was due, and take no more bytes than there are.
     pub fn demands_put(
         &self,
         settings: &Settings,
@@ -236,7 +236,7 @@ impl Files {
         count(answer) <= bytes.len() && self.demands_switch(settings, moment, bytes.len(), switch)
     }
 
-    /// Checks the clock at a moment, with so many bytes to write.
+    /// Follows a check of the clock at this moment, before a write of `len` bytes.
     pub fn look(
         &mut self,
         settings: &Settings,
