@@ -209,7 +209,8 @@ for name in rolltee audit_trail rollplay; do
   done
 done
 
-for word in minutely hourly daily weekly never "trap '' INT TERM"; do
+for word in minutely hourly daily weekly never --no-wait 'pieces of 1 MiB' \
+  "(trap '' INT TERM HUP QUIT; exec rolltee" "  trap '' INT TERM HUP QUIT" '  exec rolltee'; do
   run "$rolltee" --help < /dev/null
   check "rolltee --help: $word" yes "$(grep -qF -e "$word" "$out" && echo yes || echo no)"
 done
@@ -225,6 +226,24 @@ check 'rolltee -- --help' '2||usage: rolltee ROTATION DIR PREFIX' "$(told)"
 run "$rolltee" never '' app < "$lines"
 check 'rolltee, an empty folder' '2||usage: rolltee ROTATION DIR PREFIX' "$(told)"
 
+# Its switch is the first argument that begins with a dash.
+for words in "--no-wait never $work/switch app" "never --no-wait $work/switch app" "never $work/switch app --no-wait" \
+  "--no-wait -- never $work/switch app"; do
+  rm -rf "$work/switch"
+  run "$rolltee" $words < "$lines"
+  check "rolltee ${words//$work/}" '0||' "$(told)"
+  check "rolltee ${words//$work/}: the log" $'[one\ntwo]' "$(content "$work/switch/app")"
+done
+rm -rf "$work/switch"
+for words in "-- --no-wait $work/switch app" "--no-wait --no-wait never $work/switch app" \
+  "--no-wait -x never $work/switch app" "--no-wait=1 never $work/switch app" "--no-wait never $work/switch"; do
+  run "$rolltee" $words < "$lines"
+  check "rolltee ${words//$work/}" '2||usage: rolltee ROTATION DIR PREFIX' "$(told)"
+done
+check 'rolltee --no-wait: wrong arguments make no folder' no "$([ -e "$work/switch" ] && echo yes || echo no)"
+run "$rolltee" --no-wait --version < /dev/null
+check 'rolltee --no-wait --version' '0|rolltee, over a port of tracing-appender 0.2.5|' "$(told)"
+
 mkdir "$work/place"
 cd "$work/place" || exit 1
 run "$audit_trail" -- -trail < "$lines"
@@ -236,6 +255,22 @@ for paths in '' lines; do
 done
 run "$audit_trail" < "$lines"
 check 'audit_trail, no folder' '2||usage: audit_trail DIRECTORY [SOURCE..]' "$(told)"
+
+# Files that a restore puts beside the log are newer than its own, but not by their names.
+keep=$work/keep
+run "$audit_trail" --keep 1 "$keep" < "$lines"
+for name in audit.2020-01-01.log audit.2020-01-02.log audit-export.log audit.log; do echo old > "$keep/$name"; done
+run "$audit_trail" "$keep" < /dev/null
+check 'audit_trail keeps all files' '0||6' "$(told)$(ls "$keep" | wc -l)"
+run "$audit_trail" --keep 2 "$keep" < /dev/null
+check 'audit_trail --keep 2' '0||audit-export.log audit.2020-01-02.log audit.log latest.log' \
+  "$(told)$(cd "$keep" && ls | grep -v "$(readlink latest.log)" | paste -s -d ' ')"
+run "$audit_trail" --keep 1 "$keep" < /dev/null
+check 'audit_trail --keep 1: the log of today' "0||$lines_wanted" "$(told)$(content "$keep/latest.log")"
+for words in --keep '--keep 0' '--keep x' '--keep -1' '--keep 18446744073709551616'; do
+  run "$audit_trail" $words "$keep" < "$lines"
+  check "audit_trail $words" '2||--keep needs a number of files, 1 or more' "$(told)"
+done
 check 'an empty folder is not the current one' '-trail' "$(ls "$work/place")"
 
 run "$rollplay" here there < "$script"
@@ -259,16 +294,67 @@ many=$work/many
 for ((i = 0; i < 400; i++)); do printf '%0127d\n' "$i"; done > "$many"
 mkdir "$disk"
 if mount -t tmpfs -o size=16k programs "$disk" 2> "$err"; then
-  run "$rolltee" never "$disk/logs" app < "$many"
-  check 'rolltee, a full disk' '1||write failed' "$(told)"
-  check 'rolltee, a full disk: the log begins with the lines' same \
+  run "$rolltee" --no-wait never "$disk/logs" app < "$many"
+  check 'rolltee --no-wait, a full disk' '1||write failed' "$(told)"
+  check 'rolltee --no-wait, a full disk: the log begins with the lines' same \
     "$(cmp -s -n "$(stat -c %s "$disk/logs/app")" "$disk/logs/app" "$many" && echo same || echo other)"
+  rm -r "$disk/logs"
+  # The disk gets room while the program waits for it, after the end of its input.
+  : > "$err"
+  timeout 9 "$rolltee" never "$disk/logs" app < "$many" > "$out" 2> "$err" &
+  waiting=$!
+  for ((turn = 0; turn < 200; turn++)); do
+    [ ! -s "$err" ] || break
+    sleep 0.01
+  done
+  check 'rolltee, a full disk: it says so at once' 'writes pause: No space left on device (os error 28)' "$(cat "$err")"
+  mount -o remount,size=1m "$disk"
+  wait "$waiting"
+  status=$?
+  check 'rolltee, a full disk' $'0||writes pause: No space left on device (os error 28)\nwrites go on' "$(told)"
+  check 'rolltee, a full disk: the log' same "$(cmp -s "$disk/logs/app" "$many" && echo same || echo other)"
   rm -r "$disk/logs"
   run "$rolltee" never "$disk/logs" app < "$lines"
   check 'rolltee, a disk with room' '0||' "$(told)"
   check 'rolltee, a disk with room: the log' $'[one\ntwo]' "$(content "$disk/logs/app")"
 else
   skip 'rolltee, a full disk' "$(head -1 "$err")"
+fi
+
+# ---- a line that does not end
+
+# 64 MiB without a newline, in a process that may not have twice as many.
+endless() {
+  head -c 67108864 /dev/zero | tr '\0' x
+}
+export -f endless
+run bash -c 'ulimit -v 131072; endless | "$@"' bash "$rolltee" never "$work/endless" app
+check 'rolltee, a line that does not end' '0||' "$(told)"
+check 'rolltee, a line that does not end: the log' same \
+  "$(endless | cmp -s - "$work/endless/app" && echo same || echo other)"
+rm -rf "$work/endless"
+
+# ---- an input that does not block
+
+# Runs a program with a pipe that does not block as its input, and writes to that in two parts.
+unblocked='
+import os, subprocess, sys, time
+read, write = os.pipe()
+os.set_blocking(read, False)
+program = subprocess.Popen(sys.argv[1:], stdin=read)
+os.close(read)
+for part in (b"one\nt", b"wo\n"):
+    time.sleep(0.2)
+    os.write(write, part)
+os.close(write)
+sys.exit(program.wait(4))
+'
+if command -v python3 > /dev/null; then
+  run python3 -c "$unblocked" "$rolltee" never "$work/unblocked" app
+  check 'rolltee, an input that does not block' '0||' "$(told)"
+  check 'rolltee, an input that does not block: the log' $'[one\ntwo]' "$(content "$work/unblocked/app")"
+else
+  skip 'rolltee, an input that does not block' 'no python3'
 fi
 
 # ---- a folder that another file system covers
@@ -312,6 +398,89 @@ else
     "$(grep -c ': log file removed, renamed or replaced$' "$err")"
 fi
 
+# ---- a log file that is truncated, and syncs
+
+# wait_until COMMAND..: until it succeeds, for two seconds at most.
+wait_until() {
+  local turn
+  for ((turn = 0; turn < 200; turn++)); do
+    ! "$@" || return 0
+    sleep 0.01
+  done
+  return 1
+}
+
+# How many lines a file has, if there is one.
+line_count() {
+  if [ -f "$1" ]; then wc -l < "$1"; else echo 0; fi
+}
+
+has_lines() {
+  [ "$(line_count "$1")" -ge "$2" ]
+}
+
+fifo=$work/fifo
+mkfifo "$fifo"
+trail=$work/truncated
+timeout 5 "$audit_trail" "$trail" < "$fifo" > "$out" 2> "$err" &
+running=$!
+exec 9> "$fifo"
+echo one >&9
+wait_until has_lines "$trail/latest.log" 1
+: > "$trail/latest.log"
+echo two >&9
+exec 9>&-
+wait "$running"
+check 'audit_trail, a truncated log' 1 "$?"
+check 'audit_trail, a truncated log: what is told' 'log file truncated|log files not found again: 1' \
+  "$(sed 's/^.*: log file/log file/' "$err" | paste -s -d '|')"
+
+timeout 5 "$audit_trail" --keep 2 "$keep" < "$fifo" > "$out" 2> "$err" &
+running=$!
+exec 9> "$fifo"
+echo three >&9
+wait_until has_lines "$keep/latest.log" 3
+run "$audit_trail" --keep 2 "$keep" < "$lines"
+check 'audit_trail --keep, a second one' '1||another audit_trail --keep writes to the log directory' "$(told)"
+run "$audit_trail" "$keep" < "$lines"
+check 'audit_trail beside one with --keep' '0||' "$(told)"
+exec 9>&-
+wait "$running"
+check 'audit_trail --keep, the first one' 0 "$?"
+run "$audit_trail" --keep 2 "$keep" < /dev/null
+check 'audit_trail --keep, after the first one' '0||' "$(told)"
+
+# syncs FAULT PROGRAM ARGUMENT..: runs it, with a line for each of its syncs in $work/syncs. Each sync has this fault, as
+# error=EIO, or none.
+syncs() {
+  local inject=()
+  [ "$1" = none ] || inject=(-e "inject=fdatasync:$1")
+  shift
+  timeout 5 strace -f -qq -o "$work/syncs" -e trace=fdatasync "${inject[@]}" "$@"
+}
+
+if ! syncs none true > /dev/null 2> "$err"; then
+  skip 'audit_trail, syncs' "$(head -1 "$err")"
+else
+  syncs error=EIO "$audit_trail" "$work/unsynced" < "$lines" > "$out" 2> "$err"
+  check 'audit_trail, a sync that fails' '1||write failed: Input/output error (os error 5)' "$?|$(cat "$out")|$(cat "$err")"
+  syncs error=EIO "$audit_trail" "$work/unsynced.files" "$lines" > "$out" 2> "$err"
+  check 'audit_trail, files, syncs that fail' '1|accepted 2 handed 2 left 0 dropped 0|1' \
+    "$?|$(cat "$out")|$(grep -c '^syncs that failed: [1-9]' "$err")"
+  rm -f "$work/syncs"
+  syncs none "$audit_trail" "$work/synced" < "$fifo" > "$out" 2> "$err" &
+  running=$!
+  exec 9> "$fifo"
+  for ((count = 1; count <= 3; count++)); do
+    echo "$count" >&9
+    wait_until has_lines "$work/syncs" "$count"
+    check "audit_trail, line $count is synced" yes "$(has_lines "$work/syncs" "$count" && echo yes || echo no)"
+  done
+  exec 9>&-
+  wait "$running"
+  check 'audit_trail, synced lines' '0||' "$?|$(cat "$out")|$(cat "$err")"
+fi
+
 # ---- a run that is killed
 
 # Prints up to 2000 lines, with a pause after each, until nothing reads them.
@@ -321,11 +490,6 @@ slow_lines() {
     echo "killed $number" || return
     sleep 0.002
   done 2> /dev/null
-}
-
-# How many lines a file has, if there is one.
-line_count() {
-  if [ -f "$1" ]; then wc -l < "$1"; else echo 0; fi
 }
 
 trail=$work/killed
@@ -362,6 +526,42 @@ for part in '' 'part of a line'; do
   check "$name" '0||' "$(told)"
   check "$name: the log" '' "$(diff "$wanted" "$log" 2>&1 | head -8)"
 done
+
+# ---- a supervisor
+
+# Sends signals to the log of a service, whose run script is that of `rolltee --help`, and then ends both.
+supervised() {
+  local service=$work/service turn signal running
+  mkdir -p "$service/log"
+  cat > "$service/run" << 'END'
+#!/bin/sh
+for number in $(seq 1000); do
+  echo "line $number"
+  [ $((number % 100)) != 0 ] || sleep 0.1
+done
+exec sleep 20
+END
+  printf "#!/bin/sh\necho >> '%s'\ntrap '' INT TERM HUP QUIT\nexec '%s' never '%s' app\n" \
+    "$work/starts" "$rolltee" "$work/supervised" > "$service/log/run"
+  chmod +x "$service/run" "$service/log/run"
+  runsv "$service" &
+  running=$!
+  for ((turn = 0; turn < 300; turn++)); do
+    [ "$(line_count "$work/supervised/app")" -lt 1000 ] || break
+    for signal in term interrupt hup quit; do sv "$signal" "$service/log"; done
+    sleep 0.01
+  done
+  sv exit "$service"
+  wait "$running"
+} > /dev/null 2>&1
+if command -v runsv > /dev/null && command -v sv > /dev/null; then
+  supervised
+  check 'rolltee under runsv, after signals: it was started once' 1 "$(line_count "$work/starts")"
+  check 'rolltee under runsv, after signals: the log' same \
+    "$(seq -f 'line %g' 1000 | cmp -s - "$work/supervised/app" && echo same || echo other)"
+else
+  skip 'rolltee under runsv' 'no runsv'
+fi
 
 # ---- what a guard and a worker print
 

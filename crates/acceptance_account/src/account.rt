@@ -90,7 +90,7 @@ impl Account {
         first: FileStamp,
     ) -> Result<Account, AccountError>
         requires { first.number ≤ last_of settings.now }
-        ensures { IfOk result (λ account. account ≡ spec.opening settings.now first) }
+        ensures { IfOk result (λ account. account ≡ spec.account settings.now first []) }
     {
         Ok(Account {
             accepted: Vec::new(alloc),

@@ -5,6 +5,8 @@
 #[cfg(test)]
 mod expect;
 #[cfg(test)]
+mod flushes;
+#[cfg(test)]
 mod lines;
 #[cfg(test)]
 mod program;

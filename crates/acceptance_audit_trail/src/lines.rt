@@ -5,16 +5,19 @@ ghost use Rattle.audit_trail_core.specs.Trail.{EndsLine};
 use crate::expect::{expect_eq, expect_eq_of};
 use audit_trail_core::lines::LineLog;
 use audit_trail_core::trail::{Fault, write_lines};
-use audit_trail_core::watch::Watch;
-use std::alloc::Global;
+use audit_trail_core::watch::{FileCounts, Watch};
+use std::alloc::{AllocError, Global};
 use std::cell::Cell;
 use std::io;
 use std::io::{ErrorKind, Write};
 use std::ops::Range;
 use std::process::Abort;
+use std::sync::Arc;
+use std::sync::atomic::AtomicU64;
+use std::sync::atomic::Ordering::SeqCst;
 use std::test::Fail;
 use tracing_appender::rolling::{Builder, Clock, InitError, Rotation};
-use tracing_appender::store::{Folder, Listed, MemoryFile, MemoryFolder, Notice};
+use tracing_appender::store::{Folder, Listed, MemoryFile, MemoryFolder, Notice, NoticeKind};
 
 // A clock that advances by this number of seconds at each reading.
 #[derive(Drop)]
@@ -33,11 +36,29 @@ impl Clock for Ticking {
     }
 }
 
-// A folder in memory. An append that fails was interrupted, if `interrupts`.
+// A folder in memory, which counts flushes. An append that fails was interrupted, if `interrupts`.
 #[derive(Drop)]
 pub(super) struct Disturbed {
     pub(super) folder: MemoryFolder,
     pub(super) interrupts: bool,
+    pub(super) flushes: Arc<AtomicU64, Global>,
+    // So many of the first flushes find no memory.
+    pub(super) refused: u64,
+}
+
+impl Disturbed {
+    pub(super) fn new(
+        alloc: Global,
+        folder: MemoryFolder,
+        interrupts: bool,
+    ) -> Result<Disturbed, AllocError> {
+        Ok(Disturbed {
+            folder,
+            interrupts,
+            flushes: Arc::new(alloc, AtomicU64::new(0))?,
+            refused: 0,
+        })
+    }
 }
 
 impl Folder for Disturbed {
@@ -120,6 +141,9 @@ impl Folder for Disturbed {
     }
 
     fn flush(&mut self, file: &mut MemoryFile) -> io::Result<()> {
+        if self.flushes.fetch_add(1, SeqCst) < self.refused {
+            return Err(io::Error::from(ErrorKind::OutOfMemory));
+        }
         self.folder.flush(file)
     }
 
@@ -132,11 +156,11 @@ impl Folder for Disturbed {
     }
 }
 
-// Looks at a folder of two files at most. One name is said to lead nowhere, and it is counted how often.
+// Looks at a folder of two files at most. Some names are said to lead nowhere. Files are said to have no length.
 #[derive(Drop)]
 pub(super) struct Looking {
-    lost: &'static str,
-    told: Cell<u32>,
+    lost: &'static [&'static str],
+    pub(super) counts: Arc<FileCounts, Global>,
 }
 
 impl Watch<Disturbed> for Looking {
@@ -148,12 +172,24 @@ impl Watch<Disturbed> for Looking {
         ends_line(folder.body(0)) && ends_line(folder.body(1))
     }
 
-    fn finds(&self, folder: &Disturbed, _file: &MemoryFile, name: &str) -> bool {
-        let found = name != self.lost && folder.folder.bytes(name).is_some();
+    fn length(&self, _file: &MemoryFile) -> u64 {
+        0
+    }
+
+    fn finds(&self, folder: &Disturbed, _file: &MemoryFile, name: &str, length: u64) -> bool {
+        let found = match folder.folder.bytes(name) {
+            Some(bytes) => bytes.len() as u64 >= length && !self.lost.contains(&name),
+            None => false,
+        };
         if !found {
-            self.told.set(self.told.get().saturating_add(1));
+            self.counts.add_gone();
         }
         found
+    }
+
+    fn count_unsynced(&self, folder: &Disturbed, failed: u64) {
+        let noted = folder.folder.notices(NoticeKind::Flush);
+        self.counts.set_unsynced(noted.saturating_add(failed));
     }
 }
 
@@ -188,18 +224,28 @@ pub(super) type TestLog = LineLog<Disturbed, Ticking, Looking>;
 
 // A log over a folder in memory, opened at 2020-02-01 10:01:00, whose clock advances by `step` seconds.
 fn hourly(rt: &(impl AllocGlobal + Abort), folder: MemoryFolder, step: i64) -> TestLog {
-    open(rt, folder, step, "", true)
+    open(rt, folder, step, &[], true)
 }
 
 fn open(
     rt: &(impl AllocGlobal + Abort),
     folder: MemoryFolder,
     step: i64,
-    lost: &'static str,
+    lost: &'static [&'static str],
     interrupts: bool,
 ) -> TestLog {
-    let folder = Disturbed { folder, interrupts };
-    match try_open(rt.alloc(), folder, step, lost) {
+    let folder = Disturbed::new(rt.alloc(), folder, interrupts).expect(rt, "memory");
+    open_disturbed(rt, folder, step, lost)
+}
+
+pub(super) fn open_disturbed(
+    rt: &(impl AllocGlobal + Abort),
+    folder: Disturbed,
+    step: i64,
+    lost: &'static [&'static str],
+) -> TestLog {
+    let counts = FileCounts::new(rt.alloc()).expect(rt, "memory");
+    match try_open(rt.alloc(), folder, step, lost, counts) {
         Ok(log) => log,
         Err(error) => rt.panic(error),
     }
@@ -209,14 +255,15 @@ pub(super) fn try_open(
     alloc: Global,
     folder: Disturbed,
     step: i64,
-    lost: &'static str,
+    lost: &'static [&'static str],
+    counts: Arc<FileCounts, Global>,
 ) -> Result<TestLog, InitError> {
     let builder = Builder::new()
         .rotation(Rotation::HOURLY)
         .filename_prefix(alloc, "app")?;
-    let (now, told) = (Cell::new(1_580_551_260), Cell::new(0));
+    let now = Cell::new(1_580_551_260);
     match builder.open_in(alloc, folder, Ticking { now, step }) {
-        Ok(log) => Ok(LineLog::new(log, Looking { lost, told })),
+        Ok(log) => Ok(LineLog::new(log, Looking { lost, counts })),
         Err((error, _, _)) => Err(error),
     }
 }
@@ -279,7 +326,7 @@ fn a_line_is_given_up_after_a_hundred_interruptions(rt: HostRuntime) {
 
 #[test]
 fn a_line_cut_short_is_told_and_ended(rt: HostRuntime) {
-    let mut log = open(&rt, failing_folder(&rt, 3..4, &[2]), 60, "", false);
+    let mut log = open(&rt, failing_folder(&rt, 3..4, &[2]), 60, &[], false);
     assert!(rt; matches!(write(rt.alloc(), &mut log, "ab\nc\n"), Err(Fault::Cut(_))));
     assert!(rt; matches!(log.write(b"d\n"), Ok(2)));
     let (folder, _) = log.into_parts();
@@ -289,7 +336,7 @@ fn a_line_cut_short_is_told_and_ended(rt: HostRuntime) {
 // The next file has no part of a line.
 #[test]
 fn a_line_cut_short_is_left_at_a_switch(rt: HostRuntime) {
-    let mut log = open(&rt, failing_folder(&rt, 3..4, &[2]), 1800, "", false);
+    let mut log = open(&rt, failing_folder(&rt, 3..4, &[2]), 1800, &[], false);
     assert!(rt; log.write(b"ab\n").is_err());
     assert!(rt; matches!(log.write(b"c\n"), Ok(2)));
     let (folder, _) = log.into_parts();
@@ -298,7 +345,7 @@ fn a_line_cut_short_is_left_at_a_switch(rt: HostRuntime) {
 
 #[test]
 fn a_write_that_fails_is_told(rt: HostRuntime) {
-    let mut log = open(&rt, failing_folder(&rt, 2..3, &[]), 60, "", false);
+    let mut log = open(&rt, failing_folder(&rt, 2..3, &[]), 60, &[], false);
     assert!(rt; matches!(write(rt.alloc(), &mut log, "ab\n"), Err(Fault::Write(_))));
     assert!(rt; matches!(log.write(b"c\n"), Ok(2)));
     let (folder, _) = log.into_parts();
@@ -328,19 +375,35 @@ fn a_part_of_a_line_is_ended_at_a_switch(rt: HostRuntime) -> Result<(), Fail> {
     Ok(())
 }
 
-// A removed file is reported once, before the switch from it or at a flush.
-static LOST: [(&str, u32, u32); 3] = [(TEN, 1, 1), (ELEVEN, 0, 1), ("", 0, 0)];
+// A removed file is reported once, before the switch from it or at a flush. A second one is reported too.
+static LOST: [(&[&str], u64, u64); 4] = [
+    (&[TEN], 1, 1),
+    (&[ELEVEN], 0, 1),
+    (&[TEN, ELEVEN], 1, 2),
+    (&[], 0, 0),
+];
 
 #[test]
-fn a_file_that_is_gone_is_told_once(rt: HostRuntime) {
+fn each_file_that_is_gone_is_told_once(rt: HostRuntime) {
     for (lost, before, after) in &LOST {
         let folder = MemoryFolder::new(rt.alloc());
         let mut log = open(&rt, folder, 1800, *lost, false);
         assert!(rt; write(rt.alloc(), &mut log, "a\nb\nc\n").is_ok());
-        expect_eq(&rt, log.watch().told.get(), *before);
+        expect_eq(&rt, log.watch().counts.gone(), *before);
         for _ in 0..2 {
             assert!(rt; log.flush().is_ok());
-            expect_eq(&rt, log.watch().told.get(), *after);
+            expect_eq(&rt, log.watch().counts.gone(), *after);
         }
     }
+}
+
+// The length that the log demands is that of what it appended, in part or with a newline after a part.
+#[test]
+fn a_file_is_as_long_as_what_was_appended(rt: HostRuntime) {
+    let mut log = open(&rt, failing_folder(&rt, 3..4, &[2]), 60, &[], false);
+    assert!(rt; log.write(b"ab\n").is_err());
+    assert!(rt; log.flush().is_ok());
+    assert!(rt; matches!(log.write(b"c\n"), Ok(2)));
+    assert!(rt; log.flush().is_ok());
+    expect_eq(&rt, log.watch().counts.gone(), 0);
 }

@@ -2,6 +2,7 @@
 use crate::expect::expect_eq;
 use audit_trail_core::trail::{Fault, keep, report_fault};
 use std::io::{Read, Write};
+use std::os::unix::fs::symlink;
 use std::process::Abort;
 use std::rt::{Files, Runtime};
 use std::test::Fail;
@@ -27,7 +28,7 @@ pub(crate) fn fresh(rt: &HostRuntime, name: &str) -> io::Result<String> {
     Ok(path)
 }
 
-// Runs the program, and compares the status and what it reports.
+// Runs the program, which keeps all files, and compares the status and what it reports.
 fn check<R: Runtime + AllocGlobal + Abort, I: Read + Drop>(
     rt: &R,
     arguments: &[String],
@@ -36,9 +37,18 @@ fn check<R: Runtime + AllocGlobal + Abort, I: Read + Drop>(
     told: &str,
 ) {
     let mut errors = Vec::new(rt.alloc());
-    let kept = keep(rt, arguments, &mut input, &mut errors);
+    let kept = keep(rt, 0, arguments, &mut input, &mut errors);
     expect_eq(rt, errors.as_slice(), told.as_bytes());
     expect_eq(rt, kept.err().unwrap_or(0), status);
+}
+
+// Writes one line by a run that keeps so many files.
+fn add_keeping<R: Runtime + AllocGlobal + Abort>(rt: &R, files: usize, arguments: &[String]) {
+    let mut errors = Vec::new(rt.alloc());
+    let mut input = b"line\n".as_slice();
+    let kept = keep(rt, files, arguments, &mut input, &mut errors);
+    expect_eq(rt, errors.as_slice(), b"".as_slice());
+    expect_eq(rt, kept.is_ok(), true);
 }
 
 // The runtime of a test that checks the disk.
@@ -82,6 +92,43 @@ fn keeps_all_lines_of_all_runs(rt: HostRuntime) -> Result<(), Fail> {
     check(&rt, arguments.as_slice(), b"again\n\n".as_slice(), 0, "");
     let directory = arguments[0].as_str();
     check_newest(&rt, directory, "first\n\nlast\nagain\n\n");
+    clear(&rt, directory);
+    Ok(())
+}
+
+// Files that are made after that of today, as by a restore, and whether each stays if two files are kept.
+static RESTORED: [(&str, bool); 5] = [
+    ("audit.2020-01-01.log", false),
+    ("audit.2020-01-02.log", true),
+    ("audit.2020-01-32.log", true),
+    ("audit-export.log", true),
+    ("audit.log", true),
+];
+
+fn is_there(rt: &impl FilesAndAbort, directory: &str, name: &str) -> bool {
+    let path = format!(in rt.alloc(); "{directory}/{name}").expect(rt, "memory");
+    fs::metadata(rt, path).is_ok()
+}
+
+#[test]
+fn keeps_the_newest_files_by_their_names(rt: HostRuntime) -> Result<(), Fail> {
+    let arguments = Vec::from_array(rt.alloc(), [fresh(&rt, "kept")?])?;
+    let directory = arguments[0].as_str();
+    add_keeping(&rt, 2, arguments.as_slice());
+    for (name, _) in &RESTORED {
+        fs::write(&rt, format!(in rt.alloc(); "{directory}/{name}")?, "old\n")?;
+    }
+    add_keeping(&rt, 0, arguments.as_slice());
+    for (name, _) in &RESTORED {
+        expect_eq(&rt, is_there(&rt, directory, name), true);
+    }
+    add_keeping(&rt, 2, arguments.as_slice());
+    for (name, stays) in &RESTORED {
+        expect_eq(&rt, is_there(&rt, directory, name), *stays);
+    }
+    add_keeping(&rt, 1, arguments.as_slice());
+    expect_eq(&rt, is_there(&rt, directory, "audit.2020-01-02.log"), false);
+    check_newest(&rt, directory, "line\nline\nline\nline\n");
     clear(&rt, directory);
     Ok(())
 }
@@ -212,6 +259,9 @@ pub(crate) enum Harm {
     Removed,
     Renamed,
     Replaced,
+    // A symbolic link to the file has its name.
+    Linked,
+    Truncated,
 }
 
 // Two lines, and between them harm to the newest log file of a folder.
@@ -238,15 +288,21 @@ impl Harming {
         let link = format!(in rt.alloc(); "{}/latest.log", self.directory)?;
         let target = fs::read_link(rt, link)?;
         let path = format!(in rt.alloc(); "{}/{}", self.directory, target.as_str())?;
-        if matches!(self.harm, Harm::Renamed) {
-            let other = format!(in rt.alloc(); "{}/other", self.directory)?;
-            return fs::rename(rt, path, other);
+        let path = path.as_str();
+        let other = format!(in rt.alloc(); "{}/other", self.directory)?;
+        match self.harm {
+            Harm::Removed => fs::remove_file(rt, path),
+            Harm::Renamed => fs::rename(rt, path, other),
+            Harm::Replaced => {
+                fs::remove_file(rt, path)?;
+                fs::write(rt, path, "")
+            }
+            Harm::Linked => {
+                fs::rename(rt, path, other)?;
+                symlink(rt, "other", path)
+            }
+            Harm::Truncated => fs::write(rt, path, ""),
         }
-        fs::remove_file(rt, path.as_str())?;
-        if matches!(self.harm, Harm::Replaced) {
-            fs::write(rt, path, "")?;
-        }
-        Ok(())
     }
 }
 
@@ -268,7 +324,13 @@ impl Read for Harming {
 #[test]
 fn tells_a_log_that_is_gone(rt: HostRuntime) -> Result<(), Fail> {
     let faults = "log files not found again: 1\n";
-    for harm in [Harm::Removed, Harm::Renamed, Harm::Replaced] {
+    for harm in [
+        Harm::Removed,
+        Harm::Renamed,
+        Harm::Replaced,
+        Harm::Linked,
+        Harm::Truncated,
+    ] {
         let arguments = Vec::from_array(rt.alloc(), [fresh(&rt, "gone")?])?;
         let directory = arguments[0].as_str();
         let input = Harming::new(rt, directory, harm)?;

@@ -2,6 +2,7 @@
 use crate::expect::expect_eq;
 use audit_trail_core::gather::{Trails, keep_all};
 use audit_trail_core::trail::Fault;
+use audit_trail_core::watch::FileCounts;
 use std::alloc::Global;
 use std::io::{Read, Write};
 use std::sync::Arc;
@@ -84,7 +85,7 @@ impl Trails for SlowTrails {
     fn open_trail(
         &self,
         _directory: &str,
-        _gone: Arc<AtomicU64, Global>,
+        _counts: Arc<FileCounts, Global>,
     ) -> Result<SlowLog, InitError> {
         Ok(SlowLog {
             rt: self.rt,

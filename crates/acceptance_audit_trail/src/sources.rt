@@ -2,15 +2,15 @@
 use crate::expect::expect_eq;
 use crate::lines::{Disturbed, TestLog, try_open};
 use crate::program::{Given, Harm, Harming, clear, fresh, latest, newest_text};
-use audit_trail_core::gather::{Trails, keep_all};
+use audit_trail_core::gather::{DiskTrails, Trails, keep_all};
 use audit_trail_core::trail::{Fault, open_trail};
+use audit_trail_core::watch::FileCounts;
 use program_io::Host;
 use std::alloc::{AllocError, Global};
 use std::io::{Read, Write};
 use std::os::unix::fs::symlink;
 use std::process::Abort;
 use std::sync::Arc;
-use std::sync::atomic::AtomicU64;
 use std::test::Fail;
 use std::{fs, io};
 use tracing_appender::rolling::InitError;
@@ -85,7 +85,7 @@ fn gives_an_account_of_all_sources(rt: HostRuntime) -> Result<(), Fail> {
     let faults = faults_of(rt.alloc(), &sources)?;
     check_account(
         rt,
-        &rt,
+        &DiskTrails::new(rt, 0),
         directory.as_str(),
         sources.as_slice(),
         "accepted 5 handed 5 left 0 dropped 0\n",
@@ -132,7 +132,7 @@ impl Trails for Narrow {
     fn open_trail(
         &self,
         _directory: &str,
-        _gone: Arc<AtomicU64, Global>,
+        _counts: Arc<FileCounts, Global>,
     ) -> Result<Filling, InitError> {
         Ok(Filling { room: self.room })
     }
@@ -180,6 +180,7 @@ struct Harmed<T: Drop> {
     rt: HostRuntime,
     trails: T,
     directory: String,
+    harm: Harm,
 }
 
 impl<T: Trails + Drop> Trails for Harmed<T> {
@@ -190,36 +191,42 @@ impl<T: Trails + Drop> Trails for Harmed<T> {
     fn open_trail(
         &self,
         directory: &str,
-        gone: Arc<AtomicU64, Global>,
+        counts: Arc<FileCounts, Global>,
     ) -> Result<T::Log, InitError> {
-        self.trails.open_trail(directory, gone)
+        self.trails.open_trail(directory, counts)
     }
 
     fn open_source(&self, _log: &T::Log, _path: &str) -> Result<Harming, Fault> {
-        Ok(Harming::new(self.rt, self.directory.as_str(), Harm::Removed)?)
+        Ok(Harming::new(self.rt, self.directory.as_str(), self.harm)?)
     }
 }
 
+// The log has a line of another run, since the worker may write none of these before the harm.
 #[test]
 fn tells_a_log_that_is_gone(rt: HostRuntime) -> Result<(), Fail> {
     let alloc = rt.alloc();
-    let directory = fresh(&rt, "harmed")?;
-    let trails = Harmed {
-        rt,
-        trails: rt,
-        directory: directory.clone()?,
-    };
-    let (account, faults) = (account_of(alloc, 2)?, "log files not found again: 1\n");
-    let paths = [String::from_str(alloc, "any")?];
-    check_account(
-        rt,
-        &trails,
-        directory.as_str(),
-        &paths,
-        account.as_str(),
-        faults,
-    );
-    clear(&rt, directory.as_str());
+    for harm in [Harm::Removed, Harm::Linked, Harm::Truncated] {
+        let directory = fresh(&rt, "harmed")?;
+        open_trail(&rt, 0, directory.as_str(), FileCounts::new(alloc)?)?;
+        fs::write(&rt, latest(&rt, directory.as_str()), "old\n")?;
+        let trails = Harmed {
+            rt,
+            trails: DiskTrails::new(rt, 0),
+            directory: directory.clone()?,
+            harm,
+        };
+        let (account, faults) = (account_of(alloc, 2)?, "log files not found again: 1\n");
+        let paths = [String::from_str(alloc, "any")?];
+        check_account(
+            rt,
+            &trails,
+            directory.as_str(),
+            &paths,
+            account.as_str(),
+            faults,
+        );
+        clear(&rt, directory.as_str());
+    }
     Ok(())
 }
 
@@ -235,12 +242,12 @@ fn ends_a_part_of_a_line_that_another_run_left(rt: HostRuntime) -> Result<(), Fa
         ("a\npar", "a\npar\nnext\n"),
         ("p", "p\nnext\n"),
     ] {
-        open_trail(&rt, directory.as_str(), Arc::new(alloc, AtomicU64::new(0))?)?;
+        open_trail(&rt, 0, directory.as_str(), FileCounts::new(alloc)?)?;
         fs::write(&rt, latest(&rt, directory.as_str()), left)?;
         let account = account_of(alloc, 1)?;
         check_account(
             rt,
-            &rt,
+            &DiskTrails::new(rt, 0),
             directory.as_str(),
             &paths,
             account.as_str(),
@@ -278,7 +285,7 @@ fn fresh_link(rt: &HostRuntime, name: &str) -> io::Result<String> {
 fn refuses_sources_in_the_folder_of_the_log(rt: HostRuntime) -> Result<(), Fail> {
     let alloc = rt.alloc();
     let directory = fresh(&rt, "own")?;
-    open_trail(&rt, directory.as_str(), Arc::new(alloc, AtomicU64::new(0))?)?;
+    open_trail(&rt, 0, directory.as_str(), FileCounts::new(alloc)?)?;
     let own = own_sources(&rt, directory.as_str())?;
     let (mut paths, mut faults) = (Vec::new(alloc), String::new(alloc));
     for path in &own.as_slice()[..4] {
@@ -291,7 +298,7 @@ fn refuses_sources_in_the_folder_of_the_log(rt: HostRuntime) -> Result<(), Fail>
     let account = account_of(alloc, 2)?;
     check_account(
         rt,
-        &rt,
+        &DiskTrails::new(rt, 0),
         directory.as_str(),
         paths.as_slice(),
         account.as_str(),
@@ -311,7 +318,7 @@ fn refuses_sources_in_the_folder_of_the_log(rt: HostRuntime) -> Result<(), Fail>
 fn knows_the_file_of_the_log(rt: HostRuntime) -> Result<(), Fail> {
     let alloc = rt.alloc();
     let (directory, hard) = (fresh(&rt, "known")?, fresh_link(&rt, "hard")?);
-    let trail = open_trail(&rt, directory.as_str(), Arc::new(alloc, AtomicU64::new(0))?)?;
+    let trail = open_trail(&rt, 0, directory.as_str(), FileCounts::new(alloc)?)?;
     let named = format!(in alloc; "{directory}/{}", trail.log().open_name())?;
     fs::hard_link(&rt, named, hard.as_str())?;
     for (path, wanted) in [(hard.as_str(), true), ("/dev/null", false)] {
@@ -338,13 +345,13 @@ impl Trails for Cutting {
     fn open_trail(
         &self,
         _directory: &str,
-        _gone: Arc<AtomicU64, Global>,
+        counts: Arc<FileCounts, Global>,
     ) -> Result<TestLog, InitError> {
         let mut folder = MemoryFolder::new(self.alloc);
         folder.short_append(2, 1)?;
         folder.fail_call(3)?;
-        let interrupts = false;
-        try_open(self.alloc, Disturbed { folder, interrupts }, 60, "")
+        let folder = Disturbed::new(self.alloc, folder, false)?;
+        try_open(self.alloc, folder, 60, &[], counts)
     }
 
     fn open_source(&self, _log: &TestLog, _path: &str) -> Result<Given, Fault> {
@@ -397,5 +404,58 @@ fn tells_nothing_if_all_is_written(rt: HostRuntime) -> Result<(), Fail> {
     expect_eq(&rt, errors.as_slice(), b"".as_slice());
     let account = account_of(rt.alloc(), 2)?;
     expect_eq(&rt, output.as_slice(), account.as_str().as_bytes());
+    Ok(())
+}
+
+// A line, and then one fault after another.
+#[derive(Drop)]
+struct Failing {
+    reads: u32,
+}
+
+impl Read for Failing {
+    fn read(&mut self, buf: &mut [u8]) -> io::Result<usize> {
+        self.reads = self.reads.saturating_add(1);
+        let mut line: &[u8] = b"x\n";
+        match self.reads {
+            1 => line.read(buf),
+            2 => Err(io::Error::from(io::ErrorKind::PermissionDenied)),
+            _ => Err(io::Error::from(io::ErrorKind::NotFound)),
+        }
+    }
+}
+
+// A log with room for all lines, and sources that fail.
+#[derive(Drop)]
+struct FailingTrails;
+
+impl Trails for FailingTrails {
+    type Log = Filling;
+
+    type Source = Failing;
+
+    fn open_trail(
+        &self,
+        _directory: &str,
+        _counts: Arc<FileCounts, Global>,
+    ) -> Result<Filling, InitError> {
+        Ok(Filling { room: 100 })
+    }
+
+    fn open_source(&self, _log: &Filling, _path: &str) -> Result<Failing, Fault> {
+        Ok(Failing { reads: 0 })
+    }
+}
+
+#[test]
+fn tells_the_first_fault_of_each_source(rt: HostRuntime) -> Result<(), Fail> {
+    let alloc = rt.alloc();
+    let paths = [
+        String::from_str(alloc, "one")?,
+        String::from_str(alloc, "two")?,
+    ];
+    let faults = "one: read failed: permission denied\ntwo: read failed: permission denied\n";
+    let account = account_of(alloc, 2)?;
+    check_account(rt, &FailingTrails, "", &paths, account.as_str(), faults);
     Ok(())
 }

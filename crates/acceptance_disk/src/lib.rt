@@ -7,6 +7,8 @@ mod expect;
 #[cfg(test)]
 mod faults;
 #[cfg(test)]
+mod links;
+#[cfg(test)]
 mod listings;
 #[cfg(test)]
 mod logs;

@@ -1,10 +1,14 @@
 // What is printed on standard error if boundaries meet faults.
 
 use crate::expect::{AllocAndAbort, expect_eq, expect_eq_of};
-use crate::runs::{DiskStep, Outcome};
+use crate::logs::hourly_log;
+use crate::runs::{DiskStep, Outcome, folder_of};
 use crate::scene::{ELEVEN, START, TWELVE, old_logs, write_log};
-use fake_files::disk::Call;
+use appender_rolling::rolling::SystemClock;
+use fake_files::disk::{Call, Disk};
+use fake_files::fake::Fake;
 use std::process::Abort;
+use tracing_appender::store::NoticeKind;
 
 // The calls that fail at two boundaries, the link if there is one, and what is printed: the second time too.
 static NOTICES: [(Call, &str, &str); 5] = [
@@ -35,12 +39,12 @@ static NOTICES: [(Call, &str, &str); 5] = [
         "Couldn't create writer for logs: failed to create log file: permission denied\n\
          Couldn't create writer for logs: failed to create log file: permission denied\nfailures 4\n",
     ),
-    // There was no link to remove at first, nor at the second boundary.
+    // There was no link to replace at first. At the boundaries it stays.
     (
         Call::Symlink,
         "latest.log",
         "Couldn't create writer for logs: failed to create symlink to latest log file: permission denied\n\
-         Couldn't create writer for logs: failed to create symlink to latest log file: permission denied\nfailures 4\n",
+         Couldn't create writer for logs: failed to create symlink to latest log file: permission denied\nfailures 3\n",
     ),
 ];
 
@@ -68,4 +72,23 @@ fn each_fault_is_told_once_at_each_boundary(rt: HostRuntime) {
         let outcome = write_failing(&rt, *call, *link);
         expect_told(&rt, &outcome, *call, *printed);
     }
+}
+
+// Opens a log that keeps two files, and returns how often a listing was noted.
+fn noted_listings(rt: &impl AllocAndAbort, disk: &Disk) -> u64 {
+    disk.seconds.set(START);
+    let clock = SystemClock::new(Fake::new(disk));
+    let builder = hourly_log(rt, 2, "");
+    match builder.open_in(rt.alloc(), folder_of(rt, disk), clock) {
+        Ok(log) => log.into_parts().0.notices(NoticeKind::List),
+        Err(_) => rt.panic("a log that is not opened"),
+    }
+}
+
+#[test]
+fn a_first_start_prints_nothing(rt: HostRuntime) {
+    let disk = Disk::new(rt.alloc());
+    disk.remove_folder().expect(&rt, "a folder");
+    expect_eq(&rt, noted_listings(&rt, &disk), 1);
+    expect_eq(&rt, disk.take_printed().as_str(), "");
 }

@@ -14,40 +14,25 @@ static TWO_LINES: [DiskStep; 2] = [DiskStep::Put(START, "one"), DiskStep::Put(EL
 const NEW_LINK: &str =
     "app.2020-02-01-10 one\napp.2020-02-01-11 two\nlatest.log -> app.2020-02-01-11\n";
 
-const OTHER_LINK: &str = "app.2020-02-01-10 onetwo\napp.2020-02-01-11 \nlatest.log -> other\n";
-
-// The target of the link that another process makes just before the call that makes it; the replies, the
-// files, and what is printed.
-static LINKS: [(&str, &str, &str, &str); 2] = [
-    // It is the wanted one.
-    (
-        "app.2020-02-01-11",
-        "open\nnone ok 3\nopened ok 3\n",
-        NEW_LINK,
-        "failures 1\n",
-    ),
-    (
-        "other",
-        "open\nnone ok 3\nfailed ok 3\n",
-        OTHER_LINK,
-        "Couldn't create writer for logs: failed to create symlink to latest log file: entity already exists\nfailures 2\n",
-    ),
-];
+// The targets of the link that another process makes just before the look of the call that makes it. Each is
+// replaced.
+static TARGETS: [&str; 2] = ["app.2020-02-01-11", "other"];
 
 // Writes two lines to a log with a link, which another process makes at the boundary.
 fn write_with_link(rt: &impl AllocAndAbort, target: &'static str) -> Outcome {
     let disk = Disk::new(rt.alloc());
-    // The calls of the opening are 1 to 4, the first line's is 5; at the boundary two open the file, and two
-    // remove the link.
+    // The calls of the opening are 1 to 4, the first line's is 5. At the boundary two open the file, one looks
+    // for a link, and the next makes one if nothing has the name.
     disk.link_comes.set(Some((10, "latest.log", target)));
     write_log(rt, &disk, 0, "latest.log", &TWO_LINES)
 }
 
 #[test]
-fn a_link_that_is_as_wanted_is_taken(rt: HostRuntime) {
-    for (target, answers, files, printed) in &LINKS {
+fn a_link_that_another_process_made_is_replaced(rt: HostRuntime) {
+    for target in &TARGETS {
         let outcome = write_with_link(&rt, *target);
-        expect_texts(&rt, &outcome, (*answers, *files, *printed), target);
+        let wanted = ("open\nnone ok 3\nopened ok 3\n", NEW_LINK, "failures 1\n");
+        expect_texts(&rt, &outcome, wanted, target);
     }
 }
 

@@ -113,5 +113,5 @@ fn a_disk_comes_to_hold_what_memory_does(rt: HostRuntime) {
         rest = behind;
     }
     expect_eq(&rt, rest, "");
-    expect_eq(&rt, compared, 49);
+    expect_eq(&rt, compared, 55);
 }

@@ -37,8 +37,8 @@ const FLUSH: &str = "Couldn't flush previous writer: permission denied\nfailures
 // The next file is made, and nothing is written to it.
 const FAILED: &str = "open\nnone ok 1\nfailed ok 1\nnone ok 1\nok\n";
 
-const LINK_IN_USE: &str =
-    "Couldn't create writer for logs: failed to create symlink to latest log file: entity already exists\nfailures 3\n";
+const LINK_REFUSED: &str =
+    "Couldn't create writer for logs: failed to create symlink to latest log file: permission denied\nfailures 2\n";
 
 // What fails, and the result: the replies, the files, and what is printed.
 static TURNS: [(&[usize], &str, &str, &str); 18] = [
@@ -67,37 +67,33 @@ static TURNS: [(&[usize], &str, &str, &str); 18] = [
     (&[18, 19, 21, 23, 25, 27, 29], ANSWERS, OLD_FILES, LIST),
     // One log file fewer is known, so that none is removed.
     (&[20, 26], ANSWERS, OLD_FILES, PRINTED),
-    (&[22, 24, 28, 41], ANSWERS, FILES, PRINTED),
+    (&[22, 24, 28, 43], ANSWERS, FILES, PRINTED),
     (&[30, 31], ANSWERS, OLD_FILES, REMOVE_SECOND),
     (&[32, 33], ANSWERS, FILES, "failures 2\n"),
-    // The last link is in the way of the new one.
+    // Whether there is a link is looked at again when it is made.
+    (&[34], ANSWERS, FILES, "failures 2\n"),
+    // A link that is not replaced leads where it did.
     (
-        &[34, 35],
+        &[35, 36, 37, 38],
         FAILED,
         "app.2020-02-01-10 abc\napp.2020-02-01-11 \napp.d/\nlatest.log -> app.2020-02-01-10\nother.txt kept\n",
-        LINK_IN_USE,
+        LINK_REFUSED,
     ),
+    (&[39], ANSWERS, FILES, FLUSH),
     (
-        &[36],
-        FAILED,
-        "app.2020-02-01-10 abc\napp.2020-02-01-11 \napp.d/\nother.txt kept\n",
-        "Couldn't create writer for logs: failed to create symlink to latest log file: permission denied\nfailures 2\n",
-    ),
-    (&[37], ANSWERS, FILES, FLUSH),
-    (
-        &[38],
+        &[40],
         "open\nnone ok 1\nopened err\nnone ok 1\nok\n",
         "app.2020-02-01-10 a\napp.2020-02-01-11 c\napp.d/\nlatest.log -> app.2020-02-01-11\nother.txt kept\n",
         "failures 2\n",
     ),
     (
-        &[39],
+        &[41],
         "open\nnone ok 1\nopened ok 1\nnone err\nok\n",
         "app.2020-02-01-10 a\napp.2020-02-01-11 b\napp.d/\nlatest.log -> app.2020-02-01-11\nother.txt kept\n",
         "failures 2\n",
     ),
     (
-        &[40],
+        &[42],
         "open\nnone ok 1\nopened ok 1\nnone ok 1\nerr\n",
         FILES,
         "failures 2\n",

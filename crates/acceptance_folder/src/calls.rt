@@ -55,7 +55,7 @@ fn expect_listed<S: Folder>(rt: &impl Abort, folder: &mut S, wanted: usize) {
     expect_eq(rt, listed.len(), wanted);
 }
 
-// Makes a link and removes it again.
+// Makes a link, and lets the next one replace it.
 fn link_to<S: Folder>(rt: &impl FilesAndAbort, folder: &mut S, directory: &str, target: &str) {
     folder.make_link("link", target).expect(rt, "a link");
     expect_target(rt, directory, "link", target);
@@ -118,7 +118,7 @@ enum FolderStep {
     Append(&'static str, &'static [u8], usize),
     // A file is removed.
     Remove(&'static str),
-    // A link to this target is made, says so, and is removed again.
+    // A link to this target is made in place of the last one, says so, and may be replaced.
     Link(&'static str),
     // This number of entries are listed.
     Lists(usize),
@@ -258,7 +258,7 @@ fn plain_files_alone_are_opened_and_removed(rt: HostRuntime) {
     take_in(&rt, place_of(rt, "plain"), "", &PLAIN_FILES);
 }
 
-// A file and a folder are not removed as links, and no link takes their place.
+// A file and a folder are not removed as links, and no link takes their place. A link is replaced by the next.
 static LINKS: [FolderStep; 9] = [
     FolderStep::Fill(&[Entry::File("file", "text"), Entry::Folder("sub")]),
     FolderStep::Refused(
@@ -272,11 +272,15 @@ static LINKS: [FolderStep; 9] = [
     FolderStep::Link("nothing"),
     FolderStep::Link("../elsewhere"),
     FolderStep::Failed(5),
-    FolderStep::Holds(&[Entry::File("file", "text"), Entry::Folder("sub")]),
+    FolderStep::Holds(&[
+        Entry::File("file", "text"),
+        Entry::Folder("sub"),
+        Entry::Link("link", "../elsewhere"),
+    ]),
 ];
 
 #[test]
-fn links_alone_are_removed_as_links(rt: HostRuntime) {
+fn links_alone_are_replaced_by_links(rt: HostRuntime) {
     take_in(&rt, place_of(rt, "links"), "", &LINKS);
 }
 

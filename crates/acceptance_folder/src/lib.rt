@@ -8,6 +8,8 @@ mod calls;
 #[cfg(test)]
 mod expect;
 #[cfg(test)]
+mod links;
+#[cfg(test)]
 mod other_processes;
 #[cfg(test)]
 mod scene;

@@ -4,7 +4,7 @@ use crate::expect::{AllocAndAbort, copy_of, expect_eq, expect_eq_of};
 use crate::memory_folder::{expect_count, folder_with};
 use crate::names::names_of;
 use appender_core::names::Names;
-use appender_core::retain::{plan, prune_old_logs};
+use appender_core::retain::{LogFiles, plan, plan_log_files, prune_old_logs};
 use appender_core::rotation::Rotation;
 use appender_core::store::{Folder, Kind, Listed, MemoryFolder, NoticeKind};
 use std::process::Abort;
@@ -96,6 +96,38 @@ fn the_lowest_candidates_go_in_rank_order(rt: HostRuntime) {
     let listed = mixed_listing(&rt);
     for (max, wanted) in &GONE {
         expect_plan(&rt, &names, *max, &listed, wanted);
+    }
+}
+
+// Hours of one log among names that it doesn't give. By creation the oldest is the newest.
+static NAMED: [Entry; 7] = [
+    ("app.2020-02-01-10.log", Kind::File, Some(1)),
+    ("app.2020-02-01-08.log", Kind::File, Some(3)),
+    ("app.2020-02-01-09.log", Kind::File, None),
+    ("app.2020-02-01-24.log", Kind::File, Some(0)),
+    ("app.log", Kind::File, Some(0)),
+    ("apple.2020-02-01-08.log", Kind::File, Some(0)),
+    ("app.2020-02-01-07.log", Kind::Folder, Some(0)),
+];
+
+// How many files are kept by name, which one is opened next, and which entries go then.
+static GONE_BY_NAME: [(usize, &str, &[usize]); 6] = [
+    (0, "app.2020-02-01-11.log", &[]),
+    (4, "app.2020-02-01-11.log", &[]),
+    (3, "app.2020-02-01-11.log", &[1]),
+    (1, "app.2020-02-01-11.log", &[1, 2, 0]),
+    (3, "app.2020-02-01-10.log", &[]),
+    (1, "app.2020-02-01-10.log", &[1, 2]),
+];
+
+#[test]
+fn by_name_the_earliest_periods_go_and_the_opened_file_stays(rt: HostRuntime) {
+    let names = names_of(&rt, Rotation::HOURLY, "app", "log");
+    let listed = listing(&rt, &NAMED);
+    for (max, opened, wanted) in &GONE_BY_NAME {
+        let log = LogFiles::new(&names, true, opened);
+        let gone = plan_log_files(rt.alloc(), &log, *max, &listed).expect(&rt, "memory");
+        expect_eq_of(&rt, max, gone.as_slice(), *wanted);
     }
 }
 

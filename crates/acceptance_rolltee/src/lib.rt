@@ -1,8 +1,12 @@
-//! Tests of `rolltee` by the call that its `main` makes: over real folders, inputs that can't be read and writers that
-//! fail.
+//! Tests of `rolltee` by the calls that its `main` makes: over real folders, inputs that can't be read, writers that fail,
+//! and those that take their time.
 #![tactic(auto)]
 
 #[cfg(test)]
 mod expect;
 #[cfg(test)]
+mod pieces;
+#[cfg(test)]
 mod program;
+#[cfg(test)]
+mod waits;

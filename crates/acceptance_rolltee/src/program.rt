@@ -1,7 +1,7 @@
 // The whole program over a real folder.
 use crate::expect::expect_eq;
 use program_io::Host;
-use rolltee_core::tee::{Logs, tee};
+use rolltee_core::tee::{Logs, Settings, tee, tee_with};
 use std::alloc::{AllocError, Global};
 use std::io::{Read, Write};
 use std::process::Abort;
@@ -30,35 +30,35 @@ impl<'a> Read for Broken<'a> {
     }
 }
 
-// A log that takes its time for each line.
+// A log whose flush takes its time.
 #[derive(Drop)]
-struct Slow<R: Clock> {
+struct Stuck<R: Clock> {
     rt: R,
     millis: u64,
 }
 
-impl<R: Clock> Write for Slow<R> {
+impl<R: Clock> Write for Stuck<R> {
     fn write(&mut self, buf: &[u8]) -> io::Result<usize> {
-        thread::sleep(&self.rt, Duration::from_millis(self.millis));
         Ok(buf.len())
     }
 
     fn flush(&mut self) -> io::Result<()> {
+        thread::sleep(&self.rt, Duration::from_millis(self.millis));
         Ok(())
     }
 }
 
 #[derive(Clone, Copy)]
-struct SlowLogs<R> {
+struct StuckLogs<R> {
     rt: R,
     millis: u64,
 }
 
-impl<R: Clock + Copy + Send + 'static> Logs for SlowLogs<R> {
-    type Log = Slow<R>;
+impl<R: Clock + Copy + Send + 'static> Logs for StuckLogs<R> {
+    type Log = Stuck<R>;
 
-    fn open_log(&self, _: Rotation, _: &str, _: &str) -> Result<Slow<R>, InitError> {
-        Ok(Slow {
+    fn open_log(&self, _: Rotation, _: &str, _: &str) -> Result<Stuck<R>, InitError> {
+        Ok(Stuck {
             rt: self.rt,
             millis: self.millis,
         })
@@ -114,13 +114,15 @@ impl<R: Clock + Copy + Drop + Send + 'static> Logs for InterruptingLogs<R> {
 
 // A log that takes the whole of a line, 2 bytes of one that begins with `c`, and nothing of one that begins with `r`.
 #[derive(Drop)]
-struct Narrow;
+struct Narrow {
+    kind: io::ErrorKind,
+}
 
 impl Write for Narrow {
     fn write(&mut self, buf: &[u8]) -> io::Result<usize> {
         match buf {
             [b'c', _, ..] => Ok(2),
-            [b'r', ..] => Err(io::Error::from(io::ErrorKind::StorageFull)),
+            [b'r', ..] => Err(io::Error::from(self.kind)),
             _ => Ok(buf.len()),
         }
     }
@@ -130,13 +132,16 @@ impl Write for Narrow {
     }
 }
 
-struct NarrowLogs;
+#[derive(Clone, Copy)]
+struct NarrowLogs {
+    kind: io::ErrorKind,
+}
 
 impl Logs for NarrowLogs {
     type Log = Narrow;
 
     fn open_log(&self, _: Rotation, _: &str, _: &str) -> Result<Narrow, InitError> {
-        Ok(Narrow)
+        Ok(Narrow { kind: self.kind })
     }
 }
 
@@ -359,10 +364,10 @@ fn opens_a_log_of_each_rotation(rt: HostRuntime) {
     }
 }
 
-// The input fails, and then the log takes longer for its line than the end waits.
+// The input fails, and then the log takes longer for its flush than the end waits.
 #[test]
 fn tells_the_first_fault(rt: HostRuntime) {
-    let logs = SlowLogs { rt, millis: 3000 };
+    let logs = StuckLogs { rt, millis: 3000 };
     let mut input = Broken {
         left: b"a\n".as_slice(),
         kind: io::ErrorKind::PermissionDenied,
@@ -372,20 +377,41 @@ fn tells_the_first_fault(rt: HostRuntime) {
 }
 
 // Lines that the log takes whole, and of which it takes nothing or a beginning.
+static TAKEN: [(&str, (u8, &str)); 5] = [
+    ("a\n\nb", (0, "")),
+    ("a\ncut\nb\n", (0, "")),
+    ("refused\na\n", (1, "write failed\n")),
+    ("a\nb\nrefused", (1, "write failed\n")),
+    ("a\ncarried\nb", (1, "write failed\n")),
+];
+
 #[test]
 fn tells_lines_that_the_log_did_not_take(rt: HostRuntime) {
-    let failed = (1, "write failed\n");
-    let inputs = [
-        ("a\n\nb", (0, "")),
-        ("a\ncut\nb\n", (0, "")),
-        ("refused\na\n", failed),
-        ("a\nb\nrefused", failed),
-        ("a\ncarried\nb", failed),
-    ];
-    for (text, (status, told)) in inputs {
+    let logs = NarrowLogs {
+        kind: io::ErrorKind::PermissionDenied,
+    };
+    for (text, (status, told)) in &TAKEN {
         let mut input = text.as_bytes();
         let arguments = ["never", "dir", "app"];
-        check(rt, &NarrowLogs, &arguments, &mut input, status, told);
+        check(rt, &logs, &arguments, &mut input, *status, told);
+    }
+}
+
+// If it is not to wait, a full disk is a fault as others are.
+#[test]
+fn tells_a_full_disk_without_waiting(rt: HostRuntime) {
+    let logs = NarrowLogs {
+        kind: io::ErrorKind::StorageFull,
+    };
+    let arguments = texts_of(rt.alloc(), &["never", "dir", "app"]).expect(&rt, "memory");
+    let settings = Settings { waits: false };
+    for (text, (status, told)) in &TAKEN {
+        let mut input = text.as_bytes();
+        let mut errors = Vec::new(rt.alloc());
+        let arguments = arguments.as_slice();
+        let answer = tee_with(rt, &logs, settings, arguments, &mut input, &mut errors);
+        expect_eq(&rt, errors.as_slice(), told.as_bytes());
+        expect_eq(&rt, answer, *status);
     }
 }
 
@@ -397,7 +423,10 @@ fn tells_the_fault_of_the_input_before_lost_lines(rt: HostRuntime) {
         kind: io::ErrorKind::PermissionDenied,
     };
     let arguments = ["never", "dir", "app"];
-    check(rt, &NarrowLogs, &arguments, &mut input, 1, "read failed\n");
+    let logs = NarrowLogs {
+        kind: io::ErrorKind::PermissionDenied,
+    };
+    check(rt, &logs, &arguments, &mut input, 1, "read failed\n");
 }
 
 #[test]
@@ -411,7 +440,7 @@ fn tells_its_usage(rt: HostRuntime) {
         &["Never", "dir", "app"],
     ];
     for arguments in wrong {
-        let logs = SlowLogs { rt, millis: 0 };
+        let logs = StuckLogs { rt, millis: 0 };
         let usage = "usage: rolltee ROTATION DIR PREFIX\n";
         check(rt, &logs, arguments, &mut b"a\n".as_slice(), 2, usage);
     }
@@ -466,25 +495,11 @@ fn tells_an_input_that_is_not_read(rt: HostRuntime) {
     }
 }
 
-// The log takes longer for its one line than the end waits.
+// The log takes longer for its flush than the end waits.
 #[test]
-fn tells_that_lines_are_still_written(rt: HostRuntime) {
-    let logs = SlowLogs { rt, millis: 3000 };
+fn tells_that_the_log_is_still_flushed(rt: HostRuntime) {
+    let logs = StuckLogs { rt, millis: 3000 };
     let arguments = ["never", "dir", "app"];
     let told = "shutdown pending\n";
     check(rt, &logs, &arguments, &mut b"a\n".as_slice(), 1, told);
-}
-
-// While the log takes its time for the first line, the others fill the queue.
-#[test]
-fn tells_that_the_queue_stays_full(rt: HostRuntime) -> Result<(), Fail> {
-    let mut lines = Vec::new(rt.alloc());
-    for _ in 0..1025u32 {
-        lines.extend_from_slice(b"\n")?;
-    }
-    let logs = SlowLogs { rt, millis: 3000 };
-    let arguments = ["never", "dir", "app"];
-    let told = "shutdown full\n";
-    check(rt, &logs, &arguments, &mut lines.as_slice(), 1, told);
-    Ok(())
 }

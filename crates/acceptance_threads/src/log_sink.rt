@@ -24,7 +24,7 @@ fn start<R: Host, W: Write + Send + Drop + 'static>(
 }
 
 // Logs one record with a span and a key-value pair.
-fn log_request<R: Host>(rt: R, sink: &LogSink<'_, NonBlocking<R>>, id: usize) {
+fn log_request<R: Host>(rt: R, sink: &LogSink<'_, NonBlocking<R>, R>, id: usize) {
     let logger = Logged::new(rt, Level::Info, sink);
     let request = logger.span("request").with("id", id);
     info!(request; target: "db", rows = 3; "read");
@@ -48,7 +48,7 @@ fn count_of<R: Host + Abort>(rt: R, seen: &Seen, id: usize) -> usize {
 fn each_record_is_one_line(rt: HostRuntime) -> Result<(), Fail> {
     let (writer, seen) = new_gate(rt, b"")?;
     let (sender, guard) = start(rt, false, 4, writer)?;
-    let sink = LogSink::new(rt.alloc(), &sender);
+    let sink = LogSink::new(rt, &sender);
     thread::map_indices(&rt, rt.alloc(), 10, &|id| log_request(rt, &sink, id))?;
     expect_eq(&rt, guard.close(), Closing::Done { left: 0 });
     expect_eq(&rt, sink.lost(), 0);
@@ -68,7 +68,7 @@ fn a_lossy_queue_drops_whole_records(rt: HostRuntime) -> Result<(), Fail> {
     let (writer, seen) = new_gate(rt, b"[INFO  db] request{id=0}: read rows=3\n")?;
     let (sender, guard) = start(rt, true, 1, writer)?;
     let counter = sender.error_counter()?;
-    let sink = LogSink::new(rt.alloc(), &sender);
+    let sink = LogSink::new(rt, &sender);
     log_request(rt, &sink, 0);
     assert!(rt; seen.is_held(rt));
     log_request(rt, &sink, 1);
@@ -89,7 +89,7 @@ fn a_lossy_queue_drops_whole_records(rt: HostRuntime) -> Result<(), Fail> {
 fn a_record_of_each_level_is_written_once(rt: HostRuntime) -> Result<(), Fail> {
     let (writer, seen) = new_gate(rt, b"")?;
     let (sender, guard) = start(rt, false, 8, writer)?;
-    let sink = LogSink::new(rt.alloc(), &sender);
+    let sink = LogSink::new(rt, &sender);
     let logger = Logged::new(rt, Level::Trace, &sink);
     error!(logger; target: "db", "row");
     warn!(logger; target: "db", "row");
@@ -111,7 +111,7 @@ fn a_record_of_each_level_is_written_once(rt: HostRuntime) -> Result<(), Fail> {
 fn every_lost_record_is_counted(rt: HostRuntime) -> Result<(), Fail> {
     let (writer, seen) = new_gate(rt, b"")?;
     let (sender, guard) = start(rt, false, 4, writer)?;
-    let sink = LogSink::new(rt.alloc(), &sender);
+    let sink = LogSink::new(rt, &sender);
     expect_eq(&rt, guard.close(), Closing::Done { left: 0 });
     for id in 0..1_200usize {
         log_request(rt, &sink, id);

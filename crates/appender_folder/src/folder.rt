@@ -4,13 +4,15 @@ ghost use Rattle.appender_folder.specs.Calls.{CountsFailure};
 
 mod entries;
 mod files;
+mod links;
 
 use appender_store::store::{Folder, Listed, Notice, NoticeCounts, NoticeKind};
 use entries::list_entries;
-use files::{is_named, make_link, open_plain, remove_link, remove_plain};
+use files::{is_named, open_plain, remove_plain};
+use links::{check_link, make_link};
 use std::alloc::AllocError;
 use std::fs::OpenFile;
-use std::io::Write;
+use std::io::{ErrorKind, Write};
 use std::marker::Model;
 use std::rt::Files;
 use std::{fs, io};
@@ -113,10 +115,12 @@ impl<R: Files + AllocGlobal + Eprint + Clone + Drop> DirFolder<R> {
         answer
     }
 
-    // Reports a notice on standard error.
+    // Reports a notice on standard error. A folder that doesn't exist yet has no old files, so that its listing
+    // is nothing to report.
     fn tell(&self, notice: Notice<'_>) -> io::Result<()> {
         let rt = &self.rt;
         match notice {
+            Notice::List(fault) if fault.kind() == ErrorKind::NotFound => Ok(()),
             Notice::List(fault) => eprintln!(rt; "Error reading the log directory/files: {fault}"),
             Notice::Remove(name, fault) => eprintln!(rt;
                 "Failed to remove old log file {}{name}: {fault}",
@@ -211,11 +215,17 @@ impl<R: Files + AllocGlobal + Eprint + Clone + Drop> Folder for DirFolder<R> {
         self.count_failure(answer)
     }
 
+    /// Checks that a link has this name, and lets `make_link` replace it. The link itself stays, so that its name
+    /// leads to a file at every moment. `NotFound` if nothing has the name, `AlreadyExists` if a file or a
+    /// folder has it.
     fn remove_link(&mut self, name: &str) -> io::Result<()> {
-        let answer = remove_link(&self.rt, self.path.as_str(), name);
+        let answer = check_link(&self.rt, self.path.as_str(), name);
         self.count_failure(answer)
     }
 
+    /// Makes a link. If a link has the name, the new one is made as `.NAME.new` and renamed over it; a link that a
+    /// killed process left as `.NAME.new` is removed. `AlreadyExists` if a file or a folder has one of the
+    /// names: it is never replaced.
     fn make_link(&mut self, name: &str, target: &str) -> io::Result<()> {
         let answer = make_link(&self.rt, self.path.as_str(), name, target);
         self.count_failure(answer)

@@ -1,10 +1,11 @@
 -- What a writer gets of a record.
-use Rattle.std.specs.Prelude.{◌≡◌, ℕ, ◌<◌, List, ◌++◌, length, take, codes, Option, IfSome}
-use Rattle.std.specs.Io.KnownBytes.{Appends}
+use Rattle.std.specs.Prelude.{◌≡◌, ◌⊎◌, ℕ, ◌<◌, Bool, true, false, List, [], ◌++◌, length, take, nat_lt, codes, Option, IfSome}
+use Rattle.std.specs.Io.KnownBytes.{Appends, Keeps}
+use Rattle.appender_log.specs.OneLine.{one_line}
 
--- a text and a newline; the text is this one, if it is known
+-- a text in one line, and a newline; the text is this one, if it is known
 abbrev pub IsLine : Option (List ℕ) → List ℕ → Type 0
-IsLine known line = (text : List ℕ) × IfSome known (λ t. text ≡ t) × (line ≡ text ++ codes "\n")
+IsLine known line = (text : List ℕ) × IfSome known (λ t. text ≡ t) × (line ≡ one_line text ++ codes "\n")
 
 -- known bytes grow by the whole line
 abbrev pub AppendsLine : Option (List ℕ) → Option (List ℕ) → Option (List ℕ) → Type 0
@@ -14,3 +15,15 @@ AppendsLine known old new = (line : List ℕ) × IsLine known line × Appends ol
 abbrev pub AppendsLess : Option (List ℕ) → Option (List ℕ) → Option (List ℕ) → Type 0
 AppendsLess known old new =
     (line : List ℕ) × IsLine known line × (n : ℕ) × (n < length line) × Appends old new (take n line)
+
+-- what ends a line that was cut short: nothing if none was
+abbrev pub ending : Bool → List ℕ
+ending true = codes "\n"
+ending false = []
+
+-- known bytes stay as they were, or grow by the ending of the line before and less than this line; this one is cut
+-- short if some of its bytes were written
+abbrev pub WritesPart : List ℕ → Bool → Bool → Option (List ℕ) → Option (List ℕ) → Type 0
+WritesPart line before after old new =
+    (Keeps old new × (after ≡ before))
+    ⊎ ((n : ℕ) × (n < length line) × Appends old new (ending before ++ take n line) × (after ≡ nat_lt 0 n))

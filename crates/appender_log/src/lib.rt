@@ -5,10 +5,9 @@ ghost use Rattle.std.specs.Prelude.{
   ◌≡◌,
   ◌≢◌,
   ◌<◌,
-  ℕ,
-  length,
-  take,
-  string_bytes,
+  ◌++◌,
+  true,
+  false,
   if◌then◌else◌,
   is_ok,
   IfOk,
@@ -19,51 +18,65 @@ ghost use Rattle.std.specs.Prelude.{
 ghost use Rattle.std.specs.IoError.{error_kind};
 ghost use Rattle.std.specs.Io.KnownBytes.{Appends, Keeps};
 ghost use Rattle.log.specs.Line.{record_line};
-ghost use Rattle.appender_log.specs.Written.{IsLine, AppendsLine, AppendsLess};
+ghost use Rattle.appender_log.specs.Written.{IsLine, AppendsLine, AppendsLess, WritesPart, ending};
 
 use appender_base::make_writer::MakeWriter;
+use appender_base::sync::{Backoff, lock};
+use appender_worker::worker::{LineFault, run_line};
 use log::kv::Source;
 use log::span::Spans;
 use log::{Line, Log, Metadata, Record};
+use one_line::escape;
 use std::alloc::{AllocError, Global};
 use std::fmt::{Debug, Display, Formatter};
 use std::io::{ErrorKind, Write};
 use std::sync::atomic::AtomicU64;
 use std::sync::atomic::Ordering::SeqCst;
+use std::sync::{Mutex, Wait};
 use std::{fmt, io};
 
+pub mod laws;
+mod one_line;
 #[cfg(test)]
 mod tests;
 
-/// Logs each record as one line, by one write of a writer of its own. It logs every record that it is
-/// given: the logger decides by level. Threads can share it, and a logger can borrow it.
+/// Logs each record as one line, by a writer of its own: by one write if that takes all of it, and with no other
+/// record of this sink between its pieces. After a record that was cut short the next one begins with a
+/// newline. It logs every record that it is given: the logger decides by level. Threads can share it, and a
+/// logger can borrow it. A writer must not log by it: it would wait for itself.
 #[derive(Drop)]
-pub struct LogSink<'a, M> {
-    alloc: Global,
+pub struct LogSink<'a, M, R: Drop = HostRuntime> {
+    rt: R,
     writers: &'a M,
+    // Whether the last record was cut short. A thread that writes a record holds it, since a writer of an
+    // appender lets other writers write between two writes of its own.
+    cut: Mutex<bool>,
     lost: AtomicU64,
 }
 
-impl<'a, M> LogSink<'a, M> {
-    /// Returns a sink over what makes the writers.
-    pub fn new(alloc: Global, writers: &'a M) -> LogSink<'a, M> {
+impl<'a, M, R: Drop> LogSink<'a, M, R> {
+    /// Returns a sink over what makes the writers. The runtime waits for the sink's lock.
+    pub fn new(rt: R, writers: &'a M) -> LogSink<'a, M, R> {
         LogSink {
-            alloc,
+            rt,
             writers,
+            cut: Mutex::new(false),
             lost: AtomicU64::new(0),
         }
     }
 
-    /// The number of records that were not written whole: there was no writer or no memory, or the write
-    /// failed or was short. A line that a lossy queue drops later is not among them.
+    /// The number of records that were not written whole: there was no writer or no memory, or a write failed or
+    /// took nothing. A line that a lossy queue drops later is not among them.
     pub fn lost(&self) -> u64 {
         self.lost.load(SeqCst)
     }
 }
 
-/// Writes the line of a record and a newline, by one write. A message with newlines is written as it is,
-/// on several lines. `WriteZero` if the write was short: the beginning of the line was written. After any
-/// other error nothing was written; `OutOfMemory` also if a value of the record cannot be formatted.
+/// Writes the line of a record and a newline, by one write if that takes all of it. Control characters are
+/// escaped: a newline as `\n`, a carriage return as `\r`, others as `\x1b`. It writes the rest after a short
+/// write, and repeats an interrupted one, at most 100 times. `WriteZero` if a write failed after the
+/// beginning of the line was written, or if one took nothing. After any other error, which is never
+/// `Interrupted`, nothing was written; `OutOfMemory` also if a value of the record cannot be formatted.
 pub fn write_record<D: Display, K: Source, S: Spans, W: Write>(
     alloc: Global,
     writer: &mut W,
@@ -75,36 +88,78 @@ pub fn write_record<D: Display, K: Source, S: Spans, W: Write>(
         (W.contents writer.old) (W.contents writer.new)) }
     ensures nothing { IfErr result (λ e. error_kind e ≢ ErrorKind.WriteZero
         → Keeps (W.contents writer.old) (W.contents writer.new)) }
+    ensures interrupted { IfErr result (λ e. error_kind e ≢ ErrorKind.Interrupted) }
 {
     let line = line_of(alloc, record)?;
-    write_once(writer, line.as_bytes())
+    let mut cut = false;
+    write_line(writer, &mut cut, line.as_slice())
 }
 
 // The line of a record, with its newline.
 fn line_of<D: Display, K: Source, S: Spans>(
     alloc: Global,
     record: &Record<'_, D, K, S>,
-) -> Result<String, AllocError>
+) -> Result<Vec<u8>, AllocError>
     ensures { IfOk result (λ line. IsLine (record_line D.output K.pairs S.scopes «record».now)
-        (string_bytes line)) }
+        line.items) }
 {
-    let mut line = String::format(alloc, Line::new(record))?;
-    line.push('\n')?;
+    let text = String::format(alloc, Line::new(record))?;
+    let mut line = escape(alloc, text.into_bytes())?;
+    line.push(b'\n')?;
     Ok(line)
 }
 
-// Writes these bytes by one write.
-fn write_once<W: Write>(writer: &mut W, bytes: &[u8]) -> io::Result<()>
-    ensures whole { OnOk result (Appends (W.contents writer.old) (W.contents writer.new) bytes.now) }
-    ensures beginning { OnErr result ((n : ℕ) × (0 < length bytes.now → n < length bytes.now)
-        × Appends (W.contents writer.old) (W.contents writer.new) (take n bytes.now)) }
-    ensures nothing { IfErr result (λ e. error_kind e ≢ ErrorKind.WriteZero
-        → Keeps (W.contents writer.old) (W.contents writer.new)) }
+// Writes a line, after a newline if the line before it was cut short. Remembers whether this one is.
+fn write_line<W: Write>(writer: &mut W, cut: &mut bool, line: &[u8]) -> io::Result<()>
+    ensures whole { OnOk result (cut.new ≡ false
+        × Appends (W.contents writer.old) (W.contents writer.new) (ending cut.old ++ line.now)) }
+    ensures part { OnErr result (WritesPart line.now cut.old cut.new
+        (W.contents writer.old) (W.contents writer.new)) }
+    ensures nothing { IfErr result (λ e. error_kind e ≢ ErrorKind.WriteZero → cut.new ≡ true → cut.old ≡ true) }
+    ensures interrupted { IfErr result (λ e. error_kind e ≢ ErrorKind.Interrupted) }
 {
-    if writer.write(bytes)? < bytes.len() {
-        return Err(io::Error::from(ErrorKind::WriteZero));
+    end_cut(writer, cut)?;
+    match run_line(writer, line) {
+        Ok(()) => Ok(()),
+        Err(fault) => {
+            *cut = fault.taken > 0;
+            Err(error_of(fault))
+        }
     }
-    Ok(())
+}
+
+// Writes a newline if the last line was cut short.
+fn end_cut<W: Write>(writer: &mut W, cut: &mut bool) -> io::Result<()>
+    ensures whole { OnOk result (cut.new ≡ false
+        × Appends (W.contents writer.old) (W.contents writer.new) (ending cut.old)) }
+    ensures nothing { OnErr result (cut.new ≡ cut.old
+        × Keeps (W.contents writer.old) (W.contents writer.new)) }
+    ensures interrupted { IfErr result (λ e. error_kind e ≢ ErrorKind.Interrupted) }
+{
+    if !*cut {
+        return Ok(());
+    }
+    match run_line(writer, b"\n") {
+        Ok(()) => {
+            *cut = false;
+            Ok(())
+        }
+        Err(fault) => Err(error_of(fault)),
+    }
+}
+
+// The error of a line that was not written whole.
+fn error_of(fault: LineFault) -> io::Error
+    ensures part { 0 < fault.taken → error_kind result ≡ ErrorKind.WriteZero }
+    ensures interrupted { error_kind result ≢ ErrorKind.Interrupted }
+{
+    if fault.taken > 0 {
+        return io::Error::from(ErrorKind::WriteZero);
+    }
+    match fault.error.kind() {
+        ErrorKind::Interrupted => io::Error::other("interrupted too often"),
+        _ => fault.error,
+    }
 }
 
 // The number of records that were lost by a write.
@@ -117,18 +172,20 @@ fn lost_by(written: &io::Result<()>) -> u64
     }
 }
 
-impl<'a, M: MakeWriter<'a>> LogSink<'a, M> {
+impl<'a, M: MakeWriter<'a>, R: AllocGlobal + Wait + Drop> LogSink<'a, M, R> {
     // Writes a record by a writer of its own.
     fn write<D: Display, K: Source, S: Spans>(
         &self,
         record: &Record<'_, D, K, S>,
     ) -> io::Result<()> {
+        let line = line_of(self.rt.alloc(), record)?;
         let mut writer = self.writers.make_writer()?;
-        write_record(self.alloc, &mut writer, record)
+        let mut cut = lock(&self.rt, &self.cut, &mut Backoff::NEW);
+        write_line(&mut writer, &mut cut, line.as_slice())
     }
 }
 
-impl<'a, M: MakeWriter<'a>> Log for LogSink<'a, M> {
+impl<'a, M: MakeWriter<'a>, R: AllocGlobal + Wait + Drop> Log for LogSink<'a, M, R> {
     ghost use Rattle.std.specs.Prelude.{true, Some, []};
 
     ghost enables = { λ _ _ _. Some true };
@@ -159,7 +216,7 @@ impl<'a, M: MakeWriter<'a>> Log for LogSink<'a, M> {
     }
 }
 
-impl<M> Debug for LogSink<'_, M> {
+impl<M, R: Drop> Debug for LogSink<'_, M, R> {
     fn fmt<W: fmt::Write>(&self, f: &mut Formatter<W>) -> fmt::Result {
         f.pad("LogSink { .. }")
     }

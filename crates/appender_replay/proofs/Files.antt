@@ -7,7 +7,7 @@ use Rattle.appender_store.specs.Content.{Content, IsSound, body_at, after_append
 use Rattle.appender_store.specs.Folder.{Counts}
 use Rattle.appender_store.specs.NameLaws.{NameLaws}
 use Rattle.appender_store.proofs.Appends.{after_append_nothing, after_append_twice, after_append_at}
-use Rattle.appender_rolling.specs.Config.{Config, naming_of, is_limited, IsStamp}
+use Rattle.appender_rolling.specs.Config.{Config, log_files_of, is_limited, IsStamp}
 use Rattle.appender_rolling.specs.declared.rolling.setup.Stamp.{Stamp}
 use Rattle.appender_rolling.specs.Kept.{Keeps, KeepsFiles, KeepsOtherFiles, PartsKeep}
 use Rattle.appender_rolling.specs.Opening.{file_name_of, LeavesLittle}
@@ -194,7 +194,7 @@ module _ (c : Config) (start : Stamp) (seen : ℕ → Seen) where
 
     keeps_parts : (a : Attempt) (b : ℕ) (did : Succeeded c a b) → KeepsParts a b did
     keeps_parts a b did =
-        let ready = keeps_on a.before did.pruned (after_make_folder did.pruned) (parts.retention (naming_of c) c.max_files a.before did.pruned did.only_old).keeps (parts.folder did.pruned).keeps in
+        let ready = keeps_on a.before did.pruned (after_make_folder did.pruned) (parts.retention (log_files_of c (Some (file_name_of c a.stamp))) c.max_files a.before did.pruned did.only_old).keeps (parts.folder did.pruned).keeps in
         let opened = parts.opening (file_name_of c a.stamp) (after_make_folder did.pruned) did.unlinked b did.opens in
         let linked = parts.link c.link (file_name_of c a.stamp) did.unlinked a.after did.links in
         record {
@@ -289,5 +289,5 @@ module _ (c : Config) (start : Stamp) (seen : ℕ → Seen) where
             owners = owners_kept c start (a ∷ rest) a x (e ∷ h) h did.did.unlinked a.after keeps.linked.keeps (λ f o. keeps.linked.stay (file_name_of c f.stamp))
                 (owners_with_success c start a x ready did.did.unlinked did.sound body keeps.ready.bytes (rw moment range) did.did.opens (leads_to maps (file_name_of c a.stamp) ready did.did.unlinked x did.did.opens) keeps.opened did.unlinked_there
                 rest e h so.file b others at here later none (none_in_later c start laws starts h (key_at c start (e ∷ h)) later)
-                (owners_kept c start rest so.file b h h a.before ready keeps.ready (λ f o. (parts.retention (naming_of c) c.max_files a.before did.did.pruned did.did.only_old).stay (file_name_of c f.stamp)) so.owners));
+                (owners_kept c start rest so.file b h h a.before ready keeps.ready (λ f o. (parts.retention (log_files_of c (Some (file_name_of c a.stamp))) c.max_files a.before did.did.pruned did.did.only_old).stay (file_name_of c f.stamp)) so.owners));
           }

@@ -1,16 +1,18 @@
 -- The names that the attempts of a run leave, one after another.
 use Rattle.std.proofs.Common.{◌≡◌, ◌≢◌, ◌∙◌, ◌⊎◌, ℕ, ℤ, ◌<◌, ◌≤◌, nat_le, Bool, true, false, ◌||◌, List, [], ◌∷◌, ◌++◌, length, map, All, Option, None, Some, is_some, inl, inr, refl, sym, ap, subst, arith}
 use Rattle.std.specs.Prelude.{if◌then◌else◌, ◌==◌, MatchOption}
-use Rattle.std.specs.Option.{option_map_or}
+use Rattle.std.specs.Str.{bytes_eq}
+use Rattle.std.specs.Option.{option_map, option_map_or, option_and_then}
 use Rattle.std.specs.FinMap as fin
 use Rattle.std.proofs.lemmas.List.{length-set}
 use Rattle.std.proofs.lemmas.List.Elements.{All-head, All-tail}
-use Rattle.appender_store.specs.Content.{Content, NameMap, File, Opens, IsSound, after_make_folder, body_at}
+use Rattle.appender_store.specs.Content.{Content, NameMap, Entry, File, Link, Folder, Opens, IsSound, after_make_folder, body_at}
+use Rattle.appender_store.specs.Folder.{entry_row}
 use Rattle.appender_store.specs.NameLaws.{NameLaws}
 use Rattle.appender_retain.specs.Pruning.{IsQuiet}
-use Rattle.appender_retain.specs.Rank.{Rank}
+use Rattle.appender_retain.specs.Rank.{LogFiles, Rank, key_by_name, key_of, matching, rank_of}
 use Rattle.appender_retain.specs.Survival.{TakesOnlyOld, name_rank, name_survives}
-use Rattle.appender_rolling.specs.Config.{Config, naming_of}
+use Rattle.appender_rolling.specs.Config.{Config, naming_of, log_files_of}
 use Rattle.appender_rolling.specs.Kept.{PartsKeep}
 use Rattle.appender_rolling.specs.declared.rolling.setup.Stamp.{Stamp}
 use Rattle.appender_rolling.specs.Opening.{file_name_of, LeavesLittle}
@@ -44,7 +46,7 @@ module _ (parts : PartsKeep) (c : Config) where
       by (Some b) did = λ x lt.
           (parts.link c.link (file_name_of c a.stamp) did.unlinked a.after did.links).keeps.more x
           ((parts.opening (file_name_of c a.stamp) (after_make_folder did.pruned) did.unlinked b did.opens).keeps.more x
-          ((parts.folder did.pruned).keeps.more x ((parts.retention (naming_of c) c.max_files a.before did.pruned did.only_old).keeps.more x lt)))
+          ((parts.folder did.pruned).keeps.more x ((parts.retention (log_files_of c (Some (file_name_of c a.stamp))) c.max_files a.before did.pruned did.only_old).keeps.more x lt)))
 
   pub leads_bodies : (attempts : List Attempt) (h : List Event) (first last : Content) → Leads c attempts h first last → HasAll first last
   leads_bodies [] h first last leads x lt = rw leads lt
@@ -65,23 +67,23 @@ module _ (maps : NameLaws) (c : Config) where
   abbrev pub PrunesAll : Attempt → Type 0
   PrunesAll a = (c.max_files ≡ 0) ⊎ (IsQuiet a.noted_before a.noted_after ⊎ ((a.before.there ≡ false) × IsSound a.before))
 
-  all_survive : c.max_files ≡ 0 → (names : NameMap) (name : List ℕ) → name_survives (naming_of c) c.max_files names name ≡ true
-  all_survive none names name = rw none refl
+  all_survive : c.max_files ≡ 0 → (log : LogFiles) (names : NameMap) (name : List ℕ) → name_survives log c.max_files names name ≡ true
+  all_survive none log names name = rw none refl
 
-  pruned_is : (a : Attempt) (b : ℕ) (did : Succeeded c a b) → PrunesAll a → (name : List ℕ) → fin.get did.pruned.names name ≡ kept c a.before.names name
+  pruned_is : (a : Attempt) (b : ℕ) (did : Succeeded c a b) → PrunesAll a → (name : List ℕ) → fin.get did.pruned.names name ≡ kept c a.stamp a.before.names name
   pruned_is a b did (inl none) name = elim (did.only_old.names name) [
-    | inl same ↦ same ∙ ap (λ (t : Bool). if t then fin.get a.before.names name else None) (sym (all_survive none a.before.names name))
-    | inr gone ↦ absurd (let both : true ≡ false = sym (all_survive none a.before.names name) ∙ gone.1 in cc)
+    | inl same ↦ same ∙ ap (λ (t : Bool). if t then fin.get a.before.names name else None) (sym (all_survive none (log_files_of c (Some (file_name_of c a.stamp))) a.before.names name))
+    | inr gone ↦ absurd (let both : true ≡ false = sym (all_survive none (log_files_of c (Some (file_name_of c a.stamp))) a.before.names name) ∙ gone.1 in cc)
   ]
   pruned_is a b did (inr (inl quiet)) name = did.survivors quiet name
-  pruned_is a b did (inr (inr absent)) name = nothing_survives (naming_of c) c.max_files a.before did.pruned absent.1 absent.0 did.only_old name
+  pruned_is a b did (inr (inr absent)) name = nothing_survives (log_files_of c (Some (file_name_of c a.stamp))) c.max_files a.before did.pruned absent.1 absent.0 did.only_old name
 
   module _ (n : ℕ) (a : Attempt) (b : ℕ) (did : Succeeded c a b) (all : PrunesAll a) (more : (x : ℕ) → x < n → x < length a.before.bodies) where
     abbrev own : List ℕ
     own = file_name_of c a.stamp
 
     abbrev Own : Type 0
-    Own = (b : ℕ) × (t : Option ℤ) × (fin.get a.after.names own ≡ Some (File b t)) × ((kept c a.before.names own ≡ Some (File b t)) ⊎ ((kept c a.before.names own ≡ None) × (n ≤ b)))
+    Own = (b : ℕ) × (t : Option ℤ) × (fin.get a.after.names own ≡ Some (File b t)) × ((kept c a.stamp a.before.names own ≡ Some (File b t)) ⊎ ((kept c a.stamp a.before.names own ≡ None) × (n ≤ b)))
 
     stays : (x : ℕ) (t : Option ℤ) → fin.get did.unlinked.names own ≡ Some (File x t) → fin.get a.after.names own ≡ Some (File x t)
     stays x t at = linked_other maps c.link own did.unlinked a.after own did.links (apart_from_link maps c.link own did.unlinked a.after own x t did.links at) ∙ at
@@ -142,9 +144,9 @@ module _ (maps : NameLaws) (c : Config) where
   module _ (name : List ℕ) (not_link : name ≢ c.link) where
     -- a name leads to what it led to, or it was a candidate's and is removed
     abbrev pub MayGo : NameMap → NameMap → Type 0
-    MayGo old new = (fin.get new name ≡ fin.get old name) ⊎ ((fin.get new name ≡ None) × (c.max_files ≢ 0) × (is_some (name_rank (naming_of c) old name) ≡ true))
+    MayGo old new = (fin.get new name ≡ fin.get old name) ⊎ ((fin.get new name ≡ None) × (c.max_files ≢ 0) × (is_some (name_rank (log_files_of c None) old name) ≡ true))
 
-    same_rank : (old new : NameMap) → fin.get new name ≡ fin.get old name → is_some (name_rank (naming_of c) new name) ≡ is_some (name_rank (naming_of c) old name)
+    same_rank : (old new : NameMap) → fin.get new name ≡ fin.get old name → is_some (name_rank (log_files_of c None) new name) ≡ is_some (name_rank (log_files_of c None) old name)
     same_rank old new same = rw same refl
 
     may_go_on : (first between last : NameMap) → MayGo first between → MayGo between last → MayGo first last
@@ -161,27 +163,47 @@ module _ (maps : NameLaws) (c : Config) where
     candidate false None f e = absurd (let both : true ≡ false = e in cc)
     candidate false (Some a) f e = (refl, refl)
 
-    pruned_may : (old new : Content) → TakesOnlyOld (naming_of c) c.max_files old new → MayGo old.names new.names
-    pruned_may old new only = elim (only.names name) [
+    -- what is a candidate before one file is opened is one of all log files
+    any_rank : (file : List ℕ) (names : NameMap) → is_some (name_rank (log_files_of c (Some file)) names name) ≡ true → is_some (name_rank (log_files_of c None) names name) ≡ true
+    any_rank file names = by (fin.get names name)
+      where
+        at : ℤ → Rank
+        at key = (key, name, 0)
+
+        key : (by_name : Bool) (opened : Bool) (k own : Option ℤ) → is_some (option_map at (if by_name then (if opened then None else own) else k)) ≡ true
+            → is_some (option_map at (if by_name then own else k)) ≡ true
+        key false opened k own some = some
+        key true false k own some = some
+        key true true k own none = absurd (let both : false ≡ true = none in cc)
+
+        by : (o : Option Entry) → is_some (option_and_then (λ (e : Entry). rank_of (log_files_of c (Some file)) (0, entry_row (name, e))) o) ≡ true
+            → is_some (option_and_then (λ (e : Entry). rank_of (log_files_of c None) (0, entry_row (name, e))) o) ≡ true
+        by None none = none
+        by (Some (File b t)) some = key c.by_name (bytes_eq name file) (key_of (matching (naming_of c)) name t) (key_by_name (naming_of c) name) some
+        by (Some (Link target)) none = none
+        by (Some Folder) none = none
+
+    pruned_may : (file : List ℕ) (old new : Content) → TakesOnlyOld (log_files_of c (Some file)) c.max_files old new → MayGo old.names new.names
+    pruned_may file old new only = elim (only.names name) [
       | inl same ↦ inl same
       | inr gone ↦
-          let was = candidate (c.max_files == 0) (name_rank (naming_of c) old.names name) _ gone.1 in
+          let was = candidate (c.max_files == 0) (name_rank (log_files_of c (Some file)) old.names name) _ gone.1 in
           let set : c.max_files ≢ 0 = λ e. let zero : (c.max_files == 0) ≡ true = grind arith in let both : true ≡ false = sym zero ∙ was.0 in cc in
-          inr (gone.0, set, was.1)
+          inr (gone.0, set, any_rank file old.names was.1)
     ]
 
     module _ (s : Stamp) (not_own : name ≢ file_name_of c s) where
       abbrev file : List ℕ
       file = file_name_of c s
 
-      opened_may : (old pruned unlinked : Content) (b : ℕ) → TakesOnlyOld (naming_of c) c.max_files old pruned → Opens file (after_make_folder pruned) unlinked b → MayGo old.names unlinked.names
+      opened_may : (old pruned unlinked : Content) (b : ℕ) → TakesOnlyOld (log_files_of c (Some file)) c.max_files old pruned → Opens file (after_make_folder pruned) unlinked b → MayGo old.names unlinked.names
       opened_may old pruned unlinked b only opens =
-          then_same old.names pruned.names unlinked.names (pruned_may old pruned only) (opened_other maps file (after_make_folder pruned) unlinked b name opens not_own)
+          then_same old.names pruned.names unlinked.names (pruned_may file old pruned only) (opened_other maps file (after_make_folder pruned) unlinked b name opens not_own)
 
       little_may : (old new : Content) → LeavesLittle c file old new → MayGo old.names new.names
       little_may old new little = elim little.rest [
-        | inl same ↦ then_same old.names little.pruned.names new.names (pruned_may old little.pruned little.only_old) (ap (λ (d : Content). fin.get d.names name) same)
-        | inr (inl same) ↦ then_same old.names little.pruned.names new.names (pruned_may old little.pruned little.only_old) (ap (λ (d : Content). fin.get d.names name) same)
+        | inl same ↦ then_same old.names little.pruned.names new.names (pruned_may file old little.pruned little.only_old) (ap (λ (d : Content). fin.get d.names name) same)
+        | inr (inl same) ↦ then_same old.names little.pruned.names new.names (pruned_may file old little.pruned little.only_old) (ap (λ (d : Content). fin.get d.names name) same)
         | inr (inr (unlinked, b, opens, frees)) ↦
             then_same old.names unlinked.names new.names (opened_may old little.pruned unlinked b little.only_old opens) (freed_other maps c.link unlinked new name frees not_link)
       ]
@@ -189,7 +211,7 @@ module _ (maps : NameLaws) (c : Config) where
       succeeded_may : (a : Attempt) (b : ℕ) → a.stamp ≡ s → Succeeded c a b → MayGo a.before.names a.after.names
       succeeded_may a b is did =
           then_same a.before.names did.unlinked.names a.after.names
-          (opened_may a.before did.pruned did.unlinked b did.only_old (subst (λ (x : Stamp). Opens (file_name_of c x) (after_make_folder did.pruned) did.unlinked b) is did.opens))
+          (opened_may a.before did.pruned did.unlinked b (subst (λ (x : Stamp). TakesOnlyOld (log_files_of c (Some (file_name_of c x))) c.max_files a.before did.pruned) is did.only_old) (subst (λ (x : Stamp). Opens (file_name_of c x) (after_make_folder did.pruned) did.unlinked b) is did.opens))
           (linked_other maps c.link (file_name_of c a.stamp) did.unlinked a.after name did.links (λ same. absurd (not_link same)))
 
     tried_may : (a : Attempt) → Tried c a → name ≢ file_name_of c a.stamp → MayGo a.before.names a.after.names

@@ -1,12 +1,12 @@
 -- The names that an attempt leaves.
 use Rattle.std.proofs.Common.{◌≡◌, ◌≢◌, ◌∙◌, ◌⊎◌, ℕ, ℤ, Bool, true, false, if◌then◌else◌, List, [], ◌∷◌, Option, None, Some, is_some, inl, inr, refl, sym, ap, subst}
 use Rattle.std.specs.FinMap as fin
-use Rattle.appender_names.specs.Name.{Naming}
+use Rattle.appender_retain.specs.Rank.{LogFiles}
 use Rattle.appender_store.specs.Content.{Content, NameMap, Entry, File, Link, Opens, IsSound, after_make_folder}
 use Rattle.appender_store.specs.NameLaws.{NameLaws}
 use Rattle.appender_retain.specs.Pruning.{IsQuiet}
 use Rattle.appender_retain.specs.Survival.{TakesOnlyOld, LeavesSurvivors, name_survives}
-use Rattle.appender_rolling.specs.Config.{Config, naming_of}
+use Rattle.appender_rolling.specs.Config.{Config, log_files_of}
 use Rattle.appender_rolling.specs.Opening.{file_name_of, MayRemoveLink, Linked}
 use Rattle.appender_replay.specs.Run.{Attempt, IsOther, NamesAfter}
 
@@ -23,11 +23,11 @@ either_none true o e = e
 either_none false o e = refl
 
 -- a folder that isn't there has no name, before retention and after
-pub nothing_survives : (n : Naming) (max : ℕ) (old new : Content) → IsSound old → old.there ≡ false → TakesOnlyOld n max old new → LeavesSurvivors n max old new
-nothing_survives n max old new sound gone took name =
+pub nothing_survives : (log : LogFiles) (max : ℕ) (old new : Content) → IsSound old → old.there ≡ false → TakesOnlyOld log max old new → LeavesSurvivors log max old new
+nothing_survives log max old new sound gone took name =
     let none : fin.get old.names name ≡ None = none_of (fin.get old.names name) (sound.absent gone name) in
     let now : fin.get new.names name ≡ None = elim (took.names name) [ inl same ↦ same ∙ none | inr w ↦ w.0 ] in
-    now ∙ sym (either_none (name_survives n max old.names name) (fin.get old.names name) none)
+    now ∙ sym (either_none (name_survives log max old.names name) (fin.get old.names name) none)
 
 module _ (maps : NameLaws) where
   added_name : (names : NameMap) (name : List ℕ) (entry : Entry) → fin.get (fin.insert names name entry) name ≡ Some entry
@@ -71,7 +71,7 @@ module _ (maps : NameLaws) where
       absurd (no_file removes.was_there.0 x t (sym removes.was_there.1 ∙ ap (fin.get old.names) (sym is) ∙ at))
 
   -- after an attempt that opened a body
-  pub names_after : (c : Config) (a : Attempt) (b : ℕ) (pruned unlinked : Content) → TakesOnlyOld (naming_of c) c.max_files a.before pruned → ((IsQuiet a.noted_before a.noted_after ⊎ (a.before.there ≡ false)) → LeavesSurvivors (naming_of c) c.max_files a.before pruned) → Opens (file_name_of c a.stamp) (after_make_folder pruned) unlinked b → Linked c.link (file_name_of c a.stamp) unlinked a.after → NamesAfter c a b
+  pub names_after : (c : Config) (a : Attempt) (b : ℕ) (pruned unlinked : Content) → TakesOnlyOld (log_files_of c (Some (file_name_of c a.stamp))) c.max_files a.before pruned → ((IsQuiet a.noted_before a.noted_after ⊎ (a.before.there ≡ false)) → LeavesSurvivors (log_files_of c (Some (file_name_of c a.stamp))) c.max_files a.before pruned) → Opens (file_name_of c a.stamp) (after_make_folder pruned) unlinked b → Linked c.link (file_name_of c a.stamp) unlinked a.after → NamesAfter c a b
   names_after c a b pruned unlinked only_old survivors opens links =
       let name = file_name_of c a.stamp in
       let to = leads_to name (after_make_folder pruned) unlinked b opens in

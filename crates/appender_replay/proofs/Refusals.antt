@@ -8,7 +8,7 @@ use Rattle.std.proofs.lemmas.Slice.Eq.{bytes_eq-Decides}
 use Rattle.appender_store.specs.Content.{Entry, File}
 use Rattle.appender_store.specs.declared.store.Folder.{Ghosts}
 use Rattle.appender_retain.specs.Survival.{name_survives}
-use Rattle.appender_rolling.specs.Config.{naming_of}
+use Rattle.appender_rolling.specs.Config.{naming_of, log_files_of}
 use Rattle.appender_rolling.specs.Opening.{file_name_of}
 use Rattle.appender_rolling.specs.declared.rolling.setup.Stamp.{Stamp}
 use Rattle.appender_names.specs.Name.{NamesArePeriods}
@@ -51,20 +51,20 @@ shutdown_takes_no_place kind c number line first last law = elim law.replies.1 [
   | inr is ↦ let both : ◌≡◌ {A = Reply} (Accepted 1) Full = is in cc
 ]
 
+abbrev stamp_at : ℤ → Stamp
+stamp_at m = record { moment = m; number = 0 }
+
 too_many : (n : ℕ) → nat_le (n + 2) 1 ≡ false
 too_many n = grind arith
 
 pub never_prunes : {S F : Type 0} (kind : Ghosts S F) → NeverPrunes kind
 never_prunes kind limit first last b created is_known there lists removes few_lists few_removes was is law =
-    let gone : name_survives (naming_of (one_file 1)) 1 (kind.content first).names (97 ∷ 98 ∷ []) ≡ false = rw was (too_many _) in
+    let gone : name_survives (log_files_of (one_file 1) (Some (file_name_of (one_file 1) (stamp_at (pos 0))))) 1 (kind.content first).names (97 ∷ 98 ∷ []) ≡ false = rw was (too_many _) in
     let names = (law.folder.content is_known).names refl (inr (record { lists = rw there (omega (arith, lists)); removes = removes; below = (few_lists, few_removes) })) in
     let none : fin.get (kind.content last).names (97 ∷ 98 ∷ []) ≡ None =
     names.2.others (97 ∷ 98 ∷ []) (λ e. let both : ◌≡◌ {A = List ℕ} (97 ∷ 98 ∷ []) (97 ∷ []) = e in cc) (λ e. let both : ◌≡◌ {A = List ℕ} (97 ∷ 98 ∷ []) [] = e in cc) ∙ rw (names.1, gone) refl in
     let both : ◌≡◌ {A = Option Entry} (Some (File b (Some created))) None = sym is ∙ none in
     cc
-
-abbrev stamp_at : ℤ → Stamp
-stamp_at m = record { moment = m; number = 0 }
 
 -- the names of both hours differ
 names_differ : NamesArePeriods (naming_of hourly) → bytes_eq (file_name_of hourly (stamp_at (pos 3600))) (file_name_of hourly (stamp_at (pos 0))) ≡ false

@@ -9,7 +9,7 @@ use Rattle.appender_store.proofs.Appends.{after_append_nothing}
 use Rattle.appender_store.specs.Folder.{AreCounts, Counts}
 use Rattle.appender_store.specs.NameLaws.{NameLaws}
 use Rattle.appender_retain.specs.Pruning.{IsQuiet}
-use Rattle.appender_rolling.specs.Config.{Config, naming_of, IsStamp, MayLimit, is_limited, last_of, stamp}
+use Rattle.appender_rolling.specs.Config.{Config, naming_of, log_files_of, IsStamp, MayLimit, is_limited, last_of, stamp}
 use Rattle.appender_names.specs.Name.{last_by}
 use Rattle.appender_names.specs.Rotation.{period_of_kind}
 use Rattle.appender_names.specs.declared.rotation.RotationKind.{RotationKind}
@@ -120,7 +120,7 @@ module _ {S F : Type 0} (kind : Ghosts S F) (config : Config) (start : Stamp) (f
             names = names_after grounds.maps config (attempted step m old new file) (kind.body file) (kind.content o.pruned) (kind.content o.unlinked) only_old
                 (λ quiet. elim quiet [
                   | inl q ↦ survivors q
-                  | inr gone ↦ nothing_survives (naming_of config) config.max_files (kind.content old) (kind.content o.pruned) (grounds.sound old is_known) gone only_old
+                  | inr gone ↦ nothing_survives (log_files_of config (Some (file_name_of config m))) config.max_files (kind.content old) (kind.content o.pruned) (grounds.sound old is_known) gone only_old
                 ]) (o.gets.opens is_known) (rw same (o.linked is_known));
             opens = o.gets.opens is_known;
             links = rw same (o.linked is_known);

@@ -11,7 +11,7 @@ use Rattle.appender_store.specs.Content.{Content, NameMap, Entry, File, Link, bo
 use Rattle.appender_store.specs.declared.store.Folder.{Ghosts}
 use Rattle.appender_store.specs.Folder.{Counts}
 use Rattle.appender_retain.specs.Survival.{name_rank, name_survives}
-use Rattle.appender_rolling.specs.Config.{Config, is_limited, naming_of}
+use Rattle.appender_rolling.specs.Config.{Config, is_limited, naming_of, log_files_of}
 use Rattle.appender_rolling.specs.Opening.{file_name_of, IsFirstNumber}
 use Rattle.appender_rolling.specs.Roller.{count_of, wanted}
 use Rattle.appender_rolling.specs.declared.rolling.setup.Stamp.{Stamp}
@@ -25,9 +25,8 @@ use Rattle.appender_replay.specs.declared.replay.whole.Step.TheVariants.{Offer, 
 use Rattle.appender_replay.specs.declared.replay.whole.Reply.{Reply}
 use Rattle.appender_replay.specs.declared.replay.whole.Reply.TheVariants.{Accepted, Full, Closed, NoMemory, Shut as DidShut, Senders, Took, TookShutdown, TookGone, TookEmpty, Wrote, Flushed, Ended}
 
--- The files. The latest moment that was read; the attempts to open a file, each by the moment and the number in its name: the newest, those
--- before it, the newest first, and how many failed; the bytes written since the newest; the name of the open file; what each write took, the
--- newest first, with the name of its file; and how many writes and flushes failed, but for want of memory.
+-- The files: the latest moment that was read; the attempts to open one, the newest, the earlier ones, newest first, and how many failed; the bytes
+-- written since; the open file's name; what each write took, newest first; how many writes and flushes failed, but for want of memory.
 pub record Files : Type 0 where
   pub latest : ℤ
   pub newest : Stamp
@@ -59,9 +58,6 @@ pub record Account : Type 0 where
 abbrev pub opened : Config → Stamp → Files
 opened c s = record { latest = s.moment; newest = s; earlier = []; failed = 0; since = 0; file = file_name_of c s; writes = []; faults = 0 }
 
-abbrev pub opening : Config → Stamp → Account
-opening c s = record { accepted = []; handed = 0; shutdown = None; closed = false; senders = 1; idle = false; rest = []; interrupted = 0; whole = false; flushes = 0; files = opened c s }
-
 -- ---- the reply to a step
 
 -- the shutdown takes a place too
@@ -82,22 +78,19 @@ take_answer a =
     if a.closed then Ended
     else if nat_lt a.handed (length a.accepted) && nat_lt a.handed (unwrap_or a.shutdown (length a.accepted)) then Took (a.handed + 1)
     else if is_some a.shutdown then TookShutdown
-    else if a.senders == 0 then TookGone
-    else TookEmpty
+    else if a.senders == 0 then TookGone else TookEmpty
 
 -- moments outside the years 1 to 9998 count as not read
 abbrev pub later : ℤ → ℤ → ℤ
 later latest m = if is_moment m then int_max m latest else latest
 
--- The file that is due at m, with so many bytes to write, if one is. If the latest moment is in another period with m, it is the first of
--- that period. With a limit of bytes it is the next of the same period, if what was written since the newest attempt and these bytes, at
--- least one, are more than the limit.
+-- The file that is due at m, if one is: the first of another period, if the latest moment is in one with m; under a limit of bytes the next of the
+-- same period, if what was written since the newest attempt and the bytes to write, at least one, are more than the limit.
 abbrev pub due_file : Config → Files → ℤ → ℕ → Option Stamp
 due_file c f m len =
     if not (is_same_start (period_of c.rotation (later f.latest m)) (period_of c.rotation f.latest)) then Some (record { moment = later f.latest m; number = 0 })
     else if is_limited c && nat_lt f.newest.number 999999 && nat_lt 0 f.since && nat_lt c.max_bytes (f.since + wanted len)
-    then Some (record { moment = f.newest.moment; number = f.newest.number + 1 })
-    else None
+    then Some (record { moment = f.newest.moment; number = f.newest.number + 1 }) else None
 
 -- A line is accepted exactly if the queue is open and has room, and memory was there for its copy; an empty one needs none. The worker writes
 -- on if a line is in hand, makes the flushes that are due, or else takes the first line that was not handed.
@@ -151,7 +144,7 @@ after c a t = a
 
 -- a run: its steps with their replies, the newest first
 abbrev pub account : Config → Stamp → List (Step × Reply) → Account
-account c start [] = opening c start
+account c start [] = record { accepted = []; handed = 0; shutdown = None; closed = false; senders = 1; idle = false; rest = []; interrupted = 0; whole = false; flushes = 0; files = opened c start }
 account c start (t ∷ past) = after c (account c start past) t
 
 abbrev pub Follows : ℕ → Config → Stamp → List (Step × Reply) → Type 0
@@ -165,17 +158,17 @@ abbrev pub written : List ℕ → List (List ℕ × List ℕ) → List ℕ
 written name [] = []
 written name ((file, bytes) ∷ earlier) = written name earlier ++ (if bytes_eq file name then bytes else [])
 
--- what retention leaves under a name
-abbrev pub kept : Config → NameMap → List ℕ → Option Entry
-kept c names name = if name_survives (naming_of c) c.max_files names name then fin.get names name else None
+-- what retention leaves under a name before a file is opened
+abbrev pub kept : Config → Stamp → NameMap → List ℕ → Option Entry
+kept c s names name = if name_survives (log_files_of c (Some (file_name_of c s))) c.max_files names name then fin.get names name else None
 
 -- The names after the opening of a file: what retention leaves of those before, the file's own, and the link. The file is the one that had
 -- the name, or a new one, whose body is none of those that the folder had at first.
 pub record Leaves (c : Config) (bodies : ℕ) (s : Stamp) (old new : NameMap) : Type 0 where
   pub own : (b : ℕ) × (t : Option ℤ) × (fin.get new (file_name_of c s) ≡ Some (File b t))
-      × ((kept c old (file_name_of c s) ≡ Some (File b t)) ⊎ ((kept c old (file_name_of c s) ≡ None) × (bodies ≤ b)))
+      × ((kept c s old (file_name_of c s) ≡ Some (File b t)) ⊎ ((kept c s old (file_name_of c s) ≡ None) × (bodies ≤ b)))
   pub link : c.link ≢ [] → fin.get new c.link ≡ Some (Link (file_name_of c s))
-  pub others : (name : List ℕ) → name ≢ file_name_of c s → name ≢ c.link → fin.get new name ≡ kept c old name
+  pub others : (name : List ℕ) → name ≢ file_name_of c s → name ≢ c.link → fin.get new name ≡ kept c s old name
 
 -- the same of one file after another, the newest first
 abbrev pub LeaveAll : Config → ℕ → List Stamp → NameMap → NameMap → Type 0
@@ -194,7 +187,7 @@ pub record Contains (c : Config) (start : Stamp) (f : Files) (first last : Conte
   pub bytes : (name : List ℕ) (b : ℕ) (t : Option ℤ) → fin.get last.names name ≡ Some (File b t) → body_at last b ≡ body_at first b ++ written name f.writes
   -- Whatever fails, no other name changes, except that log files may be removed if there is a maximum of them.
   pub others : (name : List ℕ) → All (λ s. name ≢ file_name_of c s) (f.newest ∷ f.earlier) → name ≢ c.link
-      → (fin.get last.names name ≡ fin.get first.names name) ⊎ ((fin.get last.names name ≡ None) × (c.max_files ≢ 0) × (is_some (name_rank (naming_of c) first.names name) ≡ true))
+      → (fin.get last.names name ≡ fin.get first.names name) ⊎ ((fin.get last.names name ≡ None) × (c.max_files ≢ 0) × (is_some (name_rank (log_files_of c None) first.names name) ≡ true))
   -- If each attempt succeeded, and each listing and removal, the names are exactly these. Without a maximum nothing is listed for retention.
   pub names : f.failed ≡ 0 → ((c.max_files ≡ 0) ⊎ RetentionSucceeded c first.there noted_first noted_last)
       → LeaveAll c (length first.bodies) (f.newest ∷ f.earlier) first.names last.names

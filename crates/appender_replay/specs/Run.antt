@@ -10,7 +10,7 @@ use Rattle.appender_store.specs.Content.{Content, File, Link, Opens, after_appen
 use Rattle.appender_store.specs.Folder.{Counts}
 use Rattle.appender_retain.specs.Survival.{TakesOnlyOld, LeavesSurvivors, name_survives, candidates_in}
 use Rattle.appender_retain.specs.Pruning.{IsQuiet}
-use Rattle.appender_rolling.specs.Config.{Config, naming_of, is_limited, IsStamp, stamp}
+use Rattle.appender_rolling.specs.Config.{Config, log_files_of, is_limited, IsStamp, stamp}
 use Rattle.appender_rolling.specs.Roller.{wanted}
 use Rattle.appender_rolling.specs.declared.rolling.setup.Stamp.{Stamp}
 use Rattle.appender_rolling.specs.Opening.{file_name_of, Linked, LeavesLittle}
@@ -187,22 +187,22 @@ pub record NamesAfter (c : Config) (a : Attempt) (b : ℕ) : Type 0 where
   pub link : c.link ≢ [] → fin.get a.after.names c.link ≡ Some (Link (file_name_of c a.stamp))
   pub others : (name : List ℕ) → IsOther c a.stamp name
       → (fin.get a.after.names name ≡ fin.get a.before.names name)
-      ⊎ ((fin.get a.after.names name ≡ None) × (name_survives (naming_of c) c.max_files a.before.names name ≡ false))
+      ⊎ ((fin.get a.after.names name ≡ None) × (name_survives (log_files_of c (Some (file_name_of c a.stamp))) c.max_files a.before.names name ≡ false))
   pub survivors : (IsQuiet a.noted_before a.noted_after ⊎ (a.before.there ≡ false))
       → (name : List ℕ) → IsOther c a.stamp name
-      → fin.get a.after.names name ≡ (if name_survives (naming_of c) c.max_files a.before.names name then fin.get a.before.names name else None)
+      → fin.get a.after.names name ≡ (if name_survives (log_files_of c (Some (file_name_of c a.stamp))) c.max_files a.before.names name then fin.get a.before.names name else None)
 
 -- What an attempt that opened a body did. It removed only log files that don't survive, and, if it noted neither List nor
 -- Remove, all of them. In the folder, which is there now, it opened the file of its moment's name, and let the link lead to it.
 pub record Succeeded (c : Config) (a : Attempt) (b : ℕ) : Type 0 where
   pub pruned : Content
   pub unlinked : Content
-  pub only_old : TakesOnlyOld (naming_of c) c.max_files a.before pruned
-  pub survivors : IsQuiet a.noted_before a.noted_after → LeavesSurvivors (naming_of c) c.max_files a.before pruned
+  pub only_old : TakesOnlyOld (log_files_of c (Some (file_name_of c a.stamp))) c.max_files a.before pruned
+  pub survivors : IsQuiet a.noted_before a.noted_after → LeavesSurvivors (log_files_of c (Some (file_name_of c a.stamp))) c.max_files a.before pruned
   pub opens : Opens (file_name_of c a.stamp) (after_make_folder pruned) unlinked b
   pub links : Linked c.link (file_name_of c a.stamp) unlinked a.after
   pub names : NamesAfter c a b
-  pub at_most : IsQuiet a.noted_before a.noted_after → 0 < c.max_files → candidates_in (naming_of c) a.after ≤ c.max_files
+  pub at_most : IsQuiet a.noted_before a.noted_after → 0 < c.max_files → candidates_in (log_files_of c None) a.after ≤ c.max_files
 
 -- what an attempt did
 abbrev pub Tried : Config → Attempt → Type 0

@@ -1,7 +1,7 @@
 //! Runs of an appender that are given as lists of steps, for tests and scripts.
-ghost use Rattle.std.specs.Prelude.{◌≡◌, length, IfOk, IfErr};
+ghost use Rattle.std.specs.Prelude.{◌≡◌, [], length, IfOk, IfErr};
 ghost use Rattle.appender_replay.specs.RollHeadline.{RollHeadline};
-ghost use Rattle.appender_replay.specs.Replay.{by_kind, with_replies, roll_event, StepDoes, RollDoes, RunsFrom, RollerFollows, IsNotRun, HasSteps};
+ghost use Rattle.appender_replay.specs.Replay.{by_kind, with_replies, with_replies_onto, roll_event, StepDoes, RollDoes, RunsFrom, RollerFollows, IsNotRun, HasSteps};
 
 mod refused;
 mod whole;
@@ -94,7 +94,7 @@ pub fn replay_rolling<S: Folder>(
     steps: &[RollStep],
 ) -> Result<RollRun<S>, ReplayError<S>>
     ensures headline { IfOk result (λ run. RollHeadline S.Folder builder.now start run.number
-        (with_replies steps.now run.replies.items) folder run.roller.folder) }
+        (with_replies_onto [] steps.now run.replies.items) folder run.roller.folder) }
     ensures one_each { IfOk result (λ run. length run.replies.items ≡ length steps.now) }
     ensures runs { IfOk result (λ run. RunsFrom S.Folder (RollDoes S.Folder) builder.now start run.number folder
         (with_replies steps.now run.replies.items) run.roller) }

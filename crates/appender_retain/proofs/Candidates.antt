@@ -5,8 +5,7 @@ use Rattle.std.specs.Ordering.{is_lt}
 use Rattle.std.proofs.lemmas.List.{length-map, get_or-map, take-map}
 use Rattle.std.proofs.lemmas.List.Sorted.{IsPermutation-map}
 use Rattle.appender_store.specs.Folder.{Row}
-use Rattle.appender_names.specs.Name.{Naming}
-use Rattle.appender_retain.specs.Rank.{Rank, rank_cmp, ranks}
+use Rattle.appender_retain.specs.Rank.{LogFiles, Rank, rank_cmp, ranks}
 use Rattle.appender_retain.specs.Inside.Candidate.{rank_in, how_many_go}
 use Rattle.appender_retain.specs.declared.retain.Candidate.{Candidate}
 use Rattle.appender_retain.proofs.Ranks.{InOrder, in_order, places_to_go}
@@ -20,9 +19,9 @@ sorted_keys f R (x ∷ xs) sorted k d low high =
     rw (get_or-map f (x ∷ xs) (k + 1) x d short, get_or-map f (x ∷ xs) k x d shorter) (sorted k x low short)
 
 -- sorted candidates have ranks in order
-pub candidates_in_order : (n : Naming) (rows : List Row) (cs ds : List Candidate) → map rank_in cs ≡ ranks n rows → IsPermutation cs ds → IsSortedBy (λ x y. is_lt (rank_cmp (rank_in x) (rank_in y))) ds → InOrder n rows (map rank_in ds)
-candidates_in_order n rows cs ds all moved sorted =
-    in_order n rows (map rank_in ds)
+pub candidates_in_order : (log : LogFiles) (rows : List Row) (cs ds : List Candidate) → map rank_in cs ≡ ranks log rows → IsPermutation cs ds → IsSortedBy (λ x y. is_lt (rank_cmp (rank_in x) (rank_in y))) ds → InOrder log rows (map rank_in ds)
+candidates_in_order log rows cs ds all moved sorted =
+    in_order log rows (map rank_in ds)
     (subst (λ (rs : List Rank). IsPermutation rs (map rank_in ds)) all (IsPermutation-map rank_in cs ds moved))
     (sorted_keys rank_in rank_cmp ds sorted)
 

@@ -8,3 +8,4 @@ pub mod Standing
 pub mod Removals
 pub mod Planned
 pub mod Rising
+pub mod ByName

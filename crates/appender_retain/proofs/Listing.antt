@@ -17,11 +17,10 @@ use Rattle.std.proofs.lemmas.Map.Lookups.{exact_bytes}
 use Rattle.std.proofs.lemmas.Map.Text.{is_eq-slice_cmp}
 use Rattle.std.proofs.lemmas.Map.Views.{tells_apart}
 use Rattle.std.proofs.lemmas.Option.{slice_get_within, get_or_from_slice_get}
-use Rattle.appender_names.specs.Name.{Naming}
 use Rattle.appender_store.specs.Content.{NameMap, Entry, File, Link, Folder}
 use Rattle.appender_store.specs.Folder.{Row, entry_row}
 use Rattle.appender_store.specs.declared.store.Kind.TheVariants.{File as PlainFile, Folder as PlainFolder, Link as PlainLink, Other}
-use Rattle.appender_retain.specs.Rank.{Rank, rank_cmp, rank_of, key_of, count_above, survives}
+use Rattle.appender_retain.specs.Rank.{LogFiles, Rank, rank_cmp, rank_of, key_of, count_above, survives}
 use Rattle.appender_retain.specs.Survival.{name_ranks, name_survives}
 use Rattle.appender_retain.specs.Pruning.{name_at}
 use Rattle.appender_retain.proofs.Elements.{Contains_found, found_Contains, Contains_map, map_Contains, count_filter_map, count_map, count_agree}
@@ -98,8 +97,8 @@ module _ (names : NameMap) (rows : List Row) (all : IsListing names rows) where
 -- ---- ranks
 
 -- a place decides only between rows of one name
-agree : (n : Naming) (key : ℤ) (name : List ℕ) (k j : ℕ) (l : Row) → (l.0 ≡ Some name → j ≡ k) → option_map_or (λ (b : Rank). is_lt (rank_cmp (key, name, k) b)) (rank_of n (j, l)) false ≡ option_map_or (λ (b : Rank). is_lt (rank_cmp (key, name, 0) b)) (rank_of n (0, l)) false
-agree n key name k j (Some other, PlainFile, created) same = by (key_of n other created)
+agree : (log : LogFiles) (key : ℤ) (name : List ℕ) (k j : ℕ) (l : Row) → (l.0 ≡ Some name → j ≡ k) → option_map_or (λ (b : Rank). is_lt (rank_cmp (key, name, k) b)) (rank_of log (j, l)) false ≡ option_map_or (λ (b : Rank). is_lt (rank_cmp (key, name, 0) b)) (rank_of log (0, l)) false
+agree log key name k j (Some other, PlainFile, created) same = by (key_of log other created)
   where
     tie : (keys names : Ordering) → slice_cmp nat_cmp name other ≡ names → is_lt (ordering_then keys (ordering_then names (nat_cmp k j))) ≡ is_lt (ordering_then keys (ordering_then names (nat_cmp 0 0)))
     tie Less names e = refl
@@ -114,21 +113,21 @@ agree n key name k j (Some other, PlainFile, created) same = by (key_of n other 
     by : (o : Option ℤ) → option_map_or (λ (b : Rank). is_lt (rank_cmp (key, name, k) b)) (option_map (λ (its : ℤ). (its, other, j)) o) false ≡ option_map_or (λ (b : Rank). is_lt (rank_cmp (key, name, 0) b)) (option_map (λ (its : ℤ). (its, other, 0)) o) false
     by None = refl
     by (Some its) = tie (int_cmp key its) (slice_cmp nat_cmp name other) refl
-agree n key name k j (Some other, PlainFolder, created) same = refl
-agree n key name k j (Some other, PlainLink, created) same = refl
-agree n key name k j (Some other, Other, created) same = refl
-agree n key name k j (None, kind, created) same = refl
+agree log key name k j (Some other, PlainFolder, created) same = refl
+agree log key name k j (Some other, PlainLink, created) same = refl
+agree log key name k j (Some other, Other, created) same = refl
+agree log key name k j (None, kind, created) same = refl
 
-module _ (n : Naming) (names : NameMap) (rows : List Row) (all : IsListing names rows) (k : ℕ) (name : List ℕ) where
+module _ (log : LogFiles) (names : NameMap) (rows : List Row) (all : IsListing names rows) (k : ℕ) (name : List ℕ) where
   -- as many candidates stand above in the listing as among the names
-  same_above : name_at rows k ≡ Some name → (key : ℤ) → count_above n rows (key, name, k) ≡ count_by (λ (b : Rank). is_lt (rank_cmp (key, name, 0) b)) (name_ranks n names)
+  same_above : name_at rows k ≡ Some name → (key : ℤ) → count_above log rows (key, name, k) ≡ count_by (λ (b : Rank). is_lt (rank_cmp (key, name, 0) b)) (name_ranks log names)
   same_above at key =
-      count_filter_map by_place (rank_of n) (enumerate_from 0 rows)
-      ∙ count_agree (λ (e : ℕ × Row). option_map_or by_place (rank_of n e) false) passes 0 rows
-      (λ j m there. let number : j ≡ 0 + j = omega arith in subst (λ (i : ℕ). option_map_or by_place (rank_of n (i, m)) false ≡ passes m) number (agree n key name k j m (λ is. one_place names rows all name j k (ap (option_and_then (λ (l : Row). l.0)) there ∙ is) at)))
+      count_filter_map by_place (rank_of log) (enumerate_from 0 rows)
+      ∙ count_agree (λ (e : ℕ × Row). option_map_or by_place (rank_of log e) false) passes 0 rows
+      (λ j m there. let number : j ≡ 0 + j = omega arith in subst (λ (i : ℕ). option_map_or by_place (rank_of log (i, m)) false ≡ passes m) number (agree log key name k j m (λ is. one_place names rows all name j k (ap (option_and_then (λ (l : Row). l.0)) there ∙ is) at)))
       ∙ sym (sum_by-IsPermutation (λ (m : Row). cond (passes m) 1 0) rows (map entry_row (fin.entries names)) all.moved)
       ∙ count_map passes entry_row (fin.entries names)
-      ∙ sym (count_filter_map by_name (λ (e : List ℕ × Entry). rank_of n (0, entry_row e)) (fin.entries names))
+      ∙ sym (count_filter_map by_name (λ (e : List ℕ × Entry). rank_of log (0, entry_row e)) (fin.entries names))
     where
       by_place : Rank → Bool
       by_place b = is_lt (rank_cmp (key, name, k) b)
@@ -137,29 +136,29 @@ module _ (n : Naming) (names : NameMap) (rows : List Row) (all : IsListing names
       by_name b = is_lt (rank_cmp (key, name, 0) b)
 
       passes : Row → Bool
-      passes m = option_map_or by_name (rank_of n (0, m)) false
+      passes m = option_map_or by_name (rank_of log (0, m)) false
 
   -- a name survives exactly if its row does
-  pub same_survival : (max : ℕ) (v : Entry) → slice_get rows k ≡ Some (entry_row (name, v)) → fin.get names name ≡ Some v → survives n max rows k ≡ name_survives n max names name
+  pub same_survival : (max : ℕ) (v : Entry) → slice_get rows k ≡ Some (entry_row (name, v)) → fin.get names name ≡ Some v → survives log max rows k ≡ name_survives log max names name
   same_survival max v at here =
-      ap (λ (o : Option Row). (max == 0) || option_map_or stays (option_and_then (λ (m : Row). rank_of n (k, m)) o) true) at
+      ap (λ (o : Option Row). (max == 0) || option_map_or stays (option_and_then (λ (m : Row). rank_of log (k, m)) o) true) at
       ∙ by v (same_above (ap (option_and_then (λ (l : Row). l.0)) at ∙ row_name (name, v)))
-      ∙ ap (λ (o : Option Entry). (max == 0) || option_map_or name_stays (option_and_then (λ (e : Entry). rank_of n (0, entry_row (name, e))) o) true) (sym here)
+      ∙ ap (λ (o : Option Entry). (max == 0) || option_map_or name_stays (option_and_then (λ (e : Entry). rank_of log (0, entry_row (name, e))) o) true) (sym here)
     where
       stays : Rank → Bool
-      stays a = leb (count_above n rows a + 2) max
+      stays a = leb (count_above log rows a + 2) max
 
       name_stays : Rank → Bool
-      name_stays a = leb (count_by (λ (b : Rank). is_lt (rank_cmp a b)) (name_ranks n names) + 2) max
+      name_stays a = leb (count_by (λ (b : Rank). is_lt (rank_cmp a b)) (name_ranks log names) + 2) max
 
       Same : Type 0
-      Same = (key : ℤ) → count_above n rows (key, name, k) ≡ count_by (λ (b : Rank). is_lt (rank_cmp (key, name, 0) b)) (name_ranks n names)
+      Same = (key : ℤ) → count_above log rows (key, name, k) ≡ count_by (λ (b : Rank). is_lt (rank_cmp (key, name, 0) b)) (name_ranks log names)
 
       by_key : (o : Option ℤ) → Same → ((max == 0) || option_map_or stays (option_map (λ (key : ℤ). (key, name, k)) o) true) ≡ ((max == 0) || option_map_or name_stays (option_map (λ (key : ℤ). (key, name, 0)) o) true)
       by_key None count = refl
       by_key (Some key) count = ap (λ (c : ℕ). (max == 0) || leb (c + 2) max) (count key)
 
-      by : (e : Entry) → Same → ((max == 0) || option_map_or stays (rank_of n (k, entry_row (name, e))) true) ≡ ((max == 0) || option_map_or name_stays (rank_of n (0, entry_row (name, e))) true)
-      by (File b t) count = by_key (key_of n name t) count
+      by : (e : Entry) → Same → ((max == 0) || option_map_or stays (rank_of log (k, entry_row (name, e))) true) ≡ ((max == 0) || option_map_or name_stays (rank_of log (0, entry_row (name, e))) true)
+      by (File b t) count = by_key (key_of log name t) count
       by (Link target) count = refl
       by Folder count = refl

@@ -4,13 +4,12 @@ use Rattle.std.specs.IoError.{error_kind}
 use Rattle.std.specs.declared.alloc.Global.{Global}
 use Rattle.std.specs.declared.io.Error.{Error}
 use Rattle.std.specs.declared.io.ErrorKind.TheVariants.{OutOfMemory}
-use Rattle.appender_names.specs.Name.{Naming}
 use Rattle.appender_store.specs.Content.{Removes, ForbidsList}
 use Rattle.appender_store.specs.Folder.{Counts, HasCause, Lists, Row, NotedList, NotedRemove, listed_row, saturating_next}
 use Rattle.appender_store.specs.Notes.{Notes}
 use Rattle.appender_store.specs.declared.store.Folder.{Ghosts}
 use Rattle.appender_store.specs.declared.store.Listed.{Listed}
-use Rattle.appender_retain.specs.Rank.{IsPlan}
+use Rattle.appender_retain.specs.Rank.{IsPlan, LogFiles}
 use Rattle.appender_retain.specs.Survival.{TakesOnlyOld, LeavesSurvivors, candidates_in}
 
 -- the name listed at a place, if it can be read
@@ -34,13 +33,13 @@ RemovesEach kind [] old new = new ≡ old
 RemovesEach kind (name ∷ names) old new = (between : _) × RemovesFile kind name old between × RemovesEach kind names between new
 
 -- it removes what doesn't survive of these rows; without memory for the plan it notes that instead
-abbrev pub RemovesPlanned : {S F : Type 0} → Ghosts S F → Naming → ℕ → List Row → S → S → Type 0
-RemovesPlanned kind n max rows old new =
-    ((gone : List ℕ) × IsPlan n max rows gone × RemovesEach kind (filter_map (name_at rows) gone) old new)
+abbrev pub RemovesPlanned : {S F : Type 0} → Ghosts S F → LogFiles → ℕ → List Row → S → S → Type 0
+RemovesPlanned kind log max rows old new =
+    ((gone : List ℕ) × IsPlan log max rows gone × RemovesEach kind (filter_map (name_at rows) gone) old new)
     ⊎ ((fault : Error) × (error_kind fault ≡ OutOfMemory) × Notes kind old (NotedList fault) new)
 
 -- The folder was listed, and what doesn't survive removed; of a listing that was refused it noted that, and nothing was removed.
-pub record PrunesListed {S F : Type 0} (kind : Ghosts S F) (n : Naming) (max : ℕ) (old new : S) : Type 0 where
+pub record PrunesListed {S F : Type 0} (kind : Ghosts S F) (log : LogFiles) (max : ℕ) (old new : S) : Type 0 where
   pub answer : Result (Vec Listed Global) Error
   pub listed : S
   pub call : kind.list_gives old answer listed
@@ -49,7 +48,7 @@ pub record PrunesListed {S F : Type 0} (kind : Ghosts S F) (n : Naming) (max : �
   pub there : OnOk answer (IsTrue kind.is_known → (kind.content old).there ≡ true)
   pub content : kind.content listed ≡ kind.content old
   pub noted : kind.noted listed ≡ kind.noted old
-  pub goes_on : MatchResult answer (λ all. RemovesPlanned kind n max (map listed_row all.items) listed new)
+  pub goes_on : MatchResult answer (λ all. RemovesPlanned kind log max (map listed_row all.items) listed new)
       (λ fault. Notes kind listed (NotedList fault) new)
 
 -- Neither List nor Remove was noted. At the greatest count one notice more changes nothing, so equal counts show this only
@@ -67,11 +66,11 @@ pub record NotesNothingElse (old new : Counts) : Type 0 where
 -- What retention with a maximum does to a folder, which is nothing where the maximum is 0: its calls, that it removes
 -- only names that don't survive, and, where it noted no fault, all of them, so that fewer candidates than the maximum are left.
 -- Of an absent folder List is noted.
-pub record Prunes {S F : Type 0} (kind : Ghosts S F) (n : Naming) (max : ℕ) (old new : S) : Type 0 where
+pub record Prunes {S F : Type 0} (kind : Ghosts S F) (log : LogFiles) (max : ℕ) (old new : S) : Type 0 where
   pub none : max ≡ 0 → new ≡ old
-  pub calls : max ≢ 0 → PrunesListed kind n max old new
-  pub only_old : IsTrue kind.is_known → TakesOnlyOld n max (kind.content old) (kind.content new)
-  pub survivors : IsQuiet (kind.noted old) (kind.noted new) → IsTrue kind.is_known → LeavesSurvivors n max (kind.content old) (kind.content new)
-  pub fewer : IsQuiet (kind.noted old) (kind.noted new) → IsTrue kind.is_known → 0 < max → candidates_in n (kind.content new) < max
+  pub calls : max ≢ 0 → PrunesListed kind log max old new
+  pub only_old : IsTrue kind.is_known → TakesOnlyOld log max (kind.content old) (kind.content new)
+  pub survivors : IsQuiet (kind.noted old) (kind.noted new) → IsTrue kind.is_known → LeavesSurvivors log max (kind.content old) (kind.content new)
+  pub fewer : IsQuiet (kind.noted old) (kind.noted new) → IsTrue kind.is_known → 0 < max → candidates_in log (kind.content new) < max
   pub absent : 0 < max → IsTrue kind.is_known → (kind.content old).there ≡ false → (kind.noted new).lists ≡ saturating_next (kind.noted old).lists
   pub nothing_else : NotesNothingElse (kind.noted old) (kind.noted new)

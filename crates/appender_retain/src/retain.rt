@@ -1,19 +1,77 @@
-//! Retention, as the documentation of tracing-appender has it: the oldest log files are removed, so that at most a
-//! maximum remains.
+//! Retention: the oldest log files are removed, so that at most a maximum remains. By default log files are known and
+//! ranked as the documentation of tracing-appender has it; by name, only those that the log itself can have made count.
 ghost use Rattle.std.specs.Prelude.{◌≡◌, IfOk, map};
-ghost use Rattle.std.specs.Option.{option_map};
+ghost use Rattle.std.specs.Prelude.{◌&&◌, Some, false};
+ghost use Rattle.std.specs.Option.{option_map, option_map_or};
+ghost use Rattle.std.specs.Str.{bytes_eq};
+ghost use Rattle.appender_names.specs.Name.{reading_at};
+ghost use Rattle.appender_names.specs.Rotation.{is_moment, is_same_start, period_of};
 ghost use Rattle.appender_store.specs.Folder.{listed_row};
 ghost use Rattle.appender_retain.specs.Inside.Candidate.{rank_in, how_many_go};
-ghost use Rattle.appender_retain.specs.Rank.{IsPlan, has_parts as matches_parts, key_of, rank_of, ranks};
+ghost use Rattle.appender_retain.specs.Rank as rank;
+ghost use Rattle.appender_retain.specs.Rank.{IsPlan, matching, key_of, rank_of, ranks};
 
 mod prune;
 
 use appender_names::names::Names;
+use appender_names::rotation::{Rotation, in_range};
 use appender_store::store::{Kind, Listed};
-pub use prune::prune_old_logs;
+pub use prune::{prune_log_files, prune_old_logs};
 use std::alloc::{AllocError, Global};
+use std::marker::Model;
 
 const NANOS_PER_SECOND: i128 = 1_000_000_000;
+
+// One period has so many numbers at most.
+const NUMBERS: i128 = 1_000_000;
+
+/// The log files that retention counts, and how they rank.
+#[derive(Drop)]
+pub struct LogFiles<'a> {
+    names: &'a Names,
+    by_name: bool,
+    opened: Option<&'a str>,
+}
+
+impl<'a> Model for LogFiles<'a> {
+    ghost use Rattle.std.specs.Option.{option_map};
+    ghost use Rattle.appender_retain.specs.Rank.{LogFiles};
+
+    ghost Value = { LogFiles };
+
+    ghost view = { λ log. record {
+      naming = log.names.now;
+      by_name = log.by_name;
+      opened = option_map (λ name. name.now) log.opened;
+    } };
+}
+
+impl<'a> LogFiles<'a> {
+    /// Returns the log files of these names, of which the one of the name `opened` is opened next. By name they are the
+    /// plain files whose names read as the start of a period, but not the one that is opened; they rank by period and
+    /// number, and `NEVER` has none. Else they are those of `matching`.
+    pub fn new(names: &'a Names, by_name: bool, opened: &'a str) -> LogFiles<'a>
+        ensures { result ≡ record { naming = names.now; by_name = by_name; opened = Some opened.now } }
+    {
+        LogFiles {
+            names,
+            by_name,
+            opened: Some(opened),
+        }
+    }
+
+    /// Returns the plain files whose names begin with the prefix and end with the suffix; with neither set the name must
+    /// read as a date. They rank by creation time, or if it is unknown by the second of the name, and then by name.
+    pub fn matching(names: &'a Names) -> LogFiles<'a>
+        ensures { result ≡ matching names.now }
+    {
+        LogFiles {
+            names,
+            by_name: false,
+            opened: None,
+        }
+    }
+}
 
 // A candidate, with what decides its rank, in this order.
 #[derive(Clone, Copy, Debug, PartialEq, Eq, PartialOrd, Ord)]
@@ -33,9 +91,22 @@ pub fn plan(
     max: usize,
     listed: &[Listed],
 ) -> Result<Vec<usize>, AllocError>
-    ensures { IfOk result (λ gone. IsPlan names.now max (map listed_row listed.now) gone.items) }
+    ensures { IfOk result (λ gone. IsPlan (matching names.now) max (map listed_row listed.now) gone.items) }
 {
-    let mut all = candidates(alloc, names, listed)?;
+    plan_log_files(alloc, &LogFiles::matching(names), max, listed)
+}
+
+/// Returns the places of the entries to remove so that at most `max` of these log files remain when one more is
+/// made, lowest rank first; none if `max` is 0.
+pub fn plan_log_files(
+    alloc: Global,
+    log: &LogFiles<'_>,
+    max: usize,
+    listed: &[Listed],
+) -> Result<Vec<usize>, AllocError>
+    ensures { IfOk result (λ gone. IsPlan log.now max (map listed_row listed.now) gone.items) }
+{
+    let mut all = candidates(alloc, log, listed)?;
     all.sort_unstable();
     let count = how_many(max, all.len());
     places(alloc, &all[..count])
@@ -44,15 +115,15 @@ pub fn plan(
 // Returns the candidates of a listing, in its order.
 fn candidates<'a>(
     alloc: Global,
-    names: &Names,
+    log: &LogFiles<'_>,
     listed: &'a [Listed],
 ) -> Result<Vec<Candidate<'a>>, AllocError>
     ensures { IfOk result (λ all.
-        map rank_in all.items ≡ ranks names.now (map listed_row listed.now)) }
+        map rank_in all.items ≡ ranks log.now (map listed_row listed.now)) }
 {
     let mut all = Vec::new(alloc);
     for (place, entry) in listed.iter().enumerate() {
-        if let Some(candidate) = as_candidate(names, place, entry) {
+        if let Some(candidate) = as_candidate(log, place, entry) {
             all.push(candidate)?;
         }
     }
@@ -60,20 +131,71 @@ fn candidates<'a>(
 }
 
 // Returns the entry as a candidate, if it is one.
-fn as_candidate<'a>(names: &Names, place: usize, entry: &'a Listed) -> Option<Candidate<'a>>
-    ensures { option_map rank_in result ≡ rank_of names.now (place, listed_row entry.now) }
+fn as_candidate<'a>(log: &LogFiles<'_>, place: usize, entry: &'a Listed) -> Option<Candidate<'a>>
+    ensures { option_map rank_in result ≡ rank_of log.now (place, listed_row entry.now) }
 {
     let name = entry.name.as_ref()?.as_str();
     if entry.kind != Kind::File {
         return None;
     }
-    let key = key(names, name, entry.created)?;
+    let key = key(log, name, entry.created)?;
     Some(Candidate { key, name, place })
 }
 
+// Returns the key of a file, if it is a log file.
+fn key(log: &LogFiles<'_>, name: &str, created: Option<i128>) -> Option<i128>
+    ensures { result ≡ key_of log.now name.now created }
+{
+    if !log.by_name {
+        return key_by_creation(log.names, name, created);
+    }
+    if is_opened(log, name) {
+        return None;
+    }
+    key_by_name(log.names, name)
+}
+
+// Returns whether this is the name of the file that is opened next.
+fn is_opened(log: &LogFiles<'_>, name: &str) -> bool
+    ensures { result ≡ option_map_or (bytes_eq name.now) log.now.opened false }
+{
+    match log.opened {
+        Some(opened) => name == opened,
+        None => false,
+    }
+}
+
+// Returns the period and the number that a name reads as, as one number.
+fn key_by_name(names: &Names, name: &str) -> Option<i128>
+    ensures { result ≡ rank.key_by_name names.now name.now }
+{
+    let (period, number) = read(names, name)?;
+    if !begins_period(names.rotation(), period) {
+        return None;
+    }
+    Some(i128::from(period) * NUMBERS + i128::from(number))
+}
+
+// Returns the second and the number that a name reads as. Without numbers the number is 0.
+fn read(names: &Names, name: &str) -> Option<(i64, u32)>
+    ensures { result ≡ reading_at names.now name.now }
+{
+    if names.is_numbered() {
+        names.read_numbered(name)
+    } else {
+        Some((names.read(name)?, 0))
+    }
+}
+
+fn begins_period(rotation: Rotation, second: i64) -> bool
+    ensures { result ≡ (is_moment second && is_same_start (period_of rotation second) (Some second)) }
+{
+    in_range(second) && !rotation.is_never() && rotation.round_date(second) == second
+}
+
 // Returns the nanosecond that ranks a file: that of its creation, else that of its name.
-fn key(names: &Names, name: &str, created: Option<i128>) -> Option<i128>
-    ensures { result ≡ key_of names.now name.now created }
+fn key_by_creation(names: &Names, name: &str, created: Option<i128>) -> Option<i128>
+    ensures { result ≡ key_of (matching names.now) name.now created }
 {
     if !has_parts(names, name) {
         return None;
@@ -86,7 +208,7 @@ fn key(names: &Names, name: &str, created: Option<i128>) -> Option<i128>
 
 // Returns whether a name has prefix and suffix, and reads as a date if neither is set.
 fn has_parts(names: &Names, name: &str) -> bool
-    ensures { result ≡ matches_parts names.now name.now }
+    ensures { result ≡ rank.has_parts names.now name.now }
 {
     let (prefix, suffix) = (names.prefix(), names.suffix());
     name.as_bytes().starts_with(prefix.as_bytes())

@@ -1,11 +1,11 @@
 -- What each part of an opening keeps.
 use Rattle.std.proofs.Common.{◌≡◌, ◌⊎◌, ℕ, ℤ, List, [], ◌∷◌, ◌++◌, length-append, get_or, Option, None, Some, arith, inl, inr, refl, ap, sym, ◌∙◌, zero, suc}
 use Rattle.std.specs.FinMap as fin
-use Rattle.appender_names.specs.Name.{Naming}
+use Rattle.appender_retain.specs.Rank.{LogFiles}
 use Rattle.appender_store.specs.Content.{Content, NameMap, Entry, File, Link, after_make_folder, Opens, MakesLink}
 use Rattle.appender_store.specs.NameLaws.{NameLaws, RemovalsTakeOneName, AdditionsAddOneName}
 use Rattle.appender_retain.specs.Survival.{TakesOnlyOld}
-use Rattle.appender_rolling.specs.Config.{Config, naming_of}
+use Rattle.appender_rolling.specs.Config.{Config, log_files_of}
 use Rattle.appender_rolling.specs.Opening.{MayRemoveLink, Linked, LeavesLittle}
 use Rattle.appender_rolling.specs.Kept.{Keeps, FileStays, KeepsFiles, KeepsOtherFiles, PartsKeep}
 
@@ -55,8 +55,8 @@ names_alone old new same stay = record {
 
 -- ---- each part
 
-keeps_pruned : (n : Naming) (max : ℕ) (old new : Content) → TakesOnlyOld n max old new → KeepsFiles old new
-keeps_pruned n max old new took = names_alone old new took.bodies (λ m x t h. elim (took.names m) [
+keeps_pruned : (log : LogFiles) (max : ℕ) (old new : Content) → TakesOnlyOld log max old new → KeepsFiles old new
+keeps_pruned log max old new took = names_alone old new took.bodies (λ m x t h. elim (took.names m) [
   | inl same ↦ sym same ∙ h
   | inr gone ↦ absurd (let both : ◌≡◌ {A = Option Entry} None (Some (File x t)) = sym gone.0 ∙ h in cc)
 ])
@@ -121,7 +121,7 @@ module _ (maps : NameLaws) where
 
   pub keeps_little : (config : Config) (name : List ℕ) (old new : Content) → LeavesLittle config name old new → KeepsOtherFiles name old new
   keeps_little config name old new little =
-      let pruned = keeps_pruned (naming_of config) config.max_files old little.pruned little.only_old in
+      let pruned = keeps_pruned (log_files_of config (Some name)) config.max_files old little.pruned little.only_old in
       let made = files_on old little.pruned (after_make_folder little.pruned) pruned (keeps_made little.pruned) in
       elim little.rest [
         | inl same ↦ rw same (and_others name old little.pruned pruned)

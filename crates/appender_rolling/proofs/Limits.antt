@@ -1,5 +1,5 @@
 -- Why an opening is refused.
-use Rattle.std.proofs.Common.{◌≡◌, ◌∙◌, ◌⊎◌, ℕ, Bool, List, [], ◌∷◌, Option, None, Err, IsTrue, inl, inr, refl, sym, ap, subst}
+use Rattle.std.proofs.Common.{◌≡◌, ◌∙◌, ◌⊎◌, ℕ, Bool, List, [], ◌∷◌, Option, None, Some, Err, IsTrue, inl, inr, refl, sym, ap, subst}
 use Rattle.std.specs.FinMap as fin
 use Rattle.std.specs.declared.io.Error.{Error}
 use Rattle.appender_names.specs.declared.error.InitError.{InitError}
@@ -8,9 +8,10 @@ use Rattle.appender_store.specs.Content.{Content, Entry, File, IsLink, IsLinkOrF
 use Rattle.appender_store.specs.NameLaws.{NameLaws}
 use Rattle.appender_store.specs.Folder.{HasCause}
 use Rattle.appender_store.specs.declared.store.Folder.{Ghosts}
+use Rattle.appender_retain.specs.Rank.{LogFiles}
 use Rattle.appender_retain.specs.Survival.{TakesOnlyOld}
 use Rattle.appender_retain.specs.Pruning.{Prunes}
-use Rattle.appender_rolling.specs.Config.{Config, naming_of}
+use Rattle.appender_rolling.specs.Config.{Config, log_files_of}
 use Rattle.appender_rolling.specs.Opening.{GetsFile, TriesRemoveLink, LeavesNoPlace, LinksNot, RefusesFile, IsFileOrFolder}
 use Rattle.appender_rolling.specs.Limits.{FailsByItself, HasReason}
 
@@ -24,8 +25,8 @@ module _ (maps : NameLaws) where
   ]
 
   -- what retention leaves under a name, it found there
-  found : (P : Option Entry → Type 0) → ¬ P None → (c : Config) (old pruned : Content) → TakesOnlyOld (naming_of c) c.max_files old pruned → (name : List ℕ) → P (fin.get pruned.names name) → P (fin.get old.names name)
-  found P none c old pruned took name is = elim (took.names name) [
+  found : (P : Option Entry → Type 0) → ¬ P None → (log : LogFiles) (max : ℕ) (old pruned : Content) → TakesOnlyOld log max old pruned → (name : List ℕ) → P (fin.get pruned.names name) → P (fin.get old.names name)
+  found P none log max old pruned took name is = elim (took.names name) [
     | inl same ↦ subst P same is
     | inr gone ↦ absurd (none (subst P gone.0 is))
   ]
@@ -36,7 +37,7 @@ module _ (maps : NameLaws) where
     fails T P is_known old fault new (inr (same, inl memory)) = inl (inr memory)
     fails T P is_known old fault new (inr (same, inr forbidden)) = inr forbidden
 
-    link_has_reason : (link name : List ℕ) (old pruned unlinked : S) (file : F) (fault : Error) (new : S) → c.link ≡ link → Prunes kind (naming_of c) c.max_files old pruned → GetsFile kind name pruned file unlinked → LinksNot kind link name unlinked fault new → HasReason kind c name old (Symlink fault) new
+    link_has_reason : (link name : List ℕ) (old pruned unlinked : S) (file : F) (fault : Error) (new : S) → c.link ≡ link → Prunes kind (log_files_of c (Some name)) c.max_files old pruned → GetsFile kind name pruned file unlinked → LinksNot kind link name unlinked fault new → HasReason kind c name old (Symlink fault) new
     link_has_reason [] name old pruned unlinked file fault new is prunes gets never = absurd never
     link_has_reason (b ∷ bs) name old pruned unlinked file fault new is prunes gets links_not = (
       pruned,
@@ -59,7 +60,7 @@ module _ (maps : NameLaws) where
         before is_known P none there = elim (opened_else name (after_make_folder (kind.content pruned)) (kind.content unlinked) (kind.body file) (gets.opens is_known) (b ∷ bs)) [
           | inl own ↦ inl (is ∙ own)
           | inr same ↦ inr (subst (λ (l : List ℕ). P (fin.get (kind.content old).names l)) (sym is)
-              (found P none c (kind.content old) (kind.content pruned) (prunes.only_old is_known) (b ∷ bs) (subst P same there)))
+              (found P none (log_files_of c (Some name)) c.max_files (kind.content old) (kind.content pruned) (prunes.only_old is_known) (b ∷ bs) (subst P same there)))
         ]
 
     pub refusal_has_reason : (name : List ℕ) (old : S) (error : InitError) (new : S) → RefusesFile kind c name old error new → HasReason kind c name old error new
@@ -80,7 +81,7 @@ module _ (maps : NameLaws) where
       none.second.call,
       elim (fails F (IsLinkOrFolder (fin.get (kind.content pruned).names name)) kind.is_known (kind.failures none.ready) fault (kind.failures new) none.cause) [
         | inl itself ↦ inl itself
-        | inr forbidden ↦ inr (forbidden.0, found IsLinkOrFolder (λ never. never) c (kind.content old) (kind.content pruned) (prunes.only_old forbidden.0) name forbidden.1)
+        | inr forbidden ↦ inr (forbidden.0, found IsLinkOrFolder (λ never. never) (log_files_of c (Some name)) c.max_files (kind.content old) (kind.content pruned) (prunes.only_old forbidden.0) name forbidden.1)
       ],
     )
     refusal_has_reason name old (Symlink fault) new (pruned, unlinked, file, prunes, gets, links_not) = link_has_reason c.link name old pruned unlinked file fault new refl prunes gets links_not

@@ -1,14 +1,14 @@
 -- The names of a setup are those of its configuration.
-use Rattle.std.proofs.Common.{◌≡◌, ℕ, ◌≤◌, ◌==◌, true, false, not, List, arith, ap}
+use Rattle.std.proofs.Common.{◌≡◌, ℕ, ◌≤◌, ◌==◌, Bool, true, false, not, List, arith, ap}
 use Rattle.appender_names.specs.Name.{Naming, last_by}
 use Rattle.appender_rolling.specs.Config.{Config, naming_of, is_limited, last_of, IsStamp}
 use Rattle.appender_rolling.specs.declared.rolling.setup.Stamp.{Stamp}
 
-abbrev pub config_with : Naming → List ℕ → ℕ → ℕ → Config
-config_with n link max bytes = record { rotation = n.rotation; prefix = n.prefix; suffix = n.suffix; link = link; max_files = max; max_bytes = bytes }
+abbrev pub config_with : Naming → List ℕ → ℕ → Bool → ℕ → Config
+config_with n link max by_name bytes = record { rotation = n.rotation; prefix = n.prefix; suffix = n.suffix; link = link; max_files = max; by_name = by_name; max_bytes = bytes }
 
-pub named : (n : Naming) (link : List ℕ) (max bytes : ℕ) → n.numbered ≡ not (bytes == 0) → n ≡ naming_of (config_with n link max bytes)
-named n link max bytes e = ap (λ b. record n { numbered = b }) e
+pub named : (n : Naming) (link : List ℕ) (max : ℕ) (by_name : Bool) (bytes : ℕ) → n.numbered ≡ not (bytes == 0) → n ≡ naming_of (config_with n link max by_name bytes)
+named n link max by_name bytes e = ap (λ b. record n { numbered = b }) e
 
 -- the number of a stamp, where names have numbers and where they don't
 pub number_below : (c : Config) (s : Stamp) → is_limited c ≡ true → IsStamp c s → s.number ≤ 999999

@@ -3,13 +3,13 @@ use Rattle.std.proofs.Common.{◌≡◌, ◌≢◌, ◌∙◌, ◌⊎◌, ℕ, �
 use Rattle.std.specs.Prelude.{IsSome, OnErr, OnOk, IfErr}
 use Rattle.std.specs.declared.io.Error.{Error}
 use Rattle.std.specs.FinMap as fin
-use Rattle.appender_names.specs.Name.{Naming}
+use Rattle.appender_retain.specs.Rank.{LogFiles}
 use Rattle.appender_store.specs.declared.store.Folder.{Ghosts}
 use Rattle.appender_store.specs.Content.{Content, Entry, File, Link, Folder, RemovesLink, after_make_folder, IsLink, ForbidsMakeLink, ForbidsRemoveLink}
 use Rattle.appender_store.specs.Folder.{Counts, HasCause, HasRisen}
 use Rattle.appender_retain.specs.Survival.{OpeningsAddOne, LinksAddNone, candidates_in}
 use Rattle.appender_retain.specs.Pruning.{Prunes, IsQuiet}
-use Rattle.appender_rolling.specs.Config.{Config, naming_of}
+use Rattle.appender_rolling.specs.Config.{Config, log_files_of}
 use Rattle.appender_rolling.specs.Opening.{GetsFile, MayRemoveLink, TriesRemoveLink, IsFileOrFolder, LeavesNoPlace, Relinks, RelinksNot, LinksTo, Linked, OpensFile}
 use Rattle.appender_store.specs.NameLaws.{NameLaws}
 use Rattle.appender_rolling.proofs.Kept.{removed_name, keeps_linked}
@@ -27,10 +27,10 @@ any_entry (Some (Link target)) some = inr tt
 any_entry (Some Folder) some = inl tt
 
 -- a link is no candidate
-linked_candidates : (n : Naming) (link name : List ℕ) (old new : Content) → LinksAddNone n → Linked link name old new → candidates_in n new ≤ candidates_in n old
-linked_candidates n [] name old new law same = omega (arith, ap (candidates_in n) same)
-linked_candidates n (b ∷ bs) name old new law (freed, inl same, makes) = omega (arith, ap (candidates_in n) same, law.made (b ∷ bs) name freed new makes)
-linked_candidates n (b ∷ bs) name old new law (freed, inr removes, makes) = omega (arith, law.removed (b ∷ bs) old freed removes, law.made (b ∷ bs) name freed new makes)
+linked_candidates : (log : LogFiles) (link name : List ℕ) (old new : Content) → LinksAddNone log → Linked link name old new → candidates_in log new ≤ candidates_in log old
+linked_candidates log [] name old new law same = omega (arith, ap (candidates_in log) same)
+linked_candidates log (b ∷ bs) name old new law (freed, inl same, makes) = omega (arith, ap (candidates_in log) same, law.made (b ∷ bs) name freed new makes)
+linked_candidates log (b ∷ bs) name old new law (freed, inr removes, makes) = omega (arith, law.removed (b ∷ bs) old freed removes, law.made (b ∷ bs) name freed new makes)
 
 module _ {S F : Type 0} (kind : Ghosts S F) where
   -- ---- the link
@@ -109,7 +109,7 @@ module _ {S F : Type 0} (kind : Ghosts S F) where
   links_noted [] name old new same = ap kind.noted same
   links_noted (b ∷ bs) name old new relinks = relinks.noted
 
-  pub opens_file : (maps : NameLaws) (config : Config) (name : List ℕ) (old pruned unlinked new : S) (file : F) → OpeningsAddOne (naming_of config) → LinksAddNone (naming_of config) → Prunes kind (naming_of config) config.max_files old pruned → GetsFile kind name pruned file unlinked → LinksTo kind config.link name unlinked new → OpensFile kind config name old file new
+  pub opens_file : (maps : NameLaws) (config : Config) (name : List ℕ) (old pruned unlinked new : S) (file : F) → OpeningsAddOne (log_files_of config (Some name)) → LinksAddNone (log_files_of config None) → Prunes kind (log_files_of config (Some name)) config.max_files old pruned → GetsFile kind name pruned file unlinked → LinksTo kind config.link name unlinked new → OpensFile kind config name old file new
   opens_file maps config name old pruned unlinked new file one none prunes gets links =
       let noted : kind.noted new ≡ kind.noted pruned = links_noted config.link name unlinked new links ∙ gets.noted in
       record {
@@ -123,7 +123,7 @@ module _ {S F : Type 0} (kind : Ghosts S F) where
         noted = noted;
         at_most = λ quiet is_known some.
             let before = prunes.fewer (subst (λ (n : Counts). IsQuiet (kind.noted old) n) noted quiet) is_known some in
-            let more = one name (after_make_folder (kind.content pruned)) (kind.content unlinked) (kind.body file) (gets.opens is_known) in
-            let still = linked_candidates (naming_of config) config.link name (kind.content unlinked) (kind.content new) none (linked config.link name unlinked new is_known links) in
+            let more = one name (after_make_folder (kind.content pruned)) (kind.content unlinked) (kind.body file) refl (gets.opens is_known) in
+            let still = linked_candidates (log_files_of config None) config.link name (kind.content unlinked) (kind.content new) none (linked config.link name unlinked new is_known links) in
             omega arith;
       }

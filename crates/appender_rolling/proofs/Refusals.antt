@@ -1,19 +1,19 @@
 -- What a refused opening leaves.
-use Rattle.std.proofs.Common.{◌≢◌, ℕ, ℤ, List, [], ◌∷◌, ap, inl, inr, refl, IsTrue}
+use Rattle.std.proofs.Common.{◌≢◌, ℕ, ℤ, List, [], Some, ◌∷◌, ap, inl, inr, refl, IsTrue}
 use Rattle.std.specs.declared.io.Error.{Error}
 use Rattle.appender_names.specs.declared.error.InitError.{InitError}
 use Rattle.appender_names.specs.declared.error.InitError.TheVariants.{Directory, File, Symlink, Moment, Name, Memory, Limit}
-use Rattle.appender_names.specs.Name.{Naming}
 use Rattle.appender_names.specs.Rotation.{IsMoment}
 use Rattle.appender_store.specs.Content.{Content}
 use Rattle.appender_store.specs.declared.store.Folder.{Ghosts}
+use Rattle.appender_retain.specs.Rank.{LogFiles}
 use Rattle.appender_retain.specs.Survival.{TakesOnlyOld}
-use Rattle.appender_rolling.specs.Config.{Config, naming_of, MayLimit, stamp}
+use Rattle.appender_rolling.specs.Config.{Config, log_files_of, MayLimit, stamp}
 use Rattle.appender_rolling.specs.Opening.{file_name_of, NamesEntries, LinkClashes, FindsNumber, MayRemoveLink, LinksNot, RefusesFile, LeavesLittle}
 use Rattle.appender_rolling.specs.Roller.{OpensNoRoller}
 
-takes_nothing : (n : Naming) (max : ℕ) (c : Content) → TakesOnlyOld n max c c
-takes_nothing n max c = record { there = refl; bodies = refl; names = λ name. inl refl }
+takes_nothing : (log : LogFiles) (max : ℕ) (c : Content) → TakesOnlyOld log max c c
+takes_nothing log max c = record { there = refl; bodies = refl; names = λ name. inl refl }
 
 module _ {S F : Type 0} (kind : Ghosts S F) (config : Config) where
   may_remove : (link name : List ℕ) (old : S) (fault : Error) (new : S) → IsTrue kind.is_known → LinksNot kind link name old fault new → MayRemoveLink link (kind.content old) (kind.content new)
@@ -29,7 +29,7 @@ module _ {S F : Type 0} (kind : Ghosts S F) (config : Config) where
     only_old = prunes.only_old is_known;
     rest = inr (inr (kind.content unlinked, kind.body file, gets.opens is_known, may_remove config.link name unlinked fault new is_known links_not));
   }
-  refuses_little name old Memory new is_known same = record { pruned = kind.content old; only_old = takes_nothing (naming_of config) config.max_files (kind.content old); rest = inl (ap kind.content same) }
+  refuses_little name old Memory new is_known same = record { pruned = kind.content old; only_old = takes_nothing (log_files_of config (Some name)) config.max_files (kind.content old); rest = inl (ap kind.content same) }
   refuses_little name old Moment new is_known (pruned, prunes, never) = absurd never
   refuses_little name old Name new is_known (pruned, prunes, never) = absurd never
   refuses_little name old Limit new is_known (pruned, prunes, never) = absurd never

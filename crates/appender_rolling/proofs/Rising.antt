@@ -1,5 +1,5 @@
 -- No part of a run lowers a count, and an absent folder is noted.
-use Rattle.std.proofs.Common.{◌≡◌, ◌∙◌, ◌⊎◌, ℕ, ◌^◌, ◌<◌, ℤ, Bool, true, false, List, [], ◌∷◌, length, map, Result, Ok, Err, MatchResult, Vec, IsTrue, arith, ap, inl, inr, refl, sym}
+use Rattle.std.proofs.Common.{Some, ◌≡◌, ◌∙◌, ◌⊎◌, ℕ, ◌^◌, ◌<◌, ℤ, Bool, true, false, List, [], ◌∷◌, length, map, Result, Ok, Err, MatchResult, Vec, IsTrue, arith, ap, inl, inr, refl, sym}
 use Rattle.std.specs.Prelude.{OnOk}
 use Rattle.std.specs.declared.alloc.Global.{Global}
 use Rattle.std.specs.declared.io.Error.{Error}
@@ -13,7 +13,7 @@ use Rattle.appender_store.specs.declared.store.Folder.{Ghosts}
 use Rattle.appender_store.specs.declared.store.Listed.{Listed}
 use Rattle.appender_store.proofs.Rising.{cause_rises, equal_notes_rise, same_rises, rises_on, call_rises, note_rises, fault_rises}
 use Rattle.appender_retain.proofs.Rising.{prunes_rise}
-use Rattle.appender_rolling.specs.Config.{Config, naming_of, is_limited}
+use Rattle.appender_rolling.specs.Config.{Config, naming_of, log_files_of, is_limited}
 use Rattle.appender_rolling.specs.Opening.{IsFirstNumber, IsListed, ListsNumbers, FindsNumber, OpensAtOnce, RefusesAtOnce, MakesFolder, OpensInMade, GetsFile, GetsNo, TriesRemoveLink, LeavesNoPlace, LinksTo, LinksNot, OpensFile, RefusesFile}
 use Rattle.appender_rolling.specs.Roller.{Rolling, ClosesLast, Looks, Writes, Puts, Flushes}
 use Rattle.appender_rolling.specs.declared.rolling.Switch.{Switch}
@@ -93,16 +93,16 @@ module _ {S F : Type 0} (kind : Ghosts S F) (failures_fit : (s : S) → kind.fai
 
   pub opens_rise : (config : Config) (name : List ℕ) (old : S) (file : F) (new : S) → OpensFile kind config name old file new → CountsRise kind old new
   opens_rise config name old file new opens =
-      rises_on kind old opens.pruned new (prunes_rise kind failures_fit noted_fit (naming_of config) config.max_files old opens.pruned opens.prunes)
+      rises_on kind old opens.pruned new (prunes_rise kind failures_fit noted_fit (log_files_of config (Some name)) config.max_files old opens.pruned opens.prunes)
       (rises_on kind opens.pruned opens.unlinked new (gets_rise name opens.pruned file opens.unlinked opens.gets) (links_rise config.link name opens.unlinked new opens.links))
 
   pub refuses_rise : (config : Config) (name : List ℕ) (old : S) (error : InitError) (new : S) → RefusesFile kind config name old error new → CountsRise kind old new
   refuses_rise config name old (Directory fault) new (pruned, prunes, none) =
-      rises_on kind old pruned new (prunes_rise kind failures_fit noted_fit (naming_of config) config.max_files old pruned prunes) (gets_no_rise name pruned (Directory fault) new none)
+      rises_on kind old pruned new (prunes_rise kind failures_fit noted_fit (log_files_of config (Some name)) config.max_files old pruned prunes) (gets_no_rise name pruned (Directory fault) new none)
   refuses_rise config name old (File fault) new (pruned, prunes, none) =
-      rises_on kind old pruned new (prunes_rise kind failures_fit noted_fit (naming_of config) config.max_files old pruned prunes) (gets_no_rise name pruned (File fault) new none)
+      rises_on kind old pruned new (prunes_rise kind failures_fit noted_fit (log_files_of config (Some name)) config.max_files old pruned prunes) (gets_no_rise name pruned (File fault) new none)
   refuses_rise config name old (Symlink fault) new (pruned, unlinked, file, prunes, gets, links_not) =
-      rises_on kind old pruned new (prunes_rise kind failures_fit noted_fit (naming_of config) config.max_files old pruned prunes)
+      rises_on kind old pruned new (prunes_rise kind failures_fit noted_fit (log_files_of config (Some name)) config.max_files old pruned prunes)
       (rises_on kind pruned unlinked new (gets_rise name pruned file unlinked gets) (links_not_rise config.link name unlinked fault new links_not))
   refuses_rise config name old Memory new same = same_rises kind old new same
   refuses_rise config name old Moment new (pruned, prunes, never) = absurd never

@@ -1,24 +1,27 @@
 -- The settings of an appender.
-use Rattle.std.specs.Prelude.{◌≡◌, ℕ, ◌≤◌, ℤ, ◌==◌, Bool, true, not, List, [], Option, None, Some, String, string_bytes}
+use Rattle.std.specs.Prelude.{◌≡◌, ℕ, ◌≤◌, ℤ, ◌==◌, Bool, true, false, not, List, [], Option, None, Some, String, string_bytes}
 use Rattle.std.specs.declared.alloc.Global.{Global}
 use Rattle.appender_names.specs.declared.rotation.Rotation.{Rotation}
 use Rattle.appender_names.specs.declared.rotation.RotationKind.TheVariants.{Never}
 use Rattle.appender_names.specs.Rotation.{IsMoment, IsNever, rotation_of}
 use Rattle.appender_names.specs.Name.{Naming, last_number, IsLaterName}
+use Rattle.appender_retain.specs.Rank.{LogFiles}
 use Rattle.appender_rolling.specs.declared.rolling.setup.Stamp.{Stamp}
 
--- what a builder has set; an empty text is none, and so is a maximum of 0 files or 0 bytes
+-- What a builder has set. An empty text is none, and so is a maximum of 0 files or 0 bytes. `by_name` says that log files are known by
+-- their names alone.
 pub record Config : Type 0 where
   pub rotation : Rotation
   pub prefix : List ℕ
   pub suffix : List ℕ
   pub link : List ℕ
   pub max_files : ℕ
+  pub by_name : Bool
   pub max_bytes : ℕ
 
 -- the defaults: one file for all time, with neither prefix nor suffix, no link and no maximum of files or bytes
 abbrev pub defaults : Config
-defaults = record { rotation = rotation_of Never; prefix = []; suffix = []; link = []; max_files = 0; max_bytes = 0 }
+defaults = record { rotation = rotation_of Never; prefix = []; suffix = []; link = []; max_files = 0; by_name = false; max_bytes = 0 }
 
 -- a file may have so many bytes at most; its name then has a number
 abbrev pub is_limited : Config → Bool
@@ -26,6 +29,10 @@ is_limited c = not (c.max_bytes == 0)
 
 abbrev pub naming_of : Config → Naming
 naming_of c = record { rotation = c.rotation; prefix = c.prefix; suffix = c.suffix; numbered = is_limited c }
+
+-- the log files that retention counts before the file of this name is opened
+abbrev pub log_files_of : Config → Option (List ℕ) → LogFiles
+log_files_of c opened = record { naming = naming_of c; by_name = c.by_name; opened = opened }
 
 -- with a limit there have to be periods
 abbrev pub MayLimit : Config → Type 0

@@ -1,7 +1,7 @@
 -- What the parts of an opening keep of a folder: every body with its bytes, and which names lead to which files.
 use Rattle.std.specs.Prelude.{◌≡◌, ◌≢◌, ℕ, ◌<◌, ℤ, List, length, Option, Some}
 use Rattle.std.specs.FinMap as fin
-use Rattle.appender_names.specs.Name.{Naming}
+use Rattle.appender_retain.specs.Rank.{LogFiles}
 use Rattle.appender_store.specs.Content.{Content, File, Opens, after_make_folder, body_at}
 use Rattle.appender_retain.specs.Survival.{TakesOnlyOld}
 use Rattle.appender_rolling.specs.Config.{Config}
@@ -29,7 +29,7 @@ pub record KeepsOtherFiles (name : List ℕ) (old new : Content) : Type 0 where
 
 -- So it is with each part of an opening, and with what a refused opening leaves.
 pub record PartsKeep : Type 0 where
-  pub retention : (n : Naming) (max : ℕ) (old new : Content) → TakesOnlyOld n max old new → KeepsFiles old new
+  pub retention : (log : LogFiles) (max : ℕ) (old new : Content) → TakesOnlyOld log max old new → KeepsFiles old new
   pub folder : (old : Content) → KeepsFiles old (after_make_folder old)
   pub opening : (name : List ℕ) (old new : Content) (b : ℕ) → Opens name old new b → KeepsOtherFiles name old new
   pub link : (link name : List ℕ) (old new : Content) → Linked link name old new → KeepsFiles old new

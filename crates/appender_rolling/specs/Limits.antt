@@ -10,17 +10,17 @@ use Rattle.appender_store.specs.declared.store.Folder.{Ghosts}
 use Rattle.appender_store.specs.Content.{Content, Entry, IsLink, IsLinkOrFolder}
 use Rattle.appender_store.specs.Folder.{HasRisen}
 use Rattle.appender_retain.specs.Survival.{name_survives}
-use Rattle.appender_rolling.specs.Config.{Config, naming_of}
+use Rattle.appender_rolling.specs.Config.{Config, log_files_of}
 use Rattle.appender_retain.specs.Pruning.{Prunes}
 use Rattle.appender_rolling.specs.Opening.{RefusesAtOnce, MakesFolder, GetsFile, TriesRemoveLink, IsFileOrFolder}
 
--- Every name leads to what it led to, but those that don't survive retention, and a link under the name of the link that is
--- set.
-abbrev pub TakesLittle : Config → Content → Content → Type 0
-TakesLittle c old new =
+-- Every name leads to what it led to, but those that don't survive retention before this file is opened, and a link under the name of
+-- the link that is set.
+abbrev pub TakesLittle : Config → List ℕ → Content → Content → Type 0
+TakesLittle c file old new =
     (name : List ℕ) (e : Entry) → fin.get old.names name ≡ Some e
     → (fin.get new.names name ≡ Some e)
-    ⊎ (name_survives (naming_of c) c.max_files old.names name ≡ false)
+    ⊎ (name_survives (log_files_of c (Some file)) c.max_files old.names name ≡ false)
     ⊎ ((name ≡ c.link) × IsLink (Some e))
 
 -- the call counted a failure, or memory was refused
@@ -30,7 +30,7 @@ FailsByItself old fault new = HasRisen old new ⊎ (error_kind fault ≡ OutOfMe
 -- retention, and a first opening that was refused, led to this folder
 abbrev pub FirstRefused : {S F : Type 0} → Ghosts S F → Config → List ℕ → S → S → Type 0
 FirstRefused kind c name old refused =
-    (pruned : _) × (fault : Error) × Prunes kind (naming_of c) c.max_files old pruned × RefusesAtOnce kind name pruned fault refused
+    (pruned : _) × (fault : Error) × Prunes kind (log_files_of c (Some name)) c.max_files old pruned × RefusesAtOnce kind name pruned fault refused
 
 -- Why an opening is refused, by the calls that led from the folder before it to the one after: the call whose fault is returned failed by
 -- itself or was refused memory; or what had the name before leaves no place for the file, or for the link; or there was no memory
@@ -44,7 +44,7 @@ HasReason kind c name old (NoFile fault) new =
     × (FailsByItself (kind.failures ready) fault (kind.failures new) ⊎ (IsTrue kind.is_known × IsLinkOrFolder (fin.get (kind.content old).names name)))
 HasReason {S} {F} kind c name old (Symlink fault) new =
     (pruned : S) × (file : F) × (unlinked : S) × (freed : S)
-    × Prunes kind (naming_of c) c.max_files old pruned × GetsFile kind name pruned file unlinked × TriesRemoveLink kind c.link unlinked freed
+    × Prunes kind (log_files_of c (Some name)) c.max_files old pruned × GetsFile kind name pruned file unlinked × TriesRemoveLink kind c.link unlinked freed
     × kind.make_link_gives freed c.link name (Err fault) new
     × (FailsByItself (kind.failures freed) fault (kind.failures new)
     ⊎ (IsTrue kind.is_known × ((c.link ≡ name) ⊎ IsFileOrFolder (fin.get (kind.content old).names c.link)

@@ -17,7 +17,7 @@ use Rattle.std.specs.List.{Contains}
 use Rattle.appender_rolling.specs.declared.rolling.setup.Stamp.{Stamp}
 use Rattle.appender_retain.specs.Survival.{TakesOnlyOld, candidates_in}
 use Rattle.appender_retain.specs.Pruning.{Prunes, IsQuiet}
-use Rattle.appender_rolling.specs.Config.{Config, naming_of, is_limited, MayLimit, stamp, last_of}
+use Rattle.appender_rolling.specs.Config.{Config, naming_of, log_files_of, is_limited, MayLimit, stamp, last_of}
 
 -- the name of the file with this stamp; without a limit of bytes the number of a stamp is 0
 abbrev pub file_name_of : Config → Stamp → List ℕ
@@ -226,7 +226,7 @@ LinksNot kind (b ∷ bs) name old fault new = RelinksNot kind (b ∷ bs) name ol
 -- if neither List nor Remove was noted, there are no more log files than the maximum, if one is set
 abbrev pub AtMost : {S F : Type 0} → Ghosts S F → Config → S → S → Type 0
 AtMost kind config old new =
-    IsQuiet (kind.noted old) (kind.noted new) → IsTrue kind.is_known → 0 < config.max_files → candidates_in (naming_of config) (kind.content new) ≤ config.max_files
+    IsQuiet (kind.noted old) (kind.noted new) → IsTrue kind.is_known → 0 < config.max_files → candidates_in (log_files_of config None) (kind.content new) ≤ config.max_files
 
 -- what the link did to the content, if one is set
 abbrev pub Linked : List ℕ → List ℕ → Content → Content → Type 0
@@ -237,7 +237,7 @@ Linked (b ∷ bs) name old new = (freed : Content) × MayRemoveLink (b ∷ bs) o
 pub record OpensFile {S F : Type 0} (kind : Ghosts S F) (config : Config) (name : List ℕ) (old : S) (file : F) (new : S) : Type 0 where
   pub pruned : S
   pub unlinked : S
-  pub prunes : Prunes kind (naming_of config) config.max_files old pruned
+  pub prunes : Prunes kind (log_files_of config (Some name)) config.max_files old pruned
   pub gets : GetsFile kind name pruned file unlinked
   pub links : LinksTo kind config.link name unlinked new
   pub linked : IsTrue kind.is_known → Linked config.link name (kind.content unlinked) (kind.content new)
@@ -250,14 +250,14 @@ pub record OpensFile {S F : Type 0} (kind : Ghosts S F) (config : Config) (name 
 abbrev pub RefusesFile : {S F : Type 0} → Ghosts S F → Config → List ℕ → S → InitError → S → Type 0
 RefusesFile kind config name old Memory new = new ≡ old
 RefusesFile {S} {F} kind config name old (Symlink fault) new =
-    (pruned : S) × (unlinked : S) × (file : F) × Prunes kind (naming_of config) config.max_files old pruned
+    (pruned : S) × (unlinked : S) × (file : F) × Prunes kind (log_files_of config (Some name)) config.max_files old pruned
     × GetsFile kind name pruned file unlinked × LinksNot kind config.link name unlinked fault new
 RefusesFile kind config name old error new =
-    (pruned : _) × Prunes kind (naming_of config) config.max_files old pruned × GetsNo kind name pruned error new
+    (pruned : _) × Prunes kind (log_files_of config (Some name)) config.max_files old pruned × GetsNo kind name pruned error new
 
 -- All that a refusal can leave: old log files are removed, the folder is made, the name leads to a file, the link is removed.
 pub record LeavesLittle (config : Config) (name : List ℕ) (old new : Content) : Type 0 where
   pub pruned : Content
-  pub only_old : TakesOnlyOld (naming_of config) config.max_files old pruned
+  pub only_old : TakesOnlyOld (log_files_of config (Some name)) config.max_files old pruned
   pub rest : (new ≡ pruned) ⊎ (new ≡ after_make_folder pruned)
       ⊎ ((unlinked : Content) × (b : ℕ) × Opens name (after_make_folder pruned) unlinked b × MayRemoveLink config.link unlinked new)

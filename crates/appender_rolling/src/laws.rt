@@ -23,10 +23,10 @@ pub fn openings_keep_files()
 pub fn openings_take_little<S: Folder>()
     ensures opened { (config : Config) (name : List ℕ) (old : S) (file : S.File) (new : S)
         → OpensFile S.Folder config name old file new → IsTrue S.is_known
-        → TakesLittle config (S.content old) (S.content new) }
+        → TakesLittle config name (S.content old) (S.content new) }
     ensures refused { (config : Config) (name : List ℕ) (old : S) (error : InitError) (new : S)
         → RefusesFile S.Folder config name old error new → IsTrue S.is_known
-        → TakesLittle config (S.content old) (S.content new) }
+        → TakesLittle config name (S.content old) (S.content new) }
 {
     names_change_one_at_a_time();
 }

@@ -5,35 +5,50 @@
 //! by side, and an account of their lines is printed.
 #![tactic(auto)]
 
+use audit_trail_core::gather::{DiskTrails, keep_all};
+use audit_trail_core::lock::lock_files;
+use audit_trail_core::trail;
 use audit_trail_core::trail::Fault;
-use audit_trail_core::{gather, trail};
 use program_io::options::{Request, request_of};
 use program_io::report::print;
 use program_io::streams::fill_streams;
+use program_io::waiting::WaitingInput;
 use program_io::{Host, arguments};
+use std::fs::File;
 use std::process::ExitCode;
 
 static HELP: &str = concat!(
     "Writes each line of standard input, or of files, to the log of its day.\n",
     "\n",
     "usage: audit_trail DIRECTORY [SOURCE..]\n",
+    "       audit_trail --keep N DIRECTORY [SOURCE..]\n",
     "       audit_trail --help | -h | --version\n",
     "\n",
     "  DIRECTORY  the folder of the logs, which is made if it is not there\n",
     "  SOURCE     a file whose lines are written in place of those of standard input;\n",
     "             the account of all their lines is printed\n",
+    "  --keep N   keeps the N newest files, by the days in their names, and removes older\n",
+    "             ones of this log; without it all are kept\n",
     "  --         ends the options: the words after it are arguments\n",
     "\n",
     "Status: 0 if every line was written; 1 if no log was opened, an input not read, a line\n",
-    "not written whole, or a log file not found again: removed, renamed or replaced while\n",
-    "it was written to; 2 if the arguments are wrong; 3 if memory was refused.\n",
+    "not written whole, a sync failed, or a log file truncated or not found again: removed,\n",
+    "renamed or replaced while it was written to; 2 if the arguments are wrong; 3 if memory\n",
+    "was refused.\n",
     "\n",
     "It ends at the end of its input. It catches no signal: INT or TERM ends it at once,\n",
     "and what it read and did not write is lost: up to 8 KiB of standard input, or lines\n",
     "of a SOURCE that wait to be written. So end the program whose output it reads, or let\n",
-    "it ignore both signals:\n",
+    "it ignore signals. In a pipeline with parentheses:\n",
     "\n",
-    "  (trap '' INT TERM; exec audit_trail DIRECTORY)\n",
+    "  program | (trap '' INT TERM HUP QUIT; exec audit_trail DIRECTORY)\n",
+    "\n",
+    "In the run script of a supervisor without them, on lines of their own. A signal ends a\n",
+    "shell that waits for parentheses, and the supervisor then starts a second audit_trail\n",
+    "beside the first:\n",
+    "\n",
+    "  trap '' INT TERM HUP QUIT\n",
+    "  exec audit_trail DIRECTORY\n",
 );
 
 static VERSION: &str = "audit_trail, over a port of tracing-appender 0.2.5\n";
@@ -43,7 +58,10 @@ fn main(rt: HostRuntime) -> ExitCode {
         return ExitCode::FAILURE;
     }
     let status = match arguments(&rt) {
-        Ok(arguments) => run(rt, &rt, request_of(arguments)),
+        Ok(mut arguments) => match take_keep(&mut arguments) {
+            Ok(files) => run(rt, &rt, files, request_of(arguments)),
+            Err(fault) => trail::report_fault(&fault, &mut rt.stderr()),
+        },
         Err(fault) => {
             let fault = Fault::Argument.unless_memory(fault.kind());
             trail::report_fault(&fault, &mut rt.stderr())
@@ -52,27 +70,71 @@ fn main(rt: HostRuntime) -> ExitCode {
     ExitCode::from(status)
 }
 
-fn run<R: Host>(rt: R, host: &HostRuntime, request: Request) -> u8 {
+// Removes `--keep` and the number after it, if they are the first arguments, and returns the number. Without them
+// returns 0, for all files. `Fault::Keep` if no number from 1 on follows.
+fn take_keep(arguments: &mut Vec<String>) -> Result<usize, Fault> {
+    let files = match arguments.as_slice() {
+        [option, number, ..] if option.as_str() == "--keep" => number_of_files(number.as_str())?,
+        [option] if option.as_str() == "--keep" => return Err(Fault::Keep),
+        _ => return Ok(0),
+    };
+    for _ in 0..2 {
+        if !arguments.is_empty() {
+            let _ = arguments.remove(0);
+        }
+    }
+    Ok(files)
+}
+
+fn number_of_files(word: &str) -> Result<usize, Fault> {
+    match word.parse::<usize>() {
+        Ok(files) if files > 0 => Ok(files),
+        _ => Err(Fault::Keep),
+    }
+}
+
+fn run<R: Host>(rt: R, host: &HostRuntime, files: usize, request: Request) -> u8 {
     let (mut output, mut errors) = (host.stdout(), host.stderr());
     match request {
         Request::Help => print(&mut output, HELP, 1),
         Request::Version => print(&mut output, VERSION, 1),
-        Request::Run(arguments) => keep(rt, host, arguments.as_slice()),
+        Request::Run(arguments) => keep(rt, host, files, arguments.as_slice()),
         Request::Unknown => trail::report_fault(&Fault::Usage, &mut errors),
     }
 }
 
-// Keeps the lines of standard input, or of the files that are named.
-fn keep<R: Host>(rt: R, host: &HostRuntime, arguments: &[String]) -> u8 {
+// Locks the folder of the log, if files may be removed.
+fn lock(host: &HostRuntime, files: usize, arguments: &[String]) -> Result<Option<File>, Fault> {
+    match arguments {
+        [directory, ..] if files > 0 && !directory.is_empty() => {
+            lock_files(host, directory.as_str())
+        }
+        _ => Ok(None),
+    }
+}
+
+// Keeps the lines of standard input, or of the files that are named, in so many files.
+fn keep<R: Host>(rt: R, host: &HostRuntime, files: usize, arguments: &[String]) -> u8 {
     let (mut output, mut errors) = (host.stdout(), host.stderr());
+    let _lock = match lock(host, files, arguments) {
+        Ok(lock) => lock,
+        Err(fault) => return trail::report_fault(&fault, &mut errors),
+    };
     match arguments {
         [directory, ..] if directory.is_empty() => trail::report_fault(&Fault::Usage, &mut errors),
         [directory, paths @ ..] if !paths.is_empty() => {
             let directory = directory.as_str();
-            gather::keep_all(rt, host, directory, paths, &mut output, &mut errors)
+            let trails = DiskTrails::new(*host, files);
+            keep_all(rt, &trails, directory, paths, &mut output, &mut errors)
         }
         _ => {
-            let kept = trail::keep(host, arguments, &mut host.stdin(), &mut errors);
+            let kept = trail::keep(
+                host,
+                files,
+                arguments,
+                &mut WaitingInput::new(rt, host.stdin()),
+                &mut errors,
+            );
             kept.err().unwrap_or(0)
         }
     }

@@ -3,7 +3,7 @@ use Rattle.std.proofs.Common.{◌≡◌, ◌⊎◌, ◌∙◌, ℕ, ◌≤◌, L
 use Rattle.std.specs.Io.KnownBytes.{Appends, Keeps}
 use Rattle.audit_trail_core.specs.Fault.{account_text, status_of, ReportsStatus}
 use Rattle.audit_trail_core.specs.declared.trail.Fault.{Fault}
-use Rattle.audit_trail_core.specs.declared.trail.Fault.TheVariants.{Usage, Argument, Open, Read, Write, Cut, Lost, Gone, Own, Account, Thread, Unsettled, Memory}
+use Rattle.audit_trail_core.specs.declared.trail.Fault.TheVariants.{Usage, Keep, Argument, Open, Read, Write, Cut, Lost, Gone, Unsynced, Locked, Own, Account, Thread, Memory}
 
 pub keeps_same : (a : Option (List ℕ)) → Keeps a a
 keeps_same None = tt
@@ -17,6 +17,7 @@ keeps_twice (Some xs) (Some ys) (Some zs) h k = k ∙ h
 
 pub some_status : (fault : Fault) → ¬ (status_of fault ≡ 0)
 some_status Usage e = omega (arith, e)
+some_status Keep e = omega (arith, e)
 some_status Argument e = omega (arith, e)
 some_status (Open error) e = omega (arith, e)
 some_status (Read error) e = omega (arith, e)
@@ -24,10 +25,11 @@ some_status (Write error) e = omega (arith, e)
 some_status (Cut error) e = omega (arith, e)
 some_status (Lost count) e = omega (arith, e)
 some_status (Gone count) e = omega (arith, e)
+some_status (Unsynced count) e = omega (arith, e)
+some_status Locked e = omega (arith, e)
 some_status Own e = omega (arith, e)
 some_status (Account error) e = omega (arith, e)
 some_status Thread e = omega (arith, e)
-some_status Unsettled e = omega (arith, e)
 some_status Memory e = omega (arith, e)
 
 -- no fault

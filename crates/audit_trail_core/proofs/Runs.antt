@@ -1,5 +1,5 @@
 -- Lemmas that the proofs about a run share.
-use Rattle.std.proofs.Common.{◌≡◌, ℕ, ◌==◌, List, [], Option, None, Some, Result, Ok, Err, IfOk, OnOk, if◌then◌else◌, subst, sym, ◌∙◌, ap}
+use Rattle.std.proofs.Common.{◌≡◌, ℕ, ◌==◌, List, [], Option, None, Some, Result, Ok, Err, IfOk, OnOk, if◌then◌else◌, inl, inr, subst, sym, ◌∙◌, ap, arith, ◌<◌}
 use Rattle.std.specs.Io.KnownBytes.{prepend_known}
 use Rattle.std.specs.Io.Buffered.{reader_buffer, reader_capacity, reader_inner, reader_remaining}
 use Rattle.std.specs.declared.io.buffered.BufReader.{BufReader}
@@ -7,6 +7,7 @@ use Rattle.appender_store.specs.declared.store.Folder.{Ghosts}
 use Rattle.appender_rolling.specs.declared.rolling.clock.Clock.{Ghosts as Readings}
 use Rattle.appender_rolling.specs.Appender.{Appending, OpensNow, OpensSome}
 use Rattle.appender_rolling.specs.Config.{Config}
+use Rattle.audit_trail_core.specs.Trail.{Trailing, MayFlush}
 
 -- a log was opened with one configuration in place of another that equals it
 pub opens_with : {S F C : Type 0} {kind : Ghosts S F} {time : Readings C} {a b : Config} (folder : S) (clock : C) (new : Appending S F C) → a ≡ b
@@ -37,3 +38,10 @@ buffers_all remaining buffered input text inner empty capacity reported =
     let ahead = subst (λ bytes. prepend_known bytes (remaining buffered.inner) ≡ Some text) (sym empty) (ap (prepend_known []) behind) in
     subst (λ room. (if room == 0 then None else prepend_known (reader_buffer buffered) (remaining buffered.inner)) ≡ Some text)
     (sym capacity) ahead
+
+-- less than a MiB is not flushed after a line
+pub left_few : {S F C : Type 0} (kind : Ghosts S F) (unflushed left : ℕ) (old new : Trailing S F C) → MayFlush kind unflushed left old new → left < 1048576
+left_few kind unflushed left old new flush = elim flush [
+  | inl flushed ↦ omega (arith, flushed.0)
+  | inr same ↦ same.1
+]

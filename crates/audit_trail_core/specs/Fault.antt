@@ -10,7 +10,7 @@ use Rattle.appender_names.specs.declared.error.InitError.{InitError}
 use Rattle.appender_names.specs.declared.error.InitError.TheVariants.{Directory, File, Symlink, Memory as NoRoom}
 use Rattle.program_io.specs.Report.{AppendsBeginning}
 use Rattle.audit_trail_core.specs.declared.trail.Fault.{Fault}
-use Rattle.audit_trail_core.specs.declared.trail.Fault.TheVariants.{Usage, Argument, Open, Read, Write, Cut, Lost, Gone, Own, Account, Thread, Unsettled, Memory}
+use Rattle.audit_trail_core.specs.declared.trail.Fault.TheVariants.{Usage, Keep, Argument, Open, Read, Write, Cut, Lost, Gone, Unsynced, Locked, Own, Account, Thread, Memory}
 
 -- the fault, or that memory was refused if its error is of that kind
 abbrev pub unless_memory : ErrorKind → Fault → Fault
@@ -32,6 +32,7 @@ line_fault taken error = unless_memory (error_kind error) (if taken == 0 then Wr
 -- the status of a process that a fault ended
 abbrev pub status_of : Fault → ℕ
 status_of Usage = 2
+status_of Keep = 2
 status_of Argument = 2
 status_of (Open error) = 1
 status_of (Read error) = 1
@@ -39,19 +40,21 @@ status_of (Write error) = 1
 status_of (Cut error) = 1
 status_of (Lost count) = 1
 status_of (Gone count) = 1
+status_of (Unsynced count) = 1
+status_of Locked = 1
 status_of Own = 1
 status_of (Account error) = 1
 status_of Thread = 1
-status_of Unsettled = 1
 status_of Memory = 3
 
 -- the report of a fault, on a line; a fault with an error or a number has further words
 abbrev pub words_of : Fault → Option (List ℕ)
 words_of Usage = Some (codes "usage: audit_trail DIRECTORY [SOURCE..]" ++ (10 ∷ []))
+words_of Keep = Some (codes "--keep needs a number of files, 1 or more" ++ (10 ∷ []))
 words_of Argument = Some (codes "an argument is not UTF-8" ++ (10 ∷ []))
+words_of Locked = Some (codes "another audit_trail --keep writes to the log directory" ++ (10 ∷ []))
 words_of Own = Some (codes "source in the log directory" ++ (10 ∷ []))
 words_of Thread = Some (codes "no thread" ++ (10 ∷ []))
-words_of Unsettled = Some (codes "no account" ++ (10 ∷ []))
 words_of Memory = Some (codes "no memory" ++ (10 ∷ []))
 words_of fault = None
 

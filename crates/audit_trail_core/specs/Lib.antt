@@ -1,3 +1,4 @@
 pub mod Fault
+pub mod Gather
 pub mod Inside
 pub mod Trail

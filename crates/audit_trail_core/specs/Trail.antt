@@ -1,5 +1,5 @@
 -- The effects of a line and of a run. `kind` has the ghost members of a kind of folder, and `time` those of a kind of clock.
-use Rattle.std.specs.Prelude.{◌≡◌, ◌≢◌, ◌⊎◌, ℕ, ◌+◌, ◌≤◌, zero, suc, Bool, true, false, not, List, [], ◌∷◌, Ok, Err, Result, IsTrue, codes}
+use Rattle.std.specs.Prelude.{◌≡◌, ◌≢◌, ◌⊎◌, ℕ, ◌+◌, ◌<◌, ◌≤◌, zero, suc, Bool, true, false, not, List, [], ◌∷◌, length, Ok, Err, Result, IsTrue, codes}
 use Rattle.std.specs.Io.BufRead.{take_through, drop_through, ends_with_byte}
 use Rattle.std.specs.declared.io.Error.{Error}
 use Rattle.appender_names.specs.declared.rotation.RotationKind.TheVariants.{Daily}
@@ -70,30 +70,42 @@ pub record PutsLine {S F C : Type 0} (kind : Ghosts S F) (time : Readings C) (li
   pub few : interruptions ending + interruptions answers ≤ 100
   pub cut : new.cut ≡ not (ends_with_byte 10 line)
 
--- This number of lines of a text were put, each whole with its newline, one after another.
--- A last line without a newline gets one. This rest of the text is left. If nothing is left there is no line.
-abbrev pub PutsLines : {S F C : Type 0} → Ghosts S F → Readings C → ℕ → List ℕ → Trailing S F C → List ℕ → Trailing S F C → Type 0
-PutsLines kind time zero text start rest now = (rest ≡ text) × (now ≡ start)
-PutsLines {S} {F} {C} kind time (suc count) text start rest now =
-    (left : List ℕ) × (last : Trailing S F C) × PutsLines kind time count text start left last × (left ≢ [])
-    × PutsLine kind time (ended (take_through 10 left)) last now × (rest ≡ drop_through 10 left)
+-- After a line, if this number of bytes were put since the last flush: either the log was flushed, or less than a MiB
+-- is not flushed, and nothing changed. This number is not flushed now. A flush changes no bytes.
+abbrev pub MayFlush : {S F C : Type 0} → Ghosts S F → (unflushed left : ℕ) → Trailing S F C → Trailing S F C → Type 0
+MayFlush kind unflushed left old new =
+    ((left ≡ 0) × FlushesNow kind (Ok tt) old.log new.log × (new.cut ≡ old.cut))
+    ⊎ ((left ≡ unflushed) × (left < 1048576) × (new ≡ old))
+
+-- This number of lines of a text were put, each whole with its newline, one after another. A last line without a newline
+-- gets one. After each line the log may be flushed, and is so at the latest when a MiB was put since the last flush, or
+-- since the start. This number of bytes is not flushed. This rest of the text is left. If nothing is left there is no line.
+abbrev pub PutsLines : {S F C : Type 0} → Ghosts S F → Readings C → (count unflushed : ℕ) → List ℕ → Trailing S F C → List ℕ → Trailing S F C → Type 0
+PutsLines kind time zero unflushed text start rest now = (unflushed ≡ 0) × (rest ≡ text) × (now ≡ start)
+PutsLines {S} {F} {C} kind time (suc count) unflushed text start rest now =
+    (before : ℕ) × (left : List ℕ) × (last : Trailing S F C) × (put : Trailing S F C)
+    × PutsLines kind time count before text start left last × (left ≢ [])
+    × PutsLine kind time (ended (take_through 10 left)) last put
+    × MayFlush kind (before + length (ended (take_through 10 left))) unflushed put now
+    × (rest ≡ drop_through 10 left)
 
 -- ---- a run
 
--- the trail's log: a file a day, `audit.yyyy-MM-dd.log`, of which 366 are kept, and a link to the newest
-abbrev pub trail_config : Config
-trail_config = record { rotation = rotation_of Daily; prefix = codes "audit"; suffix = codes "log"; link = codes "latest.log"; max_files = 366; max_bytes = 0 }
+-- The trail's log: a file a day, `audit.yyyy-MM-dd.log`, and a link to the newest. So many are kept, known by their names; 0 is all of them.
+abbrev pub trail_config : ℕ → Config
+trail_config files = record { rotation = rotation_of Daily; prefix = codes "audit"; suffix = codes "log"; link = codes "latest.log"; max_files = files; by_name = true; max_bytes = 0 }
 
--- all lines of the text were put, and then the log was flushed
+-- all lines of the text were put, with flushes between them, and then the log was flushed
 pub record FlushesLines {S F C : Type 0} (kind : Ghosts S F) (time : Readings C) (text : List ℕ) (begun now : Trailing S F C) : Type 0 where
   pub count : ℕ
+  pub unflushed : ℕ
   pub written : Trailing S F C
-  pub puts : PutsLines kind time count text begun [] written
+  pub puts : PutsLines kind time count unflushed text begun [] written
   pub flushes : FlushesNow kind (Ok tt) written.log now.log
 
 -- The log was opened, all lines of the text were put into it, and it was flushed. It is this log now.
-pub record KeepsLines {S F C : Type 0} (kind : Ghosts S F) (time : Readings C) (text : List ℕ) (kept : Trailing S F C) : Type 0 where
+pub record KeepsLines {S F C : Type 0} (kind : Ghosts S F) (time : Readings C) (files : ℕ) (text : List ℕ) (kept : Trailing S F C) : Type 0 where
   pub begun : Trailing S F C
-  pub opens : OpensSome kind time trail_config begun.log
+  pub opens : OpensSome kind time (trail_config files) begun.log
   pub seen : begun.cut ≡ false → EndsWhole kind begun.log
   pub lines : FlushesLines kind time text begun kept

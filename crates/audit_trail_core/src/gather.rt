@@ -1,17 +1,17 @@
 //! The lines of several sources in one log, and the account of them.
-ghost use Rattle.std.specs.Prelude.{◌≡◌, ◌⊎◌, ℕ, ◌+◌, ◌^◌, ◌<◌, ◌≤◌, IfOk, sum_by, vec_len};
+ghost use Rattle.std.specs.Prelude.{◌≡◌, ◌⊎◌, ℕ, ◌+◌, ◌-◌, ◌^◌, ◌<◌, ◌≤◌, IfOk, sum_by, vec_len};
 ghost use Rattle.std.specs.Io.KnownBytes.{Appends};
 ghost use Rattle.audit_trail_core.specs.Fault.{account_text, status_of, ReportsStatus};
+ghost use Rattle.audit_trail_core.specs.Gather.{SendsLines};
 
-use crate::trail::{Fault, TrailLog, open_trail, report_fault, zero};
+use crate::trail::{Fault, TrailLog, open_trail, report_fault};
+use crate::watch::FileCounts;
 use program_io::{Host, ShortLines, end_line, read_line};
 use std::alloc::{AllocError, Global};
 use std::fs::File;
 use std::io;
 use std::io::{BufRead, BufReader, Read, Write};
 use std::sync::Arc;
-use std::sync::atomic::AtomicU64;
-use std::sync::atomic::Ordering::SeqCst;
 use tracing_appender::non_blocking::{Account, CountedWork, LineSender, NonBlockingBuilder, Sent};
 use tracing_appender::rolling::InitError;
 use tracing_appender::worker::CountingWriter;
@@ -27,19 +27,32 @@ pub trait Trails {
     /// An input that a thread can own.
     type Source: Read + Send + Drop + 'static;
 
-    /// Opens the log of the day in a folder, which is made if it is absent. `gone` counts the log files that are not
-    /// found again.
+    /// Opens the log of the day in a folder, which is made if it is absent. `counts` has the faults of its files.
     fn open_trail(
         &self,
         directory: &str,
-        gone: Arc<AtomicU64, Global>,
+        counts: Arc<FileCounts, Global>,
     ) -> Result<Self::Log, InitError>;
 
     /// Opens the source of this path. `Fault::Own` if it is a file of the log's folder.
     fn open_source(&self, log: &Self::Log, path: &str) -> Result<Self::Source, Fault>;
 }
 
-impl Trails for HostRuntime {
+/// The trails and the sources of the file system.
+#[derive(Clone, Copy)]
+pub struct DiskTrails {
+    rt: HostRuntime,
+    files: usize,
+}
+
+impl DiskTrails {
+    /// Returns trails that keep so many files; 0 is all of them.
+    pub fn new(rt: HostRuntime, files: usize) -> DiskTrails {
+        DiskTrails { rt, files }
+    }
+}
+
+impl Trails for DiskTrails {
     type Log = TrailLog<HostRuntime>;
 
     type Source = File;
@@ -47,13 +60,13 @@ impl Trails for HostRuntime {
     fn open_trail(
         &self,
         directory: &str,
-        gone: Arc<AtomicU64, Global>,
+        counts: Arc<FileCounts, Global>,
     ) -> Result<TrailLog<HostRuntime>, InitError> {
-        open_trail(self, directory, gone)
+        open_trail(&self.rt, self.files, directory, counts)
     }
 
     fn open_source(&self, log: &TrailLog<HostRuntime>, path: &str) -> Result<File, Fault> {
-        let source = File::open(self, path)?;
+        let source = File::open(&self.rt, path)?;
         if log.watch().owns(log.log().open_file(), &source, path)? {
             return Err(Fault::Own);
         }
@@ -63,7 +76,8 @@ impl Trails for HostRuntime {
 
 /// Writes the lines of each source, which is a file, to the log of the day in a folder, and the account of all lines
 /// to `output`. A source that can't be read to its end is reported on `errors` with its path; the others are read. The
-/// numbers of lines that the log didn't take whole, and of log files that were not found again, are reported too.
+/// numbers of lines that the log didn't take whole, of log files that were not found again, and of flushes that failed
+/// are reported too.
 /// Returns the status of the process, as `trail::keep` has it: the greatest of those of all faults. It is 0 only if the
 /// account was written, and every line of it was handed to the log.
 pub fn keep_all<R: Host, T: Trails, O: Write, E: Write>(
@@ -79,24 +93,24 @@ pub fn keep_all<R: Host, T: Trails, O: Write, E: Write>(
         (account_text lines lines 0 0) }
 {
     match open_watched(rt, trails, directory) {
-        Ok((log, gone)) => {
+        Ok((log, counts)) => {
             let (sources, unopened) = open_sources(rt.alloc(), trails, &log, paths, errors);
-            let ended = keep_sources(rt, log, sources, &gone, output, errors);
+            let ended = keep_sources(rt, log, sources, &counts, output, errors);
             greater(unopened, ended)
         }
         Err(fault) => report_fault(&fault, errors),
     }
 }
 
-// Opens the log, and returns it with the count of its files that are not found again.
+// Opens the log, and returns it with the counts of its files' faults.
 fn open_watched<R: Host, T: Trails>(
     rt: R,
     trails: &T,
     directory: &str,
-) -> Result<(T::Log, Arc<AtomicU64, Global>), Fault> {
-    let gone = zero(rt.alloc())?;
-    let log = trails.open_trail(directory, gone.clone()?)?;
-    Ok((log, gone))
+) -> Result<(T::Log, Arc<FileCounts, Global>), Fault> {
+    let counts = FileCounts::new(rt.alloc())?;
+    let log = trails.open_trail(directory, counts.clone()?)?;
+    Ok((log, counts))
 }
 
 // Writes the lines of the sources that were opened, and their account, and reports the faults. Returns the greatest
@@ -107,7 +121,7 @@ fn keep_sources<
     I: Read + Send + Drop + 'static,
     O: Write,
     E: Write,
->(rt: R, log: L, sources: Sources<'_, I>, gone: &AtomicU64, output: &mut O, errors: &mut E) -> u8
+>(rt: R, log: L, sources: Sources<'_, I>, counts: &FileCounts, output: &mut O, errors: &mut E) -> u8
     ensures reported { ReportsStatus result (E.contents errors.old) (E.contents errors.new) }
     ensures all_handed { result ≡ 0 → (lines : ℕ) × Appends (O.contents output.old) (O.contents output.new)
         (account_text lines lines 0 0) }
@@ -117,9 +131,13 @@ fn keep_sources<
         Ok((account, lost, sent)) => {
             let ended = report_ends(paths, sent, errors);
             let lost = report_lost(lost, errors);
-            let gone = report_gone(gone.load(SeqCst), errors);
+            let gone = report_gone(counts.gone(), errors);
+            let unsynced = report_unsynced(counts.unsynced(), errors);
             let reported = print_account(account, output, errors);
-            greater(greater(greater(ended, lost), gone), reported)
+            greater(
+                greater(greater(ended, lost), greater(gone, unsynced)),
+                reported,
+            )
         }
         Err(fault) => report_fault(&fault, errors),
     }
@@ -168,6 +186,17 @@ fn report_gone<E: Write>(gone: u64, errors: &mut E) -> u8
         return 0;
     }
     report_fault(&Fault::Gone(gone), errors)
+}
+
+// Reports the number of flushes that failed, if there are any, and returns the status of that.
+fn report_unsynced<E: Write>(unsynced: u64, errors: &mut E) -> u8
+    ensures reported { ReportsStatus result (E.contents errors.old) (E.contents errors.new) }
+    ensures none { result ≡ 0 → unsynced ≡ 0 }
+{
+    if unsynced == 0 {
+        return 0;
+    }
+    report_fault(&Fault::Unsynced(unsynced), errors)
 }
 
 // The sources that were opened, and the path of each.
@@ -297,11 +326,11 @@ pub struct Sending<I: Drop> {
 }
 
 impl<I: Read + Drop> CountedWork for Sending<I> {
-    // The lines that the sender queued are those that were counted.
-    ghost does = { λ _ before new after. before.queued + new.queued ≡ after.queued };
+    // The lines that the sender queued are those that were counted, and a queue that waits drops none.
+    ghost does = { λ _ before new after. SendsLines before after new.queued };
 
     fn run<S: LineSender>(&mut self, sender: &mut S)
-        ensures { (S.sums sender.old).queued + self.new.queued ≡ (S.sums sender.new).queued }
+        ensures { SendsLines (S.sums sender.old) (S.sums sender.new) self.new.queued }
     {
         let (queued, ended) = send_source(self.alloc, sender, &mut self.source);
         self.queued = queued;
@@ -328,8 +357,7 @@ pub fn gather<L: Write + Send + Drop + 'static, I: Read + Send + Drop, R: Host>(
         .buffered_lines_limit(WAITING_LINES)
         .run_counted(rt, rt.alloc(), log, works);
     match ran {
-        Ok((sent, account)) if account.dropped() == 0 => Ok((account, sent)),
-        Ok(_) => Err(Fault::Unsettled),
+        Ok((sent, account)) => Ok((account, sent)),
         Err(unstarted) => Err(Fault::Thread.unless_memory(unstarted.error.kind())),
     }
 }
@@ -353,7 +381,7 @@ fn send_source<S: LineSender, I: Read>(
     sender: &mut S,
     source: &mut I,
 ) -> (u64, Result<(), Fault>)
-    ensures { (S.sums sender.old).queued + result.0 ≡ (S.sums sender.new).queued }
+    ensures { SendsLines (S.sums sender.old) (S.sums sender.new) result.0 }
 {
     let mut queued = 0;
     let ended = send_buffered(alloc, sender, source, &mut queued);
@@ -367,7 +395,7 @@ fn send_buffered<S: LineSender, I: Read>(
     queued: &mut u64,
 ) -> Result<(), Fault>
     requires { queued.old ≡ 0 }
-    ensures { (S.sums sender.old).queued + queued.new ≡ (S.sums sender.new).queued }
+    ensures { SendsLines (S.sums sender.old) (S.sums sender.new) queued.new }
 {
     let mut input = BufReader::new(alloc, ShortLines::new(source))?;
     send_lines(alloc, sender, &mut input, queued)
@@ -381,7 +409,7 @@ fn send_lines<S: LineSender, I: BufRead>(
     queued: &mut u64,
 ) -> Result<(), Fault>
     requires { queued.old ≡ 0 }
-    ensures { (S.sums sender.old).queued + queued.new ≡ (S.sums sender.new).queued }
+    ensures { SendsLines (S.sums sender.old) (S.sums sender.new) queued.new }
 {
     let mut line = Vec::new(alloc);
     for _ in 0..u64::MAX {
@@ -396,8 +424,8 @@ fn send_lines<S: LineSender, I: BufRead>(
 
 fn send_line<S: LineSender>(sender: &mut S, line: &[u8], queued: &mut u64) -> Result<(), Fault>
     requires { queued.old + 1 < 2 ^ 64 }
-    ensures counted { (S.sums sender.old).queued + queued.new ≡ (S.sums sender.new).queued + queued.old }
-    ensures one { queued.new ≤ queued.old + 1 }
+    ensures sends { SendsLines (S.sums sender.old) (S.sums sender.new) (queued.new - queued.old) }
+    ensures one { (queued.old ≤ queued.new) × (queued.new ≤ queued.old + 1) }
 {
     match sender.write_line(line) {
         Ok(Sent::Queued(_)) => {

@@ -3,6 +3,8 @@
 #![tactic(auto)]
 
 pub mod gather;
+pub mod input;
 pub mod lines;
+pub mod lock;
 pub mod trail;
 pub mod watch;

@@ -23,8 +23,12 @@ pub struct LineLog<S: Folder, C: Clock, W: Watch<S>> {
     watch: W,
     // Whether the open file may end with a part of a line.
     cut: bool,
-    // Whether it was reported that the open file was not found again.
+    // The open file's least length in bytes: what it had at its opening, and what was appended.
+    length: u64,
+    // Whether it was reported that the open file was not found again, or was truncated.
     gone: bool,
+    // The number of flushes that were asked for and failed.
+    unsynced: u64,
 }
 
 impl<S: Folder, C: Clock, W: Watch<S>> Model for LineLog<S, C, W> {
@@ -55,11 +59,14 @@ impl<S: Folder, C: Clock, W: Watch<S>> LineLog<S, C, W> {
         ensures { result.log ≡ log }
     {
         let cut = !ends_whole(&watch, &log);
+        let length = watch.length(log.open_file());
         LineLog {
             log,
             watch,
             cut,
+            length,
             gone: false,
+            unsynced: 0,
         }
     }
 
@@ -74,10 +81,12 @@ impl<S: Folder, C: Clock, W: Watch<S>> LineLog<S, C, W> {
         self.cut = true;
         match add_all(&mut self.log, line, repeats) {
             Ok(_) => {
+                self.length = grown(self.length, line.len());
                 self.cut = !ends_line(line);
                 Ok(())
             }
             Err(fault) => {
+                self.length = grown(self.length, fault.taken);
                 self.cut = fault.taken > 0;
                 Err(fault)
             }
@@ -93,7 +102,9 @@ impl<S: Folder, C: Clock, W: Watch<S>> LineLog<S, C, W> {
         match self.log.see(moment) {
             Switch::None => {}
             Switch::Opened => {
+                self.watch.count_unsynced(self.log.folder(), self.unsynced);
                 self.gone = false;
+                self.length = self.watch.length(self.log.open_file());
                 self.cut = !ends_whole(&self.watch, &self.log);
             }
             Switch::Failed => self.cut = !ends_whole(&self.watch, &self.log),
@@ -121,6 +132,7 @@ impl<S: Folder, C: Clock, W: Watch<S>> LineLog<S, C, W> {
         }
         match add_all(&mut self.log, b"\n", 0) {
             Ok(repeats) => {
+                self.length = grown(self.length, 1);
                 self.cut = false;
                 Ok(repeats)
             }
@@ -128,7 +140,7 @@ impl<S: Folder, C: Clock, W: Watch<S>> LineLog<S, C, W> {
         }
     }
 
-    // Compares what the open file's name leads to with it, until a difference is reported.
+    // Compares the open file with what its name leads to, and its length, until a difference is reported.
     fn compare(&mut self)
         ensures { self.new ≡ self.old }
     {
@@ -137,6 +149,7 @@ impl<S: Folder, C: Clock, W: Watch<S>> LineLog<S, C, W> {
                 self.log.folder(),
                 self.log.open_file(),
                 self.log.open_name(),
+                self.length,
             );
             self.gone = !found;
         }
@@ -187,12 +200,16 @@ impl<S: Folder, C: Clock, W: Watch<S>> Write for LineLog<S, C, W> {
         }
     }
 
-    /// Flushes the open file, and compares it with what its name leads to.
+    /// Flushes the open file, and compares it with what its name leads to. A flush that fails is counted.
     fn flush(&mut self) -> io::Result<()>
         ensures flush { FlushesNow S.Folder result self.old.log self.new.log }
         ensures cut { self.new.cut ≡ self.old.cut }
     {
         let flushed = self.log.flush();
+        if flushed.is_err() {
+            self.unsynced = self.unsynced.saturating_add(1);
+            self.watch.count_unsynced(self.log.folder(), self.unsynced);
+        }
         self.compare();
         flushed
     }
@@ -250,6 +267,11 @@ fn ends_whole<S: Folder, C: Clock, W: Watch<S>>(watch: &W, log: &RollingFile<S, 
     ensures { result ≡ true → EndsWhole S.Folder log.now }
 {
     watch.ends_line(log.folder(), log.open_file(), log.open_name())
+}
+
+// Returns the length of a file after so many bytes were appended.
+fn grown(length: u64, bytes: usize) -> u64 {
+    length.saturating_add(bytes as u64)
 }
 
 // Returns whether there is a newline at the end.

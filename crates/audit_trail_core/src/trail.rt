@@ -2,28 +2,28 @@
 ghost use Rattle.std.specs.Prelude.{◌≡◌, ◌≢◌, ◌≤◌, ℕ, List, [], length, false, Some, Ok, Err, OnOk, IfOk, IfErr, IfSome, IsOk};
 ghost use Rattle.std.specs.Io.KnownBytes.{Keeps};
 ghost use Rattle.audit_trail_core.specs.Fault.{line_fault, opening_fault, status_of, unless_memory, words_of, ReportsFault};
-ghost use Rattle.audit_trail_core.specs.Trail.{EndsWhole, PutsLine, PutsLines, FlushesLines, KeepsLines, trail_config};
+ghost use Rattle.audit_trail_core.specs.Trail.{EndsWhole, MayFlush, PutsLine, PutsLines, FlushesLines, KeepsLines, trail_config};
 ghost use Rattle.appender_rolling.specs.Appender.{FlushesNow, OpensSome};
 ghost use Rattle.std.specs.IoError.{error_kind};
 ghost use Rattle.audit_trail_core.specs.declared.trail.Fault.TheVariants.{Account, Read, Write};
 
+use crate::input::{InputReads, LineInput};
 use crate::lines::{LineFault, LineLog};
-use crate::watch::{DirWatch, Watch};
+use crate::watch::{DirWatch, FileCounts, Watch};
 use program_io::report::report;
 use program_io::{ShortLines, end_line, read_line};
 use std::alloc::{AllocError, Global};
-use std::io::{BufRead, BufReader, ErrorKind, Read, Write};
+use std::io::{BufReader, ErrorKind, Read, Write};
 use std::rt::Runtime;
 use std::sync::Arc;
-use std::sync::atomic::AtomicU64;
 use std::{fs, io};
 use thiserror::Error;
 use tracing_appender::folder::DirFolder;
 use tracing_appender::rolling::{Builder, Clock, InitError, RollingFile, Rotation, SystemClock};
-use tracing_appender::store::Folder;
+use tracing_appender::store::{Folder, NoticeKind};
 
-/// The number of files that are kept, one a day.
-const KEPT_DAYS: usize = 366;
+/// The log is flushed whenever so many bytes were written since the last flush.
+const FLUSHED_BYTES: usize = 1 << 20;
 
 /// Why a trail ended early.
 #[derive(Debug, Drop, Error)]
@@ -31,6 +31,9 @@ pub enum Fault {
     /// There was no argument.
     #[error("usage: audit_trail DIRECTORY [SOURCE..]")]
     Usage,
+    /// No number of files from 1 on followed `--keep`.
+    #[error("--keep needs a number of files, 1 or more")]
+    Keep,
     /// An argument was not UTF-8.
     #[error("an argument is not UTF-8")]
     Argument,
@@ -46,13 +49,19 @@ pub enum Fault {
     /// The beginning of a line was written, and the rest was not.
     #[error("line cut short: {0}")]
     Cut(io::Error),
-    /// The log did not take so many lines of sources whole.
+    /// The number of lines of sources that the log did not take whole.
     #[error("lines not written whole: {0}")]
     Lost(u64),
-    /// So many log files were removed, renamed or replaced while they were written to, or couldn't be
-    /// compared with what their names lead to.
+    /// The number of log files that were removed, renamed, replaced or truncated while they were written to, or
+    /// couldn't be compared with what their names lead to.
     #[error("log files not found again: {0}")]
     Gone(u64),
+    /// The number of flushes of log files that failed, each of which also syncs.
+    #[error("syncs that failed: {0}")]
+    Unsynced(u64),
+    /// Another program may remove log files of the folder.
+    #[error("another audit_trail --keep writes to the log directory")]
+    Locked,
     /// A source is a file of the log's folder.
     #[error("source in the log directory")]
     Own,
@@ -62,9 +71,6 @@ pub enum Fault {
     /// The thread that writes was not made.
     #[error("no thread")]
     Thread,
-    /// Lines were dropped, so there is no account of all of them.
-    #[error("no account")]
-    Unsettled,
     /// Memory was refused.
     #[error("no memory")]
     Memory,
@@ -76,7 +82,7 @@ impl Fault {
         ensures { result ≡ status_of self.now }
     {
         match self {
-            Fault::Usage | Fault::Argument => 2,
+            Fault::Usage | Fault::Keep | Fault::Argument => 2,
             Fault::Memory => 3,
             _ => 1,
         }
@@ -88,10 +94,11 @@ impl Fault {
     {
         match self {
             Fault::Usage => b"usage: audit_trail DIRECTORY [SOURCE..]\n",
+            Fault::Keep => b"--keep needs a number of files, 1 or more\n",
             Fault::Argument => b"an argument is not UTF-8\n",
+            Fault::Locked => b"another audit_trail --keep writes to the log directory\n",
             Fault::Own => b"source in the log directory\n",
             Fault::Thread => b"no thread\n",
-            Fault::Unsettled => b"no account\n",
             Fault::Memory => b"no memory\n",
             _ => b"",
         }
@@ -172,12 +179,14 @@ impl From<io::Error> for Fault {
 /// The log of a trail.
 pub type TrailLog<R> = LineLog<DirFolder<R>, SystemClock<R>, DirWatch<R>>;
 
-/// Writes each line of `input` to the log of its day, in the folder that the one argument names, and
-/// returns the log, flushed and synced. The first fault goes to `errors`, whose own faults are ignored. The
-/// error is the status of the process: 1 if the log was not opened, the input not read, a line not written
-/// whole or a log file not found again; 2 if there isn't one argument; 3 if memory was refused.
+/// Writes each line of `input` to the log of its day, in the folder that the one argument names, which keeps so many
+/// files or, if `files` is 0, all, and returns the log, flushed and synced. It is also flushed and synced before it waits for more input, and once a
+/// MiB. The first fault goes to `errors`, whose own faults are ignored. The error is the status of the process: 1 if
+/// the log was not opened, the input not read, a line not written whole, a flush failed or a log file was not found
+/// again; 2 if there isn't one argument; 3 if memory was refused.
 pub fn keep<R: Runtime + AllocGlobal, I: Read, E: Write>(
     rt: &R,
+    files: usize,
     arguments: &[String],
     input: &mut I,
     errors: &mut E,
@@ -188,9 +197,10 @@ pub fn keep<R: Runtime + AllocGlobal, I: Read, E: Write>(
     ensures reported { IfErr result (λ status. (fault : Fault) ×
         ReportsFault fault status (E.contents errors.old) (E.contents errors.new)) }
     ensures lines { IfOk result (λ log. (text : List ℕ) → I.remaining input.old ≡ Some text →
-        KeepsLines ⟦<DirFolder<R> as Folder>⟧ ⟦<SystemClock<R> as Clock>⟧ text log) }
+        KeepsLines ⟦<DirFolder<R> as Folder>⟧ ⟦<SystemClock<R> as Clock>⟧ files text log) }
+    ensures synced { IfOk result (λ log. (⟦<DirFolder<R> as Folder>⟧.noted log.log.roller.folder).flushes ≡ 0) }
 {
-    match copy_lines(rt, arguments, input) {
+    match copy_lines(rt, files, arguments, input) {
         Ok(log) => Ok(log),
         Err(fault) => Err(report_fault(&fault, errors)),
     }
@@ -211,45 +221,56 @@ pub fn report_fault<E: Write>(fault: &Fault, errors: &mut E) -> u8
 
 fn copy_lines<R: Runtime + AllocGlobal, I: Read>(
     rt: &R,
+    files: usize,
     arguments: &[String],
     input: &mut I,
 ) -> Result<TrailLog<R>, Fault>
     ensures usage { length arguments.now ≢ 1 → result ≡ Err Fault.Usage }
     ensures lines { IfOk result (λ log. (text : List ℕ) → I.remaining input.old ≡ Some text →
-        KeepsLines ⟦<DirFolder<R> as Folder>⟧ ⟦<SystemClock<R> as Clock>⟧ text log) }
+        KeepsLines ⟦<DirFolder<R> as Folder>⟧ ⟦<SystemClock<R> as Clock>⟧ files text log) }
+    ensures synced { IfOk result (λ log. (⟦<DirFolder<R> as Folder>⟧.noted log.log.roller.folder).flushes ≡ 0) }
 {
     let [directory] = arguments else {
         return Err(Fault::Usage);
     };
-    let mut input = BufReader::new(rt.alloc(), ShortLines::new(input))?;
-    log_lines(rt, directory.as_str(), &mut input)
+    let mut input = BufReader::new(rt.alloc(), InputReads::new(ShortLines::new(input)))?;
+    log_lines(rt, files, directory.as_str(), &mut input)
 }
 
 // Opens the log, writes each line of `input` to it, and flushes it.
-fn log_lines<R: Runtime + AllocGlobal, I: BufRead>(
+fn log_lines<R: Runtime + AllocGlobal, I: LineInput>(
     rt: &R,
+    files: usize,
     directory: &str,
     input: &mut I,
 ) -> Result<TrailLog<R>, Fault>
-    ensures { IfOk result (λ log. (text : List ℕ) → I.remaining input.old ≡ Some text →
-        KeepsLines ⟦<DirFolder<R> as Folder>⟧ ⟦<SystemClock<R> as Clock>⟧ text log) }
+    ensures lines { IfOk result (λ log. (text : List ℕ) → I.remaining input.old ≡ Some text →
+        KeepsLines ⟦<DirFolder<R> as Folder>⟧ ⟦<SystemClock<R> as Clock>⟧ files text log) }
+    ensures synced { IfOk result (λ log. (⟦<DirFolder<R> as Folder>⟧.noted log.log.roller.folder).flushes ≡ 0) }
 {
-    let gone = zero(rt.alloc())?;
-    let mut log = open_trail(rt, directory, gone)?;
+    let counts = FileCounts::new(rt.alloc())?;
+    let mut log = open_trail(rt, files, directory, counts)?;
     write_and_flush(rt.alloc(), input, &mut log)?;
-    match log.watch().gone() {
-        0 => Ok(log),
-        gone => Err(Fault::Gone(gone)),
+    check_files(&log)?;
+    Ok(log)
+}
+
+// Returns a fault if a file was not found again, or a flush at a switch failed.
+fn check_files<R: Runtime + AllocGlobal>(log: &TrailLog<R>) -> Result<(), Fault>
+    ensures { OnOk result ((⟦<DirFolder<R> as Folder>⟧.noted log.now.log.roller.folder).flushes ≡ 0) }
+{
+    match log.watch().counts().gone() {
+        0 => {}
+        gone => return Err(Fault::Gone(gone)),
+    }
+    match log.log().folder().notices(NoticeKind::Flush) {
+        0 => Ok(()),
+        unsynced => Err(Fault::Unsynced(unsynced)),
     }
 }
 
-// A count that threads can share.
-pub(crate) fn zero(alloc: Global) -> Result<Arc<AtomicU64, Global>, AllocError> {
-    Ok(Arc::new(alloc, AtomicU64::new(0))?)
-}
-
 // Writes each line of `input`, and flushes what was written, also after a fault.
-fn write_and_flush<I: BufRead, S: Folder, C: Clock, W: Watch<S>>(
+fn write_and_flush<I: LineInput, S: Folder, C: Clock, W: Watch<S>>(
     alloc: Global,
     input: &mut I,
     log: &mut LineLog<S, C, W>,
@@ -267,7 +288,8 @@ fn write_and_flush<I: BufRead, S: Folder, C: Clock, W: Watch<S>>(
 }
 
 fn flush<S: Folder, C: Clock, W: Watch<S>>(log: &mut LineLog<S, C, W>) -> Result<(), Fault>
-    ensures { OnOk result (FlushesNow S.Folder (Ok tt) log.old.log log.new.log) }
+    ensures flushes { OnOk result (FlushesNow S.Folder (Ok tt) log.old.log log.new.log) }
+    ensures cut { OnOk result (log.new.cut ≡ log.old.cut) }
 {
     match log.flush() {
         Ok(()) => Ok(()),
@@ -275,30 +297,34 @@ fn flush<S: Folder, C: Clock, W: Watch<S>>(log: &mut LineLog<S, C, W>) -> Result
     }
 }
 
-/// Opens the trail in a folder, which is made if it is absent. `gone` counts log files that are not found again.
+/// Opens the trail in a folder, which is made if it is absent, and keeps so many files; 0 is all. `counts` has the faults
+/// of its files.
 pub fn open_trail<R: Runtime + AllocGlobal>(
     rt: &R,
+    files: usize,
     directory: &str,
-    gone: Arc<AtomicU64, Global>,
+    counts: Arc<FileCounts, Global>,
 ) -> Result<TrailLog<R>, InitError>
     ensures opens { IfOk result (λ trail. OpensSome ⟦<DirFolder<R> as Folder>⟧ ⟦<SystemClock<R> as Clock>⟧
-        trail_config trail.log) }
+        (trail_config files) trail.log) }
     ensures seen { IfOk result (λ trail. trail.cut ≡ false → EndsWhole ⟦<DirFolder<R> as Folder>⟧ trail.log) }
 {
-    let watch = DirWatch::new(rt.clone()?, directory, gone)?;
-    Ok(LineLog::new(open_log(rt, directory)?, watch))
+    let watch = DirWatch::new(rt.clone()?, directory, counts)?;
+    Ok(LineLog::new(open_log(rt, files, directory)?, watch))
 }
 
-/// Opens the log of the day in a folder, which is made if it is absent. Each flush syncs its file.
+/// Opens the log of the day in a folder, which is made if it is absent, and keeps so many files; 0 is all. Each flush
+/// syncs its file.
 pub fn open_log<R: Runtime + AllocGlobal>(
     rt: &R,
+    files: usize,
     directory: &str,
 ) -> Result<RollingFile<DirFolder<R>, SystemClock<R>>, InitError>
     ensures { IfOk result (OpensSome ⟦<DirFolder<R> as Folder>⟧ ⟦<SystemClock<R> as Clock>⟧
-        trail_config) }
+        (trail_config files)) }
 {
     fs::create_dir_all(rt, directory).map_err(InitError::Directory)?;
-    let settings = settings(rt.alloc())?;
+    let settings = settings(rt.alloc(), files)?;
     let clock = SystemClock::new(rt.clone()?);
     let folder = DirFolder::new(rt.clone()?, directory)?.synced();
     match settings.open_in(rt.alloc(), folder, clock) {
@@ -307,35 +333,54 @@ pub fn open_log<R: Runtime + AllocGlobal>(
     }
 }
 
-fn settings(alloc: Global) -> Result<Builder, AllocError>
-    ensures { IfOk result (λ builder. builder ≡ trail_config) }
+fn settings(alloc: Global, files: usize) -> Result<Builder, AllocError>
+    ensures { IfOk result (λ builder. builder ≡ trail_config files) }
 {
     let named = Builder::new()
         .rotation(Rotation::DAILY)
         .filename_prefix(alloc, "audit")?
         .filename_suffix(alloc, "log")?;
     let linked = named.latest_symlink(alloc, "latest.log")?;
-    Ok(linked.max_log_files(KEPT_DAYS))
+    Ok(linked.max_log_files(files).log_files_by_name(true))
 }
 
-/// Writes each line of `input` with its newline. A last line without one gets one.
-pub fn write_lines<I: BufRead, S: Folder, C: Clock, W: Watch<S>>(
+/// Writes each line of `input` with its newline. A last line without one gets one. Flushes the log after a line if the
+/// next one may have to be waited for, or a MiB was written since the last flush.
+pub fn write_lines<I: LineInput, S: Folder, C: Clock, W: Watch<S>>(
     alloc: Global,
     input: &mut I,
     log: &mut LineLog<S, C, W>,
 ) -> Result<(), Fault>
     ensures { OnOk result ((text : List ℕ) → I.remaining input.old ≡ Some text →
-        (count : ℕ) × PutsLines S.Folder C.Clock count text log.old [] log.new) }
+        (count : ℕ) × (unflushed : ℕ) × PutsLines S.Folder C.Clock count unflushed text log.old [] log.new) }
 {
-    let mut line = Vec::new(alloc);
+    let (mut line, mut unflushed) = (Vec::new(alloc), 0);
     for _ in 0..u64::MAX {
         if !read_line(input, &mut line)? {
             return Ok(());
         }
         end_line(&mut line)?;
-        write_line(line.as_slice(), log)?;
+        let whole = line.as_slice();
+        write_line(whole, log)?;
+        unflushed = flush_if_due(input.may_wait(), unflushed + whole.len(), log)?;
     }
     Err(Fault::Read(io::Error::other("too many lines")))
+}
+
+// Flushes the log if its input may have to be waited for, or a MiB was written since the last flush. Returns the number
+// of bytes that were written since then.
+fn flush_if_due<S: Folder, C: Clock, W: Watch<S>>(
+    waits: bool,
+    unflushed: usize,
+    log: &mut LineLog<S, C, W>,
+) -> Result<usize, Fault>
+    ensures { IfOk result (λ left. MayFlush S.Folder unflushed left log.old log.new) }
+{
+    if waits || unflushed >= FLUSHED_BYTES {
+        flush(log)?;
+        return Ok(0);
+    }
+    Ok(unflushed)
 }
 
 fn write_line<S: Folder, C: Clock, W: Watch<S>>(

@@ -12,7 +12,45 @@ use std::sync::atomic::AtomicU64;
 use std::sync::atomic::Ordering::SeqCst;
 use std::{fs, io};
 use tracing_appender::folder::DirFolder;
-use tracing_appender::store::Folder;
+use tracing_appender::store::{Folder, NoticeKind};
+
+/// The faults of a log's files that a watch counts. Threads can share it.
+#[derive(Drop)]
+pub struct FileCounts {
+    gone: AtomicU64,
+    unsynced: AtomicU64,
+}
+
+impl FileCounts {
+    /// Returns counts of 0.
+    pub fn new(alloc: Global) -> Result<Arc<FileCounts, Global>, AllocError> {
+        let counts = FileCounts {
+            gone: AtomicU64::new(0),
+            unsynced: AtomicU64::new(0),
+        };
+        Ok(Arc::new(alloc, counts)?)
+    }
+
+    /// Returns the number of files that were not found again, or were truncated.
+    pub fn gone(&self) -> u64 {
+        self.gone.load(SeqCst)
+    }
+
+    /// Counts a file that was not found again, or was truncated.
+    pub fn add_gone(&self) {
+        self.gone.fetch_add(1, SeqCst);
+    }
+
+    /// Returns the number of flushes that failed.
+    pub fn unsynced(&self) -> u64 {
+        self.unsynced.load(SeqCst)
+    }
+
+    /// Sets the number of flushes that failed.
+    pub fn set_unsynced(&self, count: u64) {
+        self.unsynced.store(count, SeqCst);
+    }
+}
 
 /// Checks the open file of a log in a folder.
 pub trait Watch<S: Folder>: Drop {
@@ -25,23 +63,41 @@ pub trait Watch<S: Folder>: Drop {
         ensures { result ≡ true → IsTrue S.is_known →
             EndsLine (body_at (S.content folder.now) (S.body file.now)) };
 
-    /// Returns whether this name leads to the open file. If not, or if that can't be seen, reports it.
-    fn finds(&self, folder: &S, file: &S::File, name: &str) -> bool;
+    /// Returns the length of the open file in bytes, or 0 if that can't be seen.
+    fn length(&self, file: &S::File) -> u64;
+
+    /// Returns whether this name leads to the open file, and the file is not shorter than `length` bytes. If not, or
+    /// if that can't be seen, reports it.
+    fn finds(&self, folder: &S, file: &S::File, name: &str, length: u64) -> bool;
+
+    /// Counts the flushes that failed: `failed` of those that were asked for, and those that the folder noted.
+    fn count_unsynced(&self, folder: &S, failed: u64);
 }
 
-/// Checks the open file of a log in a folder of the file system. A file whose name leads elsewhere, or
-/// that couldn't be compared with what its name leads to, is reported on standard error, and counted.
+/// Checks the open file of a log in a folder of the file system. A file that was truncated, whose name leads
+/// elsewhere, or that couldn't be compared with what its name leads to, is reported on standard error, and counted.
 #[derive(Drop)]
 pub struct DirWatch<R> {
     rt: R,
     // Ends with a slash.
     path: String,
-    gone: Arc<AtomicU64, Global>,
+    counts: Arc<FileCounts, Global>,
+}
+
+// What happened to a log file.
+enum Loss {
+    // Its name doesn't lead to it.
+    Moved,
+    Truncated,
 }
 
 impl<R: Files + AllocGlobal + Eprint + Clone + Drop> DirWatch<R> {
-    /// Watches the folder at a path, and counts by `gone`. An empty path is the current directory.
-    pub fn new(rt: R, path: &str, gone: Arc<AtomicU64, Global>) -> Result<DirWatch<R>, AllocError> {
+    /// Watches the folder at a path, and counts by `counts`. An empty path is the current directory.
+    pub fn new(
+        rt: R,
+        path: &str,
+        counts: Arc<FileCounts, Global>,
+    ) -> Result<DirWatch<R>, AllocError> {
         let mut base = String::from_str(rt.alloc(), path)?;
         if base.is_empty() {
             base.push('.')?;
@@ -52,13 +108,13 @@ impl<R: Files + AllocGlobal + Eprint + Clone + Drop> DirWatch<R> {
         Ok(DirWatch {
             rt,
             path: base,
-            gone,
+            counts,
         })
     }
 
-    /// Returns how many files were not found again.
-    pub fn gone(&self) -> u64 {
-        self.gone.load(SeqCst)
+    /// Returns what was counted.
+    pub fn counts(&self) -> &FileCounts {
+        &self.counts
     }
 
     /// Returns whether a file is this log file, or its path leads into the folder.
@@ -91,12 +147,30 @@ impl<R: Files + AllocGlobal + Eprint + Clone + Drop> DirWatch<R> {
         Ok(byte[0])
     }
 
-    // Counts a file that is not found again, and reports why on standard error, whose own faults are ignored.
-    fn report(&self, name: &str, found: io::Result<bool>) {
-        self.gone.fetch_add(1, SeqCst);
+    // Returns what happened to the open file, if its name leads elsewhere or it is shorter than this.
+    fn loss(
+        &self,
+        folder: &DirFolder<R>,
+        file: &R::File,
+        name: &str,
+        length: u64,
+    ) -> io::Result<Option<Loss>> {
+        if !folder.is_named(file, name)? {
+            Ok(Some(Loss::Moved))
+        } else if file.metadata()?.len() < length {
+            Ok(Some(Loss::Truncated))
+        } else {
+            Ok(None)
+        }
+    }
+
+    // Counts a file that was lost, or not found again, and reports why on standard error, whose own faults are ignored.
+    fn report(&self, name: &str, found: io::Result<Loss>) {
+        self.counts.add_gone();
         let (rt, path) = (&self.rt, &self.path);
         let _ = match found {
-            Ok(_) => eprintln!(rt; "{path}{name}: log file removed, renamed or replaced"),
+            Ok(Loss::Moved) => eprintln!(rt; "{path}{name}: log file removed, renamed or replaced"),
+            Ok(Loss::Truncated) => eprintln!(rt; "{path}{name}: log file truncated"),
             Err(fault) => eprintln!(rt; "{path}{name}: log file not found again: {fault}"),
         };
     }
@@ -113,14 +187,26 @@ impl<R: Files + AllocGlobal + Eprint + Clone + Drop> Watch<DirFolder<R>> for Dir
         }
     }
 
-    fn finds(&self, folder: &DirFolder<R>, file: &R::File, name: &str) -> bool {
-        match folder.is_named(file, name) {
-            Ok(true) => true,
-            found => {
-                self.report(name, found);
-                false
-            }
+    fn length(&self, file: &R::File) -> u64 {
+        match file.metadata() {
+            Ok(metadata) => metadata.len(),
+            Err(_) => 0,
         }
+    }
+
+    fn finds(&self, folder: &DirFolder<R>, file: &R::File, name: &str, length: u64) -> bool {
+        let lost = match self.loss(folder, file, name, length) {
+            Ok(None) => return true,
+            Ok(Some(loss)) => Ok(loss),
+            Err(fault) => Err(fault),
+        };
+        self.report(name, lost);
+        false
+    }
+
+    fn count_unsynced(&self, folder: &DirFolder<R>, failed: u64) {
+        let noted = folder.notices(NoticeKind::Flush);
+        self.counts.set_unsynced(noted.saturating_add(failed));
     }
 }
 

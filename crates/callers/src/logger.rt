@@ -60,7 +60,7 @@ pub fn log_reads<R: Host, W: Write + Send + Drop + 'static>(
     let (lines, guard) = NonBlockingBuilder::default()
         .lossy(false)
         .finish(rt, rt.alloc(), log)?;
-    let sink = LogSink::new(rt.alloc(), &lines);
+    let sink = LogSink::new(rt, &lines);
     let logger = Logged::new(rt, Level::Info, &sink);
     for rows in reads {
         log_read(&logger, *rows);

@@ -18,6 +18,7 @@ pub enum Call {
     RemoveFile,
     CreateDir,
     Symlink,
+    Rename,
     Flush,
     Sync,
     /// Any other call.
@@ -320,6 +321,22 @@ impl Disk {
             return Err(Error::from(ErrorKind::AlreadyExists));
         }
         self.put(name, kind, bytes)
+    }
+
+    // Gives an entry another name, and takes that from what has it. A folder's name is not taken.
+    pub(crate) fn rename(&self, from: &str, to: &str) -> io::Result<()> {
+        let (from, to) = (self.name_in(from)?, self.name_in(to)?);
+        let name = to.to_vec(self.alloc)?;
+        let mut entries = self.entries()?;
+        let (number, _) = find(&entries, from)?;
+        if matches!(find(&entries, to), Ok((_, entry)) if matches!(entry.kind, Kind::Folder)) {
+            return Err(Error::from(ErrorKind::IsADirectory));
+        }
+        take_name(&mut entries, to);
+        if let Some(entry) = entries.get_mut(number) {
+            entry.name = name;
+        }
+        Ok(())
     }
 
     // Returns the number of a file, also through a link to one. To open a pipe only for writing would wait for a

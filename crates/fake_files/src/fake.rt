@@ -107,8 +107,9 @@ impl<'a> Files for Fake<'a> {
         Err(unsupported_error())
     }
 
-    fn rename(&self, _from: &str, _to: &str) -> io::Result<()> {
-        Err(unsupported_error())
+    fn rename(&self, from: &str, to: &str) -> io::Result<()> {
+        self.disk.begin(Call::Rename)?;
+        self.disk.rename(from, to)
     }
 
     fn remove_file(&self, path: &str) -> io::Result<()> {

@@ -1,8 +1,7 @@
 -- A text that is copied line by line.
-use Rattle.std.proofs.Common.{◌≡◌, ℕ, List, [], ◌∷◌, ◌++◌, refl, ap, sym, ◌∙◌, append_assoc, append-nil, ◌==◌, Bool, true, false, if◌then◌else◌}
+use Rattle.std.proofs.Common.{◌≡◌, ℕ, List, [], ◌∷◌, ◌++◌, refl, ap, sym, ◌∙◌, append_assoc, append-nil}
 use Rattle.std.specs.Prelude.{Option, Some, None}
-use Rattle.std.specs.Io.BufRead.{take_through, drop_through}
-use Rattle.std.specs.Io.KnownBytes.{Appends}
+use Rattle.std.specs.Io.KnownBytes.{Appends, Consumes}
 
 pub appends_nothing : (a : Option (List ℕ)) → Appends a a []
 appends_nothing None = tt
@@ -14,12 +13,11 @@ appends_both (Some a) (Some b) (Some d) xs ys h k = k ∙ ap (λ t. t ++ ys) h �
 appends_both (Some a) (Some b) None xs ys h k = k
 appends_both (Some a) None d xs ys h k = absurd h
 
-if_joined : (b : Bool) (x : ℕ) (xs front back : List ℕ) → front ++ back ≡ xs
-    → (if b then x ∷ [] else x ∷ front) ++ (if b then xs else back) ≡ x ∷ xs
-if_joined true x xs front back h = refl
-if_joined false x xs front back h = ap (λ t. x ∷ t) h
+-- what is known is split where it was read up to
+pub split_consumed : (b : Option (List ℕ)) (text piece : List ℕ) → Consumes (Some text) b piece → (rest : List ℕ) × (b ≡ Some rest) × (piece ++ rest ≡ text)
+split_consumed None text piece consumed = absurd consumed
+split_consumed (Some rest) text piece consumed = (rest, refl, sym consumed)
 
--- a line and what comes behind it
-pub joined : (byte : ℕ) (xs : List ℕ) → take_through byte xs ++ drop_through byte xs ≡ xs
-joined byte [] = refl
-joined byte (x ∷ xs) = if_joined (x == byte) x xs (take_through byte xs) (drop_through byte xs) (joined byte xs)
+pub nil_behind : (front back : List ℕ) → front ++ back ≡ [] → back ≡ []
+nil_behind [] back e = e
+nil_behind (x ∷ front) back e = absurd (cc)

@@ -1,16 +1,42 @@
 //! What programs have in common: a runtime, arguments, lines of an input. `report` has reports of faults, `options` the
-//! options among arguments, `streams` standard streams that are closed.
+//! options among arguments, `streams` standard streams that are closed, `waiting` an input that does not block.
 #![tactic(auto)]
 
-ghost use Rattle.std.specs.Prelude.{◌≡◌, ◌≢◌, ℕ, List, [], Some, Ok, OnOk, OnErr, true, false};
+ghost use Rattle.std.specs.Prelude.{
+  ◌≡◌,
+  ◌≢◌,
+  ◌<◌,
+  ◌≤◌,
+  ℕ,
+  List,
+  [],
+  ◌-◌,
+  ◌⊎◌,
+  ◌↔◌,
+  All,
+  take,
+  length,
+  IsTrue,
+  Some,
+  Ok,
+  IfOk,
+  OnOk,
+  OnSome,
+  OnErr,
+  true,
+  false,
+};
+ghost use Rattle.std.specs.Io.{StopsAt};
 ghost use Rattle.std.specs.Io.BufRead.{take_through, drop_through};
-ghost use Rattle.std.specs.Io.KnownBytes.{Appends, IsAtEnd};
-ghost use Rattle.program_io.specs.Line.{ended};
+ghost use Rattle.std.specs.Io.KnownBytes.{Appends, Consumes, IsAtEnd};
+ghost use Rattle.program_io.specs.Line.{ended, IsPiece};
+ghost use Rattle.program_io.specs.Inside.Piece.{Extends, IsOpen};
 ghost use Rattle.program_io.specs.Report.{AppendsBeginning};
 
 pub mod options;
 pub mod report;
 pub mod streams;
+pub mod waiting;
 
 use std::alloc::{AllocError, Global};
 use std::io::{BufRead, ErrorKind, Read, Write};
@@ -134,8 +160,68 @@ impl From<io::Error> for CopyFault {
     }
 }
 
-/// Writes each line of `input` by one write, with its newline, if it has one, until nothing is left. Lines before a
-/// fault are written.
+/// Reads the next piece of a line into `piece`, in place of what that contained: the line with its newline, if it has
+/// one, or its next `LONGEST_LINE` bytes if it is longer. Returns whether there was one. Errors are those of the input,
+/// and `OutOfMemory`.
+pub fn read_piece<I: BufRead>(input: &mut I, piece: &mut Vec<u8>) -> io::Result<bool>
+    ensures bytes { OnOk result (Consumes (I.remaining input.old) (I.remaining input.new) piece.new.items) }
+    ensures length { OnOk result (length piece.new.items ≤ LONGEST_LINE) }
+    ensures line { OnOk result (StopsAt piece.new.items 10) }
+    ensures whole { OnOk result (IsPiece piece.new.items
+        ⊎ OnSome (I.remaining input.old) (IsAtEnd (I.remaining input.new))) }
+    ensures end { result ≡ Ok false → IsAtEnd (I.remaining input.old) }
+{
+    piece.clear();
+    for _ in 0..u64::MAX {
+        if extend_piece(input, piece)? {
+            return Ok(!piece.is_empty());
+        }
+    }
+    Err(io::Error::other("too many reads"))
+}
+
+// Adds to a piece what is buffered of its line, and returns whether that was all of it.
+fn extend_piece<I: BufRead>(input: &mut I, piece: &mut Vec<u8>) -> io::Result<bool>
+    requires { IsOpen piece.old.items }
+    ensures { IfOk result (Extends (I.remaining input.old) (I.remaining input.new) piece.old.items piece.new.items) }
+{
+    let available = match input.fill_buf() {
+        Ok(available) => available,
+        Err(error) if error.kind() == ErrorKind::Interrupted => return Ok(false),
+        Err(error) => return Err(error),
+    };
+    let length = piece_length(available, LONGEST_LINE - piece.len());
+    piece.extend_from_slice(&available[..length])?;
+    input.consume(length);
+    Ok(length == 0 || is_piece(piece.as_slice()))
+}
+
+// Returns the length of the first line of these bytes, or of as much of it as there is room for.
+fn piece_length(bytes: &[u8], room: usize) -> usize
+    ensures bound { result ≤ length bytes.now }
+    ensures room { result ≤ room }
+    ensures some { 0 < length bytes.now → 0 < room → 0 < result }
+    ensures line { All (λ x. x ≢ 10) (take (result - 1) bytes.now) }
+{
+    let mut length = 0;
+    while length < bytes.len() && length < room {
+        if bytes[length] == b'\n' {
+            return length + 1;
+        }
+        length += 1;
+    }
+    length
+}
+
+// Returns whether a piece is a whole line, or has no room for more.
+fn is_piece(piece: &[u8]) -> bool
+    ensures { IsTrue result ↔ IsPiece piece.now }
+{
+    piece.len() == LONGEST_LINE || piece.last() == Some(&b'\n')
+}
+
+/// Writes each line of `input` by one write, with its newline, if it has one, until nothing is left. A line that is
+/// longer than `LONGEST_LINE` with its newline is written in pieces of that length. Lines before a fault are written.
 pub fn copy_lines<I: BufRead, W: Write>(
     alloc: Global,
     input: &mut I,
@@ -148,23 +234,25 @@ pub fn copy_lines<I: BufRead, W: Write>(
     ensures beginning { OnErr result ((text : List ℕ) → I.remaining input.old ≡ Some text →
         AppendsBeginning (W.contents writer.old) (W.contents writer.new) text) }
 {
-    let mut line = Vec::new(alloc);
+    let mut piece = Vec::new(alloc);
     for _ in 0..u64::MAX {
-        if !read_line(input, &mut line)? {
+        if !read_piece(input, &mut piece)? {
             return Ok(());
         }
-        write_line(line.as_slice(), writer)?;
+        write_piece(piece.as_slice(), writer)?;
     }
     Err(CopyFault::Read(io::Error::other("too many lines")))
 }
 
-fn write_line<W: Write>(line: &[u8], writer: &mut W) -> Result<(), CopyFault>
-    ensures whole { OnOk result (Appends (W.contents writer.old) (W.contents writer.new) line.now) }
+// Writes a piece by one write.
+fn write_piece<W: Write>(piece: &[u8], writer: &mut W) -> Result<(), CopyFault>
+    requires { length piece.now ≤ LONGEST_LINE }
+    ensures whole { OnOk result (Appends (W.contents writer.old) (W.contents writer.new) piece.now) }
     ensures beginning { OnErr result
-        (AppendsBeginning (W.contents writer.old) (W.contents writer.new) line.now) }
+        (AppendsBeginning (W.contents writer.old) (W.contents writer.new) piece.now) }
 {
-    match writer.write(line) {
-        Ok(taken) if taken < line.len() => Err(CopyFault::Cut),
+    match writer.write(piece) {
+        Ok(taken) if taken < piece.len() => Err(CopyFault::Cut),
         Ok(_) => Ok(()),
         Err(fault) => Err(CopyFault::Write(fault)),
     }

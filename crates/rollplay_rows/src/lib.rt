@@ -19,7 +19,7 @@ pub fn first_row(text: &str) -> Option<(&str, &str, &str)> {
 
 /// Scripts without a queue whose log is opened, and their pages.
 pub static PLAYED: Table = Table {
-    rows: 59,
+    rows: 66,
     text: concat!(
         // Arrivals an hour apart; a clock that is set back keeps the file.
         "rotation hourly\nprefix app\nstart 1580551260\nput 1580554800 a\nput 1580554799 b\n|",
@@ -136,6 +136,23 @@ pub static PLAYED: Table = Table {
         "open app.2020-02-01-10\nfile app.2020-02-01-10 1 q\n|",
         "rotation hourly\nprefix app\nmax 1\nfile app.2020-02-01-10 x\nstart 1580551260\n|",
         "open app.2020-02-01-10\nfile app.2020-02-01-10 0\n|",
+        // By name, a restart keeps its own file, though files that were copied there have later creation moments.
+        "rotation daily\nprefix app\nmax 2\nby-name\ncreated 1\nfile app.2020-02-01 kept\ncreated 9\nfile app.2020-01-30 x\nfile app.2020-01-31 y\nstart 1580551260\n|",
+        "open app.2020-02-01\nfile app.2020-01-31 1 y\nfile app.2020-02-01 4 kept\n|",
+        "rotation hourly\nprefix app\nmax 1\nby-name\nfile app.2020-02-01-10 x\nstart 1580551260\n|",
+        "open app.2020-02-01-10\nfile app.2020-02-01-10 1 x\n|",
+        // By name, only names that the log itself gives are removed.
+        "rotation daily\nprefix app\nsuffix log\nmax 1\nby-name\nfile app-export.log a\nfile app.2020-01-31.log b\nfile app.2020-01-32.log c\nfile app.log d\nfile apple.log e\nstart 1580551260\n|",
+        "open app.2020-02-01.log\nfile app-export.log 1 a\nfile app.2020-01-32.log 1 c\nfile app.2020-02-01.log 0\nfile app.log 1 d\nfile apple.log 1 e\n|",
+        "rotation weekly\nprefix app\nmax 1\nby-name\nfile app.2020-01-25 x\nfile app.2020-01-19 y\nstart 1580551260\n|",
+        "open app.2020-01-26\nfile app.2020-01-25 1 x\nfile app.2020-01-26 0\n|",
+        "prefix app\nmax 1\nby-name\nfile app.2020-01-31 x\nfile app.old y\nstart 1580551260\n|",
+        "open app\nfile app 0\nfile app.2020-01-31 1 x\nfile app.old 1 y\n|",
+        // By name, the oldest is that of the earliest period and the lowest number. A file of a later period is the newest.
+        "rotation daily\nprefix app\nmax 2\nby-name\nbytes 1\nfile app.2020-02-01.000000 x\nfile app.2020-02-01.000009 y\nfile app.2020-01-31.000010 z\nstart 1580551260\nput 1580551260 a\nput 1580551261 b\n|",
+        "open app.2020-02-01.000010\nnone ok 1\nopened ok 1\nfile app.2020-02-01.000010 1 a\nfile app.2020-02-01.000011 1 b\n|",
+        "rotation hourly\nprefix app\nmax 2\nby-name\nfile app.2020-02-01-09 p\nfile app.2020-02-01-12 q\nstart 1580551260\n|",
+        "open app.2020-02-01-10\nfile app.2020-02-01-10 0\nfile app.2020-02-01-12 1 q\n|",
         // A listing that fails, and one of three removals.
         "rotation hourly\nprefix app\nmax 1\nfile app.2020-02-01-07\nfile app.2020-02-01-08\nfail 1\nfail 4\nstart 1580551260\nsee 1580554800\n|",
         "open app.2020-02-01-10\nopened\nfile app.2020-02-01-07 0\nfile app.2020-02-01-11 0\n|",

@@ -7,7 +7,7 @@ use Rattle.std.proofs.lemmas.List.Elements.{All-cons}
 use Rattle.rollplay_script.specs.declared.line.ScriptLine.{ScriptLine}
 use Rattle.rollplay_script.specs.Words.{tail_of, TakesWord, HasNoWord, Takes, TakesNo}
 use Rattle.rollplay_script.specs.Text.{StandsForNone}
-use Rattle.rollplay_script.specs.Line.{LineKind, rotation, prefix, suffix, link, maximum, byte_limit, created, file, folder, link_at, absent, failing, shortened, start, see, put, write, flush, queue, offer, shut, add, drop, work, first_word, log_kinds, folder_kinds, run_kinds, queue_kinds, HasArguments, IsNotOf, BeginsWith, ContinuesWith, TakesText}
+use Rattle.rollplay_script.specs.Line.{LineKind, rotation, prefix, suffix, link, maximum, byte_limit, by_name, created, file, folder, link_at, absent, failing, shortened, start, see, put, write, flush, queue, offer, shut, add, drop, work, first_word, log_kinds, folder_kinds, run_kinds, queue_kinds, HasArguments, IsNotOf, BeginsWith, ContinuesWith, TakesText}
 
 -- the text after a word determines what is left
 tail_of-once : (r s : Option (List ℕ)) → tail_of r ≡ tail_of s → r ≡ s
@@ -37,6 +37,7 @@ kind_from word =
     if bytes_eq word (codes "link") then Some link else (
     if bytes_eq word (codes "max") then Some maximum else (
     if bytes_eq word (codes "bytes") then Some byte_limit else (
+    if bytes_eq word (codes "by-name") then Some by_name else (
     if bytes_eq word (codes "created") then Some created else (
     if bytes_eq word (codes "file") then Some file else (
     if bytes_eq word (codes "folder") then Some folder else (
@@ -54,7 +55,7 @@ kind_from word =
     if bytes_eq word (codes "shut") then Some shut else (
     if bytes_eq word (codes "add") then Some add else (
     if bytes_eq word (codes "drop") then Some drop else (
-    if bytes_eq word (codes "work") then Some work else None)))))))))))))))))))))))
+    if bytes_eq word (codes "work") then Some work else None))))))))))))))))))))))))
 
 first_word-tells : (k : LineKind) → kind_from (first_word k) ≡ Some k
 first_word-tells rotation = refl
@@ -63,6 +64,7 @@ first_word-tells suffix = refl
 first_word-tells link = refl
 first_word-tells maximum = refl
 first_word-tells byte_limit = refl
+first_word-tells by_name = refl
 first_word-tells created = refl
 first_word-tells file = refl
 first_word-tells folder = refl
@@ -114,24 +116,25 @@ module _ (word : List ℕ) (rest : Option (List ℕ)) where
   none_at_all none link = none 3 link (lit< tt)
   none_at_all none maximum = none 4 maximum (lit< tt)
   none_at_all none byte_limit = none 5 byte_limit (lit< tt)
-  none_at_all none created = none 6 created (lit< tt)
-  none_at_all none file = none 7 file (lit< tt)
-  none_at_all none folder = none 8 folder (lit< tt)
-  none_at_all none link_at = none 9 link_at (lit< tt)
-  none_at_all none absent = none 10 absent (lit< tt)
-  none_at_all none failing = none 11 failing (lit< tt)
-  none_at_all none shortened = none 12 shortened (lit< tt)
-  none_at_all none start = none 13 start (lit< tt)
-  none_at_all none see = none 14 see (lit< tt)
-  none_at_all none put = none 15 put (lit< tt)
-  none_at_all none write = none 16 write (lit< tt)
-  none_at_all none flush = none 17 flush (lit< tt)
-  none_at_all none queue = none 18 queue (lit< tt)
-  none_at_all none offer = none 19 offer (lit< tt)
-  none_at_all none shut = none 20 shut (lit< tt)
-  none_at_all none add = none 21 add (lit< tt)
-  none_at_all none drop = none 22 drop (lit< tt)
-  none_at_all none work = none 23 work (lit< tt)
+  none_at_all none by_name = none 6 by_name (lit< tt)
+  none_at_all none created = none 7 created (lit< tt)
+  none_at_all none file = none 8 file (lit< tt)
+  none_at_all none folder = none 9 folder (lit< tt)
+  none_at_all none link_at = none 10 link_at (lit< tt)
+  none_at_all none absent = none 11 absent (lit< tt)
+  none_at_all none failing = none 12 failing (lit< tt)
+  none_at_all none shortened = none 13 shortened (lit< tt)
+  none_at_all none start = none 14 start (lit< tt)
+  none_at_all none see = none 15 see (lit< tt)
+  none_at_all none put = none 16 put (lit< tt)
+  none_at_all none write = none 17 write (lit< tt)
+  none_at_all none flush = none 18 flush (lit< tt)
+  none_at_all none queue = none 19 queue (lit< tt)
+  none_at_all none offer = none 20 offer (lit< tt)
+  none_at_all none shut = none 21 shut (lit< tt)
+  none_at_all none add = none 22 add (lit< tt)
+  none_at_all none drop = none 23 drop (lit< tt)
+  none_at_all none work = none 24 work (lit< tt)
 
 pub continues_with : (word : List ℕ) (rest : Option (List ℕ)) (k : LineKind) → word ≡ first_word k → (line : ScriptLine) (left : Option (List ℕ)) → HasArguments k rest line left → ContinuesWith word rest line left
 continues_with word rest k is line left arguments = record { kind = k; is = is; arguments = arguments }
@@ -170,6 +173,7 @@ left_once suffix rest l m r s a b = a.2.all ∙ sym b.2.all
 left_once link rest l m r s a b = a.2.all ∙ sym b.2.all
 left_once maximum rest l m r s a b = (takes_once rest a.2.word b.2.word r s a.2.taken b.2.taken).1
 left_once byte_limit rest l m r s a b = (takes_once rest a.2.word b.2.word r s a.2.taken b.2.taken).1
+left_once by_name rest l m r s a b = a.1 ∙ sym b.1
 left_once created rest l m r s a b = (takes_once rest a.2.word b.2.word r s a.2.taken b.2.taken).1
 left_once file rest l m r s a b = a.3.2.all ∙ sym b.3.2.all
 left_once folder rest l m r s a b = (takes_once rest a.0.now b.0.now r s a.2 b.2).1

@@ -7,7 +7,7 @@ use Rattle.appender_replay.specs.declared.replay.RollStep.TheVariants.{See, Put,
 use Rattle.appender_replay.specs.declared.replay.whole.Step.TheVariants.{Offer, Shut, AddSender, DropSender, Work}
 use Rattle.rollplay_script.specs.declared.line.ScriptLine.{ScriptLine}
 use Rattle.rollplay_script.specs.declared.line.ScriptLine.TheVariants.{Setting, Start, Step, QueueStep}
-use Rattle.rollplay_script.specs.declared.line.Setting.TheVariants.{Rotation as SetRotation, Prefix, Suffix, Link, Max, Bytes, Created, File, Folder, LinkAt, Absent, Fail, Short, Queue}
+use Rattle.rollplay_script.specs.declared.line.Setting.TheVariants.{Rotation as SetRotation, Prefix, Suffix, Link, Max, ByName, Bytes, Created, File, Folder, LinkAt, Absent, Fail, Short, Queue}
 use Rattle.rollplay_script.specs.Words.{TakesWord, Takes}
 use Rattle.rollplay_script.specs.Text.{IsEscaped, IsSeconds, IsCreated, IsCount, IsCall}
 
@@ -24,6 +24,7 @@ pub data LineKind : Type 0 where
   link : LineKind
   maximum : LineKind
   byte_limit : LineKind
+  by_name : LineKind
   created : LineKind
   file : LineKind
   folder : LineKind
@@ -51,6 +52,7 @@ first_word suffix = codes "suffix"
 first_word link = codes "link"
 first_word maximum = codes "max"
 first_word byte_limit = codes "bytes"
+first_word by_name = codes "by-name"
 first_word created = codes "created"
 first_word file = codes "file"
 first_word folder = codes "folder"
@@ -72,7 +74,7 @@ first_word work = codes "work"
 
 -- the kinds of lines in the order in which they are looked for: how the log is kept
 abbrev pub log_kinds : List LineKind
-log_kinds = rotation ∷ prefix ∷ suffix ∷ link ∷ maximum ∷ byte_limit ∷ []
+log_kinds = rotation ∷ prefix ∷ suffix ∷ link ∷ maximum ∷ byte_limit ∷ by_name ∷ []
 
 -- the entries of the folder, and which of its calls fail
 abbrev pub folder_kinds : List LineKind
@@ -105,6 +107,7 @@ HasArguments maximum rest line left =
     (n : ℕ) × (line ≡ Setting (Max n)) × Takes (λ word. IsCount word n) rest left
 HasArguments byte_limit rest line left =
     (n : ℕ) × (line ≡ Setting (Bytes n)) × Takes (λ word. IsCount word n) rest left
+HasArguments by_name rest line left = (line ≡ Setting ByName) × (left ≡ rest)
 HasArguments created rest line left =
     (moment : Option ℤ) × (line ≡ Setting (Created moment)) × Takes (λ word. IsCreated word moment) rest left
 HasArguments file rest line left =

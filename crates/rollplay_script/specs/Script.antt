@@ -14,7 +14,7 @@ use Rattle.rollplay_script.specs.declared.line.Queueing.{Queueing}
 use Rattle.rollplay_script.specs.declared.line.ScriptLine.{ScriptLine}
 use Rattle.rollplay_script.specs.declared.line.ScriptLine.TheVariants.{Setting as Sets, Start, Step, QueueStep}
 use Rattle.rollplay_script.specs.declared.line.Setting.{Setting}
-use Rattle.rollplay_script.specs.declared.line.Setting.TheVariants.{Rotation, Prefix, Suffix, Link, Max, Bytes, Created, File, Folder, LinkAt, Absent, Fail, Short, Queue}
+use Rattle.rollplay_script.specs.declared.line.Setting.TheVariants.{Rotation, Prefix, Suffix, Link, Max, ByName, Bytes, Created, File, Folder, LinkAt, Absent, Fail, Short, Queue}
 use Rattle.rollplay_script.specs.Line.{IsLine, IsNoLine}
 use Rattle.rollplay_script.specs.declared.words.LineError.{LineError}
 use Rattle.rollplay_script.specs.declared.words.LineError.TheVariants.{Fault, Memory}
@@ -79,6 +79,7 @@ config_after (Prefix text) c = record c { prefix = string_bytes text }
 config_after (Suffix text) c = record c { suffix = string_bytes text }
 config_after (Link text) c = record c { link = string_bytes text }
 config_after (Max n) c = record c { max_files = n }
+config_after ByName c = record c { by_name = true }
 config_after (Bytes n) c = record c { max_bytes = n }
 config_after setting c = c
 

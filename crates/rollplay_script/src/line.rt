@@ -34,6 +34,8 @@ pub enum Setting<'a> {
     Link(String),
     /// The number of files that are kept.
     Max(usize),
+    /// Log files are known by their names alone.
+    ByName,
     /// The number of bytes in a file before the next of its period begins.
     Bytes(u64),
     /// The creation moment of files from here on, in nanoseconds since the epoch.
@@ -106,6 +108,7 @@ impl<'a> ScriptLine<'a> {
             "link" => Setting::Link(words.text(alloc)?),
             "max" => Setting::Max(words.count()?),
             "bytes" => Setting::Bytes(words.label()?),
+            "by-name" => Setting::ByName,
             _ => return ScriptLine::read_folder_words(alloc, word, words),
         }))
     }

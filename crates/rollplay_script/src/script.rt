@@ -210,6 +210,7 @@ fn builder_with(
         Setting::Suffix(suffix) => builder.filename_suffix(alloc, suffix.as_str()),
         Setting::Link(link) => builder.latest_symlink(alloc, link.as_str()),
         Setting::Max(max) => Ok(builder.max_log_files(*max)),
+        Setting::ByName => Ok(builder.log_files_by_name(true)),
         Setting::Bytes(max) => Ok(builder.max_file_bytes(*max)),
         _ => Ok(builder),
     }

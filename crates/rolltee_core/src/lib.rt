@@ -2,4 +2,5 @@
 //! them.
 #![tactic(auto)]
 
+pub mod feed;
 pub mod tee;

@@ -5,9 +5,12 @@ ghost use Rattle.std.specs.IoError.{error_kind};
 ghost use Rattle.rolltee_core.specs.Fault.{status_of, unless_memory, words_of, HasNoFolder, NamesNoRotation, ReportsFault};
 ghost use Rattle.appender_names.specs.RotationText.{IsNoRotation};
 
+use crate::feed::{Feed, WatchedLog};
+use appender_wait::waiting::WaitingWriter;
 use program_io::report::report;
+use program_io::waiting::WaitingInput;
 use program_io::{CopyFault, Host, copy_lines};
-use std::alloc::{AllocError, Global};
+use std::alloc::AllocError;
 use std::io;
 use std::io::{BufReader, ErrorKind, Read, Write};
 use std::sync::Wait;
@@ -15,7 +18,6 @@ use std::time::Clock;
 use thiserror::Error;
 use tracing_appender::non_blocking::{Closing, NonBlocking, NonBlockingBuilder, WorkerGuard};
 use tracing_appender::rolling::{FileAppender, InitError, RollingFileAppender, Rotation};
-use tracing_appender::worker::{CountingWriter, LineCounts};
 
 /// The greatest number of queued lines. If the queue is full, the reader waits.
 const LIMIT: usize = 1024;
@@ -65,7 +67,7 @@ pub enum Fault {
     /// A line was not taken whole, by the queue or by the log.
     #[error("write failed")]
     Write,
-    /// Lines were still being written a second after the last one was read.
+    /// The log was still being flushed a second after its last line.
     #[error("shutdown pending")]
     Pending,
     /// The queue stayed full at the end.
@@ -147,11 +149,18 @@ impl From<CopyFault> for Fault {
     }
 }
 
-/// Writes each line of `input` to a log that `logs` opens. The three arguments are its rotation, its folder and the
-/// beginning of its files' names. The first fault goes to `errors`, whose own faults are ignored; the lines read before
-/// it are written. Returns the status of the process: 0; 1 if no log was opened, also if memory was refused for that,
-/// no thread made, the input not read or a line not written whole; 2 if the arguments aren't of that form; 3 if memory
-/// was refused elsewhere.
+/// What a run does if the log fails.
+#[derive(Clone, Copy)]
+pub struct Settings {
+    /// Whether it waits after a fault that may pass, as a full disk, and says so on the standard error of the runtime.
+    pub waits: bool,
+}
+
+/// Writes each line of `input` to a log that `logs` opens, and waits while that is full. The three arguments are its
+/// rotation, its folder and the beginning of its files' names. The first fault goes to `errors`, whose own faults are
+/// ignored; the lines read before it are written, as long as that takes. Returns the status of the process: 0; 1 if no
+/// log was opened, also if memory was refused for that, no thread made, the input not read or a line not written whole;
+/// 2 if the arguments aren't of that form; 3 if memory was refused elsewhere.
 pub fn tee<R: Host, L: Logs, I: Read, E: Write>(
     rt: R,
     logs: &L,
@@ -166,7 +175,26 @@ pub fn tee<R: Host, L: Logs, I: Read, E: Write>(
     ensures silent { result ≡ 0 → Keeps (E.contents errors.old) (E.contents errors.new) }
     ensures reported { 1 ≤ result → (fault : Fault) × ReportsFault fault result (E.contents errors.old) (E.contents errors.new) }
 {
-    match copy_through(rt, logs, arguments, input) {
+    tee_with(rt, logs, Settings { waits: true }, arguments, input, errors)
+}
+
+/// Does what `tee` does, with these settings.
+pub fn tee_with<R: Host, L: Logs, I: Read, E: Write>(
+    rt: R,
+    logs: &L,
+    settings: Settings,
+    arguments: &[String],
+    input: &mut I,
+    errors: &mut E,
+) -> u8
+    ensures status { result ≤ 3 }
+    ensures usage { length arguments.now ≢ 3 → result ≡ 2 }
+    ensures no_rotation { NamesNoRotation arguments.now → result ≡ 2 }
+    ensures no_folder { HasNoFolder arguments.now → result ≡ 2 }
+    ensures silent { result ≡ 0 → Keeps (E.contents errors.old) (E.contents errors.new) }
+    ensures reported { 1 ≤ result → (fault : Fault) × ReportsFault fault result (E.contents errors.old) (E.contents errors.new) }
+{
+    match copy_through(rt, logs, settings, arguments, input) {
         Ok(()) => 0,
         Err(fault) => report_fault(&fault, errors),
     }
@@ -186,6 +214,7 @@ pub fn report_fault<E: Write>(fault: &Fault, errors: &mut E) -> u8
 fn copy_through<R: Host, L: Logs, I: Read>(
     rt: R,
     logs: &L,
+    settings: Settings,
     arguments: &[String],
     input: &mut I,
 ) -> Result<(), Fault>
@@ -197,7 +226,11 @@ fn copy_through<R: Host, L: Logs, I: Read>(
         return Err(Fault::Usage);
     };
     let log = open(logs, rotation.as_str(), directory.as_str(), prefix.as_str())?;
-    copy_to(rt, log, input)
+    if settings.waits {
+        copy_to(rt, WaitingWriter::new(rt, log), input)
+    } else {
+        copy_to(rt, log, input)
+    }
 }
 
 // Opens the log that the arguments name.
@@ -213,26 +246,29 @@ fn open<L: Logs>(logs: &L, rotation: &str, directory: &str, prefix: &str) -> Res
         .map_err(Fault::Open)
 }
 
-// Copies the lines to a log, by the thread of its worker. Waits for the worker also after a fault, and only then reads
-// how many lines the log did not take whole.
+// Copies the lines to a log, by the thread of its worker. Waits for the lines that were read also after a fault, and only
+// then reads how many of them the log did not take whole.
 fn copy_to<R: Host, W: Write + Send + Drop + 'static, I: Read>(
     rt: R,
     log: W,
     input: &mut I,
 ) -> Result<(), Fault> {
-    let (log, counts) = CountingWriter::new(rt.alloc(), log)?;
-    let (mut sender, guard) = start(rt, log)?;
-    let copied = copy_all(rt.alloc(), input, &mut sender);
+    let (log, watch) = WatchedLog::new(rt.alloc(), log)?;
+    let (sender, guard) = start(rt, log)?;
+    let mut feed = Feed::new(rt, sender, watch);
+    let copied = copy_all(rt, input, &mut feed);
+    let settled = feed.settle();
     let closed = end(guard);
-    copied.and(closed).and(none_lost(&counts))
+    copied.and(closed).and(all_taken(settled, feed.lost()))
 }
 
-// Returns an error if the log did not take each of its lines whole.
-fn none_lost(counts: &LineCounts) -> Result<(), Fault> {
-    if counts.lost() > 0 {
-        return Err(Fault::Write);
+// Returns an error if the worker ended before all lines were written, or the log did not take each one whole.
+fn all_taken(settled: bool, lost: u64) -> Result<(), Fault> {
+    if settled && lost == 0 {
+        Ok(())
+    } else {
+        Err(Fault::Write)
     }
-    Ok(())
 }
 
 // Starts the worker that writes to the log.
@@ -249,7 +285,7 @@ fn start<R: Host, W: Write + Send + Drop + 'static>(
     }
 }
 
-// Waits until the lines are written.
+// Waits until the log is flushed.
 fn end<R: Wait + Clock + Print + Drop>(guard: WorkerGuard<R>) -> Result<(), Fault> {
     match guard.close() {
         Closing::Done { .. } | Closing::Ended => Ok(()),
@@ -258,7 +294,7 @@ fn end<R: Wait + Clock + Print + Drop>(guard: WorkerGuard<R>) -> Result<(), Faul
     }
 }
 
-fn copy_all<I: Read, W: Write>(alloc: Global, input: &mut I, writer: &mut W) -> Result<(), Fault> {
-    let mut input = BufReader::new(alloc, input)?;
-    Ok(copy_lines(alloc, &mut input, writer)?)
+fn copy_all<R: Host, I: Read, W: Write>(rt: R, input: &mut I, writer: &mut W) -> Result<(), Fault> {
+    let mut input = BufReader::new(rt.alloc(), WaitingInput::new(rt, input))?;
+    Ok(copy_lines(rt.alloc(), &mut input, writer)?)
 }

@@ -1,4 +1,4 @@
-// Files and links of a folder whose path ends with a slash. Links are never followed.
+// Files of a folder whose path ends with a slash. Links are never followed.
 ghost use Rattle.std.specs.Prelude.{IfOk, OnOk};
 ghost use Rattle.appender_names.specs.Name.{IsEntry};
 
@@ -6,7 +6,7 @@ use appender_names::names::is_entry_name;
 use std::alloc::Global;
 use std::fs::{Metadata, OpenFile, OpenOptions};
 use std::io::{Error, ErrorKind};
-use std::os::unix::fs::{MetadataExt, symlink};
+use std::os::unix::fs::MetadataExt;
 use std::rt::Files;
 use std::{fs, io};
 
@@ -98,57 +98,12 @@ pub(super) fn remove_plain<R: Files + AllocGlobal>(
     }
 }
 
-/// Removes a link, and never what it leads to.
-pub(super) fn remove_link<R: Files + AllocGlobal>(
-    rt: &R,
-    folder: &str,
-    name: &str,
-) -> io::Result<()>
-    ensures { OnOk result (IsEntry name.now) }
-{
-    let path = entry_path(rt.alloc(), folder, name)?;
-    let path = path.as_str();
-    if fs::symlink_metadata(rt, path)?.is_symlink() {
-        fs::remove_file(rt, path)
-    } else {
-        Err(Error::new(ErrorKind::AlreadyExists, "not a link"))
-    }
-}
-
-/// Makes a link to a target, which need not exist. It is no error if another process has made the same
-/// link.
-pub(super) fn make_link<R: Files + AllocGlobal>(
-    rt: &R,
-    folder: &str,
-    name: &str,
-    target: &str,
-) -> io::Result<()>
-    ensures { OnOk result (IsEntry name.now) }
-{
-    let path = entry_path(rt.alloc(), folder, name)?;
-    let path = path.as_str();
-    match symlink(rt, target, path) {
-        Err(fault) if fault.kind() == ErrorKind::AlreadyExists && leads_to(rt, path, target) => Ok(
-            (),
-        ),
-        answer => answer,
-    }
-}
-
-// Whether there is a link with this target.
-fn leads_to<R: Files + AllocGlobal>(rt: &R, path: &str, target: &str) -> bool {
-    match fs::read_link(rt, path) {
-        Ok(found) => found.as_str() == target,
-        Err(_) => false,
-    }
-}
-
 fn not_plain() -> Error {
     Error::new(ErrorKind::AlreadyExists, "not a plain file")
 }
 
-// The path of an entry. What can't be the name of one has none, so that no call leaves the folder.
-fn entry_path(alloc: Global, folder: &str, name: &str) -> io::Result<String>
+/// Returns the path of an entry. What can't be the name of one has none, so that no call leaves the folder.
+pub(super) fn entry_path(alloc: Global, folder: &str, name: &str) -> io::Result<String>
     ensures { IfOk result (λ path. IsEntry name.now) }
 {
     if !is_entry_name(name) {

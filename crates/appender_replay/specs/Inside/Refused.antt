@@ -1,5 +1,5 @@
 -- Wrong runs. The headline alone refuses each of them.
-use Rattle.std.specs.Prelude.{◌≡◌, IsTrue, ℕ, ◌-◌, ◌^◌, ◌<◌, ℤ, pos, true, List, [], ◌∷◌, Option, Some, Ok, Vec}
+use Rattle.std.specs.Prelude.{false, ◌≡◌, IsTrue, ℕ, ◌-◌, ◌^◌, ◌<◌, ℤ, pos, true, List, [], ◌∷◌, Option, Some, Ok, Vec}
 use Rattle.std.specs.declared.alloc.Global.{Global}
 use Rattle.std.specs.FinMap as fin
 use Rattle.appender_names.specs.Rotation.{rotation_of}
@@ -17,11 +17,11 @@ use Rattle.appender_replay.specs.declared.replay.whole.Reply.TheVariants.{Accept
 
 -- one file for all time, whose name is `a`, with a maximum of files
 abbrev pub one_file : ℕ → Config
-one_file max = record { rotation = rotation_of Never; prefix = 97 ∷ []; suffix = []; link = []; max_files = max; max_bytes = 0 }
+one_file max = record { rotation = rotation_of Never; prefix = 97 ∷ []; suffix = []; link = []; max_files = max; by_name = false; max_bytes = 0 }
 
 -- a file each hour, with the prefix `a`
 abbrev pub hourly : Config
-hourly = record { rotation = rotation_of Hourly; prefix = 97 ∷ []; suffix = []; link = []; max_files = 0; max_bytes = 0 }
+hourly = record { rotation = rotation_of Hourly; prefix = 97 ∷ []; suffix = []; link = []; max_files = 0; by_name = false; max_bytes = 0 }
 
 -- the file of this name has a body that was empty at first, and these bytes at the end
 pub record Holds {S F : Type 0} (kind : Ghosts S F) (name bytes : List ℕ) (first last : S) : Type 0 where

@@ -1,6 +1,6 @@
 // Runs of a queue, a worker and a roller together, as senders and a worker drive them.
 ghost use Rattle.std.specs.Prelude.{◌≡◌, [], length, IfOk, IfErr, IsOk};
-ghost use Rattle.appender_replay.specs.Replay.{with_replies, RunsFrom, RollerFollows, IsNotRun};
+ghost use Rattle.appender_replay.specs.Replay.{with_replies, with_replies_onto, RunsFrom, RollerFollows, IsNotRun};
 ghost use Rattle.appender_replay.specs.Answers.{WorkerDoes, worker_event};
 ghost use Rattle.appender_replay.specs.Inside.Steps.{offered_reply, taken_reply, OffersCopy, WorkDoes, StepDoes, parts};
 ghost use Rattle.appender_replay.specs.Whole.{LinesFollow};
@@ -184,7 +184,7 @@ pub fn replay<S: Folder>(
     steps: &[Step],
 ) -> Result<Run<S>, ReplayError<S>>
     ensures headline { IfOk result (λ run. Headline S.Folder limit builder.now start run.number
-        (with_replies steps.now run.replies.items) folder run.roller.folder) }
+        (with_replies_onto [] steps.now run.replies.items) folder run.roller.folder) }
     ensures one_each { IfOk result (λ run. length run.replies.items ≡ length steps.now) }
     ensures lines { IfOk result (λ run. LinesFollow limit lossy (with_replies steps.now run.replies.items)
         run.queue run.worker) }

@@ -6,8 +6,9 @@ ghost use Rattle.std.specs.FinMap as fin;
 ghost use Rattle.appender_store.specs.Folder.{listed_row};
 ghost use Rattle.appender_retain.specs.Pruning.{Prunes, RemovesFile, RemovesEach, name_at};
 ghost use Rattle.appender_retain.specs.Inside.Files.{AreFiles};
+ghost use Rattle.appender_retain.specs.Rank.{matching};
 
-use super::plan;
+use super::{LogFiles, plan_log_files};
 use appender_names::names::Names;
 use appender_store::laws::names_change_one_at_a_time;
 use appender_store::store::{Folder, Listed, Notice};
@@ -18,7 +19,15 @@ use std::io;
 /// folder can't be listed, or memory is refused, `Notice::List` is noted and nothing is removed. A removal that
 /// fails is noted as `Notice::Remove`, and the next is tried.
 pub fn prune_old_logs<S: Folder>(alloc: Global, folder: &mut S, names: &Names, max: usize)
-    ensures { Prunes S.Folder names.now max folder.old folder.new }
+    ensures { Prunes S.Folder (matching names.now) max folder.old folder.new }
+{
+    prune_log_files(alloc, folder, &LogFiles::matching(names), max);
+}
+
+/// Removes the lowest of these log files, so that at most `max` remain when one more is made; none if `max` is 0.
+/// Faults are noted as by `prune_old_logs`.
+pub fn prune_log_files<S: Folder>(alloc: Global, folder: &mut S, log: &LogFiles<'_>, max: usize)
+    ensures { Prunes S.Folder log.now max folder.old folder.new }
 {
     names_change_one_at_a_time();
     if max == 0 {
@@ -31,7 +40,7 @@ pub fn prune_old_logs<S: Folder>(alloc: Global, folder: &mut S, names: &Names, m
             return;
         }
     };
-    match plan(alloc, names, max, &listed) {
+    match plan_log_files(alloc, log, max, &listed) {
         Ok(gone) => remove_planned(folder, &listed, &gone),
         Err(fault) => folder.note(Notice::List(&io::Error::from(fault))),
     }

@@ -20,6 +20,7 @@ pub struct Builder {
     suffix: Option<String>,
     link: Option<String>,
     max_files: usize,
+    by_name: bool,
     max_bytes: u64,
 }
 
@@ -34,6 +35,7 @@ impl Model for Builder {
       suffix = text_of b.suffix;
       link = text_of b.link;
       max_files = b.max_files;
+      by_name = b.by_name;
       max_bytes = b.max_bytes;
     } };
 }
@@ -51,6 +53,7 @@ impl Builder {
             suffix: None,
             link: None,
             max_files: 0,
+            by_name: false,
             max_bytes: 0,
         }
     }
@@ -94,12 +97,28 @@ impl Builder {
         Ok(self)
     }
 
-    /// Sets how many log files are kept; 0 is no maximum. When a file is opened, the oldest are removed.
+    /// Sets how many log files are kept; 0 is no maximum. Before a file is opened, the oldest are removed.
+    ///
+    /// By default, as in the crate tracing-appender, this counts each plain file whose name begins with the prefix and
+    /// ends with the suffix, and the oldest is that of the earliest creation time. So it may remove a file of another
+    /// program, and after files were copied or restored it may remove the file of today. `log_files_by_name` avoids both.
     #[must_use]
     pub fn max_log_files(mut self, max: usize) -> Builder
         ensures { result ≡ record self { max_files = max } }
     {
         self.max_files = max;
+        self
+    }
+
+    /// Sets whether `max_log_files` knows log files by their names alone. Then it counts the plain files whose names read
+    /// as the start of a period of this log, and the oldest is that of the earliest period and lowest number. The file
+    /// that is opened is never removed, nor is one with another name. Under `NEVER`, which has no periods, none is
+    /// removed.
+    #[must_use]
+    pub fn log_files_by_name(mut self, by_name: bool) -> Builder
+        ensures { result ≡ record self { by_name = by_name } }
+    {
+        self.by_name = by_name;
         self
     }
 
@@ -155,6 +174,12 @@ impl Builder {
         ensures { result ≡ self.now.max_files }
     {
         self.max_files
+    }
+
+    pub(crate) fn by_name(&self) -> bool
+        ensures { result ≡ self.now.by_name }
+    {
+        self.by_name
     }
 
     pub(crate) fn max_bytes(&self) -> u64

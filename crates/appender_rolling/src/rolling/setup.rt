@@ -11,7 +11,7 @@ use super::{Builder, InitError};
 use appender_names::names::Names;
 use appender_names::rotation::{Rotation, in_range};
 use appender_retain::laws::{links_add_none, openings_add_one};
-use appender_retain::retain::prune_old_logs;
+use appender_retain::retain::{LogFiles, prune_log_files};
 use appender_store::laws::names_change_one_at_a_time;
 use appender_store::store::{Folder, Listed, Notice};
 use std::alloc::Global;
@@ -25,6 +25,7 @@ pub(super) struct Setup {
     names: Names,
     link: String,
     max_files: usize,
+    by_name: bool,
     max_bytes: u64,
 }
 
@@ -40,6 +41,7 @@ impl Model for Setup {
       suffix = s.names.suffix;
       link = string_bytes s.link;
       max_files = s.max_files;
+      by_name = s.by_name;
       max_bytes = s.max_bytes;
     } };
 
@@ -91,6 +93,7 @@ impl Setup {
             names: builder.names(alloc)?,
             link: String::from_str(alloc, builder.link())?,
             max_files: builder.max_files(),
+            by_name: builder.by_name(),
             max_bytes: builder.max_bytes(),
         })
     }
@@ -212,7 +215,8 @@ impl Setup {
         names_change_one_at_a_time();
         openings_add_one();
         links_add_none();
-        prune_old_logs(self.alloc, folder, &self.names, self.max_files);
+        let log = LogFiles::new(&self.names, self.by_name, name);
+        prune_log_files(self.alloc, folder, &log, self.max_files);
         let file = open_or_make(folder, name)?;
         let link = self.link.as_str();
         if link.is_empty() {

@@ -8,5 +8,5 @@ use Rattle.appender_retain.proofs.retain.candidates.Given as goal
 -- the candidates so far, and before them those that are still to come, are all
 abbrev pub invariant-loop-place : goal.invariant-loop-place
 invariant-loop-place l =
-    map rank_in l.all.items ++ filter_map (rank_of l.names) (enumerate_from l.place (map listed_row (drop l.place l.listed)))
-    ≡ ranks l.names (map listed_row l.listed)
+    map rank_in l.all.items ++ filter_map (rank_of l.log) (enumerate_from l.place (map listed_row (drop l.place l.listed)))
+    ≡ ranks l.log (map listed_row l.listed)

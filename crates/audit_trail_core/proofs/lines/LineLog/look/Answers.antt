@@ -1,7 +1,7 @@
 use Rattle.std.proofs.Common.{◌≡◌, ◌∙◌, ap, subst, rules, w64, FitsSigned}
 use Rattle.std.proofs.lemmas.Int.{to_z-of_z}
 use Rattle.appender_rolling.specs.Appender.{Appending}
-use Rattle.appender_rolling.specs.Roller.{Rolling, SwitchesFile, KeepsFile}
+use Rattle.appender_rolling.specs.Roller.{SwitchesFile, KeepsFile}
 use Rattle.appender_rolling.specs.declared.rolling.Switch.TheVariants.{None as Stayed, Opened, Failed}
 use Rattle.audit_trail_core.specs.Trail.{Trailing}
 use Rattle.audit_trail_core.proofs.Ends.{is_so}

@@ -1,6 +1,6 @@
-use Rattle.std.proofs.Common.{◌≡◌, ◌∙◌, sym, ap, subst, arith, ◌≤◌, ◌<◌, length, not, false, nat_lt, nltb→le}
+use Rattle.std.proofs.Common.{◌≡◌, ◌∙◌, sym, ap, subst, arith, not}
 use Rattle.std.proofs.lemmas.Bool.Decides.{nat_tests}
-use Rattle.audit_trail_core.specs.Trail.{Trailing, EndsPart, EndsWhole}
+use Rattle.audit_trail_core.specs.Trail.{Trailing, EndsPart}
 use Rattle.audit_trail_core.proofs.Ends.{whole_after, whole_after_none, is_so}
 use Rattle.audit_trail_core.proofs.lines.LineLog.write_line.Goals as goal
 

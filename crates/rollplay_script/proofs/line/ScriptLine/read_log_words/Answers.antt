@@ -1,8 +1,8 @@
 use Rattle.std.proofs.Common.{refl, ◌∙◌, ◌++◌, [], unwrap_or, rules}
 use Rattle.rollplay_script.specs.Text.{StandsForNone}
 use Rattle.rollplay_script.proofs.LineLemmas.{continues_with, none_behind, none_unless, no_text, takes_no, takes_none, takes_once}
-use Rattle.rollplay_script.specs.Line.{log_kinds, folder_kinds, run_kinds, queue_kinds, rotation, prefix, suffix, link, maximum, byte_limit}
-use Rattle.rollplay_script.proofs.line.ScriptLine.read_log_words.Goals.{in-rotation+in_ok-word-in-rotation+in_ok-read_rotation-in-rotation, in-prefix+in_ok-text-in-prefix, in-suffix+in_ok-text-in-suffix, in-link+in_ok-text-in-link, in-max+in_ok-count-in-max, in-bytes+in_ok-label-in-bytes}
+use Rattle.rollplay_script.specs.Line.{log_kinds, folder_kinds, run_kinds, queue_kinds, rotation, prefix, suffix, link, maximum, byte_limit, by_name}
+use Rattle.rollplay_script.proofs.line.ScriptLine.read_log_words.Goals.{in-rotation+in_ok-word-in-rotation+in_ok-read_rotation-in-rotation, in-prefix+in_ok-text-in-prefix, in-suffix+in_ok-text-in-suffix, in-link+in_ok-text-in-link, in-max+in_ok-count-in-max, in-bytes+in_ok-label-in-bytes, in-text}
 use Rattle.rollplay_script.proofs.line.ScriptLine.read_log_words.Goals as goal
 
 pub returns-in_err-count-in-max-clause-fault : goal.returns-in_err-count-in-max-clause-fault
@@ -40,7 +40,7 @@ returns-in_err-text-in-link-clause-fault c = λ e. none_behind c.args.word.now c
 pub returns-in_default-clause-fault : goal.returns-in_default-clause-fault
 returns-in_default-clause-fault c = λ e.
     none_unless c.args.word.now c.args.words.now log_kinds (folder_kinds ++ run_kinds ++ queue_kinds)
-    (c.in_default.not-rotation, (c.in_default.not-prefix, (c.in_default.not-suffix, (c.in_default.not-link, (c.in_default.not-max, (c.in_default.not-bytes, tt))))))
+    (c.in_default.not-rotation, (c.in_default.not-prefix, (c.in_default.not-suffix, (c.in_default.not-link, (c.in_default.not-max, (c.in_default.not-bytes, (c.in_default.not-text, tt)))))))
     (c.read_folder_words.ensures.fault e)
 
 pub returns-clause-ok : goal.returns-clause-ok
@@ -57,4 +57,6 @@ returns-clause-ok c = elim c.match-word.branch [
       rw (w.words-is, w.result-is) (continues_with _ _ maximum w.in-max.is _ _ (_, refl, w.in_ok-count-in-max.ensures.ok))
   | in-bytes+in_ok-label-in-bytes w ↦
       rw (w.words-is, w.result-is) (continues_with _ _ byte_limit w.in-bytes.is _ _ (_, refl, w.in_ok-label-in-bytes.ensures.ok))
+  | in-text w ↦
+      rw (w.words-is, w.result-is) (continues_with _ _ by_name w.in-text.is _ _ (refl, refl))
 ]

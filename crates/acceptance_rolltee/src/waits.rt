@@ -1,0 +1,244 @@
+// Logs that are slow or full for a while, and inputs that do not block.
+use crate::expect::expect_eq;
+use program_io::Host;
+use rolltee_core::feed::{Feed, WatchedLog};
+use rolltee_core::tee::{Logs, tee};
+use std::alloc::{AllocError, Global};
+use std::io::{Read, Write};
+use std::process::Abort;
+use std::sync::Arc;
+use std::sync::atomic::AtomicU64;
+use std::sync::atomic::Ordering::SeqCst;
+use std::test::Fail;
+use std::time::{Clock, Duration};
+use std::{io, thread};
+use tracing_appender::rolling::{InitError, Rotation};
+
+// How a log behaves.
+#[derive(Clone, Copy)]
+struct Manner {
+    // How long the first write takes, and each other one.
+    first_millis: u64,
+    other_millis: u64,
+    // How many writes fail, from the second one on, and with which error on Linux.
+    failures: u32,
+    code: i32,
+}
+
+// A log that counts its bytes.
+#[derive(Drop)]
+struct Slow<R: Clock> {
+    rt: R,
+    manner: Manner,
+    begun: bool,
+    bytes: Arc<AtomicU64, Global>,
+}
+
+impl<R: Clock> Write for Slow<R> {
+    fn write(&mut self, buf: &[u8]) -> io::Result<usize> {
+        let millis = if self.begun {
+            self.manner.other_millis
+        } else {
+            self.manner.first_millis
+        };
+        thread::sleep(&self.rt, Duration::from_millis(millis));
+        if self.begun && self.manner.failures > 0 {
+            self.manner.failures -= 1;
+            return Err(io::Error::from_raw_os_error(self.manner.code));
+        }
+        self.begun = true;
+        self.bytes.fetch_add(buf.len() as u64, SeqCst);
+        Ok(buf.len())
+    }
+
+    fn flush(&mut self) -> io::Result<()> {
+        Ok(())
+    }
+}
+
+#[derive(Drop)]
+struct SlowLogs<R: Drop> {
+    rt: R,
+    manner: Manner,
+    bytes: Arc<AtomicU64, Global>,
+}
+
+impl<R: Clock + Copy + Drop + Send + 'static> Logs for SlowLogs<R> {
+    type Log = Slow<R>;
+
+    fn open_log(&self, _: Rotation, _: &str, _: &str) -> Result<Slow<R>, InitError> {
+        match self.bytes.clone() {
+            Ok(bytes) => Ok(Slow {
+                rt: self.rt,
+                manner: self.manner,
+                begun: false,
+                bytes,
+            }),
+            Err(_) => Err(InitError::Memory),
+        }
+    }
+}
+
+// Runs the program over a log of this manner, and compares its status, what it reports, and how many bytes the log took.
+fn check<R: Host + Abort, I: Read>(
+    rt: R,
+    manner: Manner,
+    input: &mut I,
+    told: (u8, &str),
+    taken: u64,
+) -> Result<(), Fail> {
+    let (status, told) = told;
+    let mut arguments = Vec::new(rt.alloc());
+    for word in ["never", "dir", "app"] {
+        arguments.push(word.to_string(rt.alloc())?)?;
+    }
+    let bytes = Arc::new(rt.alloc(), AtomicU64::new(0)).map_err(AllocError::from)?;
+    let logs = SlowLogs {
+        rt,
+        manner,
+        bytes: bytes.clone()?,
+    };
+    let mut errors = Vec::new(rt.alloc());
+    let answer = tee(rt, &logs, arguments.as_slice(), input, &mut errors);
+    expect_eq(&rt, errors.as_slice(), told.as_bytes());
+    expect_eq(&rt, answer, status);
+    expect_eq(&rt, bytes.load(SeqCst), taken);
+    Ok(())
+}
+
+static PROMPT: Manner = Manner {
+    first_millis: 0,
+    other_millis: 0,
+    failures: 0,
+    code: 0,
+};
+
+// This number of lines of a byte and a newline.
+fn lines_of<R: AllocGlobal>(rt: &R, count: u32) -> Result<Vec<u8>, AllocError> {
+    let mut lines = Vec::new(rt.alloc());
+    for _ in 0..count {
+        lines.extend_from_slice(b"a\n")?;
+    }
+    Ok(lines)
+}
+
+// The lines that are queued at the end of the input take two seconds.
+#[test]
+fn waits_for_a_slow_log(rt: HostRuntime) -> Result<(), Fail> {
+    let manner = Manner {
+        first_millis: 5,
+        other_millis: 5,
+        ..PROMPT
+    };
+    let lines = lines_of(&rt, 400)?;
+    check(rt, manner, &mut lines.as_slice(), (0, ""), 800)
+}
+
+// The queue is full at the end of the input, and the log does not get on with its first line.
+#[test]
+fn waits_for_a_full_queue(rt: HostRuntime) -> Result<(), Fail> {
+    let manner = Manner {
+        first_millis: 2000,
+        ..PROMPT
+    };
+    let lines = lines_of(&rt, 1025)?;
+    check(rt, manner, &mut lines.as_slice(), (0, ""), 2050)
+}
+
+// Gives its bytes one read after another, and fails in between.
+#[derive(Drop)]
+struct Halting<'a> {
+    parts: &'a [Part],
+}
+
+#[derive(Clone, Copy)]
+enum Part {
+    Bytes(&'static [u8]),
+    Fails(io::ErrorKind),
+}
+
+impl<'a> Read for Halting<'a> {
+    fn read(&mut self, buf: &mut [u8]) -> io::Result<usize> {
+        let Some((part, others)) = self.parts.split_first() else {
+            return Ok(0);
+        };
+        self.parts = others;
+        match *part {
+            Part::Bytes(bytes) => {
+                let mut bytes = bytes;
+                bytes.read(buf)
+            }
+            Part::Fails(kind) => Err(io::Error::from(kind)),
+        }
+    }
+}
+
+// Also after a fault of the input, the lines before it are written.
+#[test]
+fn waits_for_a_slow_log_after_a_fault(rt: HostRuntime) -> Result<(), Fail> {
+    let manner = Manner {
+        first_millis: 2000,
+        ..PROMPT
+    };
+    let parts = [
+        Part::Bytes(b"a\nb\n"),
+        Part::Fails(io::ErrorKind::PermissionDenied),
+    ];
+    let mut input = Halting { parts: &parts };
+    check(rt, manner, &mut input, (1, "read failed\n"), 4)
+}
+
+#[test]
+fn waits_for_an_input_that_does_not_block(rt: HostRuntime) -> Result<(), Fail> {
+    let dry = Part::Fails(io::ErrorKind::WouldBlock);
+    let parts = [
+        dry,
+        Part::Bytes(b"a\nb"),
+        dry,
+        dry,
+        Part::Bytes(b"c\n"),
+        dry,
+        Part::Bytes(b"d"),
+        dry,
+    ];
+    let mut input = Halting { parts: &parts };
+    check(rt, PROMPT, &mut input, (0, ""), 6)
+}
+
+// A disk that is full for two writes, and one whose write fails for good.
+#[test]
+fn waits_for_a_full_disk(rt: HostRuntime) -> Result<(), Fail> {
+    for (code, told, taken) in [
+        (28, (0, ""), 6),
+        (5, (0, ""), 6),
+        (13, (1, "write failed\n"), 2),
+    ] {
+        let manner = Manner {
+            failures: 2,
+            code,
+            ..PROMPT
+        };
+        let lines = lines_of(&rt, 3)?;
+        check(rt, manner, &mut lines.as_slice(), told, taken)?;
+    }
+    Ok(())
+}
+
+// The wait ends once the log took its lines, and if it was dropped before.
+#[test]
+fn waits_for_no_worker_that_ended(rt: HostRuntime) -> Result<(), Fail> {
+    for (taken, settled) in [(2u64, true), (1, false)] {
+        let (mut log, watch) = WatchedLog::new(rt.alloc(), io::sink())?;
+        let mut feed = Feed::new(rt, io::sink(), watch);
+        for _ in 0..2u32 {
+            feed.write(b"a\n")?;
+        }
+        for _ in 0..taken {
+            log.write(b"a\n")?;
+        }
+        drop(log);
+        expect_eq(&rt, feed.settle(), settled);
+        expect_eq(&rt, feed.lost(), 0);
+    }
+    Ok(())
+}

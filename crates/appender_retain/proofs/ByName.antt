@@ -1,0 +1,83 @@
+-- Log files that are known by their names.
+use Rattle.std.proofs.Common.{◌≡◌, ◌∙◌, ◌||◌, ◌&&◌, ◌⊎◌, ℕ, ◌≤◌, ◌<◌, ℤ, pos, negsuc, ◌+ℤ◌, ◌*ℤ◌, ◌<ℤ◌, Bool, true, false, if◌then◌else◌, List, Option, None, Some, refl, sym, ap, subst, arith, inl, inr}
+use Rattle.std.specs.Prelude.{◌==◌}
+use Rattle.std.specs.Str.{bytes_eq}
+use Rattle.std.specs.Option.{option_map, option_map_or, option_and_then}
+use Rattle.std.specs.FinMap as fin
+use Rattle.std.proofs.lemmas.Int.{ints}
+use Rattle.std.proofs.lemmas.Slice.Eq.{bytes_eq-Decides}
+use Rattle.appender_names.specs.Name.{Naming, IsLaterName, last_by, reading, reading_at}
+use Rattle.appender_names.specs.Rotation.{is_moment, is_same_start, period_of}
+use Rattle.appender_names.proofs.Reading.{reading_reads}
+use Rattle.appender_store.specs.Content.{Entry, NameMap, File, Link, Folder}
+use Rattle.appender_store.specs.Folder.{entry_row}
+use Rattle.appender_retain.specs.Rank.{LogFiles, Rank, key_by_name, key_of, rank_of}
+use Rattle.appender_retain.specs.Survival.{NamesAreSpared, KeysRise, name_rank, name_survives}
+
+-- what is read without numbers has the number 0
+pub read_unnumbered : (n : Naming) (name : List ℕ) (s : ℤ) → n.numbered ≡ false → reading n name ≡ Some s → reading_at n name ≡ Some (s, 0)
+read_unnumbered n name s plain h = by (reading_at n name) refl h
+  where
+    by : (o : Option (ℤ × ℕ)) → reading_at n name ≡ o → option_map (λ (key : ℤ × ℕ). key.0) o ≡ Some s → o ≡ Some (s, 0)
+    by None e none = absurd (let nothing : None ≡ Some s = none in cc)
+    by (Some key) e is =
+        let second : Some key.0 ≡ Some s = is in
+        let bound : key.1 ≤ 0 = subst (λ (b : Bool). key.1 ≤ last_by b) plain (reading_reads n name key e).number_is in
+        let number : key.1 ≡ 0 = omega arith in
+        let same : key.0 ≡ s = (cc) in
+        rw (← same, ← number) refl
+
+-- what has no key survives
+keyless_survives : (log : LogFiles) (name : List ℕ) → ((created : Option ℤ) → key_of log name created ≡ None) → (max : ℕ) (names : NameMap) → name_survives log max names name ≡ true
+keyless_survives log name keyless max names = rw (no_rank (fin.get names name)) (either (max == 0))
+  where
+    either : (b : Bool) → (b || true) ≡ true
+    either true = refl
+    either false = refl
+
+    no_rank : (o : Option Entry) → option_and_then (λ (e : Entry). rank_of log (0, entry_row (name, e))) o ≡ None
+    no_rank None = refl
+    no_rank (Some (File b t)) = ap (λ (k : Option ℤ). option_map (λ (key : ℤ). (key, name, 0)) k) (keyless t)
+    no_rank (Some (Link target)) = refl
+    no_rank (Some Folder) = refl
+
+pub spared : (log : LogFiles) → log.by_name ≡ true → NamesAreSpared log
+spared log by_name = record {
+  opened = λ name is. keyless_survives log name (λ created.
+      let own : option_map_or (bytes_eq name) log.opened false ≡ true = ap (λ (o : Option (List ℕ)). option_map_or (bytes_eq name) o false) is ∙ (bytes_eq-Decides name name).1 refl in
+      rw (by_name, own) refl);
+  others = λ name none. keyless_survives log name (λ created. rw (by_name, none) (either (option_map_or (bytes_eq name) log.opened false)));
+}
+  where
+    either : (b : Bool) → ◌≡◌ {A = Option ℤ} (if b then None else None) None
+    either true = refl
+    either false = refl
+
+-- the key of a name that reads as this period and number
+key_is : (n : Naming) (name : List ℕ) (p : ℤ) (k : ℕ) (x : ℤ) → reading_at n name ≡ Some (p, k) → key_by_name n name ≡ Some x → (x ≡ ((p *ℤ pos 1000000) +ℤ pos k)) × (k ≤ 999999)
+key_is n name p k x read key = (by (is_moment p && is_same_start (period_of n.rotation p) (Some p)) (ap (option_and_then (λ (r : ℤ × ℕ). if is_moment r.0 && is_same_start (period_of n.rotation r.0) (Some r.0) then Some ((r.0 *ℤ pos 1000000) +ℤ pos r.1) else None)) (sym read) ∙ key), bound n.numbered (reading_reads n name (p, k) read).number_is)
+  where
+    by : (b : Bool) → (if b then Some ((p *ℤ pos 1000000) +ℤ pos k) else None) ≡ Some x → x ≡ ((p *ℤ pos 1000000) +ℤ pos k)
+    by true is = let some : Some ((p *ℤ pos 1000000) +ℤ pos k) ≡ Some x = is in cc
+    by false none = absurd (let nothing : None ≡ Some x = none in cc)
+
+    bound : (b : Bool) → k ≤ last_by b → k ≤ 999999
+    bound true h = h
+    bound false h = omega arith
+
+-- a greater period outweighs all numbers
+outweighs : (p q : ℤ) (j k : ℕ) → p <ℤ q → j ≤ 999999 → ((p *ℤ pos 1000000) +ℤ pos j) <ℤ ((q *ℤ pos 1000000) +ℤ pos k)
+outweighs (pos a) (pos b) j k less bound = omega (arith, ints, less, bound)
+outweighs (pos a) (negsuc b) j k less bound = absurd (omega (arith, ints, less))
+outweighs (negsuc a) (pos b) j k less bound = omega (arith, ints, less, bound)
+outweighs (negsuc a) (negsuc b) j k less bound = omega (arith, ints, less, bound)
+
+adds_on : (p : ℤ) (j k : ℕ) → j < k → (p +ℤ pos j) <ℤ (p +ℤ pos k)
+adds_on p j k less = omega (arith, ints, less)
+
+pub keys_rise : (n : Naming) → KeysRise n
+keys_rise n a b p q j k x y read_a read_b key_a key_b later = by later (key_is n a p j x read_a key_a) (key_is n b q k y read_b key_b)
+  where
+    by : IsLaterName p j q k → (x ≡ ((p *ℤ pos 1000000) +ℤ pos j)) × (j ≤ 999999) → (y ≡ ((q *ℤ pos 1000000) +ℤ pos k)) × (k ≤ 999999) → x <ℤ y
+    by (inl less) is_x is_y = rw (is_x.0, is_y.0) (outweighs p q j k less is_x.1)
+    by (inr (same, less)) is_x is_y = rw (is_x.0, is_y.0, same) (adds_on (q *ℤ pos 1000000) j k less)

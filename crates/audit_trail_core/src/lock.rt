@@ -1,0 +1,21 @@
+//! The lock of a folder whose log files a program may remove.
+use crate::trail::Fault;
+use std::fs;
+use std::fs::{File, TryLockError};
+
+/// Locks the log files of a folder, which is made if it is absent, until the file that is returned is closed: by
+/// `.audit.lock` there. `Fault::Locked` if another program holds the lock; `Fault::Memory`. Where there are no locks
+/// returns `None`.
+pub fn lock_files(rt: &HostRuntime, directory: &str) -> Result<Option<File>, Fault> {
+    let path = format!(in rt.alloc(); "{directory}/.audit.lock")?;
+    // If the folder can't be made, the opening of the log reports it.
+    let _ = fs::create_dir_all(rt, directory);
+    let Ok(file) = File::options().write(true).create(true).open(rt, path) else {
+        return Ok(None);
+    };
+    match file.try_lock() {
+        Ok(()) => Ok(Some(file)),
+        Err(TryLockError::WouldBlock) => Err(Fault::Locked),
+        Err(TryLockError::Error(_)) => Ok(None),
+    }
+}
