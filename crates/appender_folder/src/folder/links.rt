@@ -13,8 +13,9 @@ use std::{fs, io};
 // has at most 255.
 const LONGEST: usize = 250;
 
-// How often a replacement is begun again if other processes change its spare name.
-const MOST_ATTEMPTS: u32 = 100;
+// How often a replacement is begun again if other processes change its spare name. Three threads that do
+// nothing but replace one link need up to 230 attempts.
+const MOST_ATTEMPTS: u32 = 10_000;
 
 /// Checks that a link has this name. The link stays until `make_link` replaces it.
 pub(super) fn check_link<R: Files + AllocGlobal>(rt: &R, folder: &str, name: &str) -> io::Result<()>
