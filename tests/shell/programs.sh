@@ -1,7 +1,7 @@
 #!/usr/bin/env bash
 # Runs the built programs as a user does, and compares what they write and how they end. `rt run` in the folder of each
-# builds them before. Each check prints a line, and the last line is `N passed, M failed`. It ends within 40 seconds.
-if [ "${1-}" != bounded ]; then exec timeout -k 6 33 bash "$0" bounded; fi
+# builds them before. Each check prints a line, and the last line is `N passed, M failed`. It ends within 100 seconds.
+if [ "${1-}" != bounded ]; then exec timeout -k 6 90 bash "$0" bounded; fi
 set -u
 export LC_ALL=C
 
@@ -299,21 +299,30 @@ if mount -t tmpfs -o size=16k programs "$disk" 2> "$err"; then
   check 'rolltee --no-wait, a full disk: the log begins with the lines' same \
     "$(cmp -s -n "$(stat -c %s "$disk/logs/app")" "$disk/logs/app" "$many" && echo same || echo other)"
   rm -r "$disk/logs"
-  # The disk gets room while the program waits for it, after the end of its input.
-  : > "$err"
-  timeout 9 "$rolltee" never "$disk/logs" app < "$many" > "$out" 2> "$err" &
-  waiting=$!
-  for ((turn = 0; turn < 200; turn++)); do
-    [ ! -s "$err" ] || break
-    sleep 0.01
-  done
-  check 'rolltee, a full disk: it says so at once' 'writes pause: No space left on device (os error 28)' "$(cat "$err")"
-  mount -o remount,size=1m "$disk"
-  wait "$waiting"
-  status=$?
-  check 'rolltee, a full disk' $'0||writes pause: No space left on device (os error 28)\nwrites go on' "$(told)"
-  check 'rolltee, a full disk: the log' same "$(cmp -s "$disk/logs/app" "$many" && echo same || echo other)"
-  rm -r "$disk/logs"
+  # Runs a program whose log does not fit the disk, which gets room while the program waits for it. Wants this on
+  # standard output, and all lines in the log.
+  waits() {
+    local name=$1 printed=$2
+    shift 2
+    mount -o remount,size=16k "$disk"
+    : > "$err"
+    timeout 9 "$@" < "$many" > "$out" 2> "$err" &
+    local waiting=$!
+    for ((turn = 0; turn < 200; turn++)); do
+      [ ! -s "$err" ] || break
+      sleep 0.01
+    done
+    check "$name, a full disk: it says so at once" 'writes pause: No space left on device (os error 28)' "$(cat "$err")"
+    mount -o remount,size=1m "$disk"
+    wait "$waiting"
+    status=$?
+    check "$name, a full disk" "0|$printed|"$'writes pause: No space left on device (os error 28)\nwrites go on' "$(told)"
+    check "$name, a full disk: the log" same "$(cat "$disk/logs"/a* | cmp -s - "$many" && echo same || echo other)"
+    rm -r "$disk/logs"
+  }
+  waits rolltee '' "$rolltee" never "$disk/logs" app
+  waits audit_trail '' "$audit_trail" "$disk/logs"
+  waits 'audit_trail from a file' 'accepted 400 handed 400 left 0 dropped 0' "$audit_trail" "$disk/logs" "$many"
   run "$rolltee" never "$disk/logs" app < "$lines"
   check 'rolltee, a disk with room' '0||' "$(told)"
   check 'rolltee, a disk with room: the log' $'[one\ntwo]' "$(content "$disk/logs/app")"

@@ -7,6 +7,7 @@ mod files;
 mod links;
 
 use appender_store::store::{Folder, Listed, Notice, NoticeCounts, NoticeKind};
+use appender_wait::policy::{NoWait, Waits, WritePolicy};
 use entries::list_entries;
 use files::{is_named, open_plain, remove_plain};
 use links::{check_link, make_link};
@@ -22,17 +23,19 @@ use std::{fs, io};
 /// a link that is absent). Every call rejects a name that is not a single path component with
 /// `InvalidInput`, so that no call leaves the folder. Notices are lines on standard error.
 #[derive(Drop)]
-pub struct DirFolder<R = HostRuntime> {
+pub struct DirFolder<R = HostRuntime, P = NoWait> {
     rt: R,
     // Ends with a slash.
     path: String,
     // Whether each flush also syncs.
     syncs: bool,
+    // How an append is made.
+    policy: P,
     failures: u64,
     noted: NoticeCounts,
 }
 
-impl<R> Model for DirFolder<R> {
+impl<R, P> Model for DirFolder<R, P> {
     ghost use Rattle.appender_folder.specs.Calls.{Disk};
 
     ghost Value = { Disk };
@@ -63,21 +66,54 @@ impl<R: Files + AllocGlobal + Eprint + Clone + Drop> DirFolder<R> {
             rt,
             path: base,
             syncs: false,
+            policy: NoWait,
             failures: 0,
             noted: NoticeCounts::new(),
         })
     }
 
+    /// Makes each append wait while the disk is full or has another fault that may pass, by the clock of `waiter`, which
+    /// prints that on standard error. `failures` counts the faults that were returned.
+    #[must_use]
+    pub fn waiting<T>(self, waiter: T) -> DirFolder<R, Waits<T>>
+        ensures failures { result.failures ≡ self.failures }
+        ensures notices { result.noted ≡ self.noted }
+    {
+        let DirFolder {
+            rt,
+            path,
+            syncs,
+            policy: _,
+            failures,
+            noted,
+        } = self;
+        DirFolder {
+            rt,
+            path,
+            syncs,
+            policy: Waits::new(waiter),
+            failures,
+            noted,
+        }
+    }
+}
+
+impl<R: Files + AllocGlobal + Eprint + Clone + Drop, P: WritePolicy> DirFolder<R, P> {
+    ghost use Rattle.std.specs.Prelude.{◌≡◌, ◌%◌, ◌^◌};
+    ghost use Rattle.appender_store.specs.MemoryState.{count_of};
+    ghost use Rattle.appender_store.specs.NoticeCounts.{counts_of};
+
     /// Makes each flush of a file also sync its data to the disk (`fdatasync`), so that what was written before
     /// survives a loss of power.
     #[must_use]
-    pub fn synced(self) -> DirFolder<R>
+    pub fn synced(self) -> DirFolder<R, P>
         ensures { result ≡ self }
     {
         let DirFolder {
             rt,
             path,
             syncs: _,
+            policy,
             failures,
             noted,
         } = self;
@@ -85,6 +121,7 @@ impl<R: Files + AllocGlobal + Eprint + Clone + Drop> DirFolder<R> {
             rt,
             path,
             syncs: true,
+            policy,
             failures,
             noted,
         }
@@ -140,7 +177,7 @@ fn flush_file<F: Write + OpenFile>(file: &mut F, syncs: bool) -> io::Result<()>
     if syncs { file.sync_data() } else { Ok(()) }
 }
 
-impl<R: Files + AllocGlobal + Eprint + Clone + Drop> Folder for DirFolder<R> {
+impl<R: Files + AllocGlobal + Eprint + Clone + Drop, P: WritePolicy> Folder for DirFolder<R, P> {
     ghost use Rattle.std.specs.Prelude.{◌≡◌, ◌%◌, ◌^◌, false};
     ghost use Rattle.std.specs.Io.KnownBytes.{Keeps, WriteAppends};
     ghost use Rattle.appender_store.specs.Folder.{after_note, kind_of};
@@ -232,7 +269,7 @@ impl<R: Files + AllocGlobal + Eprint + Clone + Drop> Folder for DirFolder<R> {
     }
 
     fn append(&mut self, file: &mut R::File, bytes: &[u8]) -> io::Result<usize> {
-        let answer = file.write(bytes);
+        let answer = self.policy.write(file, bytes);
         self.count_failure(answer)
     }
 

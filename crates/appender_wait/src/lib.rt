@@ -1,6 +1,7 @@
-//! A writer that waits while its disk is full, and then writes on.
+//! Writes that wait while a disk is full, and then go on.
 #![tactic(auto)]
 
+pub mod policy;
 #[cfg(test)]
 mod tests;
 pub mod waiting;

@@ -1,5 +1,5 @@
 //! A writer that waits while the writer below has a fault that may pass.
-ghost use Rattle.std.specs.Prelude.{◌≡◌, ◌≤◌, IfOk, IfErr, IsTrue, ◌↔◌, length};
+ghost use Rattle.std.specs.Prelude.{◌≡◌, ◌≤◌, [], IfOk, IfErr, IsTrue, ◌↔◌, length};
 ghost use Rattle.std.specs.Io.KnownBytes.{WriteAppends};
 ghost use Rattle.appender_wait.specs.Waiting.{Lasts, MayPass};
 
@@ -39,10 +39,7 @@ impl<R: Wait + Clock + Eprint, W: Write> Write for WaitingWriter<R, W> {
     ghost use Rattle.std.specs.Io.KnownBytes.{Appends, Keeps};
     ghost use Rattle.appender_wait.specs.Waiting.{AppendsFirst};
 
-    /// Writes all of the bytes. After a full disk or quota, `WouldBlock` or an input/output error (POSIX: `EIO`) it
-    /// waits for 100 milliseconds, then for twice as long, up to a second, until a write takes something. An interrupted
-    /// write is repeated at once. Any other error is returned, and `WriteZero` if a write takes nothing: then a
-    /// beginning of the bytes was written.
+    /// Writes all of the bytes, by `write_waiting`. After an error a beginning of them was written.
     fn write(&mut self, buf: &[u8]) -> io::Result<usize>
         ensures bound { WritesAtMost result buf.now }
         ensures bytes { WriteAppends None None result buf.now }
@@ -53,15 +50,11 @@ impl<R: Wait + Clock + Eprint, W: Write> Write for WaitingWriter<R, W> {
     {
         let WaitingWriter { rt, writer } = self;
         let mut rest = buf;
-        let mut pauses = Pauses { millis: 0 };
-        for _ in rt.forever() {
-            if rest.is_empty() {
-                return Ok(buf.len());
-            }
-            let taken = write_some(&*rt, writer, rest, &mut pauses)?;
+        while !rest.is_empty() {
+            let taken = write_waiting(&*rt, writer, rest)?;
             rest = &rest[taken..];
         }
-        unreachable!()
+        Ok(buf.len())
     }
 
     /// Calls `write` once.
@@ -82,6 +75,33 @@ impl<R: Wait + Clock + Eprint, W: Write> Write for WaitingWriter<R, W> {
     {
         self.writer.flush()
     }
+}
+
+/// Writes the first of some bytes, and returns how many were taken: one at least, if there are any. After a full disk or
+/// quota, `WouldBlock` or an input/output error (POSIX: `EIO`) it waits for 100 milliseconds, then for twice as long, up
+/// to a second, until a write takes something. An interrupted write is repeated at once. Any other error is returned, and
+/// `WriteZero` if a write takes nothing: then none of the bytes was written.
+pub fn write_waiting<R: Wait + Clock + Eprint, W: Write>(
+    rt: &R,
+    writer: &mut W,
+    bytes: &[u8],
+) -> io::Result<usize>
+    ensures bound { IfOk result (λ n. n ≤ length bytes.now) }
+    ensures some { IfOk result (λ n. n ≡ 0 → bytes.now ≡ []) }
+    ensures bytes { WriteAppends (W.contents writer.old) (W.contents writer.new) result bytes.now }
+    ensures lasting { IfErr result Lasts }
+{
+    if bytes.is_empty() {
+        return Ok(0);
+    }
+    let mut pauses = Pauses { millis: 0 };
+    for _ in rt.forever() {
+        let taken = write_some(rt, writer, bytes, &mut pauses)?;
+        if taken > 0 {
+            return Ok(taken);
+        }
+    }
+    unreachable!()
 }
 
 // Returns how many of these bytes one write takes: none if it was interrupted, or has a fault that may pass. After such

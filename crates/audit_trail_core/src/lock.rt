@@ -2,6 +2,7 @@
 use crate::trail::Fault;
 use std::fs;
 use std::fs::{File, TryLockError};
+use std::io::ErrorKind;
 
 /// Locks the log files of a folder, which is made if it is absent, until the file that is returned is closed: by
 /// `.audit.lock` there. `Fault::Locked` if another program holds the lock; `Fault::Memory`. Where there are no locks
@@ -10,8 +11,10 @@ pub fn lock_files(rt: &HostRuntime, directory: &str) -> Result<Option<File>, Fau
     let path = format!(in rt.alloc(); "{directory}/.audit.lock")?;
     // If the folder can't be made, the opening of the log reports it.
     let _ = fs::create_dir_all(rt, directory);
-    let Ok(file) = File::options().write(true).create(true).open(rt, path) else {
-        return Ok(None);
+    let file = match File::options().write(true).create(true).open(rt, path) {
+        Ok(file) => file,
+        Err(fault) if fault.kind() == ErrorKind::OutOfMemory => return Err(Fault::Memory),
+        Err(_) => return Ok(None),
     };
     match file.try_lock() {
         Ok(()) => Ok(Some(file)),

@@ -15,10 +15,11 @@ use program_io::{ShortLines, end_line, read_line};
 use std::alloc::{AllocError, Global};
 use std::io::{BufReader, ErrorKind, Read, Write};
 use std::rt::Runtime;
-use std::sync::Arc;
+use std::sync::{Arc, Wait};
 use std::{fs, io};
 use thiserror::Error;
 use tracing_appender::folder::DirFolder;
+use tracing_appender::policy::Waits;
 use tracing_appender::rolling::{Builder, Clock, InitError, RollingFile, Rotation, SystemClock};
 use tracing_appender::store::{Folder, NoticeKind};
 
@@ -176,15 +177,20 @@ impl From<io::Error> for Fault {
     }
 }
 
-/// The log of a trail.
-pub type TrailLog<R> = LineLog<DirFolder<R>, SystemClock<R>, DirWatch<R>>;
+/// The folder of a trail. Each append to it waits while the disk is full or has another fault that may pass, and the folder
+/// prints that on standard error.
+pub type TrailFolder<R> = DirFolder<R, Waits<R>>;
 
-/// Writes each line of `input` to the log of its day, in the folder that the one argument names, which keeps so many
-/// files or, if `files` is 0, all, and returns the log, flushed and synced. It is also flushed and synced before it waits for more input, and once a
-/// MiB. The first fault goes to `errors`, whose own faults are ignored. The error is the status of the process: 1 if
-/// the log was not opened, the input not read, a line not written whole, a flush failed or a log file was not found
-/// again; 2 if there isn't one argument; 3 if memory was refused.
-pub fn keep<R: Runtime + AllocGlobal, I: Read, E: Write>(
+/// The log of a trail.
+pub type TrailLog<R> = LineLog<TrailFolder<R>, SystemClock<R>, DirWatch<R>>;
+
+/// Writes each line of `input` to the log of its day, in the folder that the one argument names, and returns the log,
+/// flushed and synced. The folder keeps so many files, or all of them if `files` is 0. The log is also flushed and synced
+/// after a read that returned less than was asked for, and once a MiB. While the disk is full it waits, which the
+/// runtime's standard error says. The first fault goes to `errors`, whose own faults are ignored. The error is the status
+/// of the process: 1 if the log was not opened, the input not read, a line not written whole, a flush failed or a log
+/// file was not found again; 2 if there isn't one argument; 3 if memory was refused.
+pub fn keep<R: Runtime + Wait + AllocGlobal, I: Read, E: Write>(
     rt: &R,
     files: usize,
     arguments: &[String],
@@ -197,8 +203,8 @@ pub fn keep<R: Runtime + AllocGlobal, I: Read, E: Write>(
     ensures reported { IfErr result (λ status. (fault : Fault) ×
         ReportsFault fault status (E.contents errors.old) (E.contents errors.new)) }
     ensures lines { IfOk result (λ log. (text : List ℕ) → I.remaining input.old ≡ Some text →
-        KeepsLines ⟦<DirFolder<R> as Folder>⟧ ⟦<SystemClock<R> as Clock>⟧ files text log) }
-    ensures synced { IfOk result (λ log. (⟦<DirFolder<R> as Folder>⟧.noted log.log.roller.folder).flushes ≡ 0) }
+        KeepsLines ⟦<TrailFolder<R> as Folder>⟧ ⟦<SystemClock<R> as Clock>⟧ files text log) }
+    ensures synced { IfOk result (λ log. (⟦<TrailFolder<R> as Folder>⟧.noted log.log.roller.folder).flushes ≡ 0) }
 {
     match copy_lines(rt, files, arguments, input) {
         Ok(log) => Ok(log),
@@ -219,7 +225,7 @@ pub fn report_fault<E: Write>(fault: &Fault, errors: &mut E) -> u8
     fault.status()
 }
 
-fn copy_lines<R: Runtime + AllocGlobal, I: Read>(
+fn copy_lines<R: Runtime + Wait + AllocGlobal, I: Read>(
     rt: &R,
     files: usize,
     arguments: &[String],
@@ -227,8 +233,8 @@ fn copy_lines<R: Runtime + AllocGlobal, I: Read>(
 ) -> Result<TrailLog<R>, Fault>
     ensures usage { length arguments.now ≢ 1 → result ≡ Err Fault.Usage }
     ensures lines { IfOk result (λ log. (text : List ℕ) → I.remaining input.old ≡ Some text →
-        KeepsLines ⟦<DirFolder<R> as Folder>⟧ ⟦<SystemClock<R> as Clock>⟧ files text log) }
-    ensures synced { IfOk result (λ log. (⟦<DirFolder<R> as Folder>⟧.noted log.log.roller.folder).flushes ≡ 0) }
+        KeepsLines ⟦<TrailFolder<R> as Folder>⟧ ⟦<SystemClock<R> as Clock>⟧ files text log) }
+    ensures synced { IfOk result (λ log. (⟦<TrailFolder<R> as Folder>⟧.noted log.log.roller.folder).flushes ≡ 0) }
 {
     let [directory] = arguments else {
         return Err(Fault::Usage);
@@ -238,15 +244,15 @@ fn copy_lines<R: Runtime + AllocGlobal, I: Read>(
 }
 
 // Opens the log, writes each line of `input` to it, and flushes it.
-fn log_lines<R: Runtime + AllocGlobal, I: LineInput>(
+fn log_lines<R: Runtime + Wait + AllocGlobal, I: LineInput>(
     rt: &R,
     files: usize,
     directory: &str,
     input: &mut I,
 ) -> Result<TrailLog<R>, Fault>
     ensures lines { IfOk result (λ log. (text : List ℕ) → I.remaining input.old ≡ Some text →
-        KeepsLines ⟦<DirFolder<R> as Folder>⟧ ⟦<SystemClock<R> as Clock>⟧ files text log) }
-    ensures synced { IfOk result (λ log. (⟦<DirFolder<R> as Folder>⟧.noted log.log.roller.folder).flushes ≡ 0) }
+        KeepsLines ⟦<TrailFolder<R> as Folder>⟧ ⟦<SystemClock<R> as Clock>⟧ files text log) }
+    ensures synced { IfOk result (λ log. (⟦<TrailFolder<R> as Folder>⟧.noted log.log.roller.folder).flushes ≡ 0) }
 {
     let counts = FileCounts::new(rt.alloc())?;
     let mut log = open_trail(rt, files, directory, counts)?;
@@ -256,8 +262,8 @@ fn log_lines<R: Runtime + AllocGlobal, I: LineInput>(
 }
 
 // Returns a fault if a file was not found again, or a flush at a switch failed.
-fn check_files<R: Runtime + AllocGlobal>(log: &TrailLog<R>) -> Result<(), Fault>
-    ensures { OnOk result ((⟦<DirFolder<R> as Folder>⟧.noted log.now.log.roller.folder).flushes ≡ 0) }
+fn check_files<R: Runtime + Wait + AllocGlobal>(log: &TrailLog<R>) -> Result<(), Fault>
+    ensures { OnOk result ((⟦<TrailFolder<R> as Folder>⟧.noted log.now.log.roller.folder).flushes ≡ 0) }
 {
     match log.watch().counts().gone() {
         0 => {}
@@ -299,15 +305,15 @@ fn flush<S: Folder, C: Clock, W: Watch<S>>(log: &mut LineLog<S, C, W>) -> Result
 
 /// Opens the trail in a folder, which is made if it is absent, and keeps so many files; 0 is all. `counts` has the faults
 /// of its files.
-pub fn open_trail<R: Runtime + AllocGlobal>(
+pub fn open_trail<R: Runtime + Wait + AllocGlobal>(
     rt: &R,
     files: usize,
     directory: &str,
     counts: Arc<FileCounts, Global>,
 ) -> Result<TrailLog<R>, InitError>
-    ensures opens { IfOk result (λ trail. OpensSome ⟦<DirFolder<R> as Folder>⟧ ⟦<SystemClock<R> as Clock>⟧
+    ensures opens { IfOk result (λ trail. OpensSome ⟦<TrailFolder<R> as Folder>⟧ ⟦<SystemClock<R> as Clock>⟧
         (trail_config files) trail.log) }
-    ensures seen { IfOk result (λ trail. trail.cut ≡ false → EndsWhole ⟦<DirFolder<R> as Folder>⟧ trail.log) }
+    ensures seen { IfOk result (λ trail. trail.cut ≡ false → EndsWhole ⟦<TrailFolder<R> as Folder>⟧ trail.log) }
 {
     let watch = DirWatch::new(rt.clone()?, directory, counts)?;
     Ok(LineLog::new(open_log(rt, files, directory)?, watch))
@@ -315,18 +321,20 @@ pub fn open_trail<R: Runtime + AllocGlobal>(
 
 /// Opens the log of the day in a folder, which is made if it is absent, and keeps so many files; 0 is all. Each flush
 /// syncs its file.
-pub fn open_log<R: Runtime + AllocGlobal>(
+pub fn open_log<R: Runtime + Wait + AllocGlobal>(
     rt: &R,
     files: usize,
     directory: &str,
-) -> Result<RollingFile<DirFolder<R>, SystemClock<R>>, InitError>
-    ensures { IfOk result (OpensSome ⟦<DirFolder<R> as Folder>⟧ ⟦<SystemClock<R> as Clock>⟧
+) -> Result<RollingFile<TrailFolder<R>, SystemClock<R>>, InitError>
+    ensures { IfOk result (OpensSome ⟦<TrailFolder<R> as Folder>⟧ ⟦<SystemClock<R> as Clock>⟧
         (trail_config files)) }
 {
     fs::create_dir_all(rt, directory).map_err(InitError::Directory)?;
     let settings = settings(rt.alloc(), files)?;
     let clock = SystemClock::new(rt.clone()?);
-    let folder = DirFolder::new(rt.clone()?, directory)?.synced();
+    let folder = DirFolder::new(rt.clone()?, directory)?
+        .synced()
+        .waiting(rt.clone()?);
     match settings.open_in(rt.alloc(), folder, clock) {
         Ok(log) => Ok(log),
         Err((error, _, _)) => Err(error),

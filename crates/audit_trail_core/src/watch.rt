@@ -12,6 +12,7 @@ use std::sync::atomic::AtomicU64;
 use std::sync::atomic::Ordering::SeqCst;
 use std::{fs, io};
 use tracing_appender::folder::DirFolder;
+use tracing_appender::policy::WritePolicy;
 use tracing_appender::store::{Folder, NoticeKind};
 
 /// The faults of a log's files that a watch counts. Threads can share it.
@@ -148,9 +149,9 @@ impl<R: Files + AllocGlobal + Eprint + Clone + Drop> DirWatch<R> {
     }
 
     // Returns what happened to the open file, if its name leads elsewhere or it is shorter than this.
-    fn loss(
+    fn loss<P: WritePolicy>(
         &self,
-        folder: &DirFolder<R>,
+        folder: &DirFolder<R, P>,
         file: &R::File,
         name: &str,
         length: u64,
@@ -176,8 +177,10 @@ impl<R: Files + AllocGlobal + Eprint + Clone + Drop> DirWatch<R> {
     }
 }
 
-impl<R: Files + AllocGlobal + Eprint + Clone + Drop> Watch<DirFolder<R>> for DirWatch<R> {
-    fn ends_line(&self, folder: &DirFolder<R>, file: &R::File, name: &str) -> bool {
+impl<R: Files + AllocGlobal + Eprint + Clone + Drop, P: WritePolicy> Watch<DirFolder<R, P>>
+    for DirWatch<R>
+{
+    fn ends_line(&self, folder: &DirFolder<R, P>, file: &R::File, name: &str) -> bool {
         match file.metadata() {
             Ok(metadata) if metadata.len() == 0 => true,
             _ => {
@@ -194,7 +197,7 @@ impl<R: Files + AllocGlobal + Eprint + Clone + Drop> Watch<DirFolder<R>> for Dir
         }
     }
 
-    fn finds(&self, folder: &DirFolder<R>, file: &R::File, name: &str, length: u64) -> bool {
+    fn finds(&self, folder: &DirFolder<R, P>, file: &R::File, name: &str, length: u64) -> bool {
         let lost = match self.loss(folder, file, name, length) {
             Ok(None) => return true,
             Ok(Some(loss)) => Ok(loss),
@@ -204,7 +207,7 @@ impl<R: Files + AllocGlobal + Eprint + Clone + Drop> Watch<DirFolder<R>> for Dir
         false
     }
 
-    fn count_unsynced(&self, folder: &DirFolder<R>, failed: u64) {
+    fn count_unsynced(&self, folder: &DirFolder<R, P>, failed: u64) {
         let noted = folder.notices(NoticeKind::Flush);
         self.counts.set_unsynced(noted.saturating_add(failed));
     }
