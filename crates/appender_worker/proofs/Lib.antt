@@ -1,4 +1,6 @@
 pub mod Written
+pub mod Gathered
+pub mod Batches
 pub mod ByTable
 pub mod TextLaw
 pub mod DoneLaw

@@ -2,4 +2,5 @@ pub mod Core
 pub mod CoreReplies
 pub mod Runs
 pub mod Counting
+pub mod Batch
 pub mod Inside

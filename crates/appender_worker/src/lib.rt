@@ -2,6 +2,7 @@
 //! counts lines. No call here blocks or starts a thread.
 #![tactic(auto)]
 
+mod batching;
 mod counting;
 pub mod laws;
 pub mod worker;

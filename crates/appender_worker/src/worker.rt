@@ -5,6 +5,7 @@ ghost use Rattle.std.specs.Io.KnownBytes.{Appends};
 ghost use Rattle.appender_worker.specs.CoreReplies.{answer_of};
 ghost use Rattle.appender_worker.specs.Inside.LineSteps.{IsNext};
 
+pub use crate::batching::BatchWriter;
 pub use crate::counting::{CountingWriter, LineCounts};
 use appender_queue::queue::Taken;
 use std::io::{ErrorKind, Write};
