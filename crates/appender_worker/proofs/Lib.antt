@@ -1,4 +1,5 @@
 pub mod Written
+pub mod Asking
 pub mod Gathered
 pub mod Batches
 pub mod ByTable

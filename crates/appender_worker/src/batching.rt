@@ -27,24 +27,24 @@ ghost use Rattle.appender_worker.specs.Batch.{most_lines};
 ghost use Rattle.appender_worker.specs.Inside.Gathered.{lines_in, Wrote};
 
 use crate::counting::{LineCounts, SharedCounts, reported};
-use crate::worker::run_line;
+use crate::sink::LineSink;
 use std::alloc::{AllocError, Global};
 use std::io;
 use std::io::{ErrorKind, Write};
 use std::marker::Model;
 use std::sync::Arc;
 
-// How many lines are gathered at most.
+// The greatest number of lines that wait.
 const MOST_LINES: usize = 1024;
 
-/// Gathers whole lines, and writes them together when there is no room for another one, and at a flush. So a write
-/// below has whole lines only, and an appender puts all of them into one file. A worker flushes whenever its queue is
-/// empty, so lines wait only while others come. Flush before dropping it: gathered lines are lost then.
-#[derive(Drop)]
-pub struct BatchWriter<W> {
+/// Gathers whole lines, and writes them together: if there is no room for another one, and at a flush. A write below
+/// has whole lines only, so an appender puts all of them into one file. A worker flushes whenever its queue is empty, so
+/// lines wait only while others come. If a write fails, its line is given up, and the lines after it are written. Dropping
+/// it writes the lines that wait, and ignores errors.
+pub struct BatchWriter<W: LineSink + Drop> {
     writer: W,
     capacity: usize,
-    // The gathered lines, one after another.
+    // The lines that wait, one after another.
     bytes: Vec<u8>,
     // The length of each.
     lengths: Vec<usize>,
@@ -55,7 +55,7 @@ pub struct BatchWriter<W> {
     shared: Arc<SharedCounts, Global>,
 }
 
-impl<W> Model for BatchWriter<W> {
+impl<W: LineSink + Drop> Model for BatchWriter<W> {
     ghost use Rattle.std.specs.Prelude.{◌≡◌, ◌≤◌, sum, length, is_some, vec_capacity};
     ghost use Rattle.appender_worker.specs.Batch.{Batch, most_lines};
     ghost use Rattle.appender_worker.specs.Inside.Gathered.{lines_in};
@@ -76,8 +76,25 @@ impl<W> Model for BatchWriter<W> {
         × (length b.lengths.items ≤ most_lines) × (most_lines ≤ vec_capacity b.lengths) };
 }
 
-impl<W> BatchWriter<W> {
-    ghost use Rattle.appender_worker.specs.Batch.{batch_none, Fits, more};
+impl<W: LineSink + Drop> Drop for BatchWriter<W> {
+    fn drop(mut self) {
+        self.write_waiting();
+        let BatchWriter {
+            writer: _writer,
+            capacity: _,
+            bytes: _bytes,
+            lengths: _lengths,
+            taken: _,
+            lost: _,
+            fault: _fault,
+            shared: _shared,
+        } = self;
+    }
+}
+
+impl<W: LineSink + Drop> BatchWriter<W> {
+    ghost use Rattle.appender_worker.specs.Batch.{batch_none, Fits, IsWithin, more, WritesWaiting, Gathers, LosesLine};
+    ghost use Rattle.appender_worker.specs.Inside.Gathered.{WritesLine};
 
     /// Returns a writer that gathers up to 1,024 lines of `capacity` bytes together, and the handle to its counts, which
     /// are 0. A longer line is written by itself. `AllocError` if memory is refused; then the writer is dropped.
@@ -86,15 +103,13 @@ impl<W> BatchWriter<W> {
         writer: W,
         capacity: usize,
     ) -> Result<(BatchWriter<W>, LineCounts), AllocError>
-    where
-        W: Drop,
         ensures { IfOk result (λ made. made.0 ≡ batch_none writer capacity) }
     {
         let bytes = Vec::with_capacity(alloc, capacity)?;
         let lengths = Vec::with_capacity(alloc, MOST_LINES)?;
         let shared = SharedCounts::new(alloc)?;
         let counts = LineCounts::of(&shared)?;
-        let gathering = BatchWriter {
+        let batch = BatchWriter {
             writer,
             capacity,
             bytes,
@@ -104,10 +119,10 @@ impl<W> BatchWriter<W> {
             fault: None,
             shared,
         };
-        Ok((gathering, counts))
+        Ok((batch, counts))
     }
 
-    // Whether a line of this length can be gathered.
+    // Returns whether a line of this length can wait.
     #[tactic(auto, using(crate::proofs::Gathered::length_in_lines, crate::proofs::Gathered::number_of_lines))]
     #[inline(always)]
     fn has_room(&self, length: usize) -> bool
@@ -116,7 +131,7 @@ impl<W> BatchWriter<W> {
         length <= self.capacity - self.bytes.len() && self.lengths.len() < MOST_LINES
     }
 
-    // Gathers a line.
+    // Puts a line after those that wait.
     #[tactic(auto, using(crate::proofs::Gathered::length_in_lines, crate::proofs::Gathered::number_of_lines, crate::proofs::Gathered::lines_in_push, crate::proofs::Gathered::sum_push))]
     #[inline(always)]
     fn gather(&mut self, line: &[u8])
@@ -146,22 +161,19 @@ impl<W> BatchWriter<W> {
             self.fault = fault;
         }
     }
-}
 
-impl<W: Write> BatchWriter<W> {
-    ghost use Rattle.appender_worker.specs.Batch.{WritesWaiting, Gathers, LosesLine};
-    ghost use Rattle.appender_worker.specs.Inside.Gathered.{WritesLine};
-
-    // Writes the gathered lines, and then gathers this one, or writes it by itself.
+    // Writes the lines that wait, and then gathers this one, or writes it by itself.
+    #[tactic(auto, using(crate::proofs::Batches::within_none, crate::proofs::Batches::within_one))]
     #[cold]
     #[inline(never)]
     fn write_cold(&mut self, line: &[u8]) -> io::Result<usize>
-        ensures ok { IfOk result (λ n. (n ≡ length line.now) × Gathers W.contents line.now self.old self.new) }
+        ensures within { IsWithin self.new }
+        ensures ok { IfOk result (λ n. (n ≡ length line.now) × Gathers W.contents W.tries line.now self.old self.new) }
         ensures kind { IfErr result (λ error. error_kind error ≢ ErrorKind.Interrupted) }
         ensures err { OnErr result ((self.old.capacity < length line.now)
-            × LosesLine W.contents line.now self.old self.new) }
+            × LosesLine W.contents W.tries line.now self.old self.new) }
     {
-        self.write_gathered();
+        self.write_waiting();
         if line.len() > self.capacity {
             return self.write_alone(line);
         }
@@ -169,9 +181,9 @@ impl<W: Write> BatchWriter<W> {
         Ok(line.len())
     }
 
-    // Writes the gathered lines.
-    fn write_gathered(&mut self)
-        ensures { WritesWaiting W.contents self.old self.new }
+    // Writes the lines that wait.
+    fn write_waiting(&mut self)
+        ensures { WritesWaiting W.contents W.tries self.old self.new }
     {
         let outcome = write_lines(
             &mut self.writer,
@@ -186,14 +198,15 @@ impl<W: Write> BatchWriter<W> {
     // Writes a line by itself.
     fn write_alone(&mut self, line: &[u8]) -> io::Result<usize>
         requires { self.old.waiting ≡ [] }
+        ensures none_waits { self.new.waiting ≡ [] }
         ensures ok { IfOk result (λ n. (n ≡ length line.now) × (self.new.failed ≡ self.old.failed)
-            × WritesLine W.contents line.now n self.old self.new) }
+            × WritesLine W.contents W.tries line.now n self.old self.new) }
         ensures kind { IfErr result (λ error. error_kind error ≢ ErrorKind.Interrupted) }
         ensures err { OnErr result (self.new.failed ≡ true) }
         ensures cut { OnErr result ((n : ℕ) × (n < length line.now)
-            × WritesLine W.contents line.now n self.old self.new) }
+            × WritesLine W.contents W.tries line.now n self.old self.new) }
     {
-        match run_line(&mut self.writer, line) {
+        match self.writer.write_line(line) {
             Ok(()) => {
                 self.count(Outcome {
                     taken: 1,
@@ -215,24 +228,26 @@ impl<W: Write> BatchWriter<W> {
     }
 }
 
-impl<W: Write> Write for BatchWriter<W> {
+impl<W: LineSink + Drop> Write for BatchWriter<W> {
     ghost use Rattle.std.specs.Prelude.{None};
     ghost use Rattle.std.specs.Io.{WritesAtMost};
     ghost use Rattle.std.specs.Io.KnownBytes.{Keeps, WriteAppends};
-    ghost use Rattle.appender_worker.specs.Batch.{Fits, Gathers, LosesLine, Empties};
+    ghost use Rattle.appender_worker.specs.Batch.{Fits, IsWithin, Gathers, LosesLine, Empties};
 
-    /// Gathers one whole line, or writes a longer one by itself, and then its error is that of the last write, but never
-    /// `Interrupted`. A fault of lines that were gathered before is told by the next flush.
+    /// Gathers one whole line, after the others were written if it finds no room. A line longer than the capacity is
+    /// written by itself, and only this can fail: the error is that of its last write, but never `Interrupted`. A fault of
+    /// another line is reported by the next flush.
     #[inline(always)]
     fn write(&mut self, line: &[u8]) -> io::Result<usize>
         ensures bound { WritesAtMost result line.now }
         ensures bytes { WriteAppends None None result line.now }
         ensures room { Fits self.old (length line.now)
             → self.new ≡ record self.old { waiting = self.old.waiting ++ line.now ∷ [] } }
-        ensures ok { IfOk result (λ n. (n ≡ length line.now) × Gathers W.contents line.now self.old self.new) }
+        ensures within { IsWithin self.new }
+        ensures ok { IfOk result (λ n. (n ≡ length line.now) × Gathers W.contents W.tries line.now self.old self.new) }
         ensures kind { IfErr result (λ error. error_kind error ≢ ErrorKind.Interrupted) }
         ensures err { OnErr result ((self.old.capacity < length line.now)
-            × LosesLine W.contents line.now self.old self.new) }
+            × LosesLine W.contents W.tries line.now self.old self.new) }
     {
         if self.has_room(line.len()) {
             self.gather(line);
@@ -241,13 +256,14 @@ impl<W: Write> Write for BatchWriter<W> {
         self.write_cold(line)
     }
 
-    /// Writes the gathered lines, and flushes the writer. The error is that of the first line since the last flush that
-    /// was not taken whole, else that of the writer's flush.
+    /// Writes the lines that wait, and flushes the writer. The error is that of the first line since the last flush that
+    /// was not taken whole, or else that of the writer's flush.
     fn flush(&mut self) -> io::Result<()>
         ensures bytes { Keeps None None }
-        ensures empties { Empties W.contents result self.old self.new }
+        ensures empty { self.new.waiting ≡ [] }
+        ensures empties { Empties W.contents W.tries result self.old self.new }
     {
-        self.write_gathered();
+        self.write_waiting();
         let flushed = self.writer.flush();
         match self.fault.take() {
             Some(fault) => Err(fault),
@@ -256,7 +272,7 @@ impl<W: Write> Write for BatchWriter<W> {
     }
 }
 
-// What became of lines that were written.
+// How many lines a writer took whole and not whole.
 #[derive(Drop)]
 struct Outcome {
     taken: u64,
@@ -265,17 +281,17 @@ struct Outcome {
     fault: Option<io::Error>,
 }
 
-// Writes lines together. If a write fails, its line is given up, and the next ones are written behind what was taken of it.
-fn write_lines<W: Write>(writer: &mut W, bytes: &[u8], lengths: &[usize]) -> Outcome
+// Writes lines together. If a write fails, its line is given up, and the lines after it are written.
+fn write_lines<W: LineSink>(writer: &mut W, bytes: &[u8], lengths: &[usize]) -> Outcome
     requires total { sum lengths.now ≡ length bytes.now }
     requires few { length lengths.now ≤ most_lines }
-    ensures { Wrote (lines_in lengths.now bytes.now) (W.contents writer.old) (W.contents writer.new) result }
+    ensures { Wrote W.contents W.tries (lines_in lengths.now bytes.now) writer.old writer.new result }
 {
     let (mut taken, mut lost) = (0, 0);
     let mut first = None;
-    // The end of the line, and how far the lines were taken or given up.
+    // The end of the line, and how many bytes were taken or given up.
     let (mut end, mut sent) = (0, 0);
-    // Whether the line that is there was given up.
+    // Whether the line at `sent` was given up.
     let mut given_up = false;
     for length in lengths {
         end += *length;
@@ -302,7 +318,7 @@ fn write_lines<W: Write>(writer: &mut W, bytes: &[u8], lengths: &[usize]) -> Out
 
 // Writes as many of these bytes as the writer takes without a fault. Returns how many, whether there was a fault, and
 // the first fault so far.
-fn write_on<W: Write>(
+fn write_on<W: LineSink>(
     writer: &mut W,
     rest: &[u8],
     first: Option<io::Error>,
@@ -312,8 +328,9 @@ fn write_on<W: Write>(
     ensures some { result.1 ≡ true → result.0 < length rest.now }
     ensures told { is_some result.2 ≡ (result.1 || is_some first) }
     ensures bytes { Appends (W.contents writer.old) (W.contents writer.new) (take result.0 rest.now) }
+    ensures tried { W.tries writer.old rest.now result.0 writer.new }
 {
-    match run_line(writer, rest) {
+    match writer.write_line(rest) {
         Ok(()) => (rest.len(), false, first),
         Err(fault) => {
             let taken = fault.taken;

@@ -7,8 +7,9 @@ use Rattle.appender_worker.proofs.batching.write_lines.Given as goal
 abbrev pub invariant-loop-length : goal.invariant-loop-length
 invariant-loop-length g l =
     let contents = g.W.Write.contents in
+    let tries = g.W.LineSink.tries in
     record {
-      at : At (contents l.fn.writer) (contents l.writer) l.lengths l.bytes l.length-index l.end l.sent l.taken l.lost;
+      at : At contents tries l.fn.writer l.writer l.lengths l.bytes l.length-index l.end l.sent l.taken l.lost l.given_up;
       behind : l.given_up ≡ true → l.sent < length l.bytes;
       few : l.taken + l.lost ≤ l.length-index;
       told : is_some l.first ≡ (l.given_up || nat_lt 0 l.lost);
