@@ -1,13 +1,14 @@
 // Lines that are written together.
 use crate::expect::{AllocAndAbort, expect_eq, expect_eq_of};
 use crate::script::{Act, Script};
-use appender_core::worker::{BatchWriter, LineCounts};
+use appender_core::worker::{BatchWriter, CountingWriter, LineCounts};
+use std::alloc::Global;
 use std::io;
 use std::io::{ErrorKind, Write};
 use std::test::*;
 
-// How many bytes are gathered, the lines, and a writer. How many of the lines it took whole and not whole, the text
-// that it has at the end, how often it was written to, and the error of the flush after the lines.
+// A capacity in bytes, lines, and a writer. How many of the lines it took whole and not whole, the text that it has at
+// the end, how many writes it got, and the error of the flush after the lines.
 struct BatchRun {
     capacity: usize,
     lines: &'static [&'static str],
@@ -20,7 +21,7 @@ struct BatchRun {
     error: Option<ErrorKind>,
 }
 
-static BATCH_RUNS: [BatchRun; 12] = [
+static BATCH_RUNS: [BatchRun; 14] = [
     BatchRun {
         capacity: 8,
         lines: &["ab\n", "cd\n", "ef\n"],
@@ -76,7 +77,30 @@ static BATCH_RUNS: [BatchRun; 12] = [
         writes: 0,
         error: None,
     },
-    // The second line is cut, and the third is behind its beginning.
+    // A line may have newlines in it, or none.
+    BatchRun {
+        capacity: 8,
+        lines: &["a\nb\n", "c", "\n\n", "d\n"],
+        interruptions: 0,
+        acts: &[Act::Accept(4), Act::Fail(ErrorKind::Other)],
+        taken: 3,
+        lost: 1,
+        text: "a\nb\n\n\nd\n",
+        writes: 4,
+        error: Some(ErrorKind::Other),
+    },
+    BatchRun {
+        capacity: 1,
+        lines: &["a", "\n", "b\n", "", "c"],
+        interruptions: 0,
+        acts: &[],
+        taken: 5,
+        lost: 0,
+        text: "a\nb\nc",
+        writes: 4,
+        error: None,
+    },
+    // The second line is cut, and the third comes after its beginning.
     BatchRun {
         capacity: 16,
         lines: &["ab\n", "cd\n", "ef\n"],
@@ -100,7 +124,7 @@ static BATCH_RUNS: [BatchRun; 12] = [
         writes: 3,
         error: Some(ErrorKind::Other),
     },
-    // Each line has a fault, and the first is told.
+    // Each line has a fault, and the first one is reported.
     BatchRun {
         capacity: 16,
         lines: &["ab\n", "cd\n"],
@@ -134,7 +158,7 @@ static BATCH_RUNS: [BatchRun; 12] = [
         writes: 102,
         error: Some(ErrorKind::Other),
     },
-    // A fault of lines that make room is told by the flush.
+    // The flush reports a fault of lines that make room.
     BatchRun {
         capacity: 4,
         lines: &["ab\n", "cd\n"],
@@ -146,7 +170,7 @@ static BATCH_RUNS: [BatchRun; 12] = [
         writes: 2,
         error: Some(ErrorKind::StorageFull),
     },
-    // So is that of a line by itself.
+    // It reports that of a line by itself too.
     BatchRun {
         capacity: 2,
         lines: &["a\n", "longer\n", "b\n"],
@@ -164,7 +188,7 @@ static BATCH_RUNS: [BatchRun; 12] = [
     },
 ];
 
-// The kind of an error.
+// Returns the kind of an error.
 fn kind_of(answer: io::Result<()>) -> Option<ErrorKind> {
     answer.err().map(|error| error.kind())
 }
@@ -182,7 +206,7 @@ fn check_run(rt: &impl AllocAndAbort, row: usize, run: &BatchRun) {
     }
     expect_eq_of(rt, row, kind_of(batch.flush()), run.error);
     expect_eq_of(rt, row, counts_of(&counts), (run.taken, run.lost));
-    // A second flush has nothing to tell.
+    // A second flush has nothing to report.
     expect_eq_of(rt, row, kind_of(batch.flush()), None);
     drop(batch);
     expect_eq_of(rt, row, script.text.as_slice(), run.text.as_bytes());
@@ -197,7 +221,7 @@ fn lines_are_written_together(rt: HostRuntime) {
     }
 }
 
-// Only a flush, and a line without room, write.
+// Only a flush, and a line without room, write. So does the end of a writer.
 #[test]
 fn lines_wait_for_a_flush(rt: HostRuntime) {
     let mut script = Script::new(rt.alloc(), 0, &[]);
@@ -209,14 +233,20 @@ fn lines_wait_for_a_flush(rt: HostRuntime) {
     expect_eq(&rt, counts_of(&counts), (1024, 0));
     expect_eq(&rt, batch.flush().is_ok(), true);
     expect_eq(&rt, counts_of(&counts), (1025, 0));
+    for _ in 0..3u32 {
+        expect_eq(&rt, batch.write(b"b\n").is_ok(), true);
+    }
+    expect_eq(&rt, counts_of(&counts), (1025, 0));
     drop(batch);
-    expect_eq(&rt, script.text.len(), 2050);
-    expect_eq(&rt, script.writes, 2);
+    expect_eq(&rt, counts_of(&counts), (1028, 0));
+    expect_eq(&rt, script.text.len(), 2056);
+    expect_eq(&rt, script.writes, 3);
+    expect_eq(&rt, script.flushes, 1);
 }
 
-// The error of a line by itself is that of its write. That of the writer's flush is told too.
+// The error of a line by itself is that of its write. The error of the writer's flush is reported too.
 #[test]
-fn errors_are_told(rt: HostRuntime) {
+fn errors_are_reported(rt: HostRuntime) {
     let acts = &[Act::Fail(ErrorKind::StorageFull)];
     let mut script = Script::new(rt.alloc(), 0, acts);
     script.flushes_fail = true;
@@ -226,4 +256,118 @@ fn errors_are_told(rt: HostRuntime) {
     expect_eq(&rt, kind_of(written), Some(ErrorKind::StorageFull));
     expect_eq(&rt, kind_of(batch.flush()), Some(ErrorKind::StorageFull));
     expect_eq(&rt, kind_of(batch.flush()), Some(ErrorKind::Other));
+}
+
+// Takes this many bytes, fails once, and then takes everything.
+#[derive(Drop)]
+struct Failing {
+    room: usize,
+    failed: bool,
+    text: Vec<u8>,
+}
+
+impl Failing {
+    fn new(alloc: Global, room: usize) -> Failing {
+        Failing {
+            room,
+            failed: false,
+            text: Vec::new(alloc),
+        }
+    }
+}
+
+impl Write for Failing {
+    fn write(&mut self, buf: &[u8]) -> io::Result<usize> {
+        if self.failed {
+            self.text.extend_from_slice(buf)?;
+            return Ok(buf.len());
+        }
+        if self.room == 0 {
+            self.failed = true;
+            return Err(io::Error::from(ErrorKind::Other));
+        }
+        let taken = buf.len().min(self.room);
+        self.text.extend_from_slice(&buf[..taken])?;
+        self.room -= taken;
+        Ok(taken)
+    }
+
+    fn flush(&mut self) -> io::Result<()> {
+        Ok(())
+    }
+}
+
+// Lines of 16 bytes together.
+static LINES: [&str; 7] = ["a\n", "bc\n", "", "d\ne\n", "\n", "fgh\n", "ij"];
+
+fn write_all_lines(writer: &mut impl Write) {
+    for line in &LINES {
+        let _ = writer.write(line.as_bytes()).is_ok();
+    }
+    let _ = writer.flush().is_ok();
+}
+
+// Compares what a log holds, and the counts, with those of lines that are written one by one.
+fn check_fault_at(rt: &impl AllocAndAbort, place: usize, capacity: usize) {
+    let mut alone = Failing::new(rt.alloc(), place);
+    let made = CountingWriter::new(rt.alloc(), &mut alone);
+    let (mut counting, wanted) = made.expect(rt, "memory");
+    write_all_lines(&mut counting);
+    drop(counting);
+    let mut together = Failing::new(rt.alloc(), place);
+    let made = BatchWriter::new(rt.alloc(), &mut together, capacity);
+    let (mut batch, counts) = made.expect(rt, "memory");
+    write_all_lines(&mut batch);
+    drop(batch);
+    let row = (place, capacity);
+    expect_eq_of(rt, row, together.text.as_slice(), alone.text.as_slice());
+    expect_eq_of(rt, row, counts_of(&counts), counts_of(&wanted));
+}
+
+#[test]
+fn faults_leave_what_they_leave_of_single_lines(rt: HostRuntime) {
+    for capacity in [0usize, 1, 3, 6, 16, 64] {
+        for place in 0..17usize {
+            check_fault_at(&rt, place, capacity);
+        }
+    }
+}
+
+// Counts its bytes and its writes.
+#[derive(Drop)]
+struct Measured {
+    bytes: u64,
+    writes: u64,
+}
+
+impl Write for Measured {
+    fn write(&mut self, buf: &[u8]) -> io::Result<usize> {
+        self.bytes = self.bytes.saturating_add(buf.len() as u64);
+        self.writes = self.writes.saturating_add(1);
+        Ok(buf.len())
+    }
+
+    fn flush(&mut self) -> io::Result<()> {
+        Ok(())
+    }
+}
+
+// 655 lines of 100 bytes fit into 64 KiB.
+#[test]
+fn a_million_lines_are_written_together(rt: HostRuntime) {
+    let mut log = Measured {
+        bytes: 0,
+        writes: 0,
+    };
+    let made = BatchWriter::new(rt.alloc(), &mut log, 1 << 16);
+    let (mut batch, counts) = made.expect(&rt, "memory");
+    let line = [b'x'; 100];
+    for _ in 0..1_000_000u32 {
+        let _ = batch.write(line.as_slice()).is_ok();
+    }
+    expect_eq(&rt, batch.flush().is_ok(), true);
+    expect_eq(&rt, counts_of(&counts), (1_000_000, 0));
+    drop(batch);
+    expect_eq(&rt, log.bytes, 100_000_000);
+    expect_eq(&rt, log.writes, 1527);
 }

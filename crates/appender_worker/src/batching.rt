@@ -37,10 +37,10 @@ use std::sync::Arc;
 // The greatest number of lines that wait.
 const MOST_LINES: usize = 1024;
 
-/// Gathers whole lines, and writes them together: if there is no room for another one, and at a flush. A write below
-/// has whole lines only, so an appender puts all of them into one file. A worker flushes whenever its queue is empty, so
-/// lines wait only while others come. If a write fails, its line is given up, and the lines after it are written. Dropping
-/// it writes the lines that wait, and ignores errors.
+/// Gathers whole lines, and writes them together: if there is no room for another one, and at a flush. One write has
+/// whole lines alone, so an appender puts all of them into one file, at one moment. A worker flushes whenever its queue is
+/// empty, so a line waits only while others come. After a fault the line in which it is is given up, and the lines after it
+/// are written. Its `LineCounts` leave out the lines that wait. Dropping it writes these, and ignores errors.
 pub struct BatchWriter<W: LineSink + Drop> {
     writer: W,
     capacity: usize,
@@ -234,9 +234,9 @@ impl<W: LineSink + Drop> Write for BatchWriter<W> {
     ghost use Rattle.std.specs.Io.KnownBytes.{Keeps, WriteAppends};
     ghost use Rattle.appender_worker.specs.Batch.{Fits, IsWithin, Gathers, LosesLine, Empties};
 
-    /// Gathers one whole line, after the others were written if it finds no room. A line longer than the capacity is
-    /// written by itself, and only this can fail: the error is that of its last write, but never `Interrupted`. A fault of
-    /// another line is reported by the next flush.
+    /// Gathers one whole line. If there is no room for it, the lines that wait are written first. A line longer than the
+    /// capacity is written by itself, and only this can fail: the error is that of its last write, but never `Interrupted`.
+    /// The next flush reports the fault of another line.
     #[inline(always)]
     fn write(&mut self, line: &[u8]) -> io::Result<usize>
         ensures bound { WritesAtMost result line.now }
