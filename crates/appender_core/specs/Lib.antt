@@ -24,3 +24,6 @@ pub use Rattle.appender_worker.specs.Core
 pub use Rattle.appender_worker.specs.CoreReplies
 pub use Rattle.appender_worker.specs.Runs
 pub use Rattle.appender_worker.specs.Counting
+pub use Rattle.appender_worker.specs.Parts
+pub use Rattle.appender_worker.specs.Tries
+pub use Rattle.appender_worker.specs.Batch

@@ -1,4 +1,7 @@
 pub mod Written
+pub mod Asking
+pub mod Gathered
+pub mod Batches
 pub mod ByTable
 pub mod TextLaw
 pub mod DoneLaw

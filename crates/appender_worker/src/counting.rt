@@ -29,9 +29,26 @@ pub struct LineCounts {
 
 // The counts, which the handle reads.
 #[derive(Drop)]
-struct SharedCounts {
+pub(crate) struct SharedCounts {
     taken: AtomicU64,
     lost: AtomicU64,
+}
+
+impl SharedCounts {
+    /// Returns counts of 0.
+    pub(crate) fn new(alloc: Global) -> Result<Arc<SharedCounts, Global>, AllocError> {
+        let counts = SharedCounts {
+            taken: AtomicU64::new(0),
+            lost: AtomicU64::new(0),
+        };
+        Arc::new(alloc, counts).map_err(AllocError::from)
+    }
+
+    /// Stores the counts for the handle.
+    pub(crate) fn store(&self, taken: u64, lost: u64) {
+        self.taken.store(taken, SeqCst);
+        self.lost.store(lost, SeqCst);
+    }
 }
 
 impl<W> Model for CountingWriter<W> {
@@ -52,22 +69,26 @@ impl<W> CountingWriter<W> {
         W: Drop,
         ensures { IfOk result (λ made. made.0 ≡ counting_none writer) }
     {
-        let counts = SharedCounts {
-            taken: AtomicU64::new(0),
-            lost: AtomicU64::new(0),
-        };
-        let shared = Arc::new(alloc, counts).map_err(AllocError::from)?;
+        let shared = SharedCounts::new(alloc)?;
+        let counts = LineCounts::of(&shared)?;
         let counting = CountingWriter {
             writer,
             taken: 0,
             lost: 0,
-            shared: shared.clone()?,
+            shared,
         };
-        Ok((counting, LineCounts { shared }))
+        Ok((counting, counts))
     }
 }
 
 impl LineCounts {
+    /// Returns a handle to these counts.
+    pub(crate) fn of(shared: &Arc<SharedCounts, Global>) -> Result<LineCounts, AllocError> {
+        Ok(LineCounts {
+            shared: shared.clone()?,
+        })
+    }
+
     /// Returns the number of lines that were taken whole.
     pub fn taken(&self) -> u64 {
         self.shared.taken.load(SeqCst)
@@ -119,7 +140,7 @@ impl<W: Write> Write for CountingWriter<W> {
 }
 
 // Returns the error of a line for its caller.
-fn reported(fault: LineFault) -> io::Error
+pub(crate) fn reported(fault: LineFault) -> io::Error
     ensures { error_kind result ≢ ErrorKind.Interrupted }
 {
     match fault.error.kind() {

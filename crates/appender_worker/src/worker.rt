@@ -5,7 +5,9 @@ ghost use Rattle.std.specs.Io.KnownBytes.{Appends};
 ghost use Rattle.appender_worker.specs.CoreReplies.{answer_of};
 ghost use Rattle.appender_worker.specs.Inside.LineSteps.{IsNext};
 
+pub use crate::batching::BatchWriter;
 pub use crate::counting::{CountingWriter, LineCounts};
+pub use crate::sink::LineSink;
 use appender_queue::queue::Taken;
 use std::io::{ErrorKind, Write};
 use std::marker::Model;
