@@ -1,6 +1,7 @@
 // The whole program over a real folder; its lines over folders in memory, and several sources.
 use crate::expect::expect_eq;
 use audit_trail_core::trail::{Fault, keep, report_fault};
+use program_io::Host;
 use std::io::{Read, Write};
 use std::os::unix::fs::symlink;
 use std::process::Abort;
@@ -29,7 +30,7 @@ pub(crate) fn fresh(rt: &HostRuntime, name: &str) -> io::Result<String> {
 }
 
 // Runs the program, which keeps all files, and compares the status and what it reports.
-fn check<R: Runtime + AllocGlobal + Abort, I: Read + Drop>(
+fn check<R: Runtime + Host + Abort, I: Read + Drop>(
     rt: &R,
     arguments: &[String],
     mut input: I,
@@ -37,16 +38,16 @@ fn check<R: Runtime + AllocGlobal + Abort, I: Read + Drop>(
     told: &str,
 ) {
     let mut errors = Vec::new(rt.alloc());
-    let kept = keep(rt, 0, arguments, &mut input, &mut errors);
+    let kept = keep(rt, *rt, 0, arguments, &mut input, &mut errors);
     expect_eq(rt, errors.as_slice(), told.as_bytes());
     expect_eq(rt, kept.err().unwrap_or(0), status);
 }
 
 // Writes one line by a run that keeps so many files.
-fn add_keeping<R: Runtime + AllocGlobal + Abort>(rt: &R, files: usize, arguments: &[String]) {
+fn add_keeping<R: Runtime + Host + Abort>(rt: &R, files: usize, arguments: &[String]) {
     let mut errors = Vec::new(rt.alloc());
     let mut input = b"line\n".as_slice();
-    let kept = keep(rt, files, arguments, &mut input, &mut errors);
+    let kept = keep(rt, *rt, files, arguments, &mut input, &mut errors);
     expect_eq(rt, errors.as_slice(), b"".as_slice());
     expect_eq(rt, kept.is_ok(), true);
 }

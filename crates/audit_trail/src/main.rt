@@ -128,12 +128,13 @@ fn keep<R: Host>(rt: R, host: &HostRuntime, files: usize, arguments: &[String]) 
         [directory, ..] if directory.is_empty() => trail::report_fault(&Fault::Usage, &mut errors),
         [directory, paths @ ..] if !paths.is_empty() => {
             let directory = directory.as_str();
-            let trails = DiskTrails::new(*host, files);
+            let trails = DiskTrails::new(*host, rt, files);
             keep_all(rt, &trails, directory, paths, &mut output, &mut errors)
         }
         _ => {
             let kept = trail::keep(
                 host,
+                rt,
                 files,
                 arguments,
                 &mut WaitingInput::new(rt, host.stdin()),

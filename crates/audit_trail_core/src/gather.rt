@@ -40,20 +40,21 @@ pub trait Trails {
 
 /// The trails and the sources of the file system.
 #[derive(Clone, Copy)]
-pub struct DiskTrails {
+pub struct DiskTrails<H> {
     rt: HostRuntime,
+    host: H,
     files: usize,
 }
 
-impl DiskTrails {
-    /// Returns trails that keep so many files; 0 is all of them.
-    pub fn new(rt: HostRuntime, files: usize) -> DiskTrails {
-        DiskTrails { rt, files }
+impl<H: Host> DiskTrails<H> {
+    /// Returns trails that keep so many files; 0 is all of them. `host` waits while the disk is full.
+    pub fn new(rt: HostRuntime, host: H, files: usize) -> DiskTrails<H> {
+        DiskTrails { rt, host, files }
     }
 }
 
-impl Trails for DiskTrails {
-    type Log = TrailLog<HostRuntime>;
+impl<H: Host> Trails for DiskTrails<H> {
+    type Log = TrailLog<HostRuntime, H>;
 
     type Source = File;
 
@@ -61,11 +62,11 @@ impl Trails for DiskTrails {
         &self,
         directory: &str,
         counts: Arc<FileCounts, Global>,
-    ) -> Result<TrailLog<HostRuntime>, InitError> {
-        open_trail(&self.rt, self.files, directory, counts)
+    ) -> Result<TrailLog<HostRuntime, H>, InitError> {
+        open_trail(&self.rt, self.host, self.files, directory, counts)
     }
 
-    fn open_source(&self, log: &TrailLog<HostRuntime>, path: &str) -> Result<File, Fault> {
+    fn open_source(&self, log: &TrailLog<HostRuntime, H>, path: &str) -> Result<File, Fault> {
         let source = File::open(&self.rt, path)?;
         if log.watch().owns(log.log().open_file(), &source, path)? {
             return Err(Fault::Own);

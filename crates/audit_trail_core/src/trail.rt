@@ -11,11 +11,11 @@ use crate::input::{InputReads, LineInput};
 use crate::lines::{LineFault, LineLog};
 use crate::watch::{DirWatch, FileCounts, Watch};
 use program_io::report::report;
-use program_io::{ShortLines, end_line, read_line};
+use program_io::{Host, ShortLines, end_line, read_line};
 use std::alloc::{AllocError, Global};
 use std::io::{BufReader, ErrorKind, Read, Write};
 use std::rt::Runtime;
-use std::sync::{Arc, Wait};
+use std::sync::Arc;
 use std::{fs, io};
 use thiserror::Error;
 use tracing_appender::folder::DirFolder;
@@ -179,34 +179,35 @@ impl From<io::Error> for Fault {
 
 /// The folder of a trail. Each append to it waits while the disk is full or has another fault that may pass, and the folder
 /// prints that on standard error.
-pub type TrailFolder<R> = DirFolder<R, Waits<R>>;
+pub type TrailFolder<R, H> = DirFolder<R, Waits<H>>;
 
 /// The log of a trail.
-pub type TrailLog<R> = LineLog<TrailFolder<R>, SystemClock<R>, DirWatch<R>>;
+pub type TrailLog<R, H> = LineLog<TrailFolder<R, H>, SystemClock<R>, DirWatch<R>>;
 
 /// Writes each line of `input` to the log of its day, in the folder that the one argument names, and returns the log,
 /// flushed and synced. The folder keeps so many files, or all of them if `files` is 0. The log is also flushed and synced
-/// after a read that returned less than was asked for, and once a MiB. While the disk is full it waits, which the
-/// runtime's standard error says. The first fault goes to `errors`, whose own faults are ignored. The error is the status
+/// after a read that returned less than was asked for, and once a MiB. While the disk is full it waits by
+/// `host`, whose standard error says so. The first fault goes to `errors`, whose own faults are ignored. The error is the status
 /// of the process: 1 if the log was not opened, the input not read, a line not written whole, a flush failed or a log
 /// file was not found again; 2 if there isn't one argument; 3 if memory was refused.
-pub fn keep<R: Runtime + Wait + AllocGlobal, I: Read, E: Write>(
+pub fn keep<R: Runtime + AllocGlobal, H: Host, I: Read, E: Write>(
     rt: &R,
+    host: H,
     files: usize,
     arguments: &[String],
     input: &mut I,
     errors: &mut E,
-) -> Result<TrailLog<R>, u8>
+) -> Result<TrailLog<R, H>, u8>
     ensures status { IfErr result (λ status. (1 ≤ status) × (status ≤ 3)) }
     ensures usage { length arguments.now ≢ 1 → result ≡ Err 2 }
     ensures silent { IsOk result → Keeps (E.contents errors.old) (E.contents errors.new) }
     ensures reported { IfErr result (λ status. (fault : Fault) ×
         ReportsFault fault status (E.contents errors.old) (E.contents errors.new)) }
     ensures lines { IfOk result (λ log. (text : List ℕ) → I.remaining input.old ≡ Some text →
-        KeepsLines ⟦<TrailFolder<R> as Folder>⟧ ⟦<SystemClock<R> as Clock>⟧ files text log) }
-    ensures synced { IfOk result (λ log. (⟦<TrailFolder<R> as Folder>⟧.noted log.log.roller.folder).flushes ≡ 0) }
+        KeepsLines ⟦<TrailFolder<R, H> as Folder>⟧ ⟦<SystemClock<R> as Clock>⟧ files text log) }
+    ensures synced { IfOk result (λ log. (⟦<TrailFolder<R, H> as Folder>⟧.noted log.log.roller.folder).flushes ≡ 0) }
 {
-    match copy_lines(rt, files, arguments, input) {
+    match copy_lines(rt, host, files, arguments, input) {
         Ok(log) => Ok(log),
         Err(fault) => Err(report_fault(&fault, errors)),
     }
@@ -225,45 +226,47 @@ pub fn report_fault<E: Write>(fault: &Fault, errors: &mut E) -> u8
     fault.status()
 }
 
-fn copy_lines<R: Runtime + Wait + AllocGlobal, I: Read>(
+fn copy_lines<R: Runtime + AllocGlobal, H: Host, I: Read>(
     rt: &R,
+    host: H,
     files: usize,
     arguments: &[String],
     input: &mut I,
-) -> Result<TrailLog<R>, Fault>
+) -> Result<TrailLog<R, H>, Fault>
     ensures usage { length arguments.now ≢ 1 → result ≡ Err Fault.Usage }
     ensures lines { IfOk result (λ log. (text : List ℕ) → I.remaining input.old ≡ Some text →
-        KeepsLines ⟦<TrailFolder<R> as Folder>⟧ ⟦<SystemClock<R> as Clock>⟧ files text log) }
-    ensures synced { IfOk result (λ log. (⟦<TrailFolder<R> as Folder>⟧.noted log.log.roller.folder).flushes ≡ 0) }
+        KeepsLines ⟦<TrailFolder<R, H> as Folder>⟧ ⟦<SystemClock<R> as Clock>⟧ files text log) }
+    ensures synced { IfOk result (λ log. (⟦<TrailFolder<R, H> as Folder>⟧.noted log.log.roller.folder).flushes ≡ 0) }
 {
     let [directory] = arguments else {
         return Err(Fault::Usage);
     };
     let mut input = BufReader::new(rt.alloc(), InputReads::new(ShortLines::new(input)))?;
-    log_lines(rt, files, directory.as_str(), &mut input)
+    log_lines(rt, host, files, directory.as_str(), &mut input)
 }
 
 // Opens the log, writes each line of `input` to it, and flushes it.
-fn log_lines<R: Runtime + Wait + AllocGlobal, I: LineInput>(
+fn log_lines<R: Runtime + AllocGlobal, H: Host, I: LineInput>(
     rt: &R,
+    host: H,
     files: usize,
     directory: &str,
     input: &mut I,
-) -> Result<TrailLog<R>, Fault>
+) -> Result<TrailLog<R, H>, Fault>
     ensures lines { IfOk result (λ log. (text : List ℕ) → I.remaining input.old ≡ Some text →
-        KeepsLines ⟦<TrailFolder<R> as Folder>⟧ ⟦<SystemClock<R> as Clock>⟧ files text log) }
-    ensures synced { IfOk result (λ log. (⟦<TrailFolder<R> as Folder>⟧.noted log.log.roller.folder).flushes ≡ 0) }
+        KeepsLines ⟦<TrailFolder<R, H> as Folder>⟧ ⟦<SystemClock<R> as Clock>⟧ files text log) }
+    ensures synced { IfOk result (λ log. (⟦<TrailFolder<R, H> as Folder>⟧.noted log.log.roller.folder).flushes ≡ 0) }
 {
     let counts = FileCounts::new(rt.alloc())?;
-    let mut log = open_trail(rt, files, directory, counts)?;
+    let mut log = open_trail(rt, host, files, directory, counts)?;
     write_and_flush(rt.alloc(), input, &mut log)?;
     check_files(&log)?;
     Ok(log)
 }
 
 // Returns a fault if a file was not found again, or a flush at a switch failed.
-fn check_files<R: Runtime + Wait + AllocGlobal>(log: &TrailLog<R>) -> Result<(), Fault>
-    ensures { OnOk result ((⟦<TrailFolder<R> as Folder>⟧.noted log.now.log.roller.folder).flushes ≡ 0) }
+fn check_files<R: Runtime + AllocGlobal, H: Host>(log: &TrailLog<R, H>) -> Result<(), Fault>
+    ensures { OnOk result ((⟦<TrailFolder<R, H> as Folder>⟧.noted log.now.log.roller.folder).flushes ≡ 0) }
 {
     match log.watch().counts().gone() {
         0 => {}
@@ -305,28 +308,30 @@ fn flush<S: Folder, C: Clock, W: Watch<S>>(log: &mut LineLog<S, C, W>) -> Result
 
 /// Opens the trail in a folder, which is made if it is absent, and keeps so many files; 0 is all. `counts` has the faults
 /// of its files.
-pub fn open_trail<R: Runtime + Wait + AllocGlobal>(
+pub fn open_trail<R: Runtime + AllocGlobal, H: Host>(
     rt: &R,
+    host: H,
     files: usize,
     directory: &str,
     counts: Arc<FileCounts, Global>,
-) -> Result<TrailLog<R>, InitError>
-    ensures opens { IfOk result (λ trail. OpensSome ⟦<TrailFolder<R> as Folder>⟧ ⟦<SystemClock<R> as Clock>⟧
+) -> Result<TrailLog<R, H>, InitError>
+    ensures opens { IfOk result (λ trail. OpensSome ⟦<TrailFolder<R, H> as Folder>⟧ ⟦<SystemClock<R> as Clock>⟧
         (trail_config files) trail.log) }
-    ensures seen { IfOk result (λ trail. trail.cut ≡ false → EndsWhole ⟦<TrailFolder<R> as Folder>⟧ trail.log) }
+    ensures seen { IfOk result (λ trail. trail.cut ≡ false → EndsWhole ⟦<TrailFolder<R, H> as Folder>⟧ trail.log) }
 {
     let watch = DirWatch::new(rt.clone()?, directory, counts)?;
-    Ok(LineLog::new(open_log(rt, files, directory)?, watch))
+    Ok(LineLog::new(open_log(rt, host, files, directory)?, watch))
 }
 
 /// Opens the log of the day in a folder, which is made if it is absent, and keeps so many files; 0 is all. Each flush
 /// syncs its file.
-pub fn open_log<R: Runtime + Wait + AllocGlobal>(
+pub fn open_log<R: Runtime + AllocGlobal, H: Host>(
     rt: &R,
+    host: H,
     files: usize,
     directory: &str,
-) -> Result<RollingFile<TrailFolder<R>, SystemClock<R>>, InitError>
-    ensures { IfOk result (OpensSome ⟦<TrailFolder<R> as Folder>⟧ ⟦<SystemClock<R> as Clock>⟧
+) -> Result<RollingFile<TrailFolder<R, H>, SystemClock<R>>, InitError>
+    ensures { IfOk result (OpensSome ⟦<TrailFolder<R, H> as Folder>⟧ ⟦<SystemClock<R> as Clock>⟧
         (trail_config files)) }
 {
     fs::create_dir_all(rt, directory).map_err(InitError::Directory)?;
@@ -334,7 +339,7 @@ pub fn open_log<R: Runtime + Wait + AllocGlobal>(
     let clock = SystemClock::new(rt.clone()?);
     let folder = DirFolder::new(rt.clone()?, directory)?
         .synced()
-        .waiting(rt.clone()?);
+        .waiting(host);
     match settings.open_in(rt.alloc(), folder, clock) {
         Ok(log) => Ok(log),
         Err((error, _, _)) => Err(error),
