@@ -1,5 +1,5 @@
 -- A line that is added in pieces.
-use Rattle.std.proofs.Common.{◌≡◌, ◌≢◌, ◌∙◌, ◌==◌, true, false, refl, sym, ap, subst, arith, ℕ, suc, ◌+◌, ◌-◌, ◌≤◌, List, [], ◌∷◌, length, take, drop, Result, Ok, Err, length-append, length-drop}
+use Rattle.std.proofs.Common.{◌≡◌, ◌≢◌, ◌∙◌, ◌==◌, true, false, refl, sym, ap, subst, arith, ℕ, suc, ◌+◌, ◌-◌, ◌<◌, ◌≤◌, List, [], ◌∷◌, length, take, drop, Result, Ok, Err, length-append, length-drop}
 use Rattle.std.proofs.Math.Seq.{take-length}
 use Rattle.std.specs.IoError.{error_kind}
 use Rattle.std.specs.declared.io.Error.{Error}
@@ -9,8 +9,7 @@ use Rattle.appender_store.specs.declared.store.Folder.{Ghosts}
 use Rattle.appender_rolling.proofs.Pieces.{one_more_piece}
 use Rattle.appender_rolling.specs.Appender.{Appending, AppendsNow}
 use Rattle.appender_rolling.specs.Roller.{AllGoOn, count_of}
-use Rattle.audit_trail_core.specs.Inside.Pieces.{AddsPart}
-use Rattle.audit_trail_core.specs.Trail.{Adds, interruptions}
+use Rattle.audit_trail_core.specs.Trail.{Adds, AddsPart, interruptions}
 
 module _ {S F C : Type 0} (kind : Ghosts S F) where
   -- What was added so far: appends that all continue, of which this number were interrupted, and before them others.
@@ -90,6 +89,19 @@ module _ {S F C : Type 0} (kind : Ghosts S F) where
         taken_is = omega (arith, all, same);
         some = subst (λ rest. rest ≢ []) (sym rest_is) some;
       }
+
+-- some bytes have a length
+some_length : (xs : List ℕ) → xs ≢ [] → 0 < length xs
+some_length [] some = absurd (some refl)
+some_length (x ∷ xs) some = omega arith
+
+-- a part of one byte is none
+pub part_of_one : {S F C : Type 0} (kind : Ghosts S F) (byte taken : ℕ) (old new : Appending S F C)
+    → AddsPart kind (byte ∷ []) taken old new → taken ≡ 0
+part_of_one kind byte taken old new part =
+    let all : 1 ≡ length part.adds.so_far.taken + length part.rest
+    = ap length part.adds.so_far.split ∙ length-append part.adds.so_far.taken part.rest in
+    omega (arith, all, part.taken_is, some_length part.rest part.some)
 
 -- a slice to the end is all that is left
 pub whole_rest : (n : ℕ) (xs : List ℕ) → take (length xs - n) (drop n xs) ≡ drop n xs

@@ -43,6 +43,14 @@ pub record Adds {S F C : Type 0} (kind : Ghosts S F) (answers : List (Result ℕ
   pub so_far : WritesSoFar kind answers bytes rest old.roller new.roller
   pub clock : new.clock ≡ old.clock
 
+-- this number of the bytes were added, and not all
+pub record AddsPart {S F C : Type 0} (kind : Ghosts S F) (bytes : List ℕ) (taken : ℕ) (old new : Appending S F C) : Type 0 where
+  pub answers : List (Result ℕ Error)
+  pub rest : List ℕ
+  pub adds : Adds kind answers bytes rest old new
+  pub taken_is : taken ≡ length adds.so_far.taken
+  pub some : rest ≢ []
+
 -- The clock was read. If that began no file, nothing changed. Else the end of the open file was read, since another run
 -- may have left a part of a line there.
 pub record LooksAtClock {S F C : Type 0} (kind : Ghosts S F) (time : Readings C) (old new : Trailing S F C) : Type 0 where
@@ -69,6 +77,20 @@ pub record PutsLine {S F C : Type 0} (kind : Ghosts S F) (time : Readings C) (li
   pub adds : Adds kind answers line [] begun new.log
   pub few : interruptions ending + interruptions answers ≤ 100
   pub cut : new.cut ≡ not (ends_with_byte 10 line)
+
+-- The part of a line was not ended, or it was and then this number of the line's bytes were added, and not all, where they begin a line.
+abbrev pub AddsSome : {S F C : Type 0} → Ghosts S F → List ℕ → ℕ → Trailing S F C → Appending S F C → Type 0
+AddsSome {S} {F} {C} kind line taken looked new =
+    ((taken ≡ 0) × (looked.cut ≡ true) × AddsPart kind (10 ∷ []) 0 looked.log new)
+    ⊎ ((ending : List (Result ℕ Error)) × (begun : Appending S F C) × EndsPart kind looked.cut ending looked.log begun
+        × EndsWhole kind begun × AddsPart kind line taken begun new)
+
+-- A line was not put whole: after one check of the clock, this number of its bytes were added to one file, where they begin a line.
+pub record PutsPart {S F C : Type 0} (kind : Ghosts S F) (time : Readings C) (line : List ℕ) (taken : ℕ) (old new : Trailing S F C) : Type 0 where
+  pub looked : Trailing S F C
+  pub looks : LooksAtClock kind time old looked
+  pub adds : AddsSome kind line taken looked new.log
+  pub cut : taken ≢ 0 → new.cut ≡ true
 
 -- After a line, if this number of bytes were put since the last flush: either the log was flushed, or less than a MiB
 -- is not flushed, and nothing changed. This number is not flushed now. A flush changes no bytes.

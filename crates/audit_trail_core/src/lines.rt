@@ -1,10 +1,10 @@
 //! A log that takes lines whole: each is in one file, or there is an error.
-ghost use Rattle.std.specs.Prelude.{◌≡◌, ◌≢◌, ◌≤◌, IfOk, IfErr, Ok, OnOk, true, false, length};
+ghost use Rattle.std.specs.Prelude.{◌≡◌, ◌≢◌, ◌≤◌, ℕ, IfOk, IfErr, Ok, OnOk, OnErr, true, false, length};
 ghost use Rattle.std.specs.Io.BufRead.{ends_with_byte};
 ghost use Rattle.std.specs.IoError.{error_kind};
 ghost use Rattle.std.specs.declared.io.ErrorKind.TheVariants.{Interrupted};
-ghost use Rattle.audit_trail_core.specs.Trail.{EndsWhole};
-ghost use Rattle.audit_trail_core.specs.Inside.Pieces.{AddsPart, AddsWhole, AppendsOnce, EndsPartWith};
+ghost use Rattle.audit_trail_core.specs.Trail.{AddsPart, EndsWhole};
+ghost use Rattle.audit_trail_core.specs.Inside.Pieces.{AddsWhole, AppendsOnce, EndsPartWith};
 
 use crate::watch::Watch;
 use std::io;
@@ -52,7 +52,8 @@ pub struct LineFault {
 }
 
 impl<S: Folder, C: Clock, W: Watch<S>> LineLog<S, C, W> {
-    ghost use Rattle.audit_trail_core.specs.Trail.{LooksAtClock, PutsLine};
+    ghost use Rattle.std.specs.Prelude.{[], ◌∷◌};
+    ghost use Rattle.audit_trail_core.specs.Trail.{LooksAtClock, PutsLine, PutsPart};
 
     /// Returns a log that goes on after what is in the open file.
     pub fn new(log: RollingFile<S, C>, watch: W) -> LineLog<S, C, W>
@@ -74,6 +75,7 @@ impl<S: Folder, C: Clock, W: Watch<S>> LineLog<S, C, W> {
     /// append is repeated, at most 100 times for a line.
     pub fn write_line(&mut self, line: &[u8]) -> Result<(), LineFault>
         ensures ok { OnOk result (PutsLine S.Folder C.Clock line.now self.old self.new) }
+        ensures part { IfErr result (λ fault. PutsPart S.Folder C.Clock line.now fault.taken self.old self.new) }
         ensures err { IfErr result (λ fault. error_kind fault.error ≢ Interrupted) }
     {
         self.look();
@@ -125,6 +127,9 @@ impl<S: Folder, C: Clock, W: Watch<S>> LineLog<S, C, W> {
     fn end_part(&mut self) -> Result<u32, LineFault>
         ensures ok { IfOk result (λ repeats. EndsPartWith S.Folder self.old.cut repeats self.old.log self.new.log) }
         ensures whole { OnOk result (self.new.cut ≡ false) }
+        ensures part { IfErr result (λ fault. (fault.taken ≡ 0) × (self.old.cut ≡ true)
+            × AddsPart S.Folder (10 ∷ []) 0 self.old.log self.new.log) }
+        ensures cut { OnErr result (self.new.cut ≡ true) }
         ensures err { IfErr result (λ fault. error_kind fault.error ≢ Interrupted) }
     {
         if !self.cut {
@@ -181,7 +186,7 @@ impl<S: Folder, C: Clock, W: Watch<S>> Write for LineLog<S, C, W> {
     ghost use Rattle.std.specs.Io.{WritesAtMost};
     ghost use Rattle.std.specs.Io.KnownBytes.{WriteAppends};
     ghost use Rattle.appender_rolling.specs.Appender.{FlushesNow};
-    ghost use Rattle.audit_trail_core.specs.Trail.{PutsLine};
+    ghost use Rattle.audit_trail_core.specs.Trail.{PutsLine, PutsPart};
 
     /// Writes one line whole, and returns its length. An error is never `Interrupted`.
     fn write(&mut self, line: &[u8]) -> io::Result<usize>
@@ -189,6 +194,7 @@ impl<S: Folder, C: Clock, W: Watch<S>> Write for LineLog<S, C, W> {
         ensures bytes { WriteAppends None None result line.now }
         ensures whole { IfOk result (λ taken. taken ≡ length line.now) }
         ensures line { OnOk result (line.now ≢ [] → PutsLine S.Folder C.Clock line.now self.old self.new) }
+        ensures part { OnErr result ((taken : ℕ) × PutsPart S.Folder C.Clock line.now taken self.old self.new) }
         ensures err { IfErr result (λ fault. error_kind fault ≢ Interrupted) }
     {
         if line.is_empty() {

@@ -30,9 +30,3 @@ next lines n rest text counted some h =
 pub last : (lines : ℕ) (rest text : List ℕ) → ((k : ℕ) → HasLines k rest → HasLines (lines + k) text) → rest ≡ []
     → HasLines lines text
 last lines rest text counted none = as_many (lines + 0) lines text (omega arith) (counted 0 none)
-
--- a part of the text is no longer than the text
-pub beginning : (n : ℕ) (done rest text : List ℕ) → done ++ rest ≡ text → n ≤ length done → n ≤ length text
-beginning n done rest text whole bound =
-    let size = sym (length-append done rest) ∙ ap length whole in
-    omega (arith, size, bound)

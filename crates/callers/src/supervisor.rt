@@ -1,7 +1,8 @@
 //! A supervisor: the output of a child is copied to a log, line by line.
-ghost use Rattle.std.specs.Prelude.{◌≡◌, ◌≤◌, ◌↔◌, ◌+◌, ℕ, length, List, Some, IfOk, true};
+ghost use Rattle.std.specs.Prelude.{◌≡◌, ◌≤◌, ◌↔◌, ℕ, [], ◌∷◌, count_by, List, Some, IfOk, true};
 ghost use Rattle.std.specs.Io.KnownBytes.{Appends};
-ghost use Rattle.callers.specs.Supervisor.{HasLines};
+ghost use Rattle.tracing_appender.specs.Parts.{part, written_of, is_cut};
+ghost use Rattle.callers.specs.Supervisor.{HasLines, CopiesLines};
 
 use program_io::{Host, read_line};
 use std::alloc::Global;
@@ -27,8 +28,7 @@ pub fn copy<I: BufRead, W: Write>(alloc: Global, input: &mut I, log: &mut W) -> 
     ensures whole { IfOk result (λ copied. copied.cut ≡ 0 → (text : List ℕ) → I.remaining input.old ≡ Some text
         → Appends (W.contents log.old) (W.contents log.new) text) }
     ensures cut { IfOk result (λ copied. (text : List ℕ) → I.remaining input.old ≡ Some text
-        → (written : List ℕ) × (length written + copied.cut ≤ length text)
-        × Appends (W.contents log.old) (W.contents log.new) written) }
+        → CopiesLines copied text (W.contents log.old) (W.contents log.new)) }
 {
     let mut line = Vec::new(alloc);
     let mut copied = Copied { lines: 0, cut: 0 };
@@ -45,8 +45,8 @@ pub fn copy<I: BufRead, W: Write>(alloc: Global, input: &mut I, log: &mut W) -> 
 // Writes one line, and returns 1 if the log did not take it whole, else 0.
 fn cut_of<W: Write>(log: &mut W, line: &[u8]) -> u64
     ensures whole { result ≡ 0 → Appends (W.contents log.old) (W.contents log.new) line.now }
-    ensures cut { (written : List ℕ) × (length written + result ≤ length line.now)
-        × Appends (W.contents log.old) (W.contents log.new) written }
+    ensures cut { (taken : ℕ) × (result ≡ count_by is_cut (part line.now taken ∷ []))
+        × Appends (W.contents log.old) (W.contents log.new) (written_of (part line.now taken)) }
     ensures one { result ≤ 1 }
 {
     match run_line(log, line) {

@@ -40,6 +40,7 @@ pub use Rattle.appender_replay.specs.RollHeadline
 pub use Rattle.appender_replay.specs.Record
 pub use Rattle.appender_replay.specs.Answers
 pub use Rattle.appender_replay.specs.Whole
+pub use Rattle.appender_wait.specs.Waiting
 pub use Rattle.appender_rolling.specs.Config
 pub use Rattle.appender_rolling.specs.Opening
 pub use Rattle.appender_rolling.specs.Roller

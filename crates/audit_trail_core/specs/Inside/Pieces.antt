@@ -24,14 +24,6 @@ pub record AddsWhole {S F C : Type 0} (kind : Ghosts S F) (bytes : List ℕ) (be
   pub counts : after ≡ before + interruptions answers
   pub few : after ≤ 100
 
--- this number of the bytes were added, and not all
-pub record AddsPart {S F C : Type 0} (kind : Ghosts S F) (bytes : List ℕ) (taken : ℕ) (old new : Appending S F C) : Type 0 where
-  pub answers : List (Result ℕ Error)
-  pub rest : List ℕ
-  pub adds : Adds kind answers bytes rest old new
-  pub taken_is : taken ≡ length adds.so_far.taken
-  pub some : rest ≢ []
-
 -- a part of a line was ended, if there might be one, and this number of appends were interrupted
 pub record EndsPartWith {S F C : Type 0} (kind : Ghosts S F) (cut : Bool) (repeats : ℕ) (old new : Appending S F C) : Type 0 where
   pub ending : List (Result ℕ Error)

@@ -1,10 +1,11 @@
-use Rattle.std.proofs.Common.{◌≡◌, ◌≤◌, ℕ, ◌+◌, List, ◌++◌, Some, length}
+use Rattle.std.proofs.Common.{◌≡◌, ◌≤◌, ℕ, ◌+◌, List, ◌++◌, Some, length, count_by, flat_map}
 use Rattle.std.specs.Io.KnownBytes.{Appends}
-use Rattle.callers.specs.Supervisor.{HasLines}
+use Rattle.tracing_appender.specs.Parts.{Part, written_of, is_cut}
+use Rattle.callers.specs.Supervisor.{HasLines, AreLines}
 use Rattle.callers.proofs.supervisor.copy.Given as goal
 
 -- The lines that were read are counted, and the rest is left to be read. If none was cut, all bytes that were read were
--- written. Else at least one byte less was written for each cut line.
+-- written. Else of each line its part was.
 abbrev pub invariant-loop : goal.invariant-loop
 invariant-loop g l =
     (l.copied.lines ≡ l.counter) × (l.copied.cut ≤ l.copied.lines)
@@ -12,5 +13,6 @@ invariant-loop g l =
     × (g.I.Read.remaining l.input ≡ Some rest) × (done ++ rest ≡ text)
     × ((n : ℕ) → HasLines n rest → HasLines (l.copied.lines + n) text)
     × (l.copied.cut ≡ 0 → Appends (g.W.Write.contents l.fn.log) (g.W.Write.contents l.log) done)
-    × (written : List ℕ) × (length written + l.copied.cut ≤ length done)
-    × Appends (g.W.Write.contents l.fn.log) (g.W.Write.contents l.log) written)
+    × (parts : List Part) × ((more : List Part) → AreLines more rest → AreLines (parts ++ more) text)
+    × (length parts ≡ l.copied.lines) × (count_by is_cut parts ≡ l.copied.cut)
+    × Appends (g.W.Write.contents l.fn.log) (g.W.Write.contents l.log) (flat_map written_of parts))

@@ -1,4 +1,4 @@
-use Rattle.std.proofs.Common.{◌≡◌, ◌∙◌, sym, ap, subst, arith, not}
+use Rattle.std.proofs.Common.{◌≡◌, ◌∙◌, inl, inr, sym, ap, subst, arith, not}
 use Rattle.std.proofs.lemmas.Bool.Decides.{nat_tests}
 use Rattle.audit_trail_core.specs.Trail.{Trailing, EndsPart}
 use Rattle.audit_trail_core.proofs.Ends.{whole_after, whole_after_none, is_so}
@@ -31,4 +31,30 @@ returns-in-Ok-clause-ok g c =
       adds = whole.adds;
       few = omega (arith, ended.counts, whole.counts, whole.few);
       cut = ap not c.ends_line.ensures;
+    }
+
+pub returns-in_err-repeats-clause-part : goal.returns-in_err-repeats-clause-part
+returns-in_err-repeats-clause-part g c =
+    let (none, cut, part) = c.in_err-repeats.ensures.part in
+    record {
+      looked = c.look.new.self;
+      looks = c.look.ensures;
+      adds = inl (none, cut, part);
+      cut = λ some. absurd (some none);
+    }
+
+pub returns-in-Err-clause-part : goal.returns-in-Err-clause-part
+returns-in-Err-clause-part g c =
+    let ended = c.in_ok-repeats.ensures.ok in
+    record {
+      looked = c.look.new.self;
+      looks = c.look.ensures;
+      adds = inr (
+        ended.ending,
+        c.self.inside.log,
+        subst (λ log. EndsPart g.S.Folder c.look.new.self.cut ended.ending c.look.new.self.log log) (sym (ap (λ (l : Trailing _ _ _). l.log) c.self.view_is)) ended.ends,
+        c.self.invariant (ap (λ (l : Trailing _ _ _). l.cut) c.self.view_is ∙ c.in_ok-repeats.ensures.whole),
+        c.in-Err.ensures.err
+      );
+      cut = λ some. grind (arith, nat_tests);
     }
