@@ -14,13 +14,16 @@ use std::time::Clock;
 #[derive(Drop)]
 pub struct WaitingLog<R, W> {
     rt: R,
-    log: W,
+    once: Once<W>,
 }
 
 impl<R, W> WaitingLog<R, W> {
     /// Returns a log that waits by the clock of `rt`, and prints on its standard error.
     pub fn new(rt: R, log: W) -> WaitingLog<R, W> {
-        WaitingLog { rt, log }
+        WaitingLog {
+            rt,
+            once: Once { log, taken: 0 },
+        }
     }
 }
 
@@ -30,12 +33,9 @@ impl<R: Wait + Clock + Eprint + Copy, W: Write> Write for WaitingLog<R, W> {
         ensures bound { WritesAtMost result bytes.now }
         ensures bytes { WriteAppends None None result bytes.now }
     {
-        let mut once = Once {
-            log: &mut self.log,
-            taken: 0,
-        };
-        let answer = WaitingWriter::new(self.rt, &mut once).write(bytes);
-        let taken = once.taken.min(bytes.len());
+        self.once.taken = 0;
+        let answer = WaitingWriter::new(self.rt, &mut self.once).write(bytes);
+        let taken = self.once.taken.min(bytes.len());
         match answer {
             Err(_) if taken > 0 => Ok(taken),
             answer => answer,
@@ -46,18 +46,19 @@ impl<R: Wait + Clock + Eprint + Copy, W: Write> Write for WaitingLog<R, W> {
     fn flush(&mut self) -> io::Result<()>
         ensures bytes { Keeps None None }
     {
-        self.log.flush()
+        self.once.flush()
     }
 }
 
 // Makes writes until one takes something, and then no other.
 #[derive(Drop)]
-struct Once<'a, W> {
-    log: &'a mut W,
+struct Once<W> {
+    log: W,
+    // How many bytes that one took.
     taken: usize,
 }
 
-impl<'a, W: Write> Write for Once<'a, W> {
+impl<W: Write> Write for Once<W> {
     fn write(&mut self, bytes: &[u8]) -> io::Result<usize>
         ensures bound { WritesAtMost result bytes.now }
         ensures bytes { WriteAppends None None result bytes.now }
