@@ -65,7 +65,7 @@ impl<R: Clock + Copy + Send + 'static> Logs for StuckLogs<R> {
     }
 }
 
-// A log that takes its time for the first line, whose write it interrupts once, and counts the lines that it takes.
+// A log that takes its time for the first write, which it interrupts once, and counts the lines that it takes.
 #[derive(Drop)]
 struct Interrupting<R: Clock> {
     rt: R,
@@ -80,8 +80,10 @@ impl<R: Clock> Write for Interrupting<R> {
             thread::sleep(&self.rt, Duration::from_millis(300));
             return Err(io::Error::from(io::ErrorKind::Interrupted));
         }
-        if buf == b"one line\n".as_slice() {
-            self.lines.fetch_add(1, SeqCst);
+        for line in buf.chunks(9) {
+            if line == b"one line\n".as_slice() {
+                self.lines.fetch_add(1, SeqCst);
+            }
         }
         Ok(buf.len())
     }
@@ -112,7 +114,7 @@ impl<R: Clock + Copy + Drop + Send + 'static> Logs for InterruptingLogs<R> {
     }
 }
 
-// A log that takes the whole of a line, 2 bytes of one that begins with `c`, and nothing of one that begins with `r`.
+// A log that takes one line by a write, 2 bytes of one that begins with `c`, and nothing of one that begins with `r`.
 #[derive(Drop)]
 struct Narrow {
     kind: io::ErrorKind,
@@ -123,7 +125,11 @@ impl Write for Narrow {
         match buf {
             [b'c', _, ..] => Ok(2),
             [b'r', ..] => Err(io::Error::from(self.kind)),
-            _ => Ok(buf.len()),
+            _ => Ok(
+                buf.iter()
+                    .position(|byte| *byte == b'\n')
+                    .map_or(buf.len(), |place| place + 1),
+            ),
         }
     }
 

@@ -122,16 +122,32 @@ fn lines_of<R: AllocGlobal>(rt: &R, count: u32) -> Result<Vec<u8>, AllocError> {
     Ok(lines)
 }
 
+// The length of a line that is too long to be written with others.
+const LONG: usize = (1 << 16) + 1;
+
+// This number of lines, each of which is written by itself.
+fn long_lines_of<R: AllocGlobal>(rt: &R, count: u32) -> Result<Vec<u8>, AllocError> {
+    let mut lines = Vec::new(rt.alloc());
+    for _ in 0..count {
+        for _ in 1..LONG {
+            lines.push(b'a')?;
+        }
+        lines.push(b'\n')?;
+    }
+    Ok(lines)
+}
+
 // The lines that are queued at the end of the input take two seconds.
 #[test]
 fn waits_for_a_slow_log(rt: HostRuntime) -> Result<(), Fail> {
     let manner = Manner {
-        first_millis: 5,
-        other_millis: 5,
+        first_millis: 100,
+        other_millis: 100,
         ..PROMPT
     };
-    let lines = lines_of(&rt, 400)?;
-    check(rt, manner, &mut lines.as_slice(), (0, ""), 800)
+    let lines = long_lines_of(&rt, 20)?;
+    let taken = lines.len() as u64;
+    check(rt, manner, &mut lines.as_slice(), (0, ""), taken)
 }
 
 // The queue is full at the end of the input, and the log does not get on with its first line.
@@ -141,8 +157,10 @@ fn waits_for_a_full_queue(rt: HostRuntime) -> Result<(), Fail> {
         first_millis: 2000,
         ..PROMPT
     };
-    let lines = lines_of(&rt, 1025)?;
-    check(rt, manner, &mut lines.as_slice(), (0, ""), 2050)
+    let mut lines = long_lines_of(&rt, 1)?;
+    lines.extend_from_slice(lines_of(&rt, 1024)?.as_slice())?;
+    let taken = lines.len() as u64;
+    check(rt, manner, &mut lines.as_slice(), (0, ""), taken)
 }
 
 // Gives its bytes one read after another, and fails in between.
@@ -208,17 +226,18 @@ fn waits_for_an_input_that_does_not_block(rt: HostRuntime) -> Result<(), Fail> {
 // A disk that is full for two writes, and one whose write fails for good.
 #[test]
 fn waits_for_a_full_disk(rt: HostRuntime) -> Result<(), Fail> {
-    for (code, told, taken) in [
-        (28, (0, ""), 6),
-        (5, (0, ""), 6),
-        (13, (1, "write failed\n"), 2),
+    for (code, told, written) in [
+        (28, (0, ""), 3),
+        (5, (0, ""), 3),
+        (13, (1, "write failed\n"), 1u64),
     ] {
         let manner = Manner {
             failures: 2,
             code,
             ..PROMPT
         };
-        let lines = lines_of(&rt, 3)?;
+        let lines = long_lines_of(&rt, 3)?;
+        let taken = written * LONG as u64;
         check(rt, manner, &mut lines.as_slice(), told, taken)?;
     }
     Ok(())

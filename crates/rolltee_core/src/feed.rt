@@ -4,12 +4,15 @@ use std::io::Write;
 use std::sync::{Arc, Wait};
 use std::time::{Clock, Duration};
 use std::{io, thread};
-use tracing_appender::worker::{CountingWriter, LineCounts};
+use tracing_appender::worker::{BatchWriter, LineCounts};
 
-/// The log of a worker. It counts its lines for a `Watch`.
+// The most bytes of lines that are written together.
+const CAPACITY: usize = 1 << 16;
+
+/// The log of a worker. It writes lines together, and counts them for a `Watch`.
 #[derive(Drop)]
-pub struct WatchedLog<W> {
-    log: CountingWriter<W>,
+pub struct WatchedLog<W: Write + Drop> {
+    log: BatchWriter<W>,
     _owner: Arc<(), Global>,
 }
 
@@ -21,14 +24,11 @@ pub struct Watch {
     owner: Arc<(), Global>,
 }
 
-impl<W> WatchedLog<W> {
+impl<W: Write + Drop> WatchedLog<W> {
     /// Returns the log of a worker, and what shows its counts. `AllocError` if memory is refused; then the log is
     /// dropped.
-    pub fn new(alloc: Global, log: W) -> Result<(WatchedLog<W>, Watch), AllocError>
-    where
-        W: Drop,
-    {
-        let (log, counts) = CountingWriter::new(alloc, log)?;
+    pub fn new(alloc: Global, log: W) -> Result<(WatchedLog<W>, Watch), AllocError> {
+        let (log, counts) = BatchWriter::new(alloc, log, CAPACITY)?;
         let owner = Arc::new(alloc, ()).map_err(AllocError::from)?;
         let watched = WatchedLog {
             log,
@@ -38,8 +38,8 @@ impl<W> WatchedLog<W> {
     }
 }
 
-impl<W: Write> Write for WatchedLog<W> {
-    /// Writes one whole line, and counts it.
+impl<W: Write + Drop> Write for WatchedLog<W> {
+    /// Takes one whole line. It is written and counted by the next flush, or before.
     fn write(&mut self, line: &[u8]) -> io::Result<usize> {
         self.log.write(line)
     }

@@ -4,3 +4,4 @@
 
 pub mod feed;
 pub mod tee;
+pub mod waiting;

@@ -6,7 +6,7 @@ ghost use Rattle.rolltee_core.specs.Fault.{status_of, unless_memory, words_of, H
 ghost use Rattle.appender_names.specs.RotationText.{IsNoRotation};
 
 use crate::feed::{Feed, WatchedLog};
-use appender_wait::waiting::WaitingWriter;
+use crate::waiting::WaitingLog;
 use program_io::report::report;
 use program_io::waiting::WaitingInput;
 use program_io::{CopyFault, Host, copy_lines};
@@ -227,7 +227,7 @@ fn copy_through<R: Host, L: Logs, I: Read>(
     };
     let log = open(logs, rotation.as_str(), directory.as_str(), prefix.as_str())?;
     if settings.waits {
-        copy_to(rt, WaitingWriter::new(rt, log), input)
+        copy_to(rt, WaitingLog::new(rt, log), input)
     } else {
         copy_to(rt, log, input)
     }
