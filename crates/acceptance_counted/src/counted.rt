@@ -380,6 +380,26 @@ fn tickets_are_told_and_lines_come_in_order(rt: HostRuntime) {
     run(rt, &TELLS_TICKETS);
 }
 
+// The text has a bar after each line.
+static SENDS_LONG: Story = Story {
+    limit: 4,
+    lossy: false,
+    senders: 1,
+    steps: &[SenderStep::Tells(&[b'|'; 600], Sent::Queued(1))],
+    end: End::Settles(Totals {
+        accepted: 1,
+        handed: 1,
+        left: 0,
+        dropped: 0,
+    }),
+    came: Came::Lines(&[b'|'; 601]),
+};
+
+#[test]
+fn a_long_line_comes_whole(rt: HostRuntime) {
+    run(rt, &SENDS_LONG);
+}
+
 static LEAVES_LINES: Story = Story {
     limit: 4,
     lossy: true,

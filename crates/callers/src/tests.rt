@@ -45,8 +45,10 @@ impl Write for Full {
     }
 }
 
-// Opens a log in the folder `logs`.
+// Opens a log in the folder `logs`, without what an earlier run left.
 fn open(rt: HostRuntime, name: &str) -> io::Result<FileAppender> {
+    let path = format!(in rt.alloc(); "logs/{name}")?;
+    let _ = fs::remove_file(&rt, path);
     match never(rt, "logs", name) {
         Ok(log) => Ok(log),
         Err(_) => Err(io::Error::other("no log")),
@@ -79,6 +81,7 @@ fn text_in(rt: &HostRuntime, directory: &str) -> io::Result<String> {
 
 #[test]
 fn the_logger_writes_each_record(rt: HostRuntime) -> Result<(), Fail> {
+    let _ = fs::remove_dir_all(&rt, "service");
     let Ok(log) = open_log(rt, "service") else {
         return Err(Fail::from(io::Error::other("no log")));
     };
