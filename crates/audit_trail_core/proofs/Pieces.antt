@@ -1,6 +1,7 @@
 -- A line that is added in pieces.
 use Rattle.std.proofs.Common.{◌≡◌, ◌≢◌, ◌∙◌, ◌==◌, true, false, refl, sym, ap, subst, arith, ℕ, suc, ◌+◌, ◌-◌, ◌<◌, ◌≤◌, List, [], ◌∷◌, length, take, drop, Result, Ok, Err, length-append, length-drop}
 use Rattle.std.proofs.Math.Seq.{take-length}
+use Rattle.std.specs.Prelude.{IfErr, IsErrAnd}
 use Rattle.std.specs.IoError.{error_kind}
 use Rattle.std.specs.declared.io.Error.{Error}
 use Rattle.std.specs.declared.io.ErrorKind.TheVariants.{Interrupted}
@@ -102,6 +103,11 @@ part_of_one kind byte taken old new part =
     let all : 1 ≡ length part.adds.so_far.taken + length part.rest
     = ap length part.adds.so_far.split ∙ length-append part.adds.so_far.taken part.rest in
     omega (arith, all, part.taken_is, some_length part.rest part.some)
+
+-- an error that was passed on
+pub on_err : {T E : Type 0} (result : Result T E) (e : E) (P : E → Type 0) → IsErrAnd result (λ f. f ≡ e) → P e → IfErr result P
+on_err (Ok x) e P is holds = tt
+on_err (Err f) e P is holds = subst P (sym is) holds
 
 -- a slice to the end is all that is left
 pub whole_rest : (n : ℕ) (xs : List ℕ) → take (length xs - n) (drop n xs) ≡ drop n xs

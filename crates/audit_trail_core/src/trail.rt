@@ -11,11 +11,12 @@ use crate::input::{InputReads, LineInput};
 use crate::lines::{LineFault, LineLog};
 use crate::watch::{DirWatch, FileCounts, Watch};
 use program_io::report::report;
-use program_io::{Host, ShortLines, end_line, read_line};
+use program_io::{ShortLines, end_line, read_line};
 use std::alloc::{AllocError, Global};
 use std::io::{BufReader, ErrorKind, Read, Write};
 use std::rt::Runtime;
-use std::sync::Arc;
+use std::sync::{Arc, Wait};
+use std::time;
 use std::{fs, io};
 use thiserror::Error;
 use tracing_appender::folder::DirFolder;
@@ -177,6 +178,11 @@ impl From<io::Error> for Fault {
     }
 }
 
+/// A runtime that waits while the disk is full, and says so on its standard error.
+pub trait Waiter: Wait + time::Clock + Eprint + Drop {}
+
+impl<H: Wait + time::Clock + Eprint + Drop> Waiter for H {}
+
 /// The folder of a trail. Each append to it waits while the disk is full or has another fault that may pass, and the folder
 /// prints that on standard error.
 pub type TrailFolder<R, H> = DirFolder<R, Waits<H>>;
@@ -190,7 +196,7 @@ pub type TrailLog<R, H> = LineLog<TrailFolder<R, H>, SystemClock<R>, DirWatch<R>
 /// `host`, whose standard error says so. The first fault goes to `errors`, whose own faults are ignored. The error is the status
 /// of the process: 1 if the log was not opened, the input not read, a line not written whole, a flush failed or a log
 /// file was not found again; 2 if there isn't one argument; 3 if memory was refused.
-pub fn keep<R: Runtime + AllocGlobal, H: Host, I: Read, E: Write>(
+pub fn keep<R: Runtime + AllocGlobal, H: Waiter, I: Read, E: Write>(
     rt: &R,
     host: H,
     files: usize,
@@ -226,7 +232,7 @@ pub fn report_fault<E: Write>(fault: &Fault, errors: &mut E) -> u8
     fault.status()
 }
 
-fn copy_lines<R: Runtime + AllocGlobal, H: Host, I: Read>(
+fn copy_lines<R: Runtime + AllocGlobal, H: Waiter, I: Read>(
     rt: &R,
     host: H,
     files: usize,
@@ -246,7 +252,7 @@ fn copy_lines<R: Runtime + AllocGlobal, H: Host, I: Read>(
 }
 
 // Opens the log, writes each line of `input` to it, and flushes it.
-fn log_lines<R: Runtime + AllocGlobal, H: Host, I: LineInput>(
+fn log_lines<R: Runtime + AllocGlobal, H: Waiter, I: LineInput>(
     rt: &R,
     host: H,
     files: usize,
@@ -265,7 +271,7 @@ fn log_lines<R: Runtime + AllocGlobal, H: Host, I: LineInput>(
 }
 
 // Returns a fault if a file was not found again, or a flush at a switch failed.
-fn check_files<R: Runtime + AllocGlobal, H: Host>(log: &TrailLog<R, H>) -> Result<(), Fault>
+fn check_files<R: Runtime + AllocGlobal, H: Waiter>(log: &TrailLog<R, H>) -> Result<(), Fault>
     ensures { OnOk result ((⟦<TrailFolder<R, H> as Folder>⟧.noted log.now.log.roller.folder).flushes ≡ 0) }
 {
     match log.watch().counts().gone() {
@@ -308,7 +314,7 @@ fn flush<S: Folder, C: Clock, W: Watch<S>>(log: &mut LineLog<S, C, W>) -> Result
 
 /// Opens the trail in a folder, which is made if it is absent, and keeps so many files; 0 is all. `counts` has the faults
 /// of its files.
-pub fn open_trail<R: Runtime + AllocGlobal, H: Host>(
+pub fn open_trail<R: Runtime + AllocGlobal, H: Waiter>(
     rt: &R,
     host: H,
     files: usize,
@@ -325,7 +331,7 @@ pub fn open_trail<R: Runtime + AllocGlobal, H: Host>(
 
 /// Opens the log of the day in a folder, which is made if it is absent, and keeps so many files; 0 is all. Each flush
 /// syncs its file.
-pub fn open_log<R: Runtime + AllocGlobal, H: Host>(
+pub fn open_log<R: Runtime + AllocGlobal, H: Waiter>(
     rt: &R,
     host: H,
     files: usize,

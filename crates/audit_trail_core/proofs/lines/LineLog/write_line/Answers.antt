@@ -1,6 +1,7 @@
 use Rattle.std.proofs.Common.{◌≡◌, ◌∙◌, inl, inr, sym, ap, subst, arith, not}
 use Rattle.std.proofs.lemmas.Bool.Decides.{nat_tests}
-use Rattle.audit_trail_core.specs.Trail.{Trailing, EndsPart}
+use Rattle.audit_trail_core.specs.Trail.{Trailing, EndsPart, PutsPart}
+use Rattle.audit_trail_core.proofs.Pieces.{on_err}
 use Rattle.audit_trail_core.proofs.Ends.{whole_after, whole_after_none, is_so}
 use Rattle.audit_trail_core.proofs.lines.LineLog.write_line.Goals as goal
 
@@ -36,12 +37,12 @@ returns-in-Ok-clause-ok g c =
 pub returns-in_err-repeats-clause-part : goal.returns-in_err-repeats-clause-part
 returns-in_err-repeats-clause-part g c =
     let (none, cut, part) = c.in_err-repeats.ensures.part in
-    record {
+    on_err c.from_residual.result _ (λ fault. PutsPart g.S.Folder g.C.Clock c.args.line.now fault.taken c.args.self.now c.end_part.new.self) c.from_residual.ensures.1 (record {
       looked = c.look.new.self;
       looks = c.look.ensures;
       adds = inl (none, cut, part);
       cut = λ some. absurd (some none);
-    }
+    })
 
 pub returns-in-Err-clause-part : goal.returns-in-Err-clause-part
 returns-in-Err-clause-part g c =
