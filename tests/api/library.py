@@ -15,8 +15,8 @@ class Library:
 
     def __init__(self):
         self.crates = {}
-        # The modules of the page by path, and the paths of each item.
-        self.pages, self.paths = {}, {}
+        # The modules of the page by path, the paths of each item, and what a module has of crates of the kit.
+        self.pages, self.paths, self.foreign = {}, {}, {}
         for root in ROOTS:
             self.add_page(root, self.crate(root))
         for module in self.crates.values():
@@ -24,12 +24,11 @@ class Library:
         self.impls = [it for crate in self.crates.values() for at in crate.all() for it in at.items if it.kind == "impl"]
 
     def crate(self, name):
-        if name not in self.crates:
-            source = TOP / "crates" / name / "src" / "lib.rt"
-            if not source.exists():
-                raise SystemExit(f"no crate {name} for a path of it")
+        """A crate of the repository. `None` if it has none of this name."""
+        source = TOP / "crates" / name / "src" / "lib.rt"
+        if name not in self.crates and source.exists():
             self.crates[name] = Module(name, name, source, None, True)
-        return self.crates[name]
+        return self.crates.get(name)
 
     def add_page(self, path, module):
         """Adds a module, with all that it gives under this path."""
@@ -37,8 +36,11 @@ class Library:
         modules = {name: it for name, it in module.modules.items() if it.public}
         for names, name in module.exports:
             found = self.resolve(module, names)
-            (modules if isinstance(found, Module) else items)[name] = found
-        if items:
+            if found is None:
+                self.foreign.setdefault(path, {})[name] = "::".join(names)
+            else:
+                (modules if isinstance(found, Module) else items)[name] = found
+        if items or path in self.foreign:
             self.pages[path] = (module, items)
             for name, item in items.items():
                 self.paths.setdefault(item, []).append((path, name))
@@ -46,7 +48,7 @@ class Library:
             self.add_page(f"{path}::{name}", it)
 
     def resolve(self, module, names):
-        """What a path in a module leads to."""
+        """What a path in a module leads to. `None` if that is in a crate of the kit."""
         first, *rest = names
         if first == "crate":
             found = module.root()
@@ -54,6 +56,8 @@ class Library:
             found = module if first == "self" else module.parent
         else:
             found = self.lookup(module, first) or self.crate(first)
+        if found is None:
+            return None
         for name in rest:
             found = self.lookup(found, name)
             if found is None:

@@ -14,7 +14,7 @@ Each public item has its signature, its contract (`requires` before a call, `ens
 its documentation. Left out are bodies, private fields, proofs, and functions of a trait's `impl` without a contract or
 documentation of their own. In a clause `x.now` is what a reference leads to, and `x.old` and `x.new` are what a `&mut`
 leads to before and after the call. The names in it are defined in `specs/` of the crate in the table:
-[PROMISES](PROMISES.md) explains them, and [CALLING](CALLING.md) shows how to name them.
+[PROMISES](PROMISES.md) explains the main ones, and [CALLING](CALLING.md) shows how to name them.
 """
 TAIL = "`tests/api/run.py --write` makes this page from the sources, and `.ci/run` compares it with them."
 
@@ -138,9 +138,10 @@ def section(library, path):
         chosen = [declaration(it) for it in own.values() if it.kind in kinds]
         if chosen:
             lines += [f"### {title}", ""] + code(chosen)
-    others = {name: "::".join(library.main_path(it)) for name, it in sorted(items.items()) if name not in own}
+    others = {name: "::".join(library.main_path(it)) for name, it in items.items() if name not in own}
+    others.update(library.foreign.get(path, {}))
     if others:
-        links = ", ".join(f"`{name}` (`{there}`)" for name, there in others.items())
+        links = ", ".join(f"`{name}` (`{there}`)" for name, there in sorted(others.items()))
         lines += wrapped(f"Items of other modules that are also here: {links}.") + [""]
     return lines
 

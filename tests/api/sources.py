@@ -194,6 +194,8 @@ class Reader:
             return self.mod(public, attributes)
         if kind == "impl":
             return self.impl(first, item(""))
+        if kind == "macro_rules":
+            return self.skip_to("{", "(", "[") or self.skip()
         if kind in ("struct", "enum", "trait", "fn", "const", "static", "type"):
             return getattr(self, f"read_{kind}")(first, item(self.next_word()))
         self.at -= 1
