@@ -155,7 +155,8 @@ def table(library):
         functions = sum(it.kind == "fn" for it in items) + sum(
             it.kind == "fn" for item in items if item.kind in TYPES for it in library.members_of(item)
         )
-        rows.append(f"| `{path}` | `{library.pages[path][0].crate}` | {types} | {functions} |")
+        link = f"[`{path}`](#{path.replace(':', '')})"
+        rows.append(f"| {link} | `{library.pages[path][0].crate}` | {types} | {functions} |")
     return rows + ["", TAIL, ""]
 
 
