@@ -21,7 +21,8 @@ class Library:
             self.add_page(root, self.crate(root))
         for module in self.crates.values():
             self.check_names(module)
-        self.impls = [it for crate in self.crates.values() for at in crate.all() for it in at.items if it.kind == "impl"]
+        modules = [it for crate in self.crates.values() for it in crate.all()]
+        self.impls = [it for module in modules for it in module.items if it.kind == "impl"]
 
     def crate(self, name):
         """A crate of the repository. `None` if it has none of this name."""

@@ -4,9 +4,9 @@
     tests/api/run.py            compares docs/API.md with the sources
     tests/api/run.py --write    writes docs/API.md
 
-The page has what a user of `tracing_appender` and `appender_log` reaches. A comparison also fails if a public item has no
-doc comment, or if a line of the sources that declares one is not on the page. It finds these lines by their form alone,
-without the reader that makes the page. The last line of a comparison is `N passed, M failed`.
+The page has what a user of `tracing_appender` and `appender_log` reaches. A comparison also fails if a public item has
+no doc comment, or if a line of the sources that declares one is not on the page. It finds these lines by their form
+alone, without the reader that makes the page. The last line of a comparison is `N passed, M failed`.
 """
 import re
 import sys
@@ -51,7 +51,8 @@ def compare(tally, parts):
     there = {HEADING.match(it)[1]: it.rstrip("\n") for it in (text[i:j] for i, j in zip(at, at[1:] + [len(text)]))}
     for name in {**parts, **there}:
         made = parts.get(name, "").rstrip("\n")
-        tally.check(there.get(name, "") == made, f"{PAGE.name}, {name}: not as in the sources; tests/api/run.py --write makes it anew")
+        why = f"{PAGE.name}, {name}: not as in the sources; tests/api/run.py --write makes it anew"
+        tally.check(there.get(name, "") == made, why)
 
 
 def check_documentation(tally, library):
