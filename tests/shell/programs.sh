@@ -578,18 +578,5 @@ run "$top/crates/dropped_guard/out/dropped_guard" < /dev/null
 check 'dropped_guard' \
   '0|Failed to send shutdown signal to logging worker. Error: Shutdown|Failed to flush. Error: no storage space' "$(told)"
 
-# ---- the library in another repository
-
-other=$work/other
-mkdir "$other"
-for turn in first second; do
-  run "$top/add-to" "$other"
-  check "add-to, $turn time" '0||' "$(told)"
-  check "add-to, $turn time: each crate has a line" "$(ls "$other/crates")" "$(cut -d: -f1 "$other/crates.txt" | sort)"
-done
-check 'add-to: the library is there' yes "$([ -f "$other/crates/tracing_appender/src/lib.rt" ] && echo yes || echo no)"
-run "$top/add-to" "$work/absent"
-check 'add-to, an absent folder' "2||usage: $top/add-to REPOSITORY" "$(told)"
-
 echo "$passed passed, $failed failed"
 [ "$failed" = 0 ]

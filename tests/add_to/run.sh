@@ -1,0 +1,196 @@
+#!/usr/bin/env bash
+# Copies a small library, and this one, into other repositories by `add-to`, and compares what is there then. Each check
+# that fails prints a line, and the last line is `N passed, M failed`. It ends within seconds and leaves nothing.
+set -u
+export LC_ALL=C
+unset GIT_DIR GIT_WORK_TREE GIT_INDEX_FILE
+
+top=$(cd "$(dirname "${BASH_SOURCE[0]}")/../.." && pwd -P)
+work=$(cd "$(mktemp -d)" && pwd -P)
+trap 'rm -rf "$work"' EXIT
+trap 'exit 1' INT TERM
+library=$work/library
+passed=0
+failed=0
+
+# check NAME WANTED GOT
+check() {
+  if [ "$2" = "$3" ]; then
+    passed=$((passed + 1))
+  else
+    failed=$((failed + 1))
+    printf 'FAILED %s: got %q wanted %q\n' "$1" "$3" "$2"
+  fi
+}
+
+# add FOLDER..: runs the small library's `add-to`, and prints its status and both streams.
+add() {
+  "$library/add-to" "$@" > "$work/out" 2> "$work/err"
+  echo "$?|$(cat "$work/out")|$(cat "$work/err")"
+}
+
+# The files below a folder with their contents, but for the commit.
+all_of() {
+  (cd "$1" && find . -type f | sort | while IFS= read -r file; do
+    echo "$file: $(grep -v '^commit: ' "$file" | paste -sd '|')"
+  done)
+}
+
+# A line of the small library's VERSION in a repository: its name, the repository.
+version() {
+  sed -n "s/^$1: //p" "$2/crates/tracing_appender/VERSION"
+}
+
+# crate NAME TEXT: a crate of the small library.
+crate() {
+  mkdir -p "$library/crates/$1/src" "$library/crates/$1/must-fail" "$library/crates/$1/out"
+  echo "$2" > "$library/crates/$1/src/lib.rt"
+  touch "$library/crates/$1/must-fail/bad.edit" "$library/crates/$1/out/program"
+}
+
+# ---- a small library
+
+mkdir "$library"
+cp "$top/add-to" "$library"
+printf '# Changelog\n\nWhat a number says.\n\n## 1.0.0\n\n- All.\n\n## 0.9.0\n' > "$library/CHANGELOG.md"
+echo 'Handles allowed: Threads, Wait.' > "$library/HANDLES"
+echo licence > "$library/LICENSE"
+for name in tracing_appender appender_log lower dated other; do crate "$name" "$name 1"; done
+echo old > "$library/crates/lower/src/old.rt"
+printf '%s\n' 'lower: jiff' 'dated:' 'tracing_appender: lower dated' 'appender_log: lower log' 'other: lower' \
+  > "$library/crates.txt"
+first="./HANDLES: Handles allowed: Threads, Wait.
+./crates.txt: lower: jiff|dated:|tracing_appender: lower dated|appender_log: lower log
+./crates/appender_log/src/lib.rt: appender_log 1
+./crates/dated/src/lib.rt: dated 1
+./crates/lower/src/lib.rt: lower 1
+./crates/lower/src/old.rt: old
+./crates/tracing_appender/LICENSE: licence
+./crates/tracing_appender/VERSION: version: 1.0.0|crates: lower dated tracing_appender appender_log
+./crates/tracing_appender/src/lib.rt: tracing_appender 1"
+
+check 'no argument' "2||usage: $library/add-to REPOSITORY" "$(add)"
+check 'two arguments' "2||usage: $library/add-to REPOSITORY" "$(add "$work/a" "$work/b")"
+check 'an empty argument' "2||usage: $library/add-to REPOSITORY" "$(add '')"
+check 'a file' "2||usage: $library/add-to REPOSITORY" "$(add "$library/LICENSE")"
+check 'itself' "2||$library/add-to: $library is the library itself" "$(add "$library/crates/..")"
+
+app="$work/an app/below"
+check 'a folder that is not there' '0||' "$(add "$app")"
+check 'a folder that is not there: all is copied' "$first" "$(all_of "$app")"
+check 'nothing else is in crates' 'appender_log dated lower tracing_appender' "$(ls -A "$app/crates" | paste -sd ' ')"
+check 'again' '0||' "$(add "$app")"
+check 'again: all is the same' "$first" "$(all_of "$app")"
+check 'no checkout' unknown "$(version commit "$app")"
+
+# ---- a repository with crates of its own, before and after an update
+
+own=$work/own
+mkdir -p "$own/crates/service/src" "$own/crates/dates/src"
+echo mine > "$own/crates/service/src/lib.rt"
+echo mine > "$own/crates/dates/src/lib.rt"
+printf 'service: dates dated tracing_appender\nlower: an older line\ndates: jiff' > "$own/crates.txt"
+check 'own crates' '0||' "$(add "$own")"
+check 'own crates: lines are replaced where they are, others stay' \
+  'service: dates dated tracing_appender|lower: jiff|dates: jiff|dated:|tracing_appender: lower dated|appender_log: lower log' \
+  "$(paste -sd '|' "$own/crates.txt")"
+
+rm -r "$library/crates/lower/src/old.rt" "$library/crates/dated"
+echo 'lower 2' > "$library/crates/lower/src/lib.rt"
+echo new > "$library/crates/lower/src/new.rt"
+crate added 'added 1'
+printf '%s\n' 'added:' 'lower: added' 'tracing_appender: lower' 'appender_log: lower log' > "$library/crates.txt"
+sed -i 's/^## 1.0.0/## 1.1.0\n\n&/' "$library/CHANGELOG.md"
+second="./HANDLES: Handles allowed: Threads, Wait.
+./crates.txt: lower: added|tracing_appender: lower|appender_log: lower log|added:
+./crates/added/src/lib.rt: added 1
+./crates/appender_log/src/lib.rt: appender_log 1
+./crates/lower/src/lib.rt: lower 2
+./crates/lower/src/new.rt: new
+./crates/tracing_appender/LICENSE: licence
+./crates/tracing_appender/VERSION: version: 1.1.0|crates: added lower tracing_appender appender_log
+./crates/tracing_appender/src/lib.rt: tracing_appender 1"
+
+check 'an update' '0||' "$(add "$app")"
+check 'an update: what is gone goes, what is new comes' "$second" "$(all_of "$app")"
+check 'an update beside own crates' \
+  "0||$library/add-to: the library no longer has dated, which crates.txt lists for: service" "$(add "$own")"
+check 'an update: own lines stay' \
+  'service: dates dated tracing_appender|lower: added|dates: jiff|tracing_appender: lower|appender_log: lower log|added:' \
+  "$(paste -sd '|' "$own/crates.txt")"
+check 'an update: own crates stay' 'mine mine' "$(cat "$own"/crates/{service,dates}/src/lib.rt | paste -sd ' ')"
+
+rm "$app/crates/tracing_appender/VERSION"
+echo changed > "$app/crates/lower/src/lib.rt"
+check 'a copy without a VERSION' '0||' "$(add "$app")"
+check 'a copy without a VERSION: all is as in a new one' "$second" "$(all_of "$app")"
+
+taken=$work/taken
+mkdir -p "$taken/crates/lower/src"
+echo mine > "$taken/crates/lower/src/lib.rt"
+before=$(all_of "$taken")
+check 'an own crate with the name of one' \
+  "1||$library/add-to: $taken/crates/lower is not a copy of this library's crate, so nothing was copied" "$(add "$taken")"
+check 'an own crate with the name of one: nothing is changed' "$before" "$(all_of "$taken")"
+
+# ---- HANDLES
+
+# handles LINE WORD..: the words are reported, and the line stays.
+handles() {
+  local target=$work/handles line=$1 word wanted=
+  shift
+  mkdir -p "$target"
+  echo "$line" > "$target/HANDLES"
+  for word in "$@"; do
+    wanted=$wanted${wanted:+$'\n'}"$library/add-to: $target/HANDLES does not allow $word, which a queue needs"
+  done
+  check "HANDLES '$line'" "0||$wanted" "$(add "$target")"
+  check "HANDLES '$line': it stays" "$line" "$(cat "$target/HANDLES")"
+}
+
+handles 'Handles allowed: none.' Threads Wait
+handles 'Handles allowed: Threads.' Wait
+handles 'Handles allowed: Wait, Net.' Threads
+handles 'Handles allowed: Threads, Wait, Net.'
+
+# ---- the commit
+
+if command -v git > /dev/null; then
+  git() { command git -C "$1" -c user.name=x -c user.email=x@x -c commit.gpgsign=false "${@:2}" > /dev/null 2>&1; }
+  git "$work" init
+  git "$work" commit --allow-empty -m outer
+  add "$app" > /dev/null
+  check 'a folder in another checkout' unknown "$(version commit "$app")"
+  git "$library" init
+  add "$app" > /dev/null
+  check 'a checkout without a commit' 'unknown, with changes' "$(version commit "$app")"
+  git "$library" add -A
+  git "$library" commit -m library
+  commit=$(command git -C "$library" rev-parse HEAD)
+  add "$app" > /dev/null
+  check 'a checkout' "$commit" "$(version commit "$app")"
+  GIT_DIR=$work/.git add "$app" > /dev/null
+  check 'a checkout, in a hook of another one' "$commit" "$(version commit "$app")"
+  touch "$library/crates/lower/src/untracked.rt"
+  add "$app" > /dev/null
+  check 'a checkout with a new file' "$commit, with changes" "$(version commit "$app")"
+  rm "$library/crates/lower/src/untracked.rt"
+  echo 'lower 3' > "$library/crates/lower/src/lib.rt"
+  add "$app" > /dev/null
+  check 'a checkout with a changed file' "$commit, with changes" "$(version commit "$app")"
+fi
+
+# ---- this library
+
+library=$top
+whole=$work/whole
+check 'this library' '0||' "$(add "$whole")"
+check 'this library: each crate has a line' "$(ls -A "$whole/crates")" "$(cut -d: -f1 "$whole/crates.txt" | sort)"
+check 'this library: its version is a number' 1 "$(version version "$whole" | grep -cE '^[0-9]+\.[0-9]+\.[0-9]+$')"
+for name in $(ls "$whole/crates"); do
+  check "this library: $name" '' \
+    "$(diff -r -x out -x must-fail -x LICENSE -x VERSION "$top/crates/$name" "$whole/crates/$name" 2>&1)"
+done
+
+echo "$passed passed, $failed failed"
+[ "$failed" = 0 ]
