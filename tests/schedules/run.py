@@ -76,6 +76,7 @@ class Tried:
 
     schedules: int
     choices: int = 0
+    is_complete: bool = True
     fault: str = ""
     # The seed or the choices of that schedule.
     which: str = ""
@@ -124,12 +125,24 @@ def search(library, program, test, folder, name, seconds, seed):
     fault, summary = FAULT.search(done.stdout), SUMMARY.search(done.stdout)
     if not summary or (done.returncode != 0) != bool(fault):
         return Tried(0, fault=f"the scheduler ended with status {done.returncode}: {done.stdout}{done.stderr}")
-    tried = Tried(int(summary[1]), int(summary[2]))
+    tried = Tried(int(summary[1]), int(summary[2]), summary[4] == "complete")
     if fault:
         tried.fault, tried.which = fault[1], fault[3]
     elif not tried.schedules:
         tried.fault = "no schedule was run"
     return tried
+
+
+def check_searches(library, folder):
+    """Ends the script if a search doesn't find the faults of a program that has some."""
+    path = pathlib.Path(folder, "known")
+    subprocess.run(["gcc", "-O2", "-o", path, HERE / "known.c", "-lpthread"], check=True)
+    program = program_at("known", path, folder)
+    for fault, wanted in (("update", "another status 1"), ("wake-up", "deadlock")):
+        for name in SEARCHES:
+            tried = search(library, program, fault, folder, name, EACH_SECONDS, 1)
+            if not tried.fault.startswith(wanted):
+                raise SystemExit(f"known.c: {name} finds no {fault}: {tried}")
 
 
 def try_test(library, program, test, folder, seconds, seed):
@@ -147,8 +160,8 @@ def report(program, test, found):
     schedules = sum(it.schedules for it in found.values())
     name, last = list(found.items())[-1]
     if not last.fault:
-        each = " + ".join(str(it.schedules) for it in found.values())
-        print(f"{program.crate} {test}: {each} schedules")
+        counts = [f"{it} {tried.schedules}{'' if tried.is_complete else ' (stopped)'}" for it, tried in found.items()]
+        print(f"{program.crate} {test}: {', '.join(counts)} schedules")
         return schedules, False
     print(f"{program.crate} {test}: {last.fault}\n  found by {name} after {last.schedules} schedules; its steps are printed by")
     words = ["tests/schedules/run.py", "--repeat", program.crate, test, name, last.which]
@@ -159,11 +172,16 @@ def report(program, test, found):
 def try_all(words, folder):
     """Tries all tests, and returns how many failed."""
     library = build_library(folder)
+    check_searches(library, folder)
     passed = failed = schedules = alone = 0
     with concurrent.futures.ThreadPoolExecutor(os.cpu_count()) as pool:
         waiting = []
         for crate in CRATES:
-            program = program_at(crate, words.programs / crate / "out" / f"{crate}_tests", folder)
+            path = words.programs / crate / "out" / f"{crate}_tests"
+            if words.only and not path.exists():
+                print(f"{crate} isn't built")
+                continue
+            program = program_at(crate, path, folder)
             tests = [it for it in program.tests() if words.only in f"{crate} {it}"]
             waiting += [(program, it, pool.submit(try_test, library, program, it, folder, words.seconds, words.seed)) for it in tests]
         for program, test, done in waiting:

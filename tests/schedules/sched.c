@@ -6,7 +6,7 @@
 //
 //   SCHED=each      all schedules that differ from round robin in at most one choice
 //   SCHED=random    random walks: at each place another thread goes on with a probability that is drawn for each run
-//   SCHED=pct       random priorities of threads, with SCHED_CHANGES changes (3) at random places
+//   SCHED=pct       random priorities of threads, which change at CHANGES random places
 //   SCHED=replay    one schedule, given by SCHED_CHOICES: words PLACE:CHOICE, where each other choice is 0
 //   SCHED_LOCKED    a file with the locked instructions, a line 'ADDRESS NAME' for each, in their order
 //   SCHED_SEED      the seed of the first run (1), which each further run raises by 1
@@ -17,10 +17,10 @@
 //
 // It prints one line, and a line before it if a schedule ends otherwise than by status 0. Then the status is 1.
 //
-// The search `pct` is that of Burckhardt, Kothari, Musuvathi and Nagarakatte, 'A randomized scheduler with probabilistic
-// guarantees of finding bugs' (2010). The bound of `each` is in the spirit of Musuvathi and Qadeer, 'Iterative context
-// bounding for systematic testing of multithreaded programs' (2007): most bugs need few preemptions. It counts each
-// choice that isn't that of round robin.
+// The search `pct` is that of Burckhardt, Kothari, Musuvathi and Nagarakatte, 'A randomized scheduler with
+// probabilistic guarantees of finding bugs' (2010). The bound of `each` is like that of Musuvathi and Qadeer, 'Iterative
+// context bounding for systematic testing of multithreaded programs' (2007), who found that most bugs need few
+// preemptions: it counts each choice that is not that of round robin.
 #define _GNU_SOURCE
 #include <dlfcn.h>
 #include <errno.h>
@@ -42,6 +42,8 @@
 #define MOST_THREADS 24
 #define MOST_STEPS 50000
 #define MOST_CHOICES 100000
+// Most bugs of this kind need fewer.
+#define CHANGES 3
 // So many yields of one thread in a row, and another one goes on.
 #define MOST_YIELDS 200
 #define STACK_BYTES (1u << 20)
@@ -74,7 +76,7 @@ static const char *const endings[] = {"no end", "well", "another status", "deadl
 enum search { EACH, RANDOM, PCT, REPLAY };
 
 static enum search search;
-static int is_slow, is_traced, most_changes;
+static int is_slow, is_traced;
 
 // The run: `is_running` while a thread of the program runs, and not the driver.
 static int is_running, is_main_ended, steps, status, time_passed_early;
@@ -152,8 +154,19 @@ static void begin_thread(int id, void *(*start)(void *), void *argument, int pri
   *--top = 0;
   *--top = (void *)thread_main;
   for (int i = 0; i < 6; i++) *--top = 0;
-  *it = (struct thread){.stack_pointer = top, .state = READY, .start = start, .argument = argument, .priority = priority};
+  *it = (struct thread){
+      .stack_pointer = top, .state = READY, .start = start, .argument = argument, .priority = priority};
   snprintf(it->name, sizeof it->name, id ? "thread %d" : "main", id);
+}
+
+// Writes what each thread does that has not ended.
+static void describe_threads(void) {
+  static const char *const doing[] = {"is ready", "sleeps", "naps", "waits for an end"};
+  size_t used = 0;
+  for (int i = 0; i < thread_count && used < sizeof message - 64; i++)
+    if (threads[i].state != ENDED)
+      used += (size_t)snprintf(message + used, sizeof message - used, "%s%s %s", used ? ", " : "", threads[i].name,
+                               doing[threads[i].state]);
 }
 
 static void go_on_with(int id) {
@@ -295,7 +308,7 @@ static int happens(double probability) { return (double)(next_random() >> 11) * 
 static double switches_with, passes_with;
 static int ignores_yields, yields_in_a_row;
 // Of `pct`: the steps at which priorities change, and the lowest one so far. Priorities of new threads are above 0.
-static int changes_at[16], lowest_priority, usual_steps = 200;
+static int changes_at[CHANGES], lowest_priority, usual_steps = 200;
 
 static void draw(uint64_t seed) {
   static const double switches[] = {0.9, 0.5, 0.25, 0.1, 0.05, 0.02}, passes[] = {0, 0, 0.003, 0.02, 0.1};
@@ -303,7 +316,7 @@ static void draw(uint64_t seed) {
   switches_with = switches[below(6)];
   passes_with = passes[below(5)];
   ignores_yields = search != EACH && search != REPLAY && below(2);
-  for (int i = 0; i < most_changes; i++) changes_at[i] = 1 + below(usual_steps);
+  for (int i = 0; i < CHANGES; i++) changes_at[i] = 1 + below(usual_steps);
   lowest_priority = 0;
 }
 
@@ -320,7 +333,7 @@ static int walk(int count, int yields) {
 
 // The thread with the highest priority. That of the current one changes at some places, and where it yields.
 static int by_priority(const int *ids, int count, int yields) {
-  for (int i = 0; i < most_changes; i++)
+  for (int i = 0; i < CHANGES; i++)
     if (changes_at[i] == steps) threads[current].priority = --lowest_priority;
   if (yields && !ignores_yields) threads[current].priority = --lowest_priority;
   int best = 0;
@@ -334,25 +347,13 @@ static int propose(const int *ids, int count, int yields) {
   return search == RANDOM ? walk(count, yields) : 0;
 }
 
-// ---- Places ----
+// ---- Virtual time ----
+// Time passes when no thread can go on: then the wait that ends first runs out. Where threads may be slow, it also
+// passes while others can.
 
-static void describe_threads(void) {
-  static const char *const doing[] = {"is ready", "sleeps", "naps", "waits for an end"};
-  size_t used = 0;
-  for (int i = 0; i < thread_count && used < sizeof message - 64; i++)
-    if (threads[i].state != ENDED)
-      used += (size_t)snprintf(message + used, sizeof message - used, "%s%s %s", used ? ", " : "", threads[i].name,
-                               doing[threads[i].state]);
-}
-
-// The threads that can go on, in the order of round robin. The current one is the first, or the last if it yields.
-static int ready_threads(int *ids, int yields) {
-  int count = 0;
-  for (int i = yields; i < thread_count + yields; i++) {
-    int id = (current + i) % thread_count;
-    if (threads[id].state == READY) ids[count++] = id;
-  }
-  return count;
+static int64_t after(const struct timespec *time) {
+  if (!time || time->tv_sec > 1000000000) return NEVER;
+  return now + time->tv_sec * 1000000000ll + time->tv_nsec;
 }
 
 // The thread whose timed wait runs out first, or -1.
@@ -362,6 +363,34 @@ static int first_due(void) {
     if ((threads[i].state == ASLEEP || threads[i].state == NAPPING) && threads[i].wakes_at != NEVER)
       if (first < 0 || threads[i].wakes_at < threads[first].wakes_at) first = i;
   return first;
+}
+
+static void let_time_pass(int due, int is_early) {
+  struct thread *it = &threads[due];
+  if (is_early) time_passed_early = 1;
+  int naps = 0;
+  for (int i = 0; i < thread_count; i++) naps |= threads[i].state == NAPPING;
+  // No thread but the sleeping ones could have woken it.
+  if (!time_passed_early && !naps) {
+    describe_threads();
+    end_run(LOST_WAKE_UP);
+  }
+  if (it->wakes_at > now) now = it->wakes_at;
+  it->state = READY;
+  it->ran_out = 1;
+  if (is_traced) dprintf(2, "        (the wait of %s runs out)\n", it->name);
+}
+
+// ---- Places ----
+
+// The threads that can go on, in the order of round robin. The current one is the first, or the last if it yields.
+static int ready_threads(int *ids, int yields) {
+  int count = 0;
+  for (int i = yields; i < thread_count + yields; i++) {
+    int id = (current + i) % thread_count;
+    if (threads[id].state == READY) ids[count++] = id;
+  }
+  return count;
 }
 
 // No thread can go on, and no time has an effect.
@@ -384,38 +413,12 @@ static void place(int yields) {
     ids[options++] = due;
   }
   int chosen = choose(options, proposed), next = ids[chosen];
-  if (chosen == count) {
-    void let_time_pass(int due, int is_early);
-    let_time_pass(due, count);
-  }
+  if (chosen == count) let_time_pass(due, count);
   if (next != current) yields_in_a_row = 0;
   go_on_with(next);
 }
 
-// ---- Virtual time ----
-// Time passes when no thread can go on: then the wait that ends first runs out. Where threads may be slow, it also
-// passes while others can.
-
-void __attribute__((visibility("hidden"))) let_time_pass(int due, int is_early) {
-  struct thread *it = &threads[due];
-  if (is_early) time_passed_early = 1;
-  int naps = 0;
-  for (int i = 0; i < thread_count; i++) naps |= threads[i].state == NAPPING;
-  // No thread but the sleeping ones could have woken it.
-  if (!time_passed_early && !naps) {
-    describe_threads();
-    end_run(LOST_WAKE_UP);
-  }
-  if (it->wakes_at > now) now = it->wakes_at;
-  it->state = READY;
-  it->ran_out = 1;
-  if (is_traced) dprintf(2, "        (the wait of %s runs out)\n", it->name);
-}
-
-static int64_t after(const struct timespec *time) {
-  if (!time || time->tv_sec > 1000000000) return NEVER;
-  return now + time->tv_sec * 1000000000ll + time->tv_nsec;
-}
+// ---- Calls for time ----
 
 int nanosleep(const struct timespec *time, struct timespec *left) {
   if (!is_running) return (int)answer(system_call(SYS_nanosleep, (long)time, (long)left, 0, 0, 0, 0));
@@ -441,7 +444,6 @@ int clock_gettime(clockid_t clock, struct timespec *time) {
   return 0;
 }
 
-int yield_place(void) __attribute__((visibility("hidden")));
 int sched_yield(void) {
   if (!is_running) return (int)answer(system_call(SYS_sched_yield, 0, 0, 0, 0, 0, 0));
   int ignored = ignores_yields;
@@ -777,10 +779,13 @@ static int try_each(double until, int *is_complete) {
 
 // Tries random schedules, after that of round robin, whose length says where priorities may change.
 static int try_random(enum search wanted, uint64_t *seed, long most, double until) {
+  int traced = is_traced;
   search = EACH;
+  is_traced = 0;
   run_once(0);
   if (ending != WELL) return 1;
   search = wanted;
+  is_traced = traced;
   usual_steps = steps;
   do run_once((*seed)++);
   while (ending == WELL && runs <= most && seconds() < until);
@@ -805,7 +810,6 @@ static int drive(void) {
   int is_bad, is_complete = 1;
   is_slow = setting("SCHED_SLOW", 0) != 0;
   is_traced = setting("SCHED_TRACE", 0) != 0;
-  most_changes = (int)setting("SCHED_CHANGES", 3) & 15;
   if (search == REPLAY) {
     read_plan(getenv("SCHED_CHOICES"));
     run_once(0);
@@ -816,16 +820,20 @@ static int drive(void) {
     is_bad = try_random(search, &seed, most, until);
   }
   if (is_bad) report(seed - 1);
-  printf("schedules %ld | choices %d | longest %d steps | %s\n", runs, choice_count, longest, is_complete ? "complete" : "stopped");
+  printf("schedules %ld | choices %d | longest %d steps | %s\n", runs, choice_count, longest,
+         is_complete ? "complete" : "stopped");
   return is_bad;
+}
+
+static void *map_memory(size_t bytes) {
+  return mmap(0, bytes, PROT_READ | PROT_WRITE, MAP_PRIVATE | MAP_ANONYMOUS | MAP_NORESERVE, -1, 0);
 }
 
 static int scheduled_main(int count, char **words, char **settings) {
   argument_count = count, arguments = words, environment = settings;
-  if (!getenv("SCHED")) return program_main(count, words, settings);
   unsetenv("LD_PRELOAD");
-  stacks = mmap(0, (size_t)MOST_THREADS * STACK_BYTES, PROT_READ | PROT_WRITE, MAP_PRIVATE | MAP_ANONYMOUS | MAP_NORESERVE, -1, 0);
-  heap = mmap(0, HEAP_BYTES, PROT_READ | PROT_WRITE, MAP_PRIVATE | MAP_ANONYMOUS | MAP_NORESERVE, -1, 0);
+  stacks = map_memory((size_t)MOST_THREADS * STACK_BYTES);
+  heap = map_memory(HEAP_BYTES);
   for (int i = 0; i < MOST_THREADS; i++) mprotect(stacks + (size_t)i * STACK_BYTES, 4096, PROT_NONE);
   catch_signals();
   break_at(getenv("SCHED_LOCKED"));
