@@ -5,12 +5,12 @@
 #include <linux/futex.h>
 #include <pthread.h>
 #include <stdatomic.h>
-#include <stddef.h>
+#include <stdlib.h>
 #include <string.h>
 #include <sys/syscall.h>
 #include <unistd.h>
 
-static atomic_uint sum, flag, word;
+struct shared { atomic_uint sum, flag, word; };
 
 // By a locked instruction.
 static unsigned read_locked(atomic_uint *from) {
@@ -19,28 +19,32 @@ static unsigned read_locked(atomic_uint *from) {
   return seen;
 }
 
-static void *add(void *unused) {
-  atomic_store(&sum, read_locked(&sum) + 1);
-  return unused;
+static void *add(void *argument) {
+  struct shared *shared = argument;
+  atomic_store(&shared->sum, read_locked(&shared->sum) + 1);
+  return NULL;
 }
 
-static void *wait_for_flag(void *unused) {
-  if (!read_locked(&flag)) syscall(SYS_futex, &word, FUTEX_WAIT, 0, NULL);
-  return unused;
+static void *wait_for_flag(void *argument) {
+  struct shared *shared = argument;
+  if (!read_locked(&shared->flag)) syscall(SYS_futex, &shared->word, FUTEX_WAIT, 0, NULL);
+  return NULL;
 }
 
-static void *set_flag(void *unused) {
-  atomic_store(&flag, 1);
-  syscall(SYS_futex, &word, FUTEX_WAKE, 1);
-  return unused;
+static void *set_flag(void *argument) {
+  struct shared *shared = argument;
+  atomic_store(&shared->flag, 1);
+  syscall(SYS_futex, &shared->word, FUTEX_WAKE, 1);
+  return NULL;
 }
 
 int main(int count, char **words) {
   int is_update = count > 1 && !strcmp(words[1], "update");
+  struct shared *shared = calloc(1, sizeof *shared);
   pthread_t one, other;
-  pthread_create(&one, NULL, is_update ? add : wait_for_flag, NULL);
-  pthread_create(&other, NULL, is_update ? add : set_flag, NULL);
+  pthread_create(&one, NULL, is_update ? add : wait_for_flag, shared);
+  pthread_create(&other, NULL, is_update ? add : set_flag, shared);
   pthread_join(one, NULL);
   pthread_join(other, NULL);
-  return is_update && atomic_load(&sum) != 2;
+  return is_update && atomic_load(&shared->sum) != 2;
 }

@@ -51,8 +51,9 @@ SEARCHES = ["each", "random", "pct"]
 EACH_SECONDS = 5
 # No search takes as long on a slow machine; one that does hangs.
 LIMIT_SECONDS = 120
-# A line of a disassembly that begins a function, or an instruction that locks a word of memory.
-LOCKED = re.compile(r"^[0-9a-f]+ <(.*)>:$|^ *([0-9a-f]+):\t((?:lock |xchg .*\().*)$", re.M)
+# A line of a disassembly that begins a function, or an instruction that locks a word of memory: its address, its bytes and its
+# text. One whose operand is found from its own address can't be copied; the programs have none.
+LOCKED = re.compile(r"^[0-9a-f]+ <(.*)>:$|^ *([0-9a-f]+):\t((?:[0-9a-f]{2} )+) *\t((?:lock |xchg .*\()(?!.*%rip).*)$", re.M)
 FAULT = re.compile(r"^fault: (.*) \| schedules (\d+) \| (?:seed|choices) ?(.*)$", re.M)
 SUMMARY = re.compile(r"^schedules (\d+) \| choices (\d+) \| longest (\d+) steps \| (complete|stopped)$", re.M)
 
@@ -84,13 +85,13 @@ class Tried:
 
 def program_at(crate, path, folder):
     """The program at a path, whose locked instructions are listed in a file of the folder."""
-    command = ["objdump", "-d", "--no-show-raw-insn", path]
+    command = ["objdump", "-d", "--insn-width=16", path]
     text = subprocess.run(command, capture_output=True, text=True, check=True).stdout
     rows, function = [], ""
-    for name, address, instruction in LOCKED.findall(text):
+    for name, address, code, instruction in LOCKED.findall(text):
         function = name or function
         if address:
-            rows.append(f"{address} {instruction.split('#')[0].strip()} in {function}"[:200] + "\n")
+            rows.append(f"{address} {len(code.split())} {instruction.strip()} in {function}"[:200] + "\n")
     if not rows:
         raise SystemExit(f"{path}: no locked instruction")
     locked = pathlib.Path(folder, f"{crate}.locked")

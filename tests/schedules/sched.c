@@ -1,4 +1,4 @@
-// A preloaded library that runs the threads of a program one at a time, and chooses at each place who goes on.
+// A preloaded library that runs the threads of a program one at a time, and chooses at each place which one goes on.
 //
 // A place is where threads can meet: before and after each locked instruction, at each call for a futex, a yield, a
 // sleep, a reading of the clock, and at the end of a thread or the wait for it. What is between two places is one step.
@@ -8,7 +8,7 @@
 //   SCHED=random    random walks: at each place another thread goes on with a probability that is drawn for each run
 //   SCHED=pct       random priorities of threads, which change at CHANGES random places
 //   SCHED=replay    one schedule, given by SCHED_CHOICES: words PLACE:CHOICE, where each other choice is 0
-//   SCHED_LOCKED    a file with the locked instructions, a line 'ADDRESS NAME' for each, in their order
+//   SCHED_LOCKED    a file with the locked instructions, a line 'ADDRESS LENGTH NAME' for each, in their order
 //   SCHED_SEED      the seed of the first run (1), which each further run raises by 1
 //   SCHED_RUNS      the most runs (1000000)
 //   SCHED_SECONDS   how long to try (0.5); at least one run is made
@@ -44,7 +44,7 @@
 #define MOST_CHOICES 100000
 // Most bugs of this kind need fewer.
 #define CHANGES 3
-// So many yields of one thread in a row, and another one goes on.
+// After so many yields of one thread in a row, another one goes on.
 #define MOST_YIELDS 200
 #define STACK_BYTES (1u << 20)
 #define HEAP_BYTES (256u << 20)
@@ -67,9 +67,9 @@ struct thread {
   char name[16];
 };
 
-enum ending { GOES_ON, WELL, STATUS, DEADLOCK, STILL_ASLEEP, LOST_WAKE_UP, LIVELOCK, SIGNAL, NO_CHOICE, NO_PLACE };
+enum ending { GOES_ON, WELL, STATUS, FAILED, DEADLOCK, STILL_ASLEEP, LOST_WAKE_UP, LIVELOCK, SIGNAL, NO_CHOICE, NO_PLACE };
 
-static const char *const endings[] = {"no end", "well", "another status", "deadlock", "asleep after the end of main",
+static const char *const endings[] = {"no end", "well", "another status", "failed test", "deadlock", "asleep after the end of main",
     "lost wake-up: a timed wait ran out while no thread could go on", "livelock", "signal", "no such choice",
     "more than the scheduler has place for"};
 
@@ -575,46 +575,89 @@ ssize_t write(int file, const void *bytes, size_t count) {
 }
 
 // ---- Locked instructions ----
-// Each begins with a breakpoint. Its handler is a place; then the processor executes the instruction alone, by its trap
-// flag, and stops at the place after it. The one after is needed since a plain load has no place of its own.
+// Each becomes a jump to a slot, which stops at a place, executes a copy of the instruction, and stops at another place
+// before it jumps back. The second one is needed since a plain load has no place of its own. An instruction shorter than
+// a jump becomes a breakpoint, whose handler goes on at the slot.
 
-static struct { uintptr_t at; uint8_t byte; char *name; } *locked;
+#define SLOT_BYTES 80
+#define MOST_LOCKED 16384
+
+static struct { uint8_t *at; char *name; } locked[MOST_LOCKED];
 static int locked_count;
-static uint8_t *stepping;
+// The slots begin with the addresses of the two functions that they call.
+static uint8_t *slots;
 
-static int find_locked(uintptr_t at) {
+// Called by a slot, which has left the red zone and pushed its number: keeps all registers that a call may change.
+#define STOP(name, to) \
+  __asm__(".text\n.globl " name "\n.hidden " name "\n" name ":\n" \
+          "push %rbp\nmov %rsp,%rbp\npushfq\n" \
+          "push %rax\npush %rcx\npush %rdx\npush %rsi\npush %rdi\npush %r8\npush %r9\npush %r10\npush %r11\n" \
+          "sub $512,%rsp\nand $-16,%rsp\nfxsave64 (%rsp)\n" \
+          "cld\nmov 16(%rbp),%rdi\ncall " to "\nfxrstor64 (%rsp)\nlea -80(%rbp),%rsp\n" \
+          "pop %r11\npop %r10\npop %r9\npop %r8\npop %rdi\npop %rsi\npop %rdx\npop %rcx\npop %rax\n" \
+          "popfq\npop %rbp\nret\n")
+
+void stop_before(void), stop_after(void);
+STOP("stop_before", "reach_locked");
+STOP("stop_after", "leave_locked");
+
+__attribute__((visibility("hidden"), used)) void reach_locked(long number) {
+  if (!is_running) return;
+  place(0);
+  trace("%s", locked[number].name);
+}
+
+__attribute__((visibility("hidden"), used)) void leave_locked(long number) {
+  (void)number;
+  if (is_running) place(0);
+}
+
+static uint8_t *slot_of(int number) { return slots + 16 + (size_t)number * SLOT_BYTES; }
+
+// Writes a call of the function whose address is at `pointer`, with the number of the slot.
+static uint8_t *put_stop(uint8_t *to, int number, const uint8_t *pointer) {
+  static const uint8_t code[] = {0x48, 0x8d, 0x64, 0x24, 0x80,                    // lea -128(%rsp),%rsp
+                                 0x68, 0, 0, 0, 0,                                // push $number
+                                 0xff, 0x15, 0, 0, 0, 0,                          // call *pointer(%rip)
+                                 0x48, 0x8d, 0xa4, 0x24, 0x88, 0x00, 0x00, 0x00}; // lea 136(%rsp),%rsp
+  int32_t distance = (int32_t)(pointer - (to + 16));
+  copy(to, code, sizeof code);
+  copy(to + 6, &number, 4);
+  copy(to + 12, &distance, 4);
+  return to + sizeof code;
+}
+
+static void put_jump(uint8_t *from, const uint8_t *to) {
+  int32_t distance = (int32_t)(to - (from + 5));
+  *from = 0xe9;
+  copy(from + 1, &distance, 4);
+}
+
+// Makes the slot of an instruction of this length, and a jump to it or a breakpoint in its place.
+static void put_slot(int number, int length) {
+  uint8_t *at = locked[number].at, *slot = slot_of(number), *end = put_stop(slot, number, slots);
+  copy(end, at, (size_t)length);
+  end = put_stop(end + length, number, slots + 8);
+  put_jump(end, at + length);
+  if (length >= 5) put_jump(at, slot);
+  else *at = 0xcc;
+}
+
+static void on_trap(int signal, siginfo_t *unused, void *context) {
+  (void)unused;
+  greg_t *registers = ((ucontext_t *)context)->uc_mcontext.gregs;
+  uint8_t *at = (uint8_t *)registers[REG_RIP] - 1;
   int low = 0, high = locked_count;
   while (low < high) {
     int middle = (low + high) / 2;
     if (locked[middle].at < at) low = middle + 1;
     else high = middle;
   }
-  return low < locked_count && locked[low].at == at ? low : -1;
-}
-
-static void on_trap(int signal, siginfo_t *unused, void *context) {
-  (void)unused;
-  greg_t *registers = ((ucontext_t *)context)->uc_mcontext.gregs;
-  if (stepping) {
-    *stepping = 0xcc;
-    stepping = 0;
-    registers[REG_EFL] &= ~0x100;
-    if (is_running) place(0);
-    return;
-  }
-  int it = find_locked((uintptr_t)registers[REG_RIP] - 1);
-  if (it < 0) {
+  if (low == locked_count || locked[low].at != at) {
     snprintf(message, sizeof message, "%d in %s", signal, threads[current].name);
     end_run(SIGNAL);
   }
-  if (is_running) {
-    place(0);
-    trace("%s", locked[it].name);
-  }
-  stepping = (uint8_t *)locked[it].at;
-  *stepping = locked[it].byte;
-  registers[REG_RIP] = (greg_t)locked[it].at;
-  registers[REG_EFL] |= 0x100;
+  registers[REG_RIP] = (greg_t)slot_of(low);
 }
 
 static void on_signal(int number) {
@@ -623,7 +666,7 @@ static void on_signal(int number) {
     raise(number);
   }
   snprintf(message, sizeof message, "%d in %s", number, threads[current].name);
-  end_run(SIGNAL);
+  end_run(number == SIGABRT ? FAILED : SIGNAL);
 }
 
 static void catch_signals(void) {
@@ -633,47 +676,50 @@ static void catch_signals(void) {
   struct sigaction caught = {.sa_handler = on_signal, .sa_flags = SA_ONSTACK | SA_NODEFER};
   static const int signals[] = {SIGSEGV, SIGILL, SIGABRT, SIGBUS, SIGFPE};
   for (int i = 0; i < 5; i++) sigaction(signals[i], &caught, 0);
-  struct sigaction trapped = {.sa_sigaction = on_trap, .sa_flags = SA_SIGINFO | SA_NODEFER};
+  struct sigaction trapped = {.sa_sigaction = on_trap, .sa_flags = SA_SIGINFO | SA_ONSTACK | SA_NODEFER};
   sigaction(SIGTRAP, &trapped, 0);
 }
 
-static uintptr_t program_base;
+static uint8_t *program_base;
+
+static void stop_with(const char *what) {
+  perror(what);
+  exit(2);
+}
 
 static int make_writable(struct dl_phdr_info *program, size_t size, void *unused) {
   (void)size, (void)unused;
-  program_base = program->dlpi_addr;
+  program_base = (uint8_t *)program->dlpi_addr;
   for (int i = 0; i < program->dlpi_phnum; i++) {
     const ElfW(Phdr) *it = &program->dlpi_phdr[i];
     if (it->p_type != PT_LOAD || !(it->p_flags & PF_X)) continue;
-    uintptr_t at = (program_base + it->p_vaddr) & ~4095ul, end = program_base + it->p_vaddr + it->p_memsz;
-    if (mprotect((void *)at, end - at, PROT_READ | PROT_WRITE | PROT_EXEC)) {
-      perror("sched: mprotect");
-      exit(2);
-    }
+    uintptr_t at = (program->dlpi_addr + it->p_vaddr) & ~4095ul, end = program->dlpi_addr + it->p_vaddr + it->p_memsz;
+    if (mprotect((void *)at, end - at, PROT_READ | PROT_WRITE | PROT_EXEC)) stop_with("mprotect");
   }
   return 1;
 }
 
-// Sets the breakpoints of a file.
-static void break_at(const char *path) {
+// Makes a slot for each locked instruction of a file.
+static void find_locked(const char *path) {
   dl_iterate_phdr(make_writable, 0);
+  size_t bytes = 16 + (size_t)MOST_LOCKED * SLOT_BYTES;
+  // As near to the program as a jump reaches.
+  slots = mmap(program_base - (64 << 20), bytes, PROT_READ | PROT_WRITE | PROT_EXEC, MAP_PRIVATE | MAP_ANONYMOUS, -1, 0);
+  if (slots == MAP_FAILED || slots > program_base || program_base - slots > (1 << 30)) stop_with("slots");
+  void (*const stops[])(void) = {stop_before, stop_after};
+  copy(slots, stops, sizeof stops);
   FILE *file = fopen(path, "r");
   char line[256];
-  if (!file) {
-    perror(path);
-    exit(2);
-  }
-  while (fgets(line, sizeof line, file)) {
-    char *name, *end = strchr(line, '\n');
-    uintptr_t at = program_base + strtoul(line, &name, 16);
-    if (end) *end = 0;
-    if (locked_count % 1024 == 0) locked = __libc_realloc(locked, (size_t)(locked_count + 1024) * sizeof *locked);
-    locked[locked_count].at = at;
-    locked[locked_count].byte = *(uint8_t *)at;
-    locked[locked_count++].name = strdup(name + 1);
+  if (!file) stop_with(path);
+  while (fgets(line, sizeof line, file) && locked_count < MOST_LOCKED) {
+    char *name;
+    locked[locked_count].at = program_base + strtoul(line, &name, 16);
+    int length = (int)strtol(name, &name, 10);
+    name[strcspn(name, "\n")] = 0;
+    locked[locked_count].name = strdup(name + 1);
+    put_slot(locked_count++, length);
   }
   fclose(file);
-  for (int i = 0; i < locked_count; i++) *(uint8_t *)locked[i].at = 0xcc;
 }
 
 // ---- Programs of `rt try` ----
@@ -718,8 +764,6 @@ static void *run_main(void *unused) {
 
 static void run_once(uint64_t seed) {
   put_memory_back();
-  if (stepping) *stepping = 0xcc;
-  stepping = 0;
   steps = status = is_main_ended = time_passed_early = choice_count = yields_in_a_row = 0;
   now = 0;
   message[0] = 0;
@@ -836,7 +880,7 @@ static int scheduled_main(int count, char **words, char **settings) {
   heap = map_memory(HEAP_BYTES);
   for (int i = 0; i < MOST_THREADS; i++) mprotect(stacks + (size_t)i * STACK_BYTES, 4096, PROT_NONE);
   catch_signals();
-  break_at(getenv("SCHED_LOCKED"));
+  find_locked(getenv("SCHED_LOCKED"));
   redirect_all();
   dl_iterate_phdr(keep_segments, 0);
   exit(drive());

@@ -2,7 +2,7 @@
 ghost use Rattle.std.specs.Prelude.{◌≡◌, ◌+◌};
 ghost use Rattle.appender_non_blocking.specs.Account.{AreBlanksOf};
 
-use crate::expect::{A, B, count_written, expect_eq, put};
+use crate::expect::{Name, count_written, expect_eq, put};
 use crate::recorder::{Record, Recorder, new_recorder};
 use appender_non_blocking::non_blocking::{
     Account, Blanks, CountedGuard, CountedSender, CountedWork, LineSender, NonBlockingBuilder,
@@ -25,7 +25,7 @@ fn builder() -> NonBlockingBuilder {
 // A counted sender without the names of its ledgers, which makes proofs shorter.
 trait Sends: Send + Drop + 'static {
     // Writes lines until one is refused, and returns how many were queued.
-    fn sends(&mut self, lines: &[&[u8]]) -> u64;
+    fn sends(&mut self, name: Name) -> u64;
 }
 
 impl<
@@ -35,8 +35,8 @@ impl<
     C: Ledger + Send + Sync + 'static,
     R: Host,
 > Sends for CountedSender<A, H, S, C, R> {
-    fn sends(&mut self, lines: &[&[u8]]) -> u64 {
-        for line in lines {
+    fn sends(&mut self, name: Name) -> u64 {
+        for line in name.lines() {
             if self.write_line(line).is_err() {
                 break;
             }
@@ -48,11 +48,11 @@ impl<
 fn start_sender<T: Sends, R: Host>(
     rt: R,
     sender: T,
-    lines: &'static [&'static [u8]],
+    name: Name,
 ) -> io::Result<JoinHandle<(T, u64)>> {
     let mut sender = sender;
     Ok(thread::spawn(&rt, move || {
-        let queued = sender.sends(lines);
+        let queued = sender.sends(name);
         (sender, queued)
     })?)
 }
@@ -63,8 +63,8 @@ type Running<T> = (JoinHandle<(T, u64)>, JoinHandle<(T, u64)>);
 fn start_both<T: Sends, R: Host + Abort>(rt: R, senders: &mut Vec<T>) -> Running<T> {
     let other = senders.pop().expect(&rt, "a sender");
     let sender = senders.pop().expect(&rt, "a sender");
-    let a = start_sender(rt, sender, &A).expect(&rt, "a thread");
-    (a, start_sender(rt, other, &B).expect(&rt, "a thread"))
+    let a = start_sender(rt, sender, Name::A).expect(&rt, "a thread");
+    (a, start_sender(rt, other, Name::B).expect(&rt, "a thread"))
 }
 
 // Joins a thread, puts its sender back, and returns how many lines it queued.
@@ -172,10 +172,10 @@ fn a_shutdown_is_amid_their_lines(rt: HostRuntime) {
     run(rt, true);
 }
 
-// The lines of a sender.
+// Writes the lines of a sender.
 #[derive(Drop)]
 struct Lines {
-    lines: &'static [&'static [u8]],
+    name: Name,
     queued: usize,
 }
 
@@ -185,7 +185,7 @@ impl CountedWork for Lines {
     fn run<L: LineSender>(&mut self, sender: &mut L)
         ensures { Unit {0} }
     {
-        for line in self.lines {
+        for line in self.name.lines() {
             if let Ok(Sent::Queued(_)) = sender.write_line(line) {
                 self.queued = self.queued.saturating_add(1);
             }
@@ -201,7 +201,7 @@ fn two_works_have_an_account(rt: HostRuntime) -> Result<(), Fail> {
         &rt,
         &mut works,
         Lines {
-            lines: &A,
+            name: Name::A,
             queued: 0,
         },
     );
@@ -209,7 +209,7 @@ fn two_works_have_an_account(rt: HostRuntime) -> Result<(), Fail> {
         &rt,
         &mut works,
         Lines {
-            lines: &B,
+            name: Name::B,
             queued: 0,
         },
     );

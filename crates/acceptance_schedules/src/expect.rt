@@ -5,10 +5,22 @@ use std::alloc::AllocError;
 use std::fmt::Debug;
 use std::process::Abort;
 
-/// The lines of two senders. All are as long, and the first letter is that of the sender.
-pub(crate) static A: [&[u8]; 2] = [b"a1", b"a2"];
+/// One of two senders.
+#[derive(Clone, Copy)]
+pub(crate) enum Name {
+    A,
+    B,
+}
 
-pub(crate) static B: [&[u8]; 2] = [b"b1", b"b2"];
+impl Name {
+    /// Returns its lines. All lines are as long, and their first letter is that of the sender.
+    pub(crate) fn lines(self) -> [&'static [u8]; 2] {
+        match self {
+            Name::A => [b"a1", b"a2"],
+            Name::B => [b"b1", b"b2"],
+        }
+    }
+}
 
 // The length of a line and of what follows it.
 const LENGTH: usize = 3;
@@ -20,11 +32,12 @@ pub(crate) fn expect_eq<T: Copy + PartialEq + Debug>(rt: &impl Abort, got: T, wa
 
 /// Returns how many lines of a sender a text has. They are in this order and once, or the test ends. Only if the text may
 /// have gaps, a later line may be there without an earlier one.
-pub(crate) fn count_of(rt: &impl Abort, text: &[u8], lines: &[&[u8]], has_gaps: bool) -> usize {
+pub(crate) fn count_of(rt: &impl Abort, text: &[u8], name: Name, has_gaps: bool) -> usize {
+    let lines = name.lines();
     let (mut count, mut next) = (0usize, 0usize);
     for row in text.chunks(LENGTH) {
-        if is_of(row, lines) {
-            let place = place_of(row, lines);
+        if is_of(row, &lines) {
+            let place = place_of(row, &lines);
             assert!(rt; next <= place && place < lines.len(), "another order");
             assert!(rt; has_gaps || next == place, "a line is missing");
             next = place.saturating_add(1);
@@ -62,8 +75,8 @@ pub(crate) fn expect_lines(rt: &impl Abort, text: &[u8], count: usize) {
 /// Returns how many lines of each sender were written, each once and in its order.
 pub(crate) fn count_written<R: Host + Abort>(rt: R, seen: &Seen, has_gaps: bool) -> (usize, usize) {
     let text = seen.text(&rt).expect(&rt, "memory");
-    let of_a = count_of(&rt, text.as_slice(), &A, has_gaps);
-    let of_b = count_of(&rt, text.as_slice(), &B, has_gaps);
+    let of_a = count_of(&rt, text.as_slice(), Name::A, has_gaps);
+    let of_b = count_of(&rt, text.as_slice(), Name::B, has_gaps);
     expect_lines(&rt, text.as_slice(), of_a.saturating_add(of_b));
     (of_a, of_b)
 }

@@ -1,10 +1,11 @@
 // Two senders, each in a thread, over a queue of one line or of none.
-use crate::expect::{A, B, count_written, expect_eq};
+use crate::expect::{Name, count_written, expect_eq};
 use crate::recorder::{Record, Recorder, new_recorder};
 use appender_log::LogSink;
 use appender_non_blocking::non_blocking::{Closing, NonBlocking, NonBlockingBuilder, WorkerGuard};
 use log::{Level, Logged, info};
 use program_io::Host;
+use std::alloc::AllocError;
 use std::io::Write;
 use std::process::Abort;
 use std::sync::Wait;
@@ -52,9 +53,9 @@ fn start<R: Host>(
 }
 
 // Writes lines until one is refused, and returns how many were taken.
-fn write_lines<R: Wait + Drop>(mut sender: NonBlocking<R>, lines: &[&[u8]]) -> usize {
+fn write_lines<R: Wait + Drop>(mut sender: NonBlocking<R>, name: Name) -> usize {
     let mut taken = 0usize;
-    for line in lines {
+    for line in name.lines() {
         if sender.write_all(line).is_err() {
             break;
         }
@@ -66,9 +67,9 @@ fn write_lines<R: Wait + Drop>(mut sender: NonBlocking<R>, lines: &[&[u8]]) -> u
 fn start_sender<R: Host>(
     rt: R,
     sender: NonBlocking<R>,
-    lines: &'static [&'static [u8]],
+    name: Name,
 ) -> io::Result<JoinHandle<usize>> {
-    Ok(thread::spawn(&rt, move || write_lines(sender, lines))?)
+    Ok(thread::spawn(&rt, move || write_lines(sender, name))?)
 }
 
 // Starts a thread for each of the two senders.
@@ -77,7 +78,10 @@ fn start_senders<R: Host>(
     sender: NonBlocking<R>,
 ) -> io::Result<(JoinHandle<usize>, JoinHandle<usize>)> {
     let other = sender.clone()?;
-    Ok((start_sender(rt, sender, &A)?, start_sender(rt, other, &B)?))
+    Ok((
+        start_sender(rt, sender, Name::A)?,
+        start_sender(rt, other, Name::B)?,
+    ))
 }
 
 fn end_early<R: Host>(
@@ -271,6 +275,13 @@ fn log_lines<R: Host>(rt: R, sink: &LogSink<'_, NonBlocking<R>, R>, thread: usiz
     }
 }
 
+// Logs by two threads, and returns how many records were lost.
+fn log_by_two<R: Host>(rt: R, sender: &NonBlocking<R>) -> Result<u64, AllocError> {
+    let sink = LogSink::new(rt, sender);
+    thread::map_indices(&rt, rt.alloc(), 2, &|thread| log_lines(rt, &sink, thread))?;
+    Ok(sink.lost())
+}
+
 // Returns whether a record of this thread was written at this place.
 fn is_record<R: Host + Abort>(
     rt: R,
@@ -299,9 +310,7 @@ fn count_records<R: Host + Abort>(rt: R, record: &Record, thread: usize) -> usiz
 fn two_threads_log_through_a_queue(rt: HostRuntime) -> Result<(), Fail> {
     let (recorder, record) = new_recorder(rt, b"", false)?;
     let (sender, guard) = start(rt, WAITING, recorder)?;
-    let sink = LogSink::new(rt, &sender);
-    thread::map_indices(&rt, rt.alloc(), 2, &|thread| log_lines(rt, &sink, thread))?;
-    expect_eq(&rt, sink.lost(), 0);
+    expect_eq(&rt, log_by_two(rt, &sender)?, 0);
     drop(guard);
     drop(sender);
     assert!(rt; record.has_ended(rt));
@@ -318,9 +327,7 @@ fn two_threads_lose_records(rt: HostRuntime) -> Result<(), Fail> {
     let (sender, guard) = start(rt, WAITING, recorder)?;
     drop(guard);
     assert!(rt; record.has_ended(rt));
-    let sink = LogSink::new(rt, &sender);
-    thread::map_indices(&rt, rt.alloc(), 2, &|thread| log_lines(rt, &sink, thread))?;
-    expect_eq(&rt, sink.lost(), 4);
+    expect_eq(&rt, log_by_two(rt, &sender)?, 4);
     expect_eq(&rt, record.seen.count(), 0);
     Ok(())
 }
