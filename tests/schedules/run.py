@@ -89,7 +89,8 @@ def program_at(crate, path, folder):
     text = subprocess.run(command, capture_output=True, text=True, check=True).stdout
     rows, function = [], ""
     for name, address, code, instruction in LOCKED.findall(text):
-        function = name or function
+        # Without the types of a generic function.
+        function = name.split("::<")[0] or function
         if address:
             rows.append(f"{address} {len(code.split())} {instruction.strip()} in {function}"[:200] + "\n")
     if not rows:
@@ -103,7 +104,7 @@ def build_library(folder):
     library = pathlib.Path(folder, "libsched.so")
     # The library's own calls of its functions are not those of a program that has functions of these names.
     flags = ["-O2", "-fPIC", "-shared", "-Wl,-Bsymbolic-functions"]
-    subprocess.run(["gcc", *flags, "-o", library, HERE / "sched.c", "-ldl"], check=True)
+    subprocess.run(["gcc", *flags, "-o", library, HERE / "sched.c", HERE / "patch.c", "-ldl"], check=True)
     return library
 
 
