@@ -44,8 +44,12 @@ TOO_LONG = {
         "crowds::crowds_get_through",
         "plain_ends::the_worker_ends_after_the_last_clone",
     ],
-    "acceptance_counted": ["counted::tickets_are_told_and_lines_come_in_order", "counting::lines_of_many_senders_are_taken_or_lost"],
+    "acceptance_counted": [
+        "counted::tickets_are_told_and_lines_come_in_order",
+        "counting::lines_of_many_senders_are_taken_or_lost",
+    ],
     "acceptance_sharing": ["limited::no_line_of_full_files_is_lost"],
+    "appender_log": ["tests::two_threads_share_a_sink"],
 }
 SEARCHES = ["each", "random", "pct"]
 EACH_SECONDS = 5
@@ -115,7 +119,8 @@ def run_test(library, program, test, folder, **settings):
     env["ASAN_OPTIONS"] = "detect_stack_use_after_return=0:detect_leaks=0"
     env["SCHED_SLOW"] = str(int(program.crate in OF_SLOW_THREADS))
     env.update({f"SCHED_{name}".rstrip("_"): str(value) for name, value in settings.items()})
-    return subprocess.run([program.path, test], env=env, cwd=folder, capture_output=True, text=True, errors="replace", timeout=LIMIT_SECONDS)
+    how = {"capture_output": True, "text": True, "errors": "replace", "timeout": LIMIT_SECONDS}
+    return subprocess.run([program.path, test], env=env, cwd=folder, **how)
 
 
 def search(library, program, test, folder, name, seconds, seed):
@@ -151,7 +156,8 @@ def try_test(library, program, test, folder, seconds, seed):
     """Tries a test by each search, until one finds a fault or the test proves to have no choice."""
     found = {}
     for name in SEARCHES:
-        found[name] = tried = search(library, program, test, folder, name, EACH_SECONDS if name == "each" else seconds, seed)
+        limit = EACH_SECONDS if name == "each" else seconds
+        found[name] = tried = search(library, program, test, folder, name, limit, seed)
         if tried.fault or not tried.choices and name == "each":
             break
     return found
@@ -184,8 +190,10 @@ def try_all(words, folder):
                 print(f"{crate} isn't built")
                 continue
             program = program_at(crate, path, folder)
-            tests = [it for it in program.tests() if words.only in f"{crate} {it}"]
-            waiting += [(program, it, pool.submit(try_test, library, program, it, folder, words.seconds, words.seed)) for it in tests]
+            for test in program.tests():
+                if words.only in f"{crate} {test}":
+                    done = pool.submit(try_test, library, program, test, folder, words.seconds, words.seed)
+                    waiting.append((program, test, done))
         for program, test, done in waiting:
             found = done.result()
             if not any(it.choices or it.fault for it in found.values()):
@@ -193,7 +201,8 @@ def try_all(words, folder):
                 continue
             count, is_bad = report(program, test, found)
             schedules, failed, passed = schedules + count, failed + is_bad, passed + (not is_bad)
-    print(f"{schedules} schedules; {alone} tests have one thread, and one schedule")
+    left_out = sum(map(len, TOO_LONG.values()))
+    print(f"{schedules} schedules; left out: {alone} tests of one thread, {left_out} that are too long")
     print(f"{passed} passed, {failed} failed")
     if not passed + failed:
         raise SystemExit("no test of threads was run")
@@ -204,8 +213,8 @@ def repeat(words, folder):
     """Repeats one schedule, and prints each step."""
     crate, test, name, which = words.repeat
     program = program_at(crate, words.programs / crate / "out" / f"{crate}_tests", folder)
-    how = {"_": name, "SEED": which, "RUNS": 1, "TRACE": 1} if name in ("random", "pct") else {"_": "replay", "CHOICES": which, "TRACE": 1}
-    done = run_test(build_library(folder), program, test, folder, **how)
+    how = {"_": name, "SEED": which, "RUNS": 1} if name != "each" else {"_": "replay", "CHOICES": which}
+    done = run_test(build_library(folder), program, test, folder, TRACE=1, **how)
     print(done.stderr + done.stdout, end="")
     return done.returncode
 
