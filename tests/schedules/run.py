@@ -56,8 +56,9 @@ EACH_SECONDS = 5
 # No search takes as long on a slow machine; one that does hangs.
 LIMIT_SECONDS = 120
 # A line of a disassembly that begins a function, or an instruction that locks a word of memory: its address, its bytes and its
-# text. One whose operand is found from its own address can't be copied; the programs have none.
+# text. One whose operand is found from its own address can't be copied.
 LOCKED = re.compile(r"^[0-9a-f]+ <(.*)>:$|^ *([0-9a-f]+):\t((?:[0-9a-f]{2} )+) *\t((?:lock |xchg .*\()(?!.*%rip).*)$", re.M)
+UNCOPIED = re.compile(r"\t(?:lock |xchg .*\().*%rip", re.M)
 FAULT = re.compile(r"^fault: (.*) \| schedules (\d+) \| (?:seed|choices) ?(.*)$", re.M)
 SUMMARY = re.compile(r"^schedules (\d+) \| choices (\d+) \| longest (\d+) steps \| (complete|stopped)$", re.M)
 
@@ -99,6 +100,9 @@ def program_at(crate, path, folder):
             rows.append(f"{address} {len(code.split())} {instruction.strip()} in {function}"[:200] + "\n")
     if not rows:
         raise SystemExit(f"{path}: no locked instruction")
+    # An address sanitizer has some.
+    if UNCOPIED.search(text) and "<__asan_init>:" not in text:
+        raise SystemExit(f"{path}: a locked instruction that can't be copied")
     locked = pathlib.Path(folder, f"{crate}.locked")
     locked.write_text("".join(rows))
     return Program(crate, path, locked)

@@ -1,4 +1,4 @@
-// Two counted senders over a queue of one line, and their account.
+// Two counted senders over a queue of at most two lines, and their account.
 ghost use Rattle.std.specs.Prelude.{◌≡◌, ◌+◌};
 ghost use Rattle.appender_non_blocking.specs.Account.{AreBlanksOf};
 
@@ -16,10 +16,11 @@ use std::test::Fail;
 use std::thread::JoinHandle;
 use std::{io, thread};
 
-fn builder() -> NonBlockingBuilder {
+// After a shutdown, only a queue of two lines accepts one.
+fn builder(limit: usize) -> NonBlockingBuilder {
     NonBlockingBuilder::default()
         .lossy(false)
-        .buffered_lines_limit(1)
+        .buffered_lines_limit(limit)
 }
 
 // A counted sender without the names of its ledgers, which makes proofs shorter.
@@ -110,7 +111,7 @@ fn play<
 >(rt: R, recorder: Recorder<R>, shuts: bool, blanks: Blanks) -> Settled
     requires { AreBlanksOf A.Ledger H.Ledger S.Ledger C.Ledger 2 blanks }
 {
-    let (mut senders, mut guard) = builder()
+    let (mut senders, mut guard) = builder(if shuts { 2 } else { 1 })
         .finish_counted::<A, H, S, C, _, R>(rt, rt.alloc(), recorder, 2, blanks)
         .expect(&rt, "a worker");
     let (a, b) = start_both(rt, &mut senders);
@@ -213,7 +214,7 @@ fn two_works_have_an_account(rt: HostRuntime) -> Result<(), Fail> {
             queued: 0,
         },
     );
-    let (works, account) = builder()
+    let (works, account) = builder(1)
         .run_counted(rt, rt.alloc(), recorder, works)
         .map_err(io::Error::from)?;
     for work in works.as_slice() {

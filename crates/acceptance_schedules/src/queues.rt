@@ -1,4 +1,4 @@
-// Two senders, each in a thread, over a queue of one line or of none.
+// Two senders, each in a thread, over a queue of at most two lines.
 use crate::expect::{Name, count_written, expect_eq};
 use crate::recorder::{Record, Recorder, new_recorder};
 use appender_log::LogSink;
@@ -33,10 +33,17 @@ struct Scene {
     guard: GuardEnd,
 }
 
+// The result of a guard that was closed, and how many lines were written by then.
+#[derive(Clone, Copy)]
+struct Closed {
+    closing: Closing,
+    written: usize,
+}
+
 // The result of a scene: that of its guard, if it was closed, and how many lines of each sender were taken.
 #[derive(Clone, Copy)]
 struct Outcome {
-    closing: Option<Closing>,
+    closed: Option<Closed>,
     taken: (usize, usize),
     dropped: usize,
 }
@@ -84,13 +91,22 @@ fn start_senders<R: Host>(
     ))
 }
 
+fn close<R: Host>(guard: WorkerGuard<R>, record: &Record) -> Closed {
+    let closing = guard.close();
+    Closed {
+        closing,
+        written: record.seen.count(),
+    }
+}
+
 fn end_early<R: Host>(
     guard: WorkerGuard<R>,
     end: GuardEnd,
-) -> (Option<WorkerGuard<R>>, Option<Closing>) {
+    record: &Record,
+) -> (Option<WorkerGuard<R>>, Option<Closed>) {
     match end {
         GuardEnd::Last => (Some(guard), None),
-        GuardEnd::Closed => (None, Some(guard.close())),
+        GuardEnd::Closed => (None, Some(close(guard, record))),
         GuardEnd::Dropped => {
             drop(guard);
             (None, None)
@@ -98,48 +114,65 @@ fn end_early<R: Host>(
     }
 }
 
-fn play<R: Host + Abort>(rt: R, scene: Scene, recorder: Recorder<R>) -> Outcome {
+fn play<R: Host + Abort>(rt: R, scene: Scene, recorder: Recorder<R>, record: &Record) -> Outcome {
     let (sender, guard) = start(rt, scene, recorder).expect(&rt, "a worker");
     let counter = sender.error_counter().expect(&rt, "memory");
     let (a, b) = start_senders(rt, sender).expect(&rt, "threads");
-    let (guard, early) = end_early(guard, scene.guard);
+    let (guard, early) = end_early(guard, scene.guard, record);
     let taken = (a.join(&rt), b.join(&rt));
-    let late = guard.map(|guard| guard.close());
+    let late = guard.map(|guard| close(guard, record));
     Outcome {
-        closing: early.or(late),
+        closed: early.or(late),
         taken,
         dropped: counter.dropped_lines(),
     }
 }
 
-// The number of lines that were left, if it is known. Where threads are slow, a guard may return before the worker ends.
-fn lines_left(rt: &impl Abort, outcome: Outcome) -> Option<usize> {
-    match outcome.closing {
-        Some(Closing::Done { left }) => Some(left as usize),
-        Some(Closing::Full) => Some(0),
-        Some(Closing::Pending) | None => None,
-        Some(Closing::Ended) => rt.panic("the queue was closed"),
+// The number of lines that were left, if it is known. If threads are slow, a guard may return before the worker ends.
+// After any other end no line is written.
+fn lines_left(rt: &impl Abort, closed: Option<Closed>, written: usize) -> Option<usize> {
+    let Closed {
+        closing,
+        written: before,
+    } = closed?;
+    match closing {
+        Closing::Done { left } => {
+            expect_eq(rt, before, written);
+            Some(left as usize)
+        }
+        Closing::Full => Some(0),
+        Closing::Pending => None,
+        Closing::Ended => rt.panic("the queue was closed"),
     }
 }
 
 // Each line that was taken was written, dropped or left.
 fn expect_all<R: Host + Abort>(rt: R, scene: Scene, outcome: Outcome, written: (usize, usize)) {
-    let Outcome { taken, dropped, .. } = outcome;
+    let Outcome {
+        closed,
+        taken,
+        dropped,
+    } = outcome;
     assert!(rt; written.0 <= taken.0 && written.1 <= taken.1);
     let taken = taken.0.saturating_add(taken.1);
     let written = written.0.saturating_add(written.1);
+    if let Some(left) = lines_left(&rt, closed, written) {
+        expect_eq(
+            &rt,
+            written.saturating_add(left).saturating_add(dropped),
+            taken,
+        );
+    }
     if let GuardEnd::Last = scene.guard {
         expect_eq(&rt, taken, 4);
         expect_eq(&rt, written.saturating_add(dropped), 4);
-    } else if let Some(left) = lines_left(&rt, outcome) {
-        expect_eq(&rt, written.saturating_add(left), taken);
     }
     assert!(rt; scene.lossy || dropped == 0);
 }
 
 fn run<R: Host + Abort>(rt: R, scene: Scene) {
     let (recorder, record) = new_recorder(rt, b"", scene.fails).expect(&rt, "memory");
-    let outcome = play(rt, scene, recorder);
+    let outcome = play(rt, scene, recorder, &record);
     assert!(rt; record.has_ended(rt));
     let written = count_written(rt, &record.seen, scene.lossy);
     expect_all(rt, scene, outcome, written);
@@ -196,6 +229,19 @@ fn a_guard_is_closed_while_senders_wait(rt: HostRuntime) {
     run(
         rt,
         Scene {
+            guard: GuardEnd::Closed,
+            ..WAITING
+        },
+    );
+}
+
+// With two places, a line may be accepted after the shutdown. It is left.
+#[test]
+fn a_guard_counts_the_lines_that_it_leaves(rt: HostRuntime) {
+    run(
+        rt,
+        Scene {
+            limit: 2,
             guard: GuardEnd::Closed,
             ..WAITING
         },
