@@ -578,9 +578,8 @@ ssize_t write(int file, const void *bytes, size_t count) {
 
 void end_by_signal(int number) {
   snprintf(message, sizeof message, "%d in %s", number, threads[current].name);
-  end_run(number == SIGABRT ? FAILED : SIGNAL);
+  end_run(number == SIGABRT ? FAILED : SIGNAL); // A test that fails aborts.
 }
-
 
 typedef int (*main_function)(int, char **, char **);
 
