@@ -32,9 +32,7 @@ impl<R: Wait> Write for Failing<R> {
             self.failed = true;
             return Err(io::Error::from(io::ErrorKind::PermissionDenied));
         }
-        self.text
-            .lock(&self.rt)
-            .extend_from_slice(&buf[..taken])?;
+        self.text.lock(&self.rt).extend_from_slice(&buf[..taken])?;
         self.room = self.room.saturating_sub(taken);
         Ok(taken)
     }
@@ -71,15 +69,14 @@ static TEXT: &[u8] = b"a\nbcd\n\nef\ng";
 
 // What the log has after a fault at this byte: of the line there, the bytes before it alone.
 fn cut_at(alloc: Global, place: usize) -> Result<Vec<u8>, AllocError> {
-    let mut text = TEXT[..place].to_vec(alloc)?;
-    let mut cut = true;
-    for byte in &TEXT[place..] {
+    let mut text = Vec::new(alloc);
+    let mut cut = false;
+    for (at, byte) in TEXT.iter().enumerate() {
+        cut = cut || at == place;
         if !cut {
             text.push(*byte)?;
         }
-        if *byte == b'\n' {
-            cut = false;
-        }
+        cut = cut && *byte != b'\n';
     }
     Ok(text)
 }
