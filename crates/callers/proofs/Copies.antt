@@ -1,6 +1,9 @@
 -- A text that is copied line by line.
-use Rattle.std.proofs.Common.{◌≡◌, ◌≢◌, ◌==◌, ◌≤◌, ℕ, ◌+◌, suc, List, [], ◌∷◌, ◌++◌, Bool, true, false, if◌then◌else◌, refl, ap, sym, ◌∙◌, subst, arith, length, length-append}
+use Rattle.std.proofs.Common.{◌≡◌, ◌≢◌, ◌==◌, ◌<◌, ℕ, ◌+◌, suc, List, [], ◌∷◌, ◌++◌, Bool, true, false, not, cond, if◌then◌else◌, Option, refl, ap, sym, ◌∙◌, subst, arith, length, take, take_all, count_by}
+use Rattle.std.proofs.lemmas.Bool.Decides.{nat_tests}
 use Rattle.std.specs.Io.BufRead.{take_through, drop_through}
+use Rattle.std.specs.Io.KnownBytes.{Appends}
+use Rattle.tracing_appender.specs.Parts.{part, written_of, is_whole, is_cut}
 use Rattle.callers.specs.Supervisor.{HasLines}
 
 if_joined : (b : Bool) (x : ℕ) (xs front back : List ℕ) → front ++ back ≡ xs
@@ -30,3 +33,17 @@ next lines n rest text counted some h =
 pub last : (lines : ℕ) (rest text : List ℕ) → ((k : ℕ) → HasLines k rest → HasLines (lines + k) text) → rest ≡ []
     → HasLines lines text
 last lines rest text counted none = as_many (lines + 0) lines text (omega arith) (counted 0 none)
+
+-- the line was written whole
+pub takes_whole : (line : List ℕ) (old new : Option (List ℕ)) → Appends old new line
+    → (taken : ℕ) × (0 ≡ count_by is_cut (part line taken ∷ [])) × Appends old new (written_of (part line taken))
+takes_whole line old new bytes =
+    let whole : is_whole (part line (length line)) ≡ true = grind (arith, nat_tests) in
+    (length line, sym (ap (λ b. 0 + cond (not b) 1 0) whole), subst (Appends old new) (sym (take_all (length line) line (omega arith))) bytes)
+
+-- a beginning of it was
+pub takes_part : (line : List ℕ) (n : ℕ) (old new : Option (List ℕ)) → n < length line → Appends old new (take n line)
+    → (taken : ℕ) × (1 ≡ count_by is_cut (part line taken ∷ [])) × Appends old new (written_of (part line taken))
+takes_part line n old new few bytes =
+    let cut : is_whole (part line n) ≡ false = grind (arith, nat_tests, few) in
+    (n, sym (ap (λ b. 0 + cond (not b) 1 0) cut), bytes)

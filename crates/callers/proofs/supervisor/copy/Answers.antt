@@ -1,4 +1,4 @@
-use Rattle.std.proofs.Common.{◌≡◌, ◌+◌, ◌++◌, [], ◌∷◌, Ok, Option, List, ℕ, ap, refl, sym, subst, ◌∙◌, arith, append_assoc, append-nil, length, length-append, count_by, flat_map, cond}
+use Rattle.std.proofs.Common.{◌≡◌, ◌≢◌, ◌+◌, ◌++◌, [], ◌∷◌, Ok, Option, List, ℕ, ap, refl, sym, subst, ◌∙◌, arith, append_assoc, append-nil, length, length-append, count_by, flat_map, cond}
 use Rattle.std.specs.Io.BufRead.{take_through, drop_through}
 use Rattle.std.specs.Io.KnownBytes.{Appends, IsAtEnd}
 use Rattle.std.proofs.KnownBytes.{Appends-trans}
@@ -12,7 +12,7 @@ use Rattle.callers.proofs.supervisor.copy.Goals as goal
 -- no line was read, so none is left
 pub returns-then-not-branch-clause-lines : goal.returns-then-not-branch-clause-lines
 returns-then-not-branch-clause-lines g c = λ text known.
-    let (done, rest, left, whole, counted, all, parts) = c.loop.invariant.2 text known in
+    let (done, rest, left, whole, counted, all, parts, are, count, cut, written) = c.loop.invariant.2 text known in
     let end = c.in_ok-read_line.ensures.end (ap Ok c.if-not-branch.true) in
     last c.loop.copied.lines rest text counted (subst IsAtEnd left end)
 
@@ -41,7 +41,7 @@ loop-preserved g c =
           let line = read.line rest left in
           let front = take_through 10 rest in
           let slice = c.as_slice.ensures.value ∙ line in
-          let some = λ none. read.some (ap Ok c.if-not-branch.false) (line ∙ none) in (
+          let some : front ≢ [] = λ none. read.some (ap Ok c.if-not-branch.false) (line ∙ none) in (
             done ++ front,
             drop_through 10 rest,
             read.rest rest left,
