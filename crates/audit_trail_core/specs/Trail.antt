@@ -83,7 +83,7 @@ abbrev pub AddsSome : {S F C : Type 0} → Ghosts S F → List ℕ → ℕ → T
 AddsSome {S} {F} {C} kind line taken looked new =
     ((taken ≡ 0) × (looked.cut ≡ true) × AddsPart kind (10 ∷ []) 0 looked.log new)
     ⊎ ((ending : List (Result ℕ Error)) × (begun : Appending S F C) × EndsPart kind looked.cut ending looked.log begun
-        × EndsWhole kind begun × AddsPart kind line taken begun new)
+    × EndsWhole kind begun × AddsPart kind line taken begun new)
 
 -- A line was not put whole: after one check of the clock, this number of its bytes were added to one file, where they begin a line.
 pub record PutsPart {S F C : Type 0} (kind : Ghosts S F) (time : Readings C) (line : List ℕ) (taken : ℕ) (old new : Trailing S F C) : Type 0 where

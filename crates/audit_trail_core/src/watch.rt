@@ -178,8 +178,7 @@ impl<R: Files + AllocGlobal + Eprint + Clone + Drop> DirWatch<R> {
 }
 
 impl<R: Files + AllocGlobal + Eprint + Clone + Drop, P: WritePolicy> Watch<DirFolder<R, P>>
-    for DirWatch<R>
-{
+    for DirWatch<R> {
     fn ends_line(&self, folder: &DirFolder<R, P>, file: &R::File, name: &str) -> bool {
         match file.metadata() {
             Ok(metadata) if metadata.len() == 0 => true,

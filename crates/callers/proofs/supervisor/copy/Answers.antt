@@ -1,10 +1,10 @@
-use Rattle.std.proofs.Common.{◌≡◌, ◌≢◌, ◌+◌, ◌++◌, [], ◌∷◌, Ok, Option, List, ℕ, ap, refl, sym, subst, ◌∙◌, arith, append_assoc, append-nil, length, length-append, count_by, flat_map, cond}
+use Rattle.std.proofs.Common.{◌≡◌, ◌≢◌, ◌++◌, [], ◌∷◌, Ok, ap, refl, sym, subst, ◌∙◌, arith, append_assoc, append-nil, length-append, count_by, flat_map, cond}
 use Rattle.std.specs.Io.BufRead.{take_through, drop_through}
 use Rattle.std.specs.Io.KnownBytes.{Appends, IsAtEnd}
 use Rattle.std.proofs.KnownBytes.{Appends-trans}
 use Rattle.std.proofs.lemmas.List.Concat.{flat_map-append}
 use Rattle.std.proofs.lemmas.List.Sums.{sum_by-append}
-use Rattle.tracing_appender.specs.Parts.{Part, part, written_of, is_cut}
+use Rattle.tracing_appender.specs.Parts.{part, written_of, is_cut}
 use Rattle.callers.specs.Supervisor.{AreLines}
 use Rattle.callers.proofs.Copies.{joined, last, next}
 use Rattle.callers.proofs.supervisor.copy.Goals as goal

@@ -1,4 +1,4 @@
-use Rattle.std.proofs.Common.{◌≡◌, ◌∙◌, ◌∷◌, [], refl, sym, ap, subst}
+use Rattle.std.proofs.Common.{◌∙◌, ◌∷◌, [], refl, sym, ap, subst}
 use Rattle.audit_trail_core.specs.Trail.{AddsPart, Trailing}
 use Rattle.audit_trail_core.proofs.Pieces.{part_of_one}
 use Rattle.audit_trail_core.proofs.lines.LineLog.end_part.Goals as goal

@@ -55,7 +55,7 @@ returns-in-Err-clause-part g c =
         c.self.inside.log,
         subst (λ log. EndsPart g.S.Folder c.look.new.self.cut ended.ending c.look.new.self.log log) (sym (ap (λ (l : Trailing _ _ _). l.log) c.self.view_is)) ended.ends,
         c.self.invariant (ap (λ (l : Trailing _ _ _). l.cut) c.self.view_is ∙ c.in_ok-repeats.ensures.whole),
-        c.in-Err.ensures.err
+        c.in-Err.ensures.err,
       );
       cut = λ some. grind (arith, nat_tests);
     }
