@@ -550,7 +550,8 @@ for number in $(seq 1000); do
 done
 exec sleep 20
 END
-  printf "#!/bin/sh\necho >> '%s'\ntrap '' INT TERM HUP QUIT\nexec '%s' never '%s' app\n" \
+  # A signal may end the shell before its trap: then it has read nothing, and isn't counted.
+  printf "#!/bin/sh\ntrap '' INT TERM HUP QUIT\necho >> '%s'\nexec '%s' never '%s' app\n" \
     "$work/starts" "$rolltee" "$work/supervised" > "$service/log/run"
   chmod +x "$service/run" "$service/log/run"
   runsv "$service" &
