@@ -5,7 +5,7 @@ use crate::program::Given;
 use audit_trail_core::gather::{Trails, keep_all};
 use audit_trail_core::input::InputReads;
 use audit_trail_core::trail::{Fault, write_lines};
-use audit_trail_core::watch::FileCounts;
+use file_watch::FileCounts;
 use std::alloc::Global;
 use std::io;
 use std::io::{BufReader, Read, Write};

@@ -1,11 +1,11 @@
 // Lines over folders in memory.
 ghost use Rattle.std.specs.Prelude.{◌≡◌, true, IfSome};
-ghost use Rattle.audit_trail_core.specs.Trail.{EndsLine};
+ghost use Rattle.file_watch.specs.Ends.{EndsLine};
 
 use crate::expect::{expect_eq, expect_eq_of};
 use audit_trail_core::lines::LineLog;
 use audit_trail_core::trail::{Fault, write_lines};
-use audit_trail_core::watch::{FileCounts, Watch};
+use file_watch::{FileCounts, Watch};
 use std::alloc::{AllocError, Global};
 use std::cell::Cell;
 use std::io;

@@ -2,7 +2,7 @@
 use crate::expect::expect_eq;
 use audit_trail_core::gather::{Trails, keep_all};
 use audit_trail_core::trail::Fault;
-use audit_trail_core::watch::FileCounts;
+use file_watch::FileCounts;
 use std::alloc::Global;
 use std::io::{Read, Write};
 use std::sync::Arc;

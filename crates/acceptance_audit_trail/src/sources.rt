@@ -4,7 +4,7 @@ use crate::lines::{Disturbed, TestLog, try_open};
 use crate::program::{Given, Harm, Harming, clear, fresh, latest, newest_text};
 use audit_trail_core::gather::{DiskTrails, Trails, keep_all};
 use audit_trail_core::trail::{Fault, open_trail};
-use audit_trail_core::watch::FileCounts;
+use file_watch::FileCounts;
 use program_io::Host;
 use std::alloc::{AllocError, Global};
 use std::io::{Read, Write};

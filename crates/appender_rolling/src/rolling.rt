@@ -61,7 +61,7 @@ impl<S: Folder> Roller<S> {
     ghost use Rattle.std.specs.Prelude.{◌≡◌, IfOk, IfErr, is_some};
     ghost use Rattle.appender_rolling.specs.Config.{naming_of};
     ghost use Rattle.appender_rolling.specs.Opening.{file_name_of};
-    ghost use Rattle.appender_rolling.specs.Roller.{OpensRoller, OpensNoRoller, Sees, Writes, Puts, Flushes, LiesAhead, Stands, next_stamp};
+    ghost use Rattle.appender_rolling.specs.Roller.{OpensRoller, OpensNoRoller, Looks, Sees, Writes, Puts, Flushes, LiesAhead, Stands, next_stamp};
 
     /// Opens the file of a moment, in seconds of UTC since the epoch. An error returns the folder. Before
     /// any call of the folder, in this order: `Name` (prefix, suffix or link make no names), `Limit` (a
@@ -117,6 +117,23 @@ impl<S: Folder> Roller<S> {
         ensures { Sees S.Folder moment result self.old self.new }
     {
         self.schedule.check_clock(&mut self.log, moment, 0)
+    }
+
+    /// Returns whether a put of so many bytes at this moment would open the next file.
+    pub fn due_for(&self, moment: i64, length: usize) -> bool
+        ensures { result ≡ is_some (next_stamp self.now moment length) }
+    {
+        self.schedule
+            .next_stamp(self.log.room, moment, length)
+            .is_some()
+    }
+
+    /// Checks the clock as a put of so many bytes does before its write: it also opens the next file if they do not fit
+    /// in the limit of bytes.
+    pub fn see_for(&mut self, moment: i64, length: usize) -> Switch
+        ensures { Looks S.Folder moment length result self.old self.new }
+    {
+        self.schedule.check_clock(&mut self.log, moment, length)
     }
 
     /// Adds bytes to the open file by one append, and returns how many were taken.

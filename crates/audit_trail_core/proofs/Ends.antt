@@ -8,7 +8,8 @@ use Rattle.appender_store.specs.Content.{Content, body_at, after_append}
 use Rattle.appender_store.specs.declared.store.Folder.{Ghosts}
 use Rattle.appender_store.proofs.Appends.{after_append_nothing}
 use Rattle.appender_rolling.specs.Appender.{Appending}
-use Rattle.audit_trail_core.specs.Trail.{Adds, EndsLine, EndsWhole}
+use Rattle.file_watch.specs.Ends.{EndsLine}
+use Rattle.audit_trail_core.specs.Trail.{Adds, EndsWhole}
 
 -- bytes that end with a newline do so after other bytes
 pub ends_after : (xs bytes : List ℕ) → ends_with_byte 10 bytes ≡ true → ends_with_byte 10 (xs ++ bytes) ≡ true

@@ -12,6 +12,7 @@ use Rattle.appender_rolling.specs.declared.rolling.clock.Clock.{Ghosts as Readin
 use Rattle.appender_rolling.specs.Appender.{Appending, FlushesNow, OpensSome, SeesNow}
 use Rattle.appender_rolling.specs.Config.{Config}
 use Rattle.appender_rolling.specs.Roller.{WritesSoFar}
+use Rattle.file_watch.specs.Ends.{EndsLine}
 use Rattle.program_io.specs.Line.{ended}
 
 -- the log of a trail: a log, and whether its open file may end with a part of a line
@@ -20,10 +21,6 @@ pub record Trailing (S F C : Type 0) : Type 0 where
   pub cut : Bool
 
 -- ---- the end of the open file
-
--- there is nothing, or a newline at the end
-abbrev pub EndsLine : List ℕ → Type 0
-EndsLine bytes = (bytes ≡ []) ⊎ (ends_with_byte 10 bytes ≡ true)
 
 -- the open file is empty or ends with a newline, if the content of the folder is known
 abbrev pub EndsWhole : {S F C : Type 0} → Ghosts S F → Appending S F C → Type 0

@@ -5,7 +5,7 @@ ghost use Rattle.audit_trail_core.specs.Fault.{account_text, status_of, ReportsS
 ghost use Rattle.audit_trail_core.specs.Gather.{SendsLines};
 
 use crate::trail::{Fault, TrailLog, open_trail, report_fault};
-use crate::watch::FileCounts;
+use file_watch::FileCounts;
 use program_io::{Host, ShortLines, end_line, read_line};
 use std::alloc::{AllocError, Global};
 use std::fs::File;

@@ -7,4 +7,3 @@ pub mod input;
 pub mod lines;
 pub mod lock;
 pub mod trail;
-pub mod watch;

@@ -6,7 +6,7 @@ ghost use Rattle.std.specs.declared.io.ErrorKind.TheVariants.{Interrupted};
 ghost use Rattle.audit_trail_core.specs.Trail.{AddsPart, EndsWhole};
 ghost use Rattle.audit_trail_core.specs.Inside.Pieces.{AddsWhole, AppendsOnce, EndsPartWith};
 
-use crate::watch::Watch;
+use file_watch::Watch;
 use std::io;
 use std::io::{ErrorKind, Write};
 use std::marker::Model;

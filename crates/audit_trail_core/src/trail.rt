@@ -9,7 +9,7 @@ ghost use Rattle.audit_trail_core.specs.declared.trail.Fault.TheVariants.{Accoun
 
 use crate::input::{InputReads, LineInput};
 use crate::lines::{LineFault, LineLog};
-use crate::watch::{DirWatch, FileCounts, Watch};
+use file_watch::{DirWatch, FileCounts, Watch};
 use program_io::report::report;
 use program_io::{ShortLines, end_line, read_line};
 use std::alloc::{AllocError, Global};

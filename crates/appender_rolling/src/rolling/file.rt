@@ -31,7 +31,7 @@ impl<S: Folder, C: Clock> RollingFile<S, C> {
     ghost use Rattle.std.specs.Prelude.{◌≡◌, is_some};
     ghost use Rattle.appender_rolling.specs.Appender.{AppendsNow, PutsNow};
     ghost use Rattle.appender_rolling.specs.Opening.{file_name_of};
-    ghost use Rattle.appender_rolling.specs.Roller.{Sees, next_stamp};
+    ghost use Rattle.appender_rolling.specs.Roller.{Looks, Sees, next_stamp};
 
     /// Checks the clock, and then adds bytes to the open file by one append. Returns whether a new file was
     /// opened, and how many bytes were taken.
@@ -63,6 +63,22 @@ impl<S: Folder, C: Clock> RollingFile<S, C> {
         ensures clock { self.new.clock ≡ self.old.clock }
     {
         self.roller.see(moment)
+    }
+
+    /// Returns whether a `put` of so many bytes at this moment would open the next file.
+    pub fn due_for(&self, moment: i64, length: usize) -> bool
+        ensures { result ≡ is_some (next_stamp self.now.roller moment length) }
+    {
+        self.roller.due_for(moment, length)
+    }
+
+    /// Does what `see` does, and also opens the next file if so many bytes do not fit in the limit of bytes. What is
+    /// appended then is where a `put` of that length would write it.
+    pub fn see_for(&mut self, moment: i64, length: usize) -> Switch
+        ensures sees { Looks S.Folder moment length result self.old.roller self.new.roller }
+        ensures clock { self.new.clock ≡ self.old.clock }
+    {
+        self.roller.see_for(moment, length)
     }
 
     /// Adds bytes to the open file by one append, and reads no clock: what follows a `see` or a short `put` is in

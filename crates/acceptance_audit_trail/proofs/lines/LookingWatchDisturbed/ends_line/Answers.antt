@@ -1,5 +1,5 @@
 use Rattle.std.proofs.Common.{sym, ◌∙◌, subst, IfSome}
-use Rattle.audit_trail_core.specs.Trail.{EndsLine}
+use Rattle.file_watch.specs.Ends.{EndsLine}
 use Rattle.acceptance_audit_trail.proofs.Bodies.{two_bodies, some_mapped, none_mapped}
 use Rattle.acceptance_audit_trail.proofs.lines.LookingWatchDisturbed.ends_line.Goals as goal
 

@@ -1,6 +1,8 @@
-//! Checks of files that other programs change too.
+//! Checks of log files that other programs change too.
+#![tactic(auto)]
+
 ghost use Rattle.std.specs.Prelude.{◌≡◌, true};
-ghost use Rattle.audit_trail_core.specs.Trail.{EndsLine};
+ghost use Rattle.file_watch.specs.Ends.{EndsLine};
 
 use std::alloc::{AllocError, Global};
 use std::fs::{Metadata, OpenFile, OpenOptions};

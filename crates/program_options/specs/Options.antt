@@ -1,0 +1,192 @@
+-- Options among the words of a command line.
+use Rattle.std.specs.Prelude.{◌≡◌, ◌≢◌, ◌⊎◌, ◌≤◌, ◌*◌, ℕ, zero, suc, Bool, true, false, List, [], ◌∷◌, ◌++◌, String, string_bytes, codes, map, nat_lt}
+use Rattle.std.specs.Str.Parse.{IsNumeral, digits_value}
+use Rattle.std.specs.declared.alloc.Global.{Global}
+use Rattle.program_io.specs.Options.{begins_with_dash}
+use Rattle.program_options.specs.declared.Options.{Options}
+use Rattle.program_options.specs.declared.Valued.{Valued}
+use Rattle.program_options.specs.declared.Valued.TheVariants.{Keep, MaxBytes, Suffix, Link, Queue}
+use Rattle.program_options.specs.declared.Flag.{Flag}
+use Rattle.program_options.specs.declared.Flag.TheVariants.{Lossy, NoWait, Sync, Echo, Timestamps, WholeLines}
+use Rattle.program_options.specs.declared.Request.{Request}
+use Rattle.program_options.specs.declared.Request.TheVariants.{Help as AsksHelp, Version as AsksVersion, Run}
+use Rattle.program_options.specs.declared.Next.{Next}
+use Rattle.program_options.specs.declared.Next.TheVariants.{Any, Value, Argument, Help, Version}
+use Rattle.program_options.specs.declared.Reading.{Reading}
+
+-- ---- values
+
+-- a decimal number: one digit or more, and nothing else
+pub record IsNumber (word : List ℕ) (n : ℕ) : Type 0 where
+  pub digits : IsNumeral 10 word
+  pub value : n ≡ digits_value 10 word
+
+-- a number from 1
+pub record IsCount (word : List ℕ) (n : ℕ) : Type 0 where
+  pub number : IsNumber word n
+  pub from_one : 1 ≤ n
+
+-- the letter of a unit, or none, follows the digits; the unit has this number of bytes
+abbrev pub HasUnit : List ℕ → List ℕ → ℕ → Type 0
+HasUnit text digits bytes =
+    ((text ≡ digits ++ codes "K") × (bytes ≡ 1024))
+    ⊎ ((text ≡ digits ++ codes "M") × (bytes ≡ 1048576))
+    ⊎ ((text ≡ digits ++ codes "G") × (bytes ≡ 1073741824))
+    ⊎ ((text ≡ digits) × (bytes ≡ 1))
+
+-- a number from 1, times the bytes of its unit
+pub record IsByteCount (text : List ℕ) (n : ℕ) : Type 0 where
+  pub digits : List ℕ
+  pub count : ℕ
+  pub unit : ℕ
+  pub has_unit : HasUnit text digits unit
+  pub is_count : IsCount digits count
+  pub value : n ≡ count * unit
+
+-- ---- options
+
+abbrev pub valued_word : Valued → List ℕ
+valued_word Keep = codes "--keep"
+valued_word MaxBytes = codes "--max-bytes"
+valued_word Suffix = codes "--suffix"
+valued_word Link = codes "--link"
+valued_word Queue = codes "--queue"
+
+abbrev pub flag_word : Flag → List ℕ
+flag_word Lossy = codes "--lossy"
+flag_word NoWait = codes "--no-wait"
+flag_word Sync = codes "--sync"
+flag_word Echo = codes "--echo"
+flag_word Timestamps = codes "--timestamps"
+flag_word WholeLines = codes "--whole-lines"
+
+-- nothing is asked for
+pub record AreDefaults (o : Options) : Type 0 where
+  pub keep : o.keep ≡ 0
+  pub max_bytes : o.max_bytes ≡ 0
+  pub suffix : string_bytes o.suffix ≡ []
+  pub link : string_bytes o.link ≡ []
+  pub queue : o.queue ≡ 0
+  pub lossy : o.lossy ≡ false
+  pub no_wait : o.no_wait ≡ false
+  pub sync : o.sync ≡ false
+  pub echo : o.echo ≡ false
+  pub timestamps : o.timestamps ≡ false
+  pub whole_lines : o.whole_lines ≡ false
+
+abbrev pub is_some_text : List ℕ → Bool
+is_some_text [] = false
+is_some_text text = true
+
+-- the option was set
+abbrev pub has : Valued → Options → Bool
+has Keep o = nat_lt 0 o.keep
+has MaxBytes o = nat_lt 0 o.max_bytes
+has Suffix o = is_some_text (string_bytes o.suffix)
+has Link o = is_some_text (string_bytes o.link)
+has Queue o = nat_lt 0 o.queue
+
+-- the value is one of the option, which was not set before, and nothing else changed
+abbrev pub GetsValue : Valued → List ℕ → Options → Options → Type 0
+GetsValue Keep value old new = IsCount value new.keep × (new ≡ record old { keep = new.keep })
+GetsValue MaxBytes value old new = IsByteCount value new.max_bytes × (new ≡ record old { max_bytes = new.max_bytes })
+GetsValue Suffix value old new = (value ≢ []) × (string_bytes new.suffix ≡ value) × (new ≡ record old { suffix = new.suffix })
+GetsValue Link value old new = (value ≢ []) × (string_bytes new.link ≡ value) × (new ≡ record old { link = new.link })
+GetsValue Queue value old new = IsCount value new.queue × (new ≡ record old { queue = new.queue })
+
+abbrev pub Sets : Valued → List ℕ → Options → Options → Type 0
+Sets option value old new = (has option old ≡ false) × GetsValue option value old new
+
+abbrev pub raised : Flag → Options → Options
+raised Lossy o = record o { lossy = true }
+raised NoWait o = record o { no_wait = true }
+raised Sync o = record o { sync = true }
+raised Echo o = record o { echo = true }
+raised Timestamps o = record o { timestamps = true }
+raised WholeLines o = record o { whole_lines = true }
+
+-- the flag was set
+abbrev pub is_raised : Flag → Options → Bool
+is_raised Lossy o = o.lossy
+is_raised NoWait o = o.no_wait
+is_raised Sync o = o.sync
+is_raised Echo o = o.echo
+is_raised Timestamps o = o.timestamps
+is_raised WholeLines o = o.whole_lines
+
+-- the flag was not set before, and is now; nothing else changed
+abbrev pub Raises : Flag → Options → Options → Type 0
+Raises flag old new = (is_raised flag old ≡ false) × (new ≡ raised flag old)
+
+-- ---- words
+
+-- what is read after a word
+abbrev pub IsNextAfter : List ℕ → Next → Type 0
+IsNextAfter word Any = ⊥
+IsNextAfter word (Value option) = word ≡ valued_word option
+IsNextAfter word Argument = word ≡ codes "--"
+IsNextAfter word Help = (word ≡ codes "-h") ⊎ (word ≡ codes "--help")
+IsNextAfter word Version = word ≡ codes "--version"
+
+-- nothing was read
+pub record IsFresh (r : Reading) : Type 0 where
+  pub options : AreDefaults r.options
+  pub arguments : r.arguments.items ≡ []
+  pub next : r.next ≡ Any
+
+-- the word is one more argument
+pub record Adds (word : List ℕ) (old new : Reading) : Type 0 where
+  pub argument : String Global
+  pub bytes : string_bytes argument ≡ word
+  pub arguments : new.arguments.items ≡ old.arguments.items ++ (argument ∷ [])
+  pub options : new.options ≡ old.options
+  pub next : new.next ≡ old.next
+
+-- The word is one that says what is read next; or an option without a value; or one with its value.
+abbrev pub TakesOption : List ℕ → Reading → Reading → Type 0
+TakesOption word old new =
+    ((next : Next) × IsNextAfter word next × (new ≡ record old { next = next }))
+    ⊎ ((flag : Flag) × (word ≡ flag_word flag) × Raises flag old.options new.options × (new ≡ record old { options = new.options }))
+    ⊎ ((option : Valued) × (value : List ℕ) × (word ≡ valued_word option ++ (61 ∷ value))
+    × Sets option value old.options new.options × (new ≡ record old { options = new.options }))
+
+-- the value of an option, which does not begin with a dash
+pub record TakesValue (option : Valued) (word : List ℕ) (old new : Reading) : Type 0 where
+  pub undashed : begins_with_dash word ≡ false
+  pub sets : Sets option word old.options new.options
+  pub after : new ≡ record old { options = new.options; next = Any }
+
+-- a word is taken as one of these, by what was read before
+abbrev pub TakesAs : Next → List ℕ → Reading → Reading → Type 0
+TakesAs (Value option) word old new = TakesValue option word old new
+TakesAs Any word old new =
+    ((begins_with_dash word ≡ true) × TakesOption word old new) ⊎ ((begins_with_dash word ≡ false) × Adds word old new)
+TakesAs next word old new = Adds word old new
+
+abbrev pub Takes : List ℕ → Reading → Reading → Type 0
+Takes word old new = TakesAs old.next word old new
+
+-- this number of words were read from the left, and these are left
+abbrev pub Reaches : List (String Global) → ℕ → List (String Global) → Reading → Type 0
+Reaches words zero rest r = (rest ≡ words) × IsFresh r
+Reaches words (suc k) rest r =
+    (word : String Global) × (before : Reading) × Reaches words k (word ∷ rest) before × Takes (string_bytes word) before r
+
+-- The words were read from the left, up to one that asks for help or for the version, or to the end.
+abbrev pub IsRead : List (String Global) → Request → Type 0
+IsRead words AsksHelp = (k : ℕ) × (rest : List (String Global)) × (r : Reading) × Reaches words k rest r × (r.next ≡ Help)
+IsRead words AsksVersion = (k : ℕ) × (rest : List (String Global)) × (r : Reading) × Reaches words k rest r × (r.next ≡ Version)
+IsRead words (Run options arguments) =
+    (k : ℕ) × (r : Reading) × Reaches words k [] r × (r.options ≡ options) × (r.arguments ≡ arguments)
+    × ((r.next ≡ Any) ⊎ (r.next ≡ Argument))
+
+-- nothing is asked for, and the arguments are the words
+abbrev pub IsPlain : List (String Global) → Request → Type 0
+IsPlain words AsksHelp = ⊥
+IsPlain words AsksVersion = ⊥
+IsPlain words (Run options arguments) = AreDefaults options × (map string_bytes arguments.items ≡ map string_bytes words)
+
+-- no word begins with a dash
+abbrev pub AreUndashed : List (String Global) → Type 0
+AreUndashed [] = Unit {0}
+AreUndashed (word ∷ words) = (begins_with_dash (string_bytes word) ≡ false) × AreUndashed words
