@@ -1,7 +1,9 @@
 // Lines that are written together: what a fault leaves of them, and how soon they are in the file.
 use crate::expect::expect_eq;
+use file_watch::FileCounts;
 use program_io::Host;
-use rolltee_core::tee::{Logs, Settings, tee_with};
+use program_options::Options;
+use rolltee_core::tee::{Logs, tee, tee_with};
 use std::alloc::{AllocError, Global};
 use std::io::{Read, Write};
 use std::process::Abort;
@@ -52,7 +54,14 @@ struct FailingLogs<R: Wait + Drop> {
 impl<R: Wait + Copy + Drop + Send + 'static> Logs for FailingLogs<R> {
     type Log = Failing<R>;
 
-    fn open_log(&self, _: Rotation, _: &str, _: &str) -> Result<Failing<R>, InitError> {
+    fn open_log(
+        &self,
+        _: Rotation,
+        _: &str,
+        _: &str,
+        _: &Options,
+        _: Arc<FileCounts, Global>,
+    ) -> Result<Failing<R>, InitError> {
         match self.text.clone() {
             Ok(text) => Ok(Failing {
                 rt: self.rt,
@@ -95,10 +104,20 @@ fn check_fault_at<R: Host + Abort>(rt: R, place: usize, waits: bool) -> Result<(
         text: text.clone()?,
     };
     let mut errors = Vec::new(rt.alloc());
-    let (settings, mut input) = (Settings { waits }, TEXT);
-    let arguments = arguments.as_slice();
-    let answer = tee_with(rt, &logs, settings, arguments, &mut input, &mut errors);
-    expect_eq(&rt, errors.as_slice(), b"write failed\n".as_slice());
+    let mut options = Options::new(rt.alloc());
+    options.no_wait = !waits;
+    let mut input = TEXT;
+    let answer = tee_with(
+        rt,
+        &logs,
+        &options,
+        arguments.as_slice(),
+        &mut input,
+        &mut io::sink(),
+        &mut errors,
+    );
+    let told = if waits { "write failed\n" } else { "lines not written whole: 1\n" };
+    expect_eq(&rt, errors.as_slice(), told.as_bytes());
     expect_eq(&rt, answer, 1);
     let wanted = cut_at(rt.alloc(), place)?;
     let written = text.lock(&rt);
@@ -181,9 +200,8 @@ fn lines_of_a_slow_input_do_not_wait(rt: HostRuntime) -> Result<(), Fail> {
         least: Duration::from_secs(5),
     };
     let mut errors = Vec::new(rt.alloc());
-    let settings = Settings { waits: true };
     let arguments = arguments.as_slice();
-    let answer = tee_with(rt, &rt, settings, arguments, &mut input, &mut errors);
+    let answer = tee(rt, &rt, arguments, &mut input, &mut errors);
     expect_eq(&rt, errors.as_slice(), b"".as_slice());
     expect_eq(&rt, answer, 0);
     let is_soon = input.least < Duration::from_millis(100);

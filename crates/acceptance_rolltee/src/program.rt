@@ -1,7 +1,9 @@
 // The whole program over a real folder.
 use crate::expect::expect_eq;
+use file_watch::FileCounts;
 use program_io::Host;
-use rolltee_core::tee::{Logs, Settings, tee, tee_with};
+use program_options::Options;
+use rolltee_core::tee::{Logs, tee, tee_with};
 use std::alloc::{AllocError, Global};
 use std::io::{Read, Write};
 use std::process::Abort;
@@ -57,7 +59,14 @@ struct StuckLogs<R> {
 impl<R: Clock + Copy + Send + 'static> Logs for StuckLogs<R> {
     type Log = Stuck<R>;
 
-    fn open_log(&self, _: Rotation, _: &str, _: &str) -> Result<Stuck<R>, InitError> {
+    fn open_log(
+        &self,
+        _: Rotation,
+        _: &str,
+        _: &str,
+        _: &Options,
+        _: Arc<FileCounts, Global>,
+    ) -> Result<Stuck<R>, InitError> {
         Ok(Stuck {
             rt: self.rt,
             millis: self.millis,
@@ -102,7 +111,14 @@ struct InterruptingLogs<R: Drop> {
 impl<R: Clock + Copy + Drop + Send + 'static> Logs for InterruptingLogs<R> {
     type Log = Interrupting<R>;
 
-    fn open_log(&self, _: Rotation, _: &str, _: &str) -> Result<Interrupting<R>, InitError> {
+    fn open_log(
+        &self,
+        _: Rotation,
+        _: &str,
+        _: &str,
+        _: &Options,
+        _: Arc<FileCounts, Global>,
+    ) -> Result<Interrupting<R>, InitError> {
         match self.lines.clone() {
             Ok(lines) => Ok(Interrupting {
                 rt: self.rt,
@@ -146,7 +162,14 @@ struct NarrowLogs {
 impl Logs for NarrowLogs {
     type Log = Narrow;
 
-    fn open_log(&self, _: Rotation, _: &str, _: &str) -> Result<Narrow, InitError> {
+    fn open_log(
+        &self,
+        _: Rotation,
+        _: &str,
+        _: &str,
+        _: &Options,
+        _: Arc<FileCounts, Global>,
+    ) -> Result<Narrow, InitError> {
         Ok(Narrow { kind: self.kind })
     }
 }
@@ -165,6 +188,8 @@ impl Logs for OnlyLogs {
         rotation: Rotation,
         directory: &str,
         prefix: &str,
+        _: &Options,
+        _: Arc<FileCounts, Global>,
     ) -> Result<io::Sink, InitError> {
         if rotation == self.rotation && directory == "dir" && prefix == "app" {
             return Ok(io::sink());
@@ -178,7 +203,14 @@ struct NoLogs;
 impl Logs for NoLogs {
     type Log = io::Sink;
 
-    fn open_log(&self, _: Rotation, _: &str, _: &str) -> Result<io::Sink, InitError> {
+    fn open_log(
+        &self,
+        _: Rotation,
+        _: &str,
+        _: &str,
+        _: &Options,
+        _: Arc<FileCounts, Global>,
+    ) -> Result<io::Sink, InitError> {
         Err(InitError::Memory)
     }
 }
@@ -410,12 +442,22 @@ fn tells_a_full_disk_without_waiting(rt: HostRuntime) {
         kind: io::ErrorKind::StorageFull,
     };
     let arguments = texts_of(rt.alloc(), &["never", "dir", "app"]).expect(&rt, "memory");
-    let settings = Settings { waits: false };
+    let mut options = Options::new(rt.alloc());
+    options.no_wait = true;
     for (text, (status, told)) in &TAKEN {
         let mut input = text.as_bytes();
         let mut errors = Vec::new(rt.alloc());
         let arguments = arguments.as_slice();
-        let answer = tee_with(rt, &logs, settings, arguments, &mut input, &mut errors);
+        let answer = tee_with(
+            rt,
+            &logs,
+            &options,
+            arguments,
+            &mut input,
+            &mut io::sink(),
+            &mut errors,
+        );
+        let told = told.replace(rt.alloc(), "write failed", "lines not written whole: 1")?;
         expect_eq(&rt, errors.as_slice(), told.as_bytes());
         expect_eq(&rt, answer, *status);
     }

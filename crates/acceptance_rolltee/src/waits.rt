@@ -1,6 +1,8 @@
 // Logs that are slow or full for a while, and inputs that do not block.
 use crate::expect::expect_eq;
+use file_watch::FileCounts;
 use program_io::Host;
+use program_options::Options;
 use rolltee_core::feed::{Feed, WatchedLog};
 use rolltee_core::tee::{Logs, tee};
 use std::alloc::{AllocError, Global};
@@ -66,7 +68,14 @@ struct SlowLogs<R: Drop> {
 impl<R: Clock + Copy + Drop + Send + 'static> Logs for SlowLogs<R> {
     type Log = Slow<R>;
 
-    fn open_log(&self, _: Rotation, _: &str, _: &str) -> Result<Slow<R>, InitError> {
+    fn open_log(
+        &self,
+        _: Rotation,
+        _: &str,
+        _: &str,
+        _: &Options,
+        _: Arc<FileCounts, Global>,
+    ) -> Result<Slow<R>, InitError> {
         match self.bytes.clone() {
             Ok(bytes) => Ok(Slow {
                 rt: self.rt,

@@ -1,13 +1,26 @@
 //! The way of lines to a log through a queue, and how many of them are on it.
+use jiff::Timestamp;
+use program_io::report::report;
+use program_options::Options;
 use std::alloc::{AllocError, Global};
 use std::io::Write;
 use std::sync::{Arc, Wait};
 use std::time::{Clock, Duration};
-use std::{io, thread};
+use std::{io, mem, thread};
+use tracing_appender::non_blocking::ErrorCounter;
 use tracing_appender::worker::{BatchWriter, LineCounts};
 
 // The most bytes of lines that are written together.
-const CAPACITY: usize = 1 << 16;
+const CAPACITY: u64 = 1 << 16;
+
+// A file with a limit of bytes has room for at least so many of them.
+const BATCHES: u64 = 16;
+
+// Returns the most bytes of lines that are written together to a log with this limit of bytes a file; 0 is none.
+fn capacity(limit: u64) -> usize {
+    let most = if limit == 0 { CAPACITY } else { CAPACITY.min(limit / BATCHES) };
+    most as usize
+}
 
 /// The log of a worker. It writes lines together, and counts them for a `Watch`.
 #[derive(Drop)]
@@ -25,10 +38,10 @@ pub struct Watch {
 }
 
 impl<W: Write + Drop> WatchedLog<W> {
-    /// Returns the log of a worker, and what shows its counts. `AllocError` if memory is refused; then the log is
-    /// dropped.
-    pub fn new(alloc: Global, log: W) -> Result<(WatchedLog<W>, Watch), AllocError> {
-        let (log, counts) = BatchWriter::new(alloc, log, CAPACITY)?;
+    /// Returns the log of a worker, whose files have this limit of bytes, or none if it is 0, and what shows its counts.
+    /// `AllocError` if memory is refused; then the log is dropped.
+    pub fn new(alloc: Global, log: W, limit: u64) -> Result<(WatchedLog<W>, Watch), AllocError> {
+        let (log, counts) = BatchWriter::new(alloc, log, capacity(limit))?;
         let owner = Arc::new(alloc, ()).map_err(AllocError::from)?;
         let watched = WatchedLog {
             log,
@@ -76,25 +89,57 @@ const LONGEST_MILLIS: u64 = 50;
 
 /// Queues lines for a log, and waits for that.
 #[derive(Drop)]
-pub struct Feed<R, Q> {
+pub struct Feed<'a, R, Q, O> {
     rt: R,
     queue: Q,
     watch: Watch,
-    // The number of lines that the queue took.
+    dropped: ErrorCounter,
+    // The number of lines that the queue took or dropped.
     sent: u64,
     // The number of bytes that the queue took after it was last known to be empty.
     unwritten: usize,
+    // Whether it waits if there are many bytes in the queue.
+    waits: bool,
+    // Whether each line begins with the time at which it was read.
+    timestamps: bool,
+    // Whether each line is also written to the output.
+    echo: bool,
+    // The buffer for a line and its time.
+    stamped: Vec<u8>,
+    // Whether the last piece of a line had no newline, so that the next one goes on with it.
+    within: bool,
+    // Where each line is also written, until that fails.
+    output: &'a mut O,
+    // The number of lines that were not written whole there.
+    unechoed: u64,
 }
 
-impl<R: Wait + Clock, Q> Feed<R, Q> {
-    /// Returns a feed by this queue, whose worker has the log of the watch.
-    pub fn new(rt: R, queue: Q, watch: Watch) -> Feed<R, Q> {
+impl<'a, R: Wait + Clock + AllocGlobal, Q, O> Feed<'a, R, Q, O> {
+    /// Returns a feed by this queue, which counts the lines that it drops, and whose worker has the log of the watch. What
+    /// is done with each line is in the options.
+    pub fn new(
+        rt: R,
+        queue: Q,
+        dropped: ErrorCounter,
+        watch: Watch,
+        options: &Options,
+        output: &'a mut O,
+    ) -> Feed<'a, R, Q, O> {
+        let stamped = Vec::new(rt.alloc());
         Feed {
             rt,
             queue,
             watch,
+            dropped,
             sent: 0,
             unwritten: 0,
+            waits: !options.lossy,
+            timestamps: options.timestamps,
+            echo: options.echo,
+            stamped,
+            within: false,
+            output,
+            unechoed: 0,
         }
     }
 
@@ -105,7 +150,7 @@ impl<R: Wait + Clock, Q> Feed<R, Q> {
         for _ in self.rt.forever() {
             // A log that was dropped counts no more.
             let has_ended = self.watch.has_ended();
-            if self.watch.done() >= self.sent {
+            if self.left() == 0 {
                 break;
             }
             if has_ended {
@@ -118,26 +163,84 @@ impl<R: Wait + Clock, Q> Feed<R, Q> {
         true
     }
 
-    /// Returns the number of lines that the log did not take whole.
+    // Returns the number of lines that the log neither took nor lost until now.
+    fn left(&self) -> u64 {
+        self.sent
+            .saturating_sub(self.dropped())
+            .saturating_sub(self.watch.done())
+    }
+
+    /// Returns the number of lines that a lossy queue dropped.
+    pub fn dropped(&self) -> u64 {
+        self.dropped.dropped_lines() as u64
+    }
+
+    /// Returns the number of lines that the log did not take whole, those that it has not taken yet too.
     pub fn lost(&self) -> u64 {
-        self.watch.lost()
+        self.watch.lost().saturating_add(self.left())
+    }
+
+    /// Returns the number of lines that were not written whole to the output.
+    pub fn unechoed(&self) -> u64 {
+        self.unechoed
     }
 }
 
-impl<R: Wait + Clock, Q: Write> Write for Feed<R, Q> {
-    /// Queues one line. If there are 16 MiB in the queue, waits until they are written; then the error is `Other` if the
-    /// worker ended before. Other errors are those of the queue.
-    fn write(&mut self, line: &[u8]) -> io::Result<usize> {
+impl<'a, R: Wait + Clock + AllocGlobal, Q: Write, O: Write> Feed<'a, R, Q, O> {
+    // Queues a line as it is, and writes it to the output if that is asked for. After a fault of the output no more is
+    // written there.
+    fn send(&mut self, line: &[u8]) -> io::Result<()> {
         let taken = self.queue.write(line)?;
         self.sent = self.sent.saturating_add(1);
         self.unwritten = self.unwritten.saturating_add(taken);
-        if self.unwritten >= MOST_BYTES && !self.settle() {
+        if self.echo && (self.unechoed > 0 || report(self.output, line).is_err()) {
+            self.unechoed = self.unechoed.saturating_add(1);
+        }
+        if self.waits && self.unwritten >= MOST_BYTES && !self.settle() {
             return Err(io::Error::other("the worker ended"));
         }
-        Ok(taken)
+        Ok(())
+    }
+
+    // Queues a line after the time.
+    fn send_stamped(&mut self, line: &[u8]) -> io::Result<()> {
+        let mut stamped = mem::replace(&mut self.stamped, Vec::new(self.rt.alloc()));
+        stamped.clear();
+        write!(stamped, "{:.6} ", now(&self.rt))?;
+        stamped.extend_from_slice(line)?;
+        let sent = self.send(stamped.as_slice());
+        self.stamped = stamped;
+        sent
+    }
+}
+
+impl<'a, R: Wait + Clock + AllocGlobal, Q: Write, O: Write> Write for Feed<'a, R, Q, O> {
+    /// Queues one line, after its time if that is asked for. If there are 16 MiB in a queue that isn't lossy, waits until
+    /// they are written; then the error is `Other` if the worker ended before. Other errors are those of the queue.
+    fn write(&mut self, line: &[u8]) -> io::Result<usize> {
+        let begins = !self.within;
+        self.within = line.last() != Some(&b'\n');
+        if self.timestamps && begins {
+            self.send_stamped(line)?;
+        } else {
+            self.send(line)?;
+        }
+        Ok(line.len())
     }
 
     fn flush(&mut self) -> io::Result<()> {
         self.queue.flush()
+    }
+}
+
+// Returns the time of the system's clock, or 1970 if that can't be read.
+fn now(clock: &impl Clock) -> Timestamp {
+    match clock.since_1970() {
+        Ok(time) => {
+            let nanos = i128::from(time.as_secs()) * 1_000_000_000
+                + i128::from(time.subsec_nanos());
+            Timestamp::from_nanosecond(nanos).unwrap_or(Timestamp::UNIX_EPOCH)
+        }
+        Err(_) => Timestamp::UNIX_EPOCH,
     }
 }

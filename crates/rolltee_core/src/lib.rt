@@ -3,5 +3,7 @@
 #![tactic(auto)]
 
 pub mod feed;
+pub mod logs;
+pub mod losses;
 pub mod tee;
 pub mod waiting;

@@ -6,10 +6,14 @@ ghost use Rattle.rolltee_core.specs.Fault.{status_of, unless_memory, words_of, H
 ghost use Rattle.appender_names.specs.RotationText.{IsNoRotation};
 
 use crate::feed::{Feed, WatchedLog};
+pub use crate::logs::Logs;
+use crate::losses::Losses;
 use crate::waiting::WaitingLog;
+use file_watch::FileCounts;
 use program_io::report::report;
 use program_io::waiting::WaitingInput;
 use program_io::{CopyFault, Host, copy_lines};
+use program_options::{OptionError, OptionFault, Options};
 use std::alloc::AllocError;
 use std::io;
 use std::io::{BufReader, ErrorKind, Read, Write};
@@ -17,37 +21,10 @@ use std::sync::Wait;
 use std::time::Clock;
 use thiserror::Error;
 use tracing_appender::non_blocking::{Closing, NonBlocking, NonBlockingBuilder, WorkerGuard};
-use tracing_appender::rolling::{FileAppender, InitError, RollingFileAppender, Rotation};
+use tracing_appender::rolling::{InitError, Rotation};
 
-/// The greatest number of queued lines. If the queue is full, the reader waits.
+/// The greatest number of queued lines, if no option sets it.
 const LIMIT: usize = 1024;
-
-/// Opens logs: those of the file system, or a test's own.
-pub trait Logs {
-    /// A log.
-    type Log: Write + Send + Drop + 'static;
-
-    /// Opens a log of this rotation in this folder. The names of its files begin with `prefix`.
-    fn open_log(
-        &self,
-        rotation: Rotation,
-        directory: &str,
-        prefix: &str,
-    ) -> Result<Self::Log, InitError>;
-}
-
-impl Logs for HostRuntime {
-    type Log = FileAppender;
-
-    fn open_log(
-        &self,
-        rotation: Rotation,
-        directory: &str,
-        prefix: &str,
-    ) -> Result<FileAppender, InitError> {
-        RollingFileAppender::new(*self, rotation, directory, prefix)
-    }
-}
 
 /// Why not all lines were written.
 #[derive(Debug, Drop, Error)]
@@ -55,6 +32,12 @@ pub enum Fault {
     /// There weren't three arguments, or the first was no rotation, or the second was empty.
     #[error("usage: rolltee ROTATION DIR PREFIX")]
     Usage,
+    /// This word begins with a dash and is no option.
+    #[error("{0}: unknown option\nusage: rolltee ROTATION DIR PREFIX")]
+    Unknown(String),
+    /// This option was given twice, or its value is missing or wrong, or the rotation does not allow it.
+    #[error("{0}: {1}")]
+    Option(&'static str, OptionError),
     /// No log was opened.
     #[error("{0}")]
     Open(InitError),
@@ -67,6 +50,9 @@ pub enum Fault {
     /// A line was not taken whole, by the queue or by the log.
     #[error("write failed")]
     Write,
+    /// So much was lost.
+    #[error("{0}")]
+    Lost(Losses),
     /// The log was still being flushed a second after its last line.
     #[error("shutdown pending")]
     Pending,
@@ -84,25 +70,25 @@ impl Fault {
         ensures { result ≡ status_of self.now }
     {
         match self {
-            Fault::Usage => 2,
+            Fault::Usage | Fault::Unknown(_) | Fault::Option(_, _) => 2,
             Fault::Memory => 3,
             _ => 1,
         }
     }
 
-    // Returns what is reported of it, on a line. An error of opening has its own words.
+    // Returns what is reported of it, on a line, if that is the same for all faults of its kind; else nothing.
     fn words(&self) -> &'static [u8]
         ensures { IfSome (words_of self.now) (λ words. result.now ≡ words) }
     {
         match self {
             Fault::Usage => b"usage: rolltee ROTATION DIR PREFIX\n",
-            Fault::Open(_) => b"",
             Fault::Thread => b"no thread\n",
             Fault::Read => b"read failed\n",
             Fault::Write => b"write failed\n",
             Fault::Pending => b"shutdown pending\n",
             Fault::Full => b"shutdown full\n",
             Fault::Memory => b"no memory\n",
+            _ => b"",
         }
     }
 
@@ -120,6 +106,17 @@ impl Fault {
 impl From<AllocError> for Fault {
     fn from(_error: AllocError) -> Fault {
         Fault::Memory
+    }
+}
+
+/// A fault of the words of a command line.
+impl From<OptionFault> for Fault {
+    fn from(fault: OptionFault) -> Fault {
+        match fault {
+            OptionFault::Unknown(word) => Fault::Unknown(word),
+            OptionFault::Wrong(option, error) => Fault::Option(option, error),
+            OptionFault::Memory => Fault::Memory,
+        }
     }
 }
 
@@ -149,13 +146,6 @@ impl From<CopyFault> for Fault {
     }
 }
 
-/// What a run does if the log fails.
-#[derive(Clone, Copy)]
-pub struct Settings {
-    /// Whether it waits after a fault that may pass, as a full disk, and says so on the standard error of the runtime.
-    pub waits: bool,
-}
-
 /// Writes each line of `input` to a log that `logs` opens, and waits while that is full. The three arguments are its
 /// rotation, its folder and the beginning of its files' names. The first fault goes to `errors`, whose own faults are
 /// ignored; the lines read before it are written, as long as that takes. Returns the status of the process: 0; 1 if no
@@ -175,16 +165,20 @@ pub fn tee<R: Host, L: Logs, I: Read, E: Write>(
     ensures silent { result ≡ 0 → Keeps (E.contents errors.old) (E.contents errors.new) }
     ensures reported { 1 ≤ result → (fault : Fault) × ReportsFault fault result (E.contents errors.old) (E.contents errors.new) }
 {
-    tee_with(rt, logs, Settings { waits: true }, arguments, input, errors)
+    let (options, output) = (Options::new(rt.alloc()), &mut io::sink());
+    tee_with(rt, logs, &options, arguments, input, output, errors)
 }
 
-/// Does what `tee` does, with these settings.
-pub fn tee_with<R: Host, L: Logs, I: Read, E: Write>(
+/// Does what `tee` does, with options. If they ask for it, each line is also written to `output`. The status is also 1 if a
+/// line was dropped, or not written whole to `output`, or if a log file was not found again; it is 2 if the rotation does
+/// not allow an option.
+pub fn tee_with<R: Host, L: Logs, I: Read, O: Write, E: Write>(
     rt: R,
     logs: &L,
-    settings: Settings,
+    options: &Options,
     arguments: &[String],
     input: &mut I,
+    output: &mut O,
     errors: &mut E,
 ) -> u8
     ensures status { result ≤ 3 }
@@ -194,7 +188,7 @@ pub fn tee_with<R: Host, L: Logs, I: Read, E: Write>(
     ensures silent { result ≡ 0 → Keeps (E.contents errors.old) (E.contents errors.new) }
     ensures reported { 1 ≤ result → (fault : Fault) × ReportsFault fault result (E.contents errors.old) (E.contents errors.new) }
 {
-    match copy_through(rt, logs, settings, arguments, input) {
+    match copy_through(rt, logs, options, arguments, input, output) {
         Ok(()) => 0,
         Err(fault) => report_fault(&fault, errors),
     }
@@ -204,19 +198,22 @@ pub fn tee_with<R: Host, L: Logs, I: Read, E: Write>(
 pub fn report_fault<E: Write>(fault: &Fault, errors: &mut E) -> u8
     ensures { ReportsFault fault.now result (E.contents errors.old) (E.contents errors.new) }
 {
-    let _ = match fault {
-        Fault::Open(error) => writeln!(errors, "{error}"),
-        fault => report(errors, fault.words()),
+    let words = fault.words();
+    let _ = if words.is_empty() {
+        writeln!(errors, "{fault}")
+    } else {
+        report(errors, words)
     };
     fault.status()
 }
 
-fn copy_through<R: Host, L: Logs, I: Read>(
+fn copy_through<R: Host, L: Logs, I: Read, O: Write>(
     rt: R,
     logs: &L,
-    settings: Settings,
+    options: &Options,
     arguments: &[String],
     input: &mut I,
+    output: &mut O,
 ) -> Result<(), Fault>
     ensures usage { length arguments.now ≢ 3 → result ≡ Err Fault.Usage }
     ensures no_rotation { NamesNoRotation arguments.now → result ≡ Err Fault.Usage }
@@ -225,49 +222,72 @@ fn copy_through<R: Host, L: Logs, I: Read>(
     let [rotation, directory, prefix] = arguments else {
         return Err(Fault::Usage);
     };
-    let log = open(logs, rotation.as_str(), directory.as_str(), prefix.as_str())?;
-    if settings.waits {
-        copy_to(rt, WaitingLog::new(rt, log), input)
-    } else {
-        copy_to(rt, log, input)
-    }
-}
-
-// Opens the log that the arguments name.
-fn open<L: Logs>(logs: &L, rotation: &str, directory: &str, prefix: &str) -> Result<L::Log, Fault>
-    ensures no_rotation { IsNoRotation rotation.now → result ≡ Err Fault.Usage }
-    ensures no_folder { directory.now ≡ [] → result ≡ Err Fault.Usage }
-{
     if directory.is_empty() {
         return Err(Fault::Usage);
     }
-    let rotation = rotation.parse::<Rotation>().map_err(|_| Fault::Usage)?;
-    logs.open_log(rotation, directory, prefix)
-        .map_err(Fault::Open)
+    let rotation = rotation_of(rotation.as_str(), options)?;
+    let files = FileCounts::new(rt.alloc())?;
+    let (directory, prefix) = (directory.as_str(), prefix.as_str());
+    let log = logs
+        .open_log(rotation, directory, prefix, options, files.clone()?)
+        .map_err(Fault::Open)?;
+    let log = WaitingLog::<R, L>::new(rt, !options.no_wait, log);
+    let lost = copy_to(rt, log, options, input, output)?;
+    let gone = files.gone();
+    all_written(Losses { gone, ..lost }, options.is_plain())
 }
 
-// Copies the lines to a log, by the thread of its worker. Waits for the lines that were read also after a fault, and only
-// then reads how many of them the log did not take whole.
-fn copy_to<R: Host, W: Write + Send + Drop + 'static, I: Read>(
+// Returns the rotation that this word names. A fault if it names none, or one that does not allow the options: there are
+// no files to count, and no numbers, without a rotation.
+fn rotation_of(word: &str, options: &Options) -> Result<Rotation, Fault>
+    ensures no_rotation { IsNoRotation word.now → result ≡ Err Fault.Usage }
+{
+    let rotation = word.parse::<Rotation>().map_err(|_| Fault::Usage)?;
+    if rotation != Rotation::NEVER {
+        return Ok(rotation);
+    }
+    if options.keep > 0 {
+        return Err(Fault::Option("--keep", OptionError::Never));
+    }
+    if options.max_bytes > 0 {
+        return Err(Fault::Option("--max-bytes", OptionError::Never));
+    }
+    Ok(rotation)
+}
+
+// Copies the lines to a log, by the thread of its worker, and returns what was lost. Waits for the lines that were read also
+// after a fault, and only then counts.
+fn copy_to<R: Host, W: Write + Send + Drop + 'static, I: Read, O: Write>(
     rt: R,
     log: W,
+    options: &Options,
     input: &mut I,
-) -> Result<(), Fault> {
-    let (log, watch) = WatchedLog::new(rt.alloc(), log)?;
-    let (sender, guard) = start(rt, log)?;
-    let mut feed = Feed::new(rt, sender, watch);
+    output: &mut O,
+) -> Result<Losses, Fault> {
+    let (log, watch) = WatchedLog::new(rt.alloc(), log, options.max_bytes)?;
+    let (sender, guard) = start(rt, log, options)?;
+    let dropped = sender.error_counter()?;
+    let mut feed = Feed::new(rt, sender, dropped, watch, options, output);
     let copied = copy_all(rt, input, &mut feed);
-    let settled = feed.settle();
+    feed.settle();
     let closed = end(guard);
-    copied.and(closed).and(all_taken(settled, feed.lost()))
+    copied.and(closed)?;
+    Ok(Losses {
+        unwritten: feed.lost(),
+        dropped: feed.dropped(),
+        unechoed: feed.unechoed(),
+        gone: 0,
+    })
 }
 
-// Returns an error if the worker ended before all lines were written, or the log did not take each one whole.
-fn all_taken(settled: bool, lost: u64) -> Result<(), Fault> {
-    if settled && lost == 0 {
+// Returns a fault if something was lost. A run without options reports lines that the log did not take whole by two words.
+fn all_written(lost: Losses, is_plain: bool) -> Result<(), Fault> {
+    if lost == Losses::NONE {
         Ok(())
-    } else {
+    } else if is_plain && lost.gone == 0 {
         Err(Fault::Write)
+    } else {
+        Err(Fault::Lost(lost))
     }
 }
 
@@ -275,10 +295,12 @@ fn all_taken(settled: bool, lost: u64) -> Result<(), Fault> {
 fn start<R: Host, W: Write + Send + Drop + 'static>(
     rt: R,
     log: W,
+    options: &Options,
 ) -> Result<(NonBlocking<R>, WorkerGuard<R>), Fault> {
+    let limit = if options.queue == 0 { LIMIT } else { options.queue };
     let builder = NonBlockingBuilder::default()
-        .lossy(false)
-        .buffered_lines_limit(LIMIT);
+        .lossy(options.lossy)
+        .buffered_lines_limit(limit);
     match builder.finish(rt, rt.alloc(), log) {
         Ok(made) => Ok(made),
         Err(error) => Err(Fault::Thread.unless_memory(error.kind())),

@@ -1,36 +1,53 @@
-//! A log that waits while its disk is full.
+//! The log of a worker: it waits while its disk is full, if that is asked for.
 ghost use Rattle.std.specs.Prelude.{None};
 ghost use Rattle.std.specs.Io.{WritesAtMost};
 ghost use Rattle.std.specs.Io.KnownBytes.{Keeps, WriteAppends};
 
-use appender_wait::waiting::write_waiting;
+use crate::logs::Logs;
+use program_io::Host;
 use std::io;
-use std::io::Write;
-use std::sync::Wait;
-use std::time::Clock;
+use std::io::{ErrorKind, Write};
+use tracing_appender::waiting::write_waiting;
 
-/// A log whose writes wait as `write_waiting` does. Each returns how much the log took at once, and its error means that
-/// none of the bytes was written, so that lines that are written together can be told apart.
+/// A log whose writes may wait, as those of `write_waiting` do. Each returns how much the log took at once, and its error
+/// means that none of the bytes was written, so that lines that are written together can be told apart.
 #[derive(Drop)]
-pub struct WaitingLog<R, W> {
+pub struct WaitingLog<R: Drop, L: Logs> {
     rt: R,
-    log: W,
+    waits: bool,
+    log: L::Log,
 }
 
-impl<R, W> WaitingLog<R, W> {
-    /// Returns a log that waits by the clock of `rt`, and prints on its standard error.
-    pub fn new(rt: R, log: W) -> WaitingLog<R, W> {
-        WaitingLog { rt, log }
+impl<R: Drop, L: Logs> WaitingLog<R, L> {
+    /// Returns a log that waits by the clock of `rt`, and prints on its standard error; without `waits` it returns each
+    /// fault.
+    pub fn new(rt: R, waits: bool, log: L::Log) -> WaitingLog<R, L> {
+        WaitingLog { rt, waits, log }
+    }
+
+    // Tells the log that a line was given up.
+    fn note(&mut self, fault: &io::Error) {
+        if fault.kind() != ErrorKind::Interrupted {
+            L::give_up(&mut self.log);
+        }
     }
 }
 
-impl<R: Wait + Clock + Eprint, W: Write> Write for WaitingLog<R, W> {
-    /// Writes the first of the bytes, once the log takes some of them.
+impl<R: Host + Drop, L: Logs> Write for WaitingLog<R, L> {
+    /// Writes the first of the bytes. After an error that isn't `Interrupted` the line in which they are is not written on.
     fn write(&mut self, bytes: &[u8]) -> io::Result<usize>
         ensures bound { WritesAtMost result bytes.now }
         ensures bytes { WriteAppends None None result bytes.now }
     {
-        write_waiting(&self.rt, &mut self.log, bytes)
+        let taken = if self.waits {
+            write_waiting(&self.rt, &mut self.log, bytes)
+        } else {
+            self.log.write(bytes)
+        };
+        if let Err(fault) = &taken {
+            self.note(fault);
+        }
+        taken
     }
 
     /// Flushes the log, and does not wait after a fault of that.

@@ -1,0 +1,51 @@
+//! What a run lost.
+use std::fmt;
+use std::fmt::{Display, Formatter};
+
+/// How much of what was read a run did not write.
+#[derive(Clone, Copy, PartialEq, Eq, Debug)]
+pub struct Losses {
+    /// The number of lines that the log did not take whole.
+    pub unwritten: u64,
+    /// The number of lines that found no room in a lossy queue.
+    pub dropped: u64,
+    /// The number of lines that were not written whole to the output.
+    pub unechoed: u64,
+    /// The number of log files that were removed, renamed, replaced or truncated while they were written to, or
+    /// couldn't be compared with what their names lead to.
+    pub gone: u64,
+}
+
+impl Losses {
+    /// No losses.
+    pub const NONE: Losses = Losses {
+        unwritten: 0,
+        dropped: 0,
+        unechoed: 0,
+        gone: 0,
+    };
+
+    // The counts with their words, in the order in which they are reported.
+    fn counts(&self) -> [(&'static str, u64); 4] {
+        [
+            ("lines not written whole", self.unwritten),
+            ("lines dropped", self.dropped),
+            ("lines not echoed", self.unechoed),
+            ("log files not found again", self.gone),
+        ]
+    }
+}
+
+/// The counts that aren't 0.
+impl Display for Losses {
+    fn fmt<W: fmt::Write>(&self, f: &mut Formatter<W>) -> fmt::Result {
+        let mut separator = "";
+        for (words, count) in self.counts() {
+            if count > 0 {
+                write!(f, "{separator}{words}: {count}")?;
+                separator = "; ";
+            }
+        }
+        Ok(())
+    }
+}
