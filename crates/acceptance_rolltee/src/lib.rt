@@ -7,8 +7,12 @@ mod batches;
 #[cfg(test)]
 mod expect;
 #[cfg(test)]
+mod options;
+#[cfg(test)]
 mod pieces;
 #[cfg(test)]
 mod program;
+#[cfg(test)]
+mod settings;
 #[cfg(test)]
 mod waits;

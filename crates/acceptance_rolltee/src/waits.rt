@@ -14,6 +14,7 @@ use std::sync::atomic::Ordering::SeqCst;
 use std::test::Fail;
 use std::time::{Clock, Duration};
 use std::{io, thread};
+use tracing_appender::non_blocking::non_blocking;
 use tracing_appender::rolling::{InitError, Rotation};
 
 // How a log behaves.
@@ -252,12 +253,15 @@ fn waits_for_a_full_disk(rt: HostRuntime) -> Result<(), Fail> {
     Ok(())
 }
 
-// The wait ends once the log took its lines, and if it was dropped before.
+// The wait ends once the log took its lines, and if it was dropped before: then the others are lost.
 #[test]
 fn waits_for_no_worker_that_ended(rt: HostRuntime) -> Result<(), Fail> {
+    let (sender, guard) = non_blocking(rt, rt.alloc(), io::sink())?;
     for (taken, settled) in [(2u64, true), (1, false)] {
-        let (mut log, watch) = WatchedLog::new(rt.alloc(), io::sink())?;
-        let mut feed = Feed::new(rt, io::sink(), watch);
+        let (mut log, watch) = WatchedLog::new(rt.alloc(), io::sink(), 0)?;
+        let (options, mut output) = (Options::new(rt.alloc()), io::sink());
+        let dropped = sender.error_counter()?;
+        let mut feed = Feed::new(rt, io::sink(), dropped, watch, &options, &mut output);
         for _ in 0..2u32 {
             feed.write(b"a\n")?;
         }
@@ -266,7 +270,8 @@ fn waits_for_no_worker_that_ended(rt: HostRuntime) -> Result<(), Fail> {
         }
         drop(log);
         expect_eq(&rt, feed.settle(), settled);
-        expect_eq(&rt, feed.lost(), 0);
+        expect_eq(&rt, feed.lost(), 2 - taken);
     }
+    drop(guard);
     Ok(())
 }

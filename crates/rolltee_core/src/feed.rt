@@ -18,7 +18,11 @@ const BATCHES: u64 = 16;
 
 // Returns the most bytes of lines that are written together to a log with this limit of bytes a file; 0 is none.
 fn capacity(limit: u64) -> usize {
-    let most = if limit == 0 { CAPACITY } else { CAPACITY.min(limit / BATCHES) };
+    let most = if limit == 0 {
+        CAPACITY
+    } else {
+        CAPACITY.min(limit / BATCHES)
+    };
     most as usize
 }
 

@@ -1,13 +1,11 @@
 //! The log of a run in the file system, with the options that are asked for.
 ghost use Rattle.std.specs.Prelude.{◌≡◌, IfOk};
-ghost use Rattle.appender_store.specs.declared.store.Folder.{};
 ghost use Rattle.rolltee_core.specs.Log.{config_of};
 
 use crate::tee::Fault;
 use file_watch::{DirWatch, FileCounts, Watch};
 use program_options::Options;
 use std::alloc::{AllocError, Global};
-use std::fs;
 use std::io;
 use std::io::{ErrorKind, Write};
 use std::rt::Files;
@@ -19,7 +17,7 @@ use tracing_appender::rolling::{
 use tracing_appender::store::Folder;
 
 /// Opens logs: those of the file system, or a test's own.
-pub trait Logs {
+pub trait Logs: 'static {
     /// A log.
     type Log: Write + Send + Drop + 'static;
 
@@ -58,7 +56,7 @@ impl Logs for HostRuntime {
     }
 }
 
-/// A log in the file system.
+// A log in the file system.
 type Log<R> = RollingFile<DirFolder<R>, SystemClock<R>>;
 
 // What is needed to open a log, and to open it again.
@@ -169,7 +167,7 @@ impl<R: Files + AllocGlobal + Eprint + std::time::Clock + Clone + Drop> FileLog<
     // Looks how long the open file is, and whether it ends with a part of a line.
     fn look_at_file(&mut self) {
         let (folder, file) = (self.log.folder(), self.log.open_file());
-        self.length = self.watch.length(file);
+        self.length = Watch::<DirFolder<R>>::length(&self.watch, file);
         self.within = false;
         self.cut = self.opener.whole_lines
             && !self.watch.ends_line(folder, file, self.log.open_name());

@@ -297,7 +297,11 @@ fn start<R: Host, W: Write + Send + Drop + 'static>(
     log: W,
     options: &Options,
 ) -> Result<(NonBlocking<R>, WorkerGuard<R>), Fault> {
-    let limit = if options.queue == 0 { LIMIT } else { options.queue };
+    let limit = if options.queue == 0 {
+        LIMIT
+    } else {
+        options.queue
+    };
     let builder = NonBlockingBuilder::default()
         .lossy(options.lossy)
         .buffered_lines_limit(limit);
