@@ -281,6 +281,7 @@ impl Reading {
 
 impl Options {
     ghost use Rattle.std.specs.Prelude.{◌≡◌, IfNone, IfSome, OnOk};
+    ghost use Rattle.std.specs.List.{find};
     ghost use Rattle.program_options.specs.Options.{has, is_raised, AreLimits, Raises, Sets};
 
     // Sets the value of an option, which was not set before.
@@ -318,20 +319,32 @@ impl Options {
         ensures none { IfNone result (AreLimits self.now) }
         ensures some { IfSome result (λ word. ¬ AreLimits self.now) }
     {
-        let valued = [Valued::Suffix, Valued::Link, Valued::Queue];
-        if let Some(option) = valued.iter().find(|option| self.has(**option)) {
+        if let Some(option) = self.first_set(&[Valued::Suffix, Valued::Link, Valued::Queue]) {
             return Some(option.word());
         }
-        let flags = [
+        let flag = self.first_raised(&[
             Flag::Lossy,
             Flag::NoWait,
             Flag::Sync,
             Flag::Echo,
             Flag::Timestamps,
             Flag::WholeLines,
-        ];
-        let flag = flags.iter().find(|flag| self.is_raised(**flag))?;
+        ])?;
         Some(flag.word())
+    }
+
+    // Returns the first of these options that was set.
+    fn first_set(&self, options: &[Valued]) -> Option<Valued>
+        ensures { result ≡ find (λ option. has option self.now) options.now }
+    {
+        options.iter().copied().find(|option| self.has(*option))
+    }
+
+    // Returns the first of these flags that was set.
+    fn first_raised(&self, flags: &[Flag]) -> Option<Flag>
+        ensures { result ≡ find (λ flag. is_raised flag self.now) flags.now }
+    {
+        flags.iter().copied().find(|flag| self.is_raised(*flag))
     }
 
     // Sets a flag, which was not set before.
