@@ -1,9 +1,9 @@
 -- Words that faults name.
-use Rattle.std.proofs.Common.{◌≡◌, ◌⊎◌, ℕ, zero, suc, List, [], ◌∷◌, ◌++◌, inl, inr, refl, sym, ap, subst, ◌∙◌, append_assoc, string_bytes, rules}
+use Rattle.std.proofs.Common.{◌≡◌, ℕ, zero, suc, List, [], ◌∷◌, ◌++◌, inl, inr, refl, sym, ap, subst, ◌∙◌, append_assoc, string_bytes, rules}
 use Rattle.std.proofs.lemmas.List.Elements.{Contains-append_right}
 use Rattle.std.specs.Prelude.{String, Contains}
 use Rattle.std.specs.declared.alloc.Global.{Global}
-use Rattle.program_options.specs.Options.{valued_word, HasFault, IsFaultOf, IsNextAfter, IsOf, Names, Reaches, Takes, TakesAs}
+use Rattle.program_options.specs.Options.{valued_word, HasFault, IsFaultOf, IsNextAfter, IsOf, Names, Reaches, TakesAs}
 use Rattle.program_options.specs.declared.Next.{Next}
 use Rattle.program_options.specs.declared.Next.TheVariants.{Any, Value, Argument, Help, Version}
 use Rattle.program_options.specs.declared.OptionFault.{OptionFault}
