@@ -1,5 +1,5 @@
 -- The options of a command line.
-use Rattle.std.specs.Prelude.{◌≡◌, ◌≢◌, ◌⊎◌, ◌≤◌, ◌*◌, ℕ, zero, suc, Bool, true, false, List, [], ◌∷◌, ◌++◌, String, string_bytes, codes, map, nat_lt, Contains}
+use Rattle.std.specs.Prelude.{◌≡◌, ◌≢◌, ◌⊎◌, ◌≤◌, ◌*◌, ℕ, zero, suc, Bool, true, false, List, [], ◌∷◌, ◌++◌, String, string_bytes, codes, map, nat_lt, Contains, Vec}
 use Rattle.std.specs.Str.Parse.{IsNumeral, digits_value}
 use Rattle.std.specs.declared.alloc.Global.{Global}
 use Rattle.program_io.specs.Options.{begins_with_dash}
@@ -208,9 +208,16 @@ IsOf option (Unknown text) = ⊥
 IsOf option (Wrong name error) = name.now ≡ option
 IsOf option NoMemory = Unit {0}
 
+-- the word begins with a dash and is no option
+pub record IsUnknown (word : List ℕ) : Type 0 where
+  pub dashed : begins_with_dash word ≡ true
+  pub no_next : (next : Next) → ¬ IsNextAfter word next
+  pub no_flag : (flag : Flag) → word ≢ flag_word flag
+  pub no_value : (option : Valued) (value : List ℕ) → word ≢ valued_word option ++ (61 ∷ value)
+
 -- the fault names this word, or the option that the word begins with, or is of memory
 abbrev pub Names : List ℕ → OptionFault → Type 0
-Names word (Unknown text) = string_bytes text ≡ word
+Names word (Unknown text) = (string_bytes text ≡ word) × IsUnknown word
 Names word (Wrong name error) = (word ≡ name.now) ⊎ ((value : List ℕ) × (word ≡ name.now ++ (61 ∷ value)))
 Names word NoMemory = Unit {0}
 
@@ -223,6 +230,19 @@ HasFault next word fault = Names word fault
 abbrev pub IsFaultOf : List (String Global) → OptionFault → Type 0
 IsFaultOf words NoMemory = Unit {0}
 IsFaultOf words fault = (word : String Global) × Contains words word × Names (string_bytes word) fault
+
+-- this is the word of an option that is set, other than those of the limits
+abbrev pub IsOther : List ℕ → Options → Type 0
+IsOther word o =
+    ((option : Valued) × (option ≢ Keep) × (option ≢ MaxBytes) × (has option o ≡ true) × (word ≡ valued_word option))
+    ⊎ ((flag : Flag) × (is_raised flag o ≡ true) × (word ≡ flag_word flag))
+
+-- the fault names an option that the words set beside the limits
+abbrev pub NamesOther : List (String Global) → OptionFault → Type 0
+NamesOther words (Unknown text) =
+    (options : Options) × (arguments : Vec (String Global) Global) × IsRead words (Run options arguments) × IsOther (string_bytes text) options
+NamesOther words (Wrong name error) = ⊥
+NamesOther words NoMemory = ⊥
 
 -- ---- requests
 

@@ -1,9 +1,12 @@
 //! Command-line options of programs that write logs.
 #![tactic(auto)]
 
-ghost use Rattle.std.specs.Prelude.{◌≡◌, ◌≢◌, [], ◌∷◌, ◌++◌, IfErr, IfOk, IfSome, string_bytes};
+ghost use Rattle.std.specs.Prelude.{◌≡◌, ◌≢◌, ◌⊎◌, ℕ, List, [], ◌∷◌, ◌++◌, IfErr, IfNone, IfOk, IfSome, string_bytes};
+ghost use Rattle.program_options.specs.declared.Flag.{Flag};
+ghost use Rattle.program_options.specs.declared.Next.{Next};
+ghost use Rattle.program_options.specs.declared.Valued.{Valued};
 ghost use Rattle.program_io.specs.Options.{begins_with_dash};
-ghost use Rattle.program_options.specs.Options.{flag_word, valued_word, AreUndashed, HasOnlyLimits, HasUnit, IsByteCount, IsCount, IsFaultOf, IsNextAfter, IsOf, IsNumber, IsPlain, IsRead};
+ghost use Rattle.program_options.specs.Options.{flag_word, valued_word, AreUndashed, HasOnlyLimits, HasUnit, IsByteCount, IsCount, IsFaultOf, IsNextAfter, IsOf, IsNumber, IsPlain, IsRead, NamesOther};
 
 use std::alloc::{AllocError, Global};
 use thiserror::Error;
@@ -206,6 +209,7 @@ pub fn read_limits(alloc: Global, words: &[String]) -> Result<Request, OptionFau
     ensures read { IfOk result (IsRead words.now) }
     ensures plain { AreUndashed words.now → IfOk result (IsPlain words.now) }
     ensures limits { IfOk result HasOnlyLimits }
+    ensures fault { IfErr result (λ fault. IsFaultOf words.now fault ⊎ NamesOther words.now fault) }
 {
     let request = read(alloc, words)?;
     if let Request::Run(options, _) = &request {
@@ -240,7 +244,7 @@ struct Reading {
 }
 
 impl Reading {
-    ghost use Rattle.std.specs.Prelude.{◌≡◌, IfErr, OnOk};
+    ghost use Rattle.std.specs.Prelude.{◌≡◌, true, IfErr, OnOk};
     ghost use Rattle.program_options.specs.Options.{Adds, HasFault, IsFresh, Names, Takes, TakesOption};
 
     fn new(alloc: Global) -> Reading
@@ -273,6 +277,7 @@ impl Reading {
 
     // Reads a word that begins with a dash.
     fn take_option(&mut self, alloc: Global, word: &str) -> Result<(), OptionFault>
+        requires { begins_with_dash word.now ≡ true }
         ensures taken { OnOk result (TakesOption word.now self.old self.new) }
         ensures fault { IfErr result (Names word.now) }
     {
@@ -303,7 +308,7 @@ impl Reading {
 impl Options {
     ghost use Rattle.std.specs.Prelude.{◌≡◌, IfErr, IfNone, IfSome, OnOk};
     ghost use Rattle.std.specs.List.{find};
-    ghost use Rattle.program_options.specs.Options.{flag_word, has, is_raised, valued_word, AreLimits, IsOf, Raises, Sets};
+    ghost use Rattle.program_options.specs.Options.{flag_word, has, is_raised, valued_word, AreLimits, IsOf, IsOther, Raises, Sets};
 
     // Sets the value of an option, which was not set before.
     fn set(&mut self, alloc: Global, option: Valued, value: &str) -> Result<(), OptionFault>
@@ -340,6 +345,7 @@ impl Options {
     fn other_word(&self) -> Option<&'static str>
         ensures none { IfNone result (AreLimits self.now) }
         ensures some { IfSome result (λ word. ¬ AreLimits self.now) }
+        ensures word { IfSome result (λ word. IsOther word.now self.now) }
     {
         if let Some(option) = self.first_set(&[Valued::Suffix, Valued::Link, Valued::Queue]) {
             return Some(option.word());
@@ -415,7 +421,8 @@ fn begins(word: &str) -> bool
 
 // Returns the meaning of the next word after one that sets nothing by itself.
 fn next_after(word: &str) -> Option<Next>
-    ensures { IfSome result (IsNextAfter word.now) }
+    ensures some { IfSome result (IsNextAfter word.now) }
+    ensures none { IfNone result ((next : Next) → ¬ IsNextAfter word.now next) }
 {
     match word {
         "--" => Some(Next::Argument),
@@ -427,14 +434,16 @@ fn next_after(word: &str) -> Option<Next>
 
 // Returns the option before the first `=` of a word, and the value after it.
 fn with_value(word: &str) -> Option<(Valued, &str)>
-    ensures { IfSome result (λ given. word.now ≡ valued_word given.0 ++ (61 ∷ given.1.now)) }
+    ensures some { IfSome result (λ given. word.now ≡ valued_word given.0 ++ (61 ∷ given.1.now)) }
+    ensures none { IfNone result ((option : Valued) (value : List ℕ) → word.now ≢ valued_word option ++ (61 ∷ value)) }
 {
     let (name, value) = word.split_once('=')?;
     Some((valued_of(name)?, value))
 }
 
 fn valued_of(word: &str) -> Option<Valued>
-    ensures { IfSome result (λ option. word.now ≡ valued_word option) }
+    ensures some { IfSome result (λ option. word.now ≡ valued_word option) }
+    ensures none { IfNone result ((option : Valued) → word.now ≢ valued_word option) }
 {
     match word {
         "--keep" => Some(Valued::Keep),
@@ -447,7 +456,8 @@ fn valued_of(word: &str) -> Option<Valued>
 }
 
 fn flag_of(word: &str) -> Option<Flag>
-    ensures { IfSome result (λ flag. word.now ≡ flag_word flag) }
+    ensures some { IfSome result (λ flag. word.now ≡ flag_word flag) }
+    ensures none { IfNone result ((flag : Flag) → word.now ≢ flag_word flag) }
 {
     match word {
         "--lossy" => Some(Flag::Lossy),
