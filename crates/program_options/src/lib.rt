@@ -1,37 +1,40 @@
-//! Options of programs that write logs, among the words of a command line.
+//! Command-line options of programs that write logs.
 #![tactic(auto)]
 
-ghost use Rattle.std.specs.Prelude.{◌≡◌, ◌≢◌, [], ◌∷◌, ◌++◌, IfOk, IfSome, string_bytes};
+ghost use Rattle.std.specs.Prelude.{◌≡◌, ◌≢◌, ◌⊎◌, ℕ, List, [], ◌∷◌, ◌++◌, IfErr, IfNone, IfOk, IfSome, string_bytes};
+ghost use Rattle.program_options.specs.declared.Flag.{Flag};
+ghost use Rattle.program_options.specs.declared.Next.{Next};
+ghost use Rattle.program_options.specs.declared.Valued.{Valued};
 ghost use Rattle.program_io.specs.Options.{begins_with_dash};
-ghost use Rattle.program_options.specs.Options.{flag_word, valued_word, AreUndashed, HasUnit, HasLimits, IsByteCount, IsCount, IsNextAfter, IsNumber, IsPlain, IsRead};
+ghost use Rattle.program_options.specs.Options.{flag_word, valued_word, AreUndashed, HasOnlyLimits, HasUnit, IsByteCount, IsCount, IsFaultOf, IsNextAfter, IsOf, IsNumber, IsPlain, IsRead, NamesOther};
 
 use std::alloc::{AllocError, Global};
 use thiserror::Error;
 
-/// What is asked of a run beside its rotation, its folder and the beginning of its files' names.
+/// What a command line asks for beside its arguments.
 #[derive(Debug, Drop)]
 pub struct Options {
-    /// The number of log files that are kept; 0 is all.
+    /// `--keep`: the number of log files that are kept; 0 is all.
     pub keep: usize,
-    /// The number of bytes after which the next file of a period begins; 0 is no limit.
+    /// `--max-bytes`: the number of bytes after which the next file of a period begins; 0 is no limit.
     pub max_bytes: u64,
-    /// The end of the files' names; an empty one is none.
+    /// `--suffix`: the suffix of the log files' names; an empty one is none.
     pub suffix: String,
-    /// The name of a link to the newest file; an empty one is none.
+    /// `--link`: the name of a symbolic link to the newest log file; an empty one is none.
     pub link: String,
-    /// The greatest number of queued lines; 0 is the program's own.
+    /// `--queue`: the greatest number of queued lines; 0 is the program's default.
     pub queue: usize,
-    /// Whether a line that finds no room in the queue is dropped. Else the input waits.
+    /// `--lossy`: whether a line is dropped if the queue is full. Otherwise the input waits.
     pub lossy: bool,
-    /// Whether lines are lost while the disk is full. Else they wait.
+    /// `--no-wait`: whether lines are dropped while the disk is full. Otherwise they wait.
     pub no_wait: bool,
-    /// Whether each flush of the log also syncs it.
+    /// `--sync`: whether each flush of the log also syncs it.
     pub sync: bool,
-    /// Whether each line is also written to the output.
+    /// `--echo`: whether each line is also written to standard output.
     pub echo: bool,
-    /// Whether each line begins with the time at which it was read.
+    /// `--timestamps`: whether each line begins with the time at which it was read.
     pub timestamps: bool,
-    /// Whether a part of a line is ended by a newline before the next line.
+    /// `--whole-lines`: whether a part of a line is ended by a newline before the next line.
     pub whole_lines: bool,
 }
 
@@ -39,7 +42,7 @@ impl Options {
     ghost use Rattle.std.specs.Prelude.{◌≡◌, ◌↔◌, true};
     ghost use Rattle.program_options.specs.Options.{AreDefaults};
 
-    /// Returns what is asked for if there is no option.
+    /// Returns the options of a command line that sets none.
     pub fn new(alloc: Global) -> Options
         ensures { AreDefaults result }
     {
@@ -58,7 +61,7 @@ impl Options {
         }
     }
 
-    /// Returns whether nothing is asked for.
+    /// Returns whether no option is set.
     pub fn is_plain(&self) -> bool
         ensures { (result ≡ true) ↔ AreDefaults self.now }
     {
@@ -66,7 +69,7 @@ impl Options {
     }
 }
 
-// An option that has a value, in its own word or in the next one.
+// An option with a value.
 #[derive(Clone, Copy, Debug, PartialEq, Eq)]
 enum Valued {
     Keep,
@@ -77,7 +80,7 @@ enum Valued {
 }
 
 impl Valued {
-    // Returns its word.
+    // Returns the word of the option.
     fn word(self) -> &'static str
         ensures { result.now ≡ valued_word self }
     {
@@ -103,7 +106,7 @@ enum Flag {
 }
 
 impl Flag {
-    // Returns its word.
+    // Returns the word of the option.
     fn word(self) -> &'static str
         ensures { result.now ≡ flag_word self }
     {
@@ -118,54 +121,71 @@ impl Flag {
     }
 }
 
-/// What is wrong with an option.
+/// The reason why an option is rejected.
 #[derive(Clone, Copy, Debug, PartialEq, Eq, Error)]
 pub enum OptionError {
+    /// There is no value, or an empty one, or the next word begins with a dash.
     #[error("a value is missing")]
     Missing,
+    /// The option was set before.
     #[error("given twice")]
     Twice,
+    /// The program has no use for the option without a rotation. `read` never returns it.
     #[error("not without a rotation")]
     Never,
+    /// The value is not a decimal number from 1 that a `usize` can represent.
     #[error("not a number from 1")]
     Count,
+    /// The value is not a decimal number from 1 with `K`, `M`, `G` or no letter after it, or is more than a `u64`.
     #[error("not a number of bytes from 1, as 500, 64K, 10M or 2G")]
     ByteCount,
 }
 
-/// Why the words of a command line can't be read.
+/// The reason why a command line is rejected.
 #[derive(Debug, Drop)]
 pub enum OptionFault {
     /// This word begins with a dash and is no option.
     Unknown(String),
-    /// This option was given twice, or its value is missing or wrong.
+    /// The option of this word is rejected.
     Wrong(&'static str, OptionError),
-    /// Memory was refused.
+    /// Out of memory.
     Memory,
 }
 
 impl From<AllocError> for OptionFault {
+    ghost use Rattle.std.specs.Prelude.{◌≡◌};
+    ghost use Rattle.program_options.specs.declared.OptionFault.TheVariants.{Memory};
+
+    ghost from_gives = { λ _ e. e ≡ Memory };
+
     fn from(_error: AllocError) -> OptionFault {
         OptionFault::Memory
     }
 }
 
-/// What the words of a command line ask for.
+/// What a command line asks for.
 #[derive(Debug, Drop)]
 pub enum Request {
-    /// To print how the program is used.
+    /// To print the usage.
     Help,
-    /// To print its version.
+    /// To print the version.
     Version,
-    /// Its work, with these options, on these arguments.
+    /// The program's work, with these options and arguments.
     Run(Options, Vec<String>),
 }
 
-/// Reads the words after the program's name, up to one that asks for help or for the version. An option may be anywhere
-/// before `--`.
+/// Returns what the words after the program's name ask for. They are read from the left, up to `-h`, `--help` or
+/// `--version`.
+///
+/// Each option is set at most once, anywhere before `--`. The words after that are arguments. A value follows a `=` or is
+/// the next word, as in `--keep=7` and `--keep 7`. In a word of its own it may not begin with a dash. `--max-bytes` takes
+/// `N[K|M|G]`, with 1,024 bytes for `K`.
+///
+/// `OptionFault::Unknown` and `OptionFault::Wrong` name the first wrong word.
 pub fn read(alloc: Global, words: &[String]) -> Result<Request, OptionFault>
     ensures read { IfOk result (IsRead words.now) }
     ensures plain { AreUndashed words.now → IfOk result (IsPlain words.now) }
+    ensures fault { IfErr result (IsFaultOf words.now) }
 {
     let mut reading = Reading::new(alloc);
     let mut rest = words;
@@ -183,12 +203,13 @@ pub fn read(alloc: Global, words: &[String]) -> Result<Request, OptionFault>
     }
 }
 
-/// Reads words as `read` does, for a program with no options but `--keep` and `--max-bytes`. Any other option is
-/// `OptionFault::Unknown`, with its word.
+/// Returns what `read` does, for a program with no options but `--keep` and `--max-bytes`. `OptionFault::Unknown` if
+/// another one was set: it has the word of the first of those in the order of `Options`.
 pub fn read_limits(alloc: Global, words: &[String]) -> Result<Request, OptionFault>
     ensures read { IfOk result (IsRead words.now) }
     ensures plain { AreUndashed words.now → IfOk result (IsPlain words.now) }
-    ensures limits { IfOk result HasLimits }
+    ensures limits { IfOk result HasOnlyLimits }
+    ensures fault { IfErr result (λ fault. IsFaultOf words.now fault ⊎ NamesOther words.now fault) }
 {
     let request = read(alloc, words)?;
     if let Request::Run(options, _) = &request {
@@ -199,7 +220,7 @@ pub fn read_limits(alloc: Global, words: &[String]) -> Result<Request, OptionFau
     Ok(request)
 }
 
-// What the next word is.
+// The meaning of the next word.
 #[derive(Clone, Copy)]
 enum Next {
     // An option or an argument.
@@ -208,12 +229,13 @@ enum Next {
     Value(Valued),
     // An argument, after `--`.
     Argument,
-    // Not read, since the word before asks for help or for the version.
+    // It is not read, since the last one asks for the usage.
     Help,
+    // It is not read, since the last one asks for the version.
     Version,
 }
 
-// What the words so far ask for.
+// What was read so far.
 #[derive(Drop)]
 struct Reading {
     options: Options,
@@ -222,8 +244,8 @@ struct Reading {
 }
 
 impl Reading {
-    ghost use Rattle.std.specs.Prelude.{OnOk};
-    ghost use Rattle.program_options.specs.Options.{Adds, IsFresh, Takes, TakesOption};
+    ghost use Rattle.std.specs.Prelude.{◌≡◌, true, IfErr, OnOk};
+    ghost use Rattle.program_options.specs.Options.{Adds, HasFault, IsFresh, Names, Takes, TakesOption};
 
     fn new(alloc: Global) -> Reading
         ensures { IsFresh result }
@@ -235,9 +257,10 @@ impl Reading {
         }
     }
 
-    // Takes the next word.
+    // Reads the next word.
     fn take(&mut self, alloc: Global, word: &str) -> Result<(), OptionFault>
-        ensures { OnOk result (Takes word.now self.old self.new) }
+        ensures taken { OnOk result (Takes word.now self.old self.new) }
+        ensures fault { IfErr result (HasFault self.old.next word.now) }
     {
         match self.next {
             Next::Value(option) if begins(word) => {
@@ -252,9 +275,11 @@ impl Reading {
         }
     }
 
-    // Takes a word that begins with a dash.
+    // Reads a word that begins with a dash.
     fn take_option(&mut self, alloc: Global, word: &str) -> Result<(), OptionFault>
-        ensures { OnOk result (TakesOption word.now self.old self.new) }
+        requires { begins_with_dash word.now ≡ true }
+        ensures taken { OnOk result (TakesOption word.now self.old self.new) }
+        ensures fault { IfErr result (Names word.now) }
     {
         if let Some(next) = next_after(word) {
             self.next = next;
@@ -271,7 +296,8 @@ impl Reading {
 
     // Adds an argument.
     fn add(&mut self, alloc: Global, word: &str) -> Result<(), OptionFault>
-        ensures { OnOk result (Adds word.now self.old self.new) }
+        ensures added { OnOk result (Adds word.now self.old self.new) }
+        ensures fault { IfErr result (λ fault. fault ≡ OptionFault.Memory) }
     {
         let argument = String::from_str(alloc, word)?;
         self.arguments.push(argument).map_err(AllocError::from)?;
@@ -280,12 +306,14 @@ impl Reading {
 }
 
 impl Options {
-    ghost use Rattle.std.specs.Prelude.{◌≡◌, IfNone, IfSome, OnOk};
-    ghost use Rattle.program_options.specs.Options.{has, is_raised, AreLimits, Raises, Sets};
+    ghost use Rattle.std.specs.Prelude.{◌≡◌, IfErr, IfNone, IfSome, OnOk};
+    ghost use Rattle.std.specs.List.{find};
+    ghost use Rattle.program_options.specs.Options.{flag_word, has, is_raised, valued_word, AreLimits, IsOf, IsOther, Raises, Sets};
 
     // Sets the value of an option, which was not set before.
     fn set(&mut self, alloc: Global, option: Valued, value: &str) -> Result<(), OptionFault>
-        ensures { OnOk result (Sets option value.now self.old self.new) }
+        ensures set { OnOk result (Sets option value.now self.old self.new) }
+        ensures fault { IfErr result (IsOf (valued_word option)) }
     {
         if self.has(option) {
             return Err(OptionFault::Wrong(option.word(), OptionError::Twice));
@@ -317,26 +345,40 @@ impl Options {
     fn other_word(&self) -> Option<&'static str>
         ensures none { IfNone result (AreLimits self.now) }
         ensures some { IfSome result (λ word. ¬ AreLimits self.now) }
+        ensures word { IfSome result (λ word. IsOther word.now self.now) }
     {
-        let valued = [Valued::Suffix, Valued::Link, Valued::Queue];
-        if let Some(option) = valued.iter().find(|option| self.has(**option)) {
+        if let Some(option) = self.first_set(&[Valued::Suffix, Valued::Link, Valued::Queue]) {
             return Some(option.word());
         }
-        let flags = [
+        let flag = self.first_raised(&[
             Flag::Lossy,
             Flag::NoWait,
             Flag::Sync,
             Flag::Echo,
             Flag::Timestamps,
             Flag::WholeLines,
-        ];
-        let flag = flags.iter().find(|flag| self.is_raised(**flag))?;
+        ])?;
         Some(flag.word())
+    }
+
+    // Returns the first of these options that was set.
+    fn first_set(&self, options: &[Valued]) -> Option<Valued>
+        ensures { result ≡ find (λ option. has option self.now) options.now }
+    {
+        options.iter().copied().find(|option| self.has(*option))
+    }
+
+    // Returns the first of these flags that was set.
+    fn first_raised(&self, flags: &[Flag]) -> Option<Flag>
+        ensures { result ≡ find (λ flag. is_raised flag self.now) flags.now }
+    {
+        flags.iter().copied().find(|flag| self.is_raised(*flag))
     }
 
     // Sets a flag, which was not set before.
     fn raise(&mut self, flag: Flag) -> Result<(), OptionFault>
-        ensures { OnOk result (Raises flag self.old self.new) }
+        ensures raised { OnOk result (Raises flag self.old self.new) }
+        ensures fault { IfErr result (IsOf (flag_word flag)) }
     {
         if self.is_raised(flag) {
             return Err(OptionFault::Wrong(flag.word(), OptionError::Twice));
@@ -377,9 +419,10 @@ fn begins(word: &str) -> bool
     }
 }
 
-// Returns what follows a word that neither sets nor raises anything by itself.
+// Returns the meaning of the next word after one that sets nothing by itself.
 fn next_after(word: &str) -> Option<Next>
-    ensures { IfSome result (IsNextAfter word.now) }
+    ensures some { IfSome result (IsNextAfter word.now) }
+    ensures none { IfNone result ((next : Next) → ¬ IsNextAfter word.now next) }
 {
     match word {
         "--" => Some(Next::Argument),
@@ -389,16 +432,18 @@ fn next_after(word: &str) -> Option<Next>
     }
 }
 
-// Returns the option of a word, and its value after a `=`.
+// Returns the option before the first `=` of a word, and the value after it.
 fn with_value(word: &str) -> Option<(Valued, &str)>
-    ensures { IfSome result (λ given. word.now ≡ valued_word given.0 ++ (61 ∷ given.1.now)) }
+    ensures some { IfSome result (λ given. word.now ≡ valued_word given.0 ++ (61 ∷ given.1.now)) }
+    ensures none { IfNone result ((option : Valued) (value : List ℕ) → word.now ≢ valued_word option ++ (61 ∷ value)) }
 {
     let (name, value) = word.split_once('=')?;
     Some((valued_of(name)?, value))
 }
 
 fn valued_of(word: &str) -> Option<Valued>
-    ensures { IfSome result (λ option. word.now ≡ valued_word option) }
+    ensures some { IfSome result (λ option. word.now ≡ valued_word option) }
+    ensures none { IfNone result ((option : Valued) → word.now ≢ valued_word option) }
 {
     match word {
         "--keep" => Some(Valued::Keep),
@@ -411,7 +456,8 @@ fn valued_of(word: &str) -> Option<Valued>
 }
 
 fn flag_of(word: &str) -> Option<Flag>
-    ensures { IfSome result (λ flag. word.now ≡ flag_word flag) }
+    ensures some { IfSome result (λ flag. word.now ≡ flag_word flag) }
+    ensures none { IfNone result ((flag : Flag) → word.now ≢ flag_word flag) }
 {
     match word {
         "--lossy" => Some(Flag::Lossy),
@@ -425,7 +471,8 @@ fn flag_of(word: &str) -> Option<Flag>
 }
 
 fn text(alloc: Global, option: Valued, value: &str) -> Result<String, OptionFault>
-    ensures { IfOk result (λ text. (string_bytes text ≡ value.now) × (value.now ≢ [])) }
+    ensures text { IfOk result (λ text. (string_bytes text ≡ value.now) × (value.now ≢ [])) }
+    ensures fault { IfErr result (IsOf (valued_word option)) }
 {
     if value.is_empty() {
         return Err(OptionFault::Wrong(option.word(), OptionError::Missing));
@@ -434,7 +481,8 @@ fn text(alloc: Global, option: Valued, value: &str) -> Result<String, OptionFaul
 }
 
 fn count(option: Valued, value: &str) -> Result<usize, OptionFault>
-    ensures { IfOk result (IsCount value.now) }
+    ensures count { IfOk result (IsCount value.now) }
+    ensures fault { IfErr result (IsOf (valued_word option)) }
 {
     match read_count(value) {
         Some(count) if count > 0 => Ok(count),
@@ -443,7 +491,8 @@ fn count(option: Valued, value: &str) -> Result<usize, OptionFault>
 }
 
 fn bytes(option: Valued, value: &str) -> Result<u64, OptionFault>
-    ensures { IfOk result (IsByteCount value.now) }
+    ensures count { IfOk result (IsByteCount value.now) }
+    ensures fault { IfErr result (IsOf (valued_word option)) }
 {
     let (digits, unit) = split_unit(value);
     match read_count(digits) {
