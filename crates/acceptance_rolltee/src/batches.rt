@@ -113,10 +113,14 @@ fn check_fault_at<R: Host + Abort>(rt: R, place: usize, waits: bool) -> Result<(
         &options,
         arguments.as_slice(),
         &mut input,
-        &mut io::sink(),
+        io::sink(),
         &mut errors,
     );
-    let told = if waits { "write failed\n" } else { "lines not written whole: 1\n" };
+    let told = if waits {
+        "write failed\n"
+    } else {
+        "lines not written whole: 1\n"
+    };
     expect_eq(&rt, errors.as_slice(), told.as_bytes());
     expect_eq(&rt, answer, 1);
     let wanted = cut_at(rt.alloc(), place)?;

@@ -454,10 +454,14 @@ fn tells_a_full_disk_without_waiting(rt: HostRuntime) {
             &options,
             arguments,
             &mut input,
-            &mut io::sink(),
+            io::sink(),
             &mut errors,
         );
-        let told = if told.is_empty() { "" } else { "lines not written whole: 1\n" };
+        let told = if told.is_empty() {
+            ""
+        } else {
+            "lines not written whole: 1\n"
+        };
         expect_eq(&rt, errors.as_slice(), told.as_bytes());
         expect_eq(&rt, answer, *status);
     }

@@ -8,21 +8,21 @@ use std::alloc::{AllocError, Global};
 use std::io::{Read, Write};
 use std::process::Abort;
 use std::rt::Files;
-use std::sync::Arc;
 use std::sync::atomic::AtomicBool;
 use std::sync::atomic::Ordering::SeqCst;
+use std::sync::{Arc, Mutex, Wait};
 use std::test::Fail;
 use std::time::{Clock, Duration};
 use std::{env, fs, io, process, thread};
 use tracing_appender::rolling::{InitError, Rotation};
 
 // Runs the program with options over these logs, and compares its status and what it reports.
-fn check<R: Host + Abort, L: Logs, I: Read, O: Write>(
+fn check<R: Host + Abort, L: Logs, I: Read, O: Write + Drop>(
     rt: R,
     logs: &L,
     run: (&Options, &[&str]),
     input: &mut I,
-    output: &mut O,
+    output: O,
     told: (u8, &str),
 ) -> Result<(), Fail> {
     let (options, arguments) = run;
@@ -48,7 +48,7 @@ fn check_files<R: Host + Abort, I: Read>(
     input: &mut I,
     told: (u8, &str),
 ) -> Result<(), Fail> {
-    check(rt, files, run, input, &mut io::sink(), told)
+    check(rt, files, run, input, io::sink(), told)
 }
 
 // A folder of this test's own, that doesn't exist.
@@ -105,7 +105,7 @@ fn some_options_need_a_rotation(rt: HostRuntime) -> Result<(), Fail> {
         options.max_bytes = max_bytes;
         let run = (&options, ["never", "dir", "app"].as_slice());
         let mut input = b"a\n".as_slice();
-        check(rt, &AnyLogs, run, &mut input, &mut io::sink(), (status, told))?;
+        check(rt, &AnyLogs, run, &mut input, io::sink(), (status, told))?;
     }
     Ok(())
 }
@@ -181,7 +181,9 @@ fn count_after(text: &[u8], words: &[u8]) -> Option<u64> {
         if !digit.is_ascii_digit() {
             return None;
         }
-        count = count.saturating_mul(10).saturating_add(u64::from(*digit - b'0'));
+        count = count
+            .saturating_mul(10)
+            .saturating_add(u64::from(*digit - b'0'));
     }
     Some(count)
 }
@@ -213,7 +215,7 @@ fn drops_lines_that_find_no_room(rt: HostRuntime) -> Result<(), Fail> {
     for word in ["never", "dir", "app"] {
         texts.push(word.to_string(rt.alloc())?)?;
     }
-    let (mut output, mut errors) = (io::sink(), Vec::new(rt.alloc()));
+    let mut errors = Vec::new(rt.alloc());
     let texts = texts.as_slice();
     let status = tee_with(
         rt,
@@ -221,7 +223,7 @@ fn drops_lines_that_find_no_room(rt: HostRuntime) -> Result<(), Fail> {
         &options,
         texts,
         &mut input,
-        &mut output,
+        io::sink(),
         &mut errors,
     );
     expect_eq(&rt, status, 1);
@@ -250,7 +252,13 @@ fn options_reach_the_log(rt: HostRuntime) -> Result<(), Fail> {
     let options = named_options(&rt)?;
     let arguments = ["weekly", directory, "app"];
     let mut input = b"a\nb\nc\nd\nlonger\ne\n".as_slice();
-    check_files(rt, &rt, (&options, arguments.as_slice()), &mut input, (0, ""))?;
+    check_files(
+        rt,
+        &rt,
+        (&options, arguments.as_slice()),
+        &mut input,
+        (0, ""),
+    )?;
     expect_eq(&rt, count_names(&rt, directory, "")?, 3);
     expect_eq(&rt, count_names(&rt, directory, ".000006.log")?, 0);
     let path = format!(in rt.alloc(); "{directory}/latest")?;
@@ -280,7 +288,13 @@ fn keeps_the_files_of_others(rt: HostRuntime) -> Result<(), Fail> {
         let path = format!(in rt.alloc(); "{directory}/{name}")?;
         fs::write(&rt, path.as_str(), "here")?;
         let mut input = b"a\n".as_slice();
-        check_files(rt, &rt, (&options, arguments.as_slice()), &mut input, (0, ""))?;
+        check_files(
+            rt,
+            &rt,
+            (&options, arguments.as_slice()),
+            &mut input,
+            (0, ""),
+        )?;
         let exists = fs::exists(&rt, path.as_str())?;
         expect_eq(&rt, exists, stays);
     }
@@ -293,12 +307,34 @@ fn after_time(line: &[u8]) -> Option<&[u8]> {
     let pattern = b"dddd-dd-ddTdd:dd:dd.ddddddZ ".as_slice();
     let time = line.get(..pattern.len())?;
     for (byte, wanted) in time.iter().zip(pattern) {
-        let fits = if *wanted == b'd' { byte.is_ascii_digit() } else { byte == wanted };
+        let fits = if *wanted == b'd' {
+            byte.is_ascii_digit()
+        } else {
+            byte == wanted
+        };
         if !fits {
             return None;
         }
     }
     line.get(pattern.len()..)
+}
+
+// An output that keeps what it gets.
+#[derive(Drop)]
+struct Kept<R: Wait> {
+    rt: R,
+    text: Arc<Mutex<Vec<u8>>, Global>,
+}
+
+impl<R: Wait> Write for Kept<R> {
+    fn write(&mut self, buf: &[u8]) -> io::Result<usize> {
+        self.text.lock(&self.rt).extend_from_slice(buf)?;
+        Ok(buf.len())
+    }
+
+    fn flush(&mut self) -> io::Result<()> {
+        Ok(())
+    }
 }
 
 // Each line gets a time, also an empty one, and one in pieces gets it once. What the output gets is what the log gets.
@@ -315,11 +351,22 @@ fn lines_get_times(rt: HostRuntime) -> Result<(), Fail> {
     let mut options = Options::new(rt.alloc());
     options.echo = true;
     options.timestamps = true;
-    let mut output = Vec::new(rt.alloc());
+    let kept = Mutex::new(Vec::new(rt.alloc()));
+    let kept = Arc::new(rt.alloc(), kept).map_err(AllocError::from)?;
+    let output = Kept {
+        rt,
+        text: kept.clone()?,
+    };
     let run = (&options, ["never", "dir", "app"].as_slice());
-    check(rt, &AnyLogs, run, &mut text.as_slice(), &mut output, (0, ""))?;
-    let mut lines = output.as_slice().split(|byte| *byte == b'\n');
-    for wanted in [b"one".as_slice(), b"".as_slice(), long.as_slice(), b"two".as_slice()] {
+    check(rt, &AnyLogs, run, &mut text.as_slice(), output, (0, ""))?;
+    let kept = kept.lock(&rt);
+    let mut lines = kept.as_slice().split(|byte| *byte == b'\n');
+    for wanted in [
+        b"one".as_slice(),
+        b"".as_slice(),
+        long.as_slice(),
+        b"two".as_slice(),
+    ] {
         let line = lines.next().expect(&rt, "a line");
         let rest = after_time(line).expect(&rt, "a time");
         assert!(rt; rest == wanted, "the line is behind its time");
@@ -359,7 +406,7 @@ fn the_log_goes_on_without_an_output(rt: HostRuntime) -> Result<(), Fail> {
     let run = (&options, arguments.as_slice());
     let mut input = b"a\nb\nc\n".as_slice();
     let told = (1, "lines not echoed: 2\n");
-    check(rt, &rt, run, &mut input, &mut Closing { lines: 1 }, told)?;
+    check(rt, &rt, run, &mut input, Closing { lines: 1 }, told)?;
     let path = format!(in rt.alloc(); "{directory}/app")?;
     let content = fs::read(&rt, path.as_str())?;
     expect_eq(&rt, content.as_slice(), b"a\nb\nc\n".as_slice());
@@ -440,7 +487,13 @@ fn check_mishap<R: Host + Files + Abort>(
     let options = Options::new(rt.alloc());
     let arguments = ["never", directory, "app"];
     let told = (1, "log files not found again: 1\n");
-    check_files(rt, files, (&options, arguments.as_slice()), &mut input, told)?;
+    check_files(
+        rt,
+        files,
+        (&options, arguments.as_slice()),
+        &mut input,
+        told,
+    )?;
     let content = fs::read(files, path.as_str())?;
     expect_eq(&rt, content.as_slice(), b"two\nthree\n".as_slice());
     Ok(())
@@ -481,7 +534,13 @@ fn parts_of_other_runs_are_ended(rt: HostRuntime) -> Result<(), Fail> {
         options.whole_lines = whole_lines;
         let arguments = ["never", directory, "app"];
         let mut input = b"a\nb".as_slice();
-        check_files(rt, &rt, (&options, arguments.as_slice()), &mut input, (0, ""))?;
+        check_files(
+            rt,
+            &rt,
+            (&options, arguments.as_slice()),
+            &mut input,
+            (0, ""),
+        )?;
         let content = fs::read(&rt, path.as_str())?;
         expect_eq(&rt, content.as_slice(), after.as_bytes());
     }

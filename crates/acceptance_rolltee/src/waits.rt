@@ -259,9 +259,9 @@ fn waits_for_no_worker_that_ended(rt: HostRuntime) -> Result<(), Fail> {
     let (sender, guard) = non_blocking(rt, rt.alloc(), io::sink())?;
     for (taken, settled) in [(2u64, true), (1, false)] {
         let (mut log, watch) = WatchedLog::new(rt.alloc(), io::sink(), 0)?;
-        let (options, mut output) = (Options::new(rt.alloc()), io::sink());
+        let options = Options::new(rt.alloc());
         let dropped = sender.error_counter()?;
-        let mut feed = Feed::new(rt, io::sink(), dropped, watch, &options, &mut output);
+        let mut feed = Feed::new(rt, io::sink(), dropped, watch, &options, io::sink());
         for _ in 0..2u32 {
             feed.write(b"a\n")?;
         }

@@ -91,15 +91,35 @@ const FIRST_MILLIS: u64 = 1;
 
 const LONGEST_MILLIS: u64 = 50;
 
-/// Queues lines for a log, and waits for that.
+// The lines on their way to a log.
 #[derive(Drop)]
-pub struct Feed<'a, R, Q, O> {
-    rt: R,
-    queue: Q,
+struct Progress {
     watch: Watch,
     dropped: ErrorCounter,
     // The number of lines that the queue took or dropped.
     sent: u64,
+}
+
+impl Progress {
+    // Returns the number of lines that the log neither took nor lost until now.
+    fn left(&self) -> u64 {
+        self.sent
+            .saturating_sub(self.dropped())
+            .saturating_sub(self.watch.done())
+    }
+
+    // Returns the number of lines that a lossy queue dropped.
+    fn dropped(&self) -> u64 {
+        self.dropped.dropped_lines() as u64
+    }
+}
+
+/// Queues lines for a log, and waits for that.
+#[derive(Drop)]
+pub struct Feed<R, Q, O> {
+    rt: R,
+    queue: Q,
+    progress: Progress,
     // The number of bytes that the queue took after it was last known to be empty.
     unwritten: usize,
     // Whether it waits if there are many bytes in the queue.
@@ -113,12 +133,12 @@ pub struct Feed<'a, R, Q, O> {
     // Whether the last piece of a line had no newline, so that the next one goes on with it.
     within: bool,
     // Where each line is also written, until that fails.
-    output: &'a mut O,
+    output: O,
     // The number of lines that were not written whole there.
     unechoed: u64,
 }
 
-impl<'a, R: Wait + Clock + AllocGlobal, Q, O> Feed<'a, R, Q, O> {
+impl<R: Wait + Clock + AllocGlobal, Q, O> Feed<R, Q, O> {
     /// Returns a feed by this queue, which counts the lines that it drops, and whose worker has the log of the watch. What
     /// is done with each line is in the options.
     pub fn new(
@@ -127,15 +147,17 @@ impl<'a, R: Wait + Clock + AllocGlobal, Q, O> Feed<'a, R, Q, O> {
         dropped: ErrorCounter,
         watch: Watch,
         options: &Options,
-        output: &'a mut O,
-    ) -> Feed<'a, R, Q, O> {
+        output: O,
+    ) -> Feed<R, Q, O> {
         let stamped = Vec::new(rt.alloc());
         Feed {
             rt,
             queue,
-            watch,
-            dropped,
-            sent: 0,
+            progress: Progress {
+                watch,
+                dropped,
+                sent: 0,
+            },
             unwritten: 0,
             waits: !options.lossy,
             timestamps: options.timestamps,
@@ -153,8 +175,8 @@ impl<'a, R: Wait + Clock + AllocGlobal, Q, O> Feed<'a, R, Q, O> {
         let mut millis = FIRST_MILLIS;
         for _ in self.rt.forever() {
             // A log that was dropped counts no more.
-            let has_ended = self.watch.has_ended();
-            if self.left() == 0 {
+            let has_ended = self.progress.watch.has_ended();
+            if self.progress.left() == 0 {
                 break;
             }
             if has_ended {
@@ -167,21 +189,17 @@ impl<'a, R: Wait + Clock + AllocGlobal, Q, O> Feed<'a, R, Q, O> {
         true
     }
 
-    // Returns the number of lines that the log neither took nor lost until now.
-    fn left(&self) -> u64 {
-        self.sent
-            .saturating_sub(self.dropped())
-            .saturating_sub(self.watch.done())
-    }
-
     /// Returns the number of lines that a lossy queue dropped.
     pub fn dropped(&self) -> u64 {
-        self.dropped.dropped_lines() as u64
+        self.progress.dropped()
     }
 
     /// Returns the number of lines that the log did not take whole, those that it has not taken yet too.
     pub fn lost(&self) -> u64 {
-        self.watch.lost().saturating_add(self.left())
+        self.progress
+            .watch
+            .lost()
+            .saturating_add(self.progress.left())
     }
 
     /// Returns the number of lines that were not written whole to the output.
@@ -190,14 +208,14 @@ impl<'a, R: Wait + Clock + AllocGlobal, Q, O> Feed<'a, R, Q, O> {
     }
 }
 
-impl<'a, R: Wait + Clock + AllocGlobal, Q: Write, O: Write> Feed<'a, R, Q, O> {
+impl<R: Wait + Clock + AllocGlobal, Q: Write, O: Write> Feed<R, Q, O> {
     // Queues a line as it is, and writes it to the output if that is asked for. After a fault of the output no more is
     // written there.
     fn send(&mut self, line: &[u8]) -> io::Result<()> {
         let taken = self.queue.write(line)?;
-        self.sent = self.sent.saturating_add(1);
+        self.progress.sent = self.progress.sent.saturating_add(1);
         self.unwritten = self.unwritten.saturating_add(taken);
-        if self.echo && (self.unechoed > 0 || report(self.output, line).is_err()) {
+        if self.echo && (self.unechoed > 0 || report(&mut self.output, line).is_err()) {
             self.unechoed = self.unechoed.saturating_add(1);
         }
         if self.waits && self.unwritten >= MOST_BYTES && !self.settle() {
@@ -218,7 +236,7 @@ impl<'a, R: Wait + Clock + AllocGlobal, Q: Write, O: Write> Feed<'a, R, Q, O> {
     }
 }
 
-impl<'a, R: Wait + Clock + AllocGlobal, Q: Write, O: Write> Write for Feed<'a, R, Q, O> {
+impl<R: Wait + Clock + AllocGlobal, Q: Write, O: Write> Write for Feed<R, Q, O> {
     /// Queues one line, after its time if that is asked for. If there are 16 MiB in a queue that isn't lossy, waits until
     /// they are written; then the error is `Other` if the worker ended before. Other errors are those of the queue.
     fn write(&mut self, line: &[u8]) -> io::Result<usize> {

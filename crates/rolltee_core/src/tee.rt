@@ -165,20 +165,20 @@ pub fn tee<R: Host, L: Logs, I: Read, E: Write>(
     ensures silent { result ≡ 0 → Keeps (E.contents errors.old) (E.contents errors.new) }
     ensures reported { 1 ≤ result → (fault : Fault) × ReportsFault fault result (E.contents errors.old) (E.contents errors.new) }
 {
-    let (options, output) = (Options::new(rt.alloc()), &mut io::sink());
-    tee_with(rt, logs, &options, arguments, input, output, errors)
+    let options = Options::new(rt.alloc());
+    tee_with(rt, logs, &options, arguments, input, io::sink(), errors)
 }
 
 /// Does what `tee` does, with options. If they ask for it, each line is also written to `output`. The status is also 1 if a
 /// line was dropped, or not written whole to `output`, or if a log file was not found again; it is 2 if the rotation does
 /// not allow an option.
-pub fn tee_with<R: Host, L: Logs, I: Read, O: Write, E: Write>(
+pub fn tee_with<R: Host, L: Logs, I: Read, O: Write + Drop, E: Write>(
     rt: R,
     logs: &L,
     options: &Options,
     arguments: &[String],
     input: &mut I,
-    output: &mut O,
+    output: O,
     errors: &mut E,
 ) -> u8
     ensures status { result ≤ 3 }
@@ -207,13 +207,13 @@ pub fn report_fault<E: Write>(fault: &Fault, errors: &mut E) -> u8
     fault.status()
 }
 
-fn copy_through<R: Host, L: Logs, I: Read, O: Write>(
+fn copy_through<R: Host, L: Logs, I: Read, O: Write + Drop>(
     rt: R,
     logs: &L,
     options: &Options,
     arguments: &[String],
     input: &mut I,
-    output: &mut O,
+    output: O,
 ) -> Result<(), Fault>
     ensures usage { length arguments.now ≢ 3 → result ≡ Err Fault.Usage }
     ensures no_rotation { NamesNoRotation arguments.now → result ≡ Err Fault.Usage }
@@ -257,12 +257,12 @@ fn rotation_of(word: &str, options: &Options) -> Result<Rotation, Fault>
 
 // Copies the lines to a log, by the thread of its worker, and returns what was lost. Waits for the lines that were read also
 // after a fault, and only then counts.
-fn copy_to<R: Host, W: Write + Send + Drop + 'static, I: Read, O: Write>(
+fn copy_to<R: Host, W: Write + Send + Drop + 'static, I: Read, O: Write + Drop>(
     rt: R,
     log: W,
     options: &Options,
     input: &mut I,
-    output: &mut O,
+    output: O,
 ) -> Result<Losses, Fault> {
     let (log, watch) = WatchedLog::new(rt.alloc(), log, options.max_bytes)?;
     let (sender, guard) = start(rt, log, options)?;

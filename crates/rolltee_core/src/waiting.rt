@@ -4,9 +4,10 @@ ghost use Rattle.std.specs.Io.{WritesAtMost};
 ghost use Rattle.std.specs.Io.KnownBytes.{Keeps, WriteAppends};
 
 use crate::logs::Logs;
-use program_io::Host;
 use std::io;
 use std::io::{ErrorKind, Write};
+use std::sync::Wait;
+use std::time::Clock;
 use tracing_appender::waiting::write_waiting;
 
 /// A log whose writes may wait, as those of `write_waiting` do. Each returns how much the log took at once, and its error
@@ -24,16 +25,9 @@ impl<R: Drop, L: Logs> WaitingLog<R, L> {
     pub fn new(rt: R, waits: bool, log: L::Log) -> WaitingLog<R, L> {
         WaitingLog { rt, waits, log }
     }
-
-    // Tells the log that a line was given up.
-    fn note(&mut self, fault: &io::Error) {
-        if fault.kind() != ErrorKind::Interrupted {
-            L::give_up(&mut self.log);
-        }
-    }
 }
 
-impl<R: Host + Drop, L: Logs> Write for WaitingLog<R, L> {
+impl<R: Wait + Clock + Eprint + Drop, L: Logs> Write for WaitingLog<R, L> {
     /// Writes the first of the bytes. After an error that isn't `Interrupted` the line in which they are is not written on.
     fn write(&mut self, bytes: &[u8]) -> io::Result<usize>
         ensures bound { WritesAtMost result bytes.now }
@@ -44,10 +38,13 @@ impl<R: Host + Drop, L: Logs> Write for WaitingLog<R, L> {
         } else {
             self.log.write(bytes)
         };
-        if let Err(fault) = &taken {
-            self.note(fault);
+        match taken {
+            Err(fault) if fault.kind() != ErrorKind::Interrupted => {
+                L::give_up(&mut self.log);
+                Err(fault)
+            }
+            taken => taken,
         }
-        taken
     }
 
     /// Flushes the log, and does not wait after a fault of that.
