@@ -1,5 +1,5 @@
 -- The options of a command line.
-use Rattle.std.specs.Prelude.{◌≡◌, ◌≢◌, ◌⊎◌, ◌≤◌, ◌*◌, ℕ, zero, suc, Bool, true, false, List, [], ◌∷◌, ◌++◌, String, string_bytes, codes, map, nat_lt, Contains, Vec}
+use Rattle.std.specs.Prelude.{◌≡◌, ◌≢◌, ◌⊎◌, ◌<◌, ◌≤◌, ◌*◌, ◌^◌, ℕ, zero, suc, Bool, true, false, List, [], ◌∷◌, ◌++◌, String, string_bytes, codes, map, nat_lt, Contains, Vec}
 use Rattle.std.specs.Str.Parse.{IsNumeral, digits_value}
 use Rattle.std.specs.declared.alloc.Global.{Global}
 use Rattle.program_io.specs.Options.{begins_with_dash}
@@ -8,6 +8,8 @@ use Rattle.program_options.specs.declared.Valued.{Valued}
 use Rattle.program_options.specs.declared.Valued.TheVariants.{Keep, MaxBytes, Suffix, Link, Queue}
 use Rattle.program_options.specs.declared.Flag.{Flag}
 use Rattle.program_options.specs.declared.Flag.TheVariants.{Lossy, NoWait, Sync, Echo, Timestamps, WholeLines}
+use Rattle.program_options.specs.declared.OptionError.{OptionError}
+use Rattle.program_options.specs.declared.OptionError.TheVariants.{Missing, Twice, Count, ByteCount}
 use Rattle.program_options.specs.declared.OptionFault.{OptionFault}
 use Rattle.program_options.specs.declared.OptionFault.TheVariants.{Unknown, Wrong, Memory as NoMemory}
 use Rattle.program_options.specs.declared.Request.{Request}
@@ -202,11 +204,35 @@ IsRead words (Run options arguments) =
 
 -- ---- faults
 
--- the fault is of this option, or of memory
-abbrev pub IsOf : List ℕ → OptionFault → Type 0
-IsOf option (Unknown text) = ⊥
-IsOf option (Wrong name error) = name.now ≡ option
-IsOf option NoMemory = Unit {0}
+-- no count is spelled so; numbers have 64 bits
+abbrev pub NoCount : List ℕ → Type 0
+NoCount value = (n : ℕ) → n < 2 ^ 64 → ¬ IsCount value n
+
+-- no number of bytes is spelled so
+abbrev pub NoByteCount : List ℕ → Type 0
+NoByteCount value = (n : ℕ) → n < 2 ^ 64 → ¬ IsByteCount value n
+
+-- the reason why this value of an option is rejected, after these options
+abbrev pub IsReason : Valued → List ℕ → Options → OptionError → Type 0
+IsReason option value o Twice = has option o ≡ true
+IsReason Keep value o Count = NoCount value
+IsReason MaxBytes value o ByteCount = NoByteCount value
+IsReason Suffix value o Missing = value ≡ []
+IsReason Link value o Missing = value ≡ []
+IsReason Queue value o Count = NoCount value
+IsReason option value o error = ⊥
+
+-- the option of this word is rejected for this reason
+abbrev pub IsWrong : List ℕ → OptionError → OptionFault → Type 0
+IsWrong word reason (Wrong name error) = (name.now ≡ word) × (error ≡ reason)
+IsWrong word reason (Unknown text) = ⊥
+IsWrong word reason NoMemory = ⊥
+
+-- the value of this option is rejected after these options, or memory ran out
+abbrev pub IsWrongValue : Valued → List ℕ → Options → OptionFault → Type 0
+IsWrongValue option value o (Wrong name error) = (name.now ≡ valued_word option) × IsReason option value o error
+IsWrongValue option value o (Unknown text) = ⊥
+IsWrongValue option value o NoMemory = Unit {0}
 
 -- the word begins with a dash and is no option
 pub record IsUnknown (word : List ℕ) : Type 0 where
@@ -215,21 +241,41 @@ pub record IsUnknown (word : List ℕ) : Type 0 where
   pub no_flag : (flag : Flag) → word ≢ flag_word flag
   pub no_value : (option : Valued) (value : List ℕ) → word ≢ valued_word option ++ (61 ∷ value)
 
--- the fault names this word, or the option that the word begins with, or is of memory
+-- A word that begins with a dash is no option, sets a flag again, or has a value that is rejected; or memory ran out.
+abbrev pub IsWrongOption : List ℕ → Options → OptionFault → Type 0
+IsWrongOption word o (Unknown text) = (string_bytes text ≡ word) × IsUnknown word
+IsWrongOption word o (Wrong name error) =
+    ((flag : Flag) × (word ≡ flag_word flag) × (name.now ≡ word) × (error ≡ Twice) × (is_raised flag o ≡ true))
+    ⊎ ((option : Valued) × (value : List ℕ) × (word ≡ valued_word option ++ (61 ∷ value)) × (name.now ≡ valued_word option) × IsReason option value o error)
+IsWrongOption word o NoMemory = Unit {0}
+
+-- the word is rejected with the meaning that those before gave it
+abbrev pub Rejects : Next → List ℕ → Options → OptionFault → Type 0
+Rejects (Value option) word o fault =
+    ((begins_with_dash word ≡ true) × IsWrong (valued_word option) Missing fault)
+    ⊎ ((begins_with_dash word ≡ false) × IsWrongValue option word o fault)
+Rejects Any word o fault = IsWrongOption word o fault
+Rejects next word o fault = fault ≡ NoMemory
+
+-- The words before one were read, and that one is rejected; or all were read, and the last option has no value; or memory
+-- ran out.
+abbrev pub IsFaultOf : List (String Global) → OptionFault → Type 0
+IsFaultOf words NoMemory = Unit {0}
+IsFaultOf words fault =
+    ((k : ℕ) × (word : String Global) × (rest : List (String Global)) × (r : Reading) × Reaches words k (word ∷ rest) r
+    × Rejects r.next (string_bytes word) r.options fault)
+    ⊎ ((k : ℕ) × (r : Reading) × (option : Valued) × Reaches words k [] r × (r.next ≡ Value option) × IsWrong (valued_word option) Missing fault)
+
+-- the fault names the word, or the option that the word is or has before a `=`
 abbrev pub Names : List ℕ → OptionFault → Type 0
-Names word (Unknown text) = (string_bytes text ≡ word) × IsUnknown word
+Names word (Unknown text) = string_bytes text ≡ word
 Names word (Wrong name error) = (word ≡ name.now) ⊎ ((value : List ℕ) × (word ≡ name.now ++ (61 ∷ value)))
 Names word NoMemory = Unit {0}
 
--- a fault of a word, by what was read before it
-abbrev pub HasFault : Next → List ℕ → OptionFault → Type 0
-HasFault (Value option) word fault = IsOf (valued_word option) fault
-HasFault next word fault = Names word fault
-
--- the fault names one of the words, or is of memory
-abbrev pub IsFaultOf : List (String Global) → OptionFault → Type 0
-IsFaultOf words NoMemory = Unit {0}
-IsFaultOf words fault = (word : String Global) × Contains words word × Names (string_bytes word) fault
+-- the fault names one of the words, or memory ran out
+abbrev pub NamesSome : List (String Global) → OptionFault → Type 0
+NamesSome words NoMemory = Unit {0}
+NamesSome words fault = (word : String Global) × Contains words word × Names (string_bytes word) fault
 
 -- this is the word of an option that is set, other than those of the limits
 abbrev pub IsOther : List ℕ → Options → Type 0

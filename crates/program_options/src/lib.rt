@@ -1,12 +1,13 @@
 //! Command-line options of programs that write logs.
 #![tactic(auto)]
 
-ghost use Rattle.std.specs.Prelude.{◌≡◌, ◌≢◌, ◌⊎◌, ℕ, List, [], ◌∷◌, ◌++◌, IfErr, IfNone, IfOk, IfSome, string_bytes};
+ghost use Rattle.std.specs.Prelude.{◌≡◌, ◌≢◌, ◌⊎◌, ◌<◌, ◌^◌, ℕ, List, [], ◌∷◌, ◌++◌, IfErr, IfNone, IfOk, IfSome, OnErr, string_bytes};
+ghost use Rattle.std.specs.Str.Parse.{IsNumeral};
 ghost use Rattle.program_options.specs.declared.Flag.{Flag};
 ghost use Rattle.program_options.specs.declared.Next.{Next};
 ghost use Rattle.program_options.specs.declared.Valued.{Valued};
 ghost use Rattle.program_io.specs.Options.{begins_with_dash};
-ghost use Rattle.program_options.specs.Options.{flag_word, valued_word, AreUndashed, HasOnlyLimits, HasUnit, IsByteCount, IsCount, IsFaultOf, IsNextAfter, IsOf, IsNumber, IsPlain, IsRead, NamesOther};
+ghost use Rattle.program_options.specs.Options.{flag_word, valued_word, AreUndashed, HasOnlyLimits, HasUnit, IsByteCount, IsCount, IsFaultOf, IsNextAfter, IsNumber, IsPlain, IsRead, IsWrong, NamesOther, NamesSome, NoByteCount, NoCount};
 
 use std::alloc::{AllocError, Global};
 use thiserror::Error;
@@ -124,7 +125,7 @@ impl Flag {
 /// The reason why an option is rejected.
 #[derive(Clone, Copy, Debug, PartialEq, Eq, Error)]
 pub enum OptionError {
-    /// There is no value, or an empty one, or the next word begins with a dash.
+    /// There is no value: the words end, the next one begins with a dash, or the text is empty.
     #[error("a value is missing")]
     Missing,
     /// The option was set before.
@@ -136,7 +137,7 @@ pub enum OptionError {
     /// The value is not a decimal number from 1 that a `usize` can represent.
     #[error("not a number from 1")]
     Count,
-    /// The value is not a decimal number from 1 with `K`, `M`, `G` or no letter after it, or is more than a `u64`.
+    /// The value is not a decimal number from 1 with `K`, `M`, `G` or no letter after it, or a `u64` can't represent it.
     #[error("not a number of bytes from 1, as 500, 64K, 10M or 2G")]
     ByteCount,
 }
@@ -186,6 +187,7 @@ pub fn read(alloc: Global, words: &[String]) -> Result<Request, OptionFault>
     ensures read { IfOk result (IsRead words.now) }
     ensures plain { AreUndashed words.now → IfOk result (IsPlain words.now) }
     ensures fault { IfErr result (IsFaultOf words.now) }
+    ensures named { IfErr result (NamesSome words.now) }
 {
     let mut reading = Reading::new(alloc);
     let mut rest = words;
@@ -245,7 +247,7 @@ struct Reading {
 
 impl Reading {
     ghost use Rattle.std.specs.Prelude.{◌≡◌, true, IfErr, OnOk};
-    ghost use Rattle.program_options.specs.Options.{Adds, HasFault, IsFresh, Names, Takes, TakesOption};
+    ghost use Rattle.program_options.specs.Options.{Adds, IsFresh, IsWrongOption, Rejects, Takes, TakesOption};
 
     fn new(alloc: Global) -> Reading
         ensures { IsFresh result }
@@ -260,7 +262,7 @@ impl Reading {
     // Reads the next word.
     fn take(&mut self, alloc: Global, word: &str) -> Result<(), OptionFault>
         ensures taken { OnOk result (Takes word.now self.old self.new) }
-        ensures fault { IfErr result (HasFault self.old.next word.now) }
+        ensures fault { IfErr result (Rejects self.old.next word.now self.old.options) }
     {
         match self.next {
             Next::Value(option) if begins(word) => {
@@ -279,7 +281,7 @@ impl Reading {
     fn take_option(&mut self, alloc: Global, word: &str) -> Result<(), OptionFault>
         requires { begins_with_dash word.now ≡ true }
         ensures taken { OnOk result (TakesOption word.now self.old self.new) }
-        ensures fault { IfErr result (Names word.now) }
+        ensures fault { IfErr result (IsWrongOption word.now self.old.options) }
     {
         if let Some(next) = next_after(word) {
             self.next = next;
@@ -306,14 +308,14 @@ impl Reading {
 }
 
 impl Options {
-    ghost use Rattle.std.specs.Prelude.{◌≡◌, IfErr, IfNone, IfSome, OnOk};
+    ghost use Rattle.std.specs.Prelude.{◌≡◌, true, IfErr, IfNone, IfSome, OnErr, OnOk};
     ghost use Rattle.std.specs.List.{find};
-    ghost use Rattle.program_options.specs.Options.{flag_word, has, is_raised, valued_word, AreLimits, IsOf, IsOther, Raises, Sets};
+    ghost use Rattle.program_options.specs.Options.{flag_word, has, is_raised, valued_word, AreLimits, IsOther, IsWrong, IsWrongValue, Raises, Sets};
 
     // Sets the value of an option, which was not set before.
     fn set(&mut self, alloc: Global, option: Valued, value: &str) -> Result<(), OptionFault>
         ensures set { OnOk result (Sets option value.now self.old self.new) }
-        ensures fault { IfErr result (IsOf (valued_word option)) }
+        ensures fault { IfErr result (IsWrongValue option value.now self.old) }
     {
         if self.has(option) {
             return Err(OptionFault::Wrong(option.word(), OptionError::Twice));
@@ -378,7 +380,8 @@ impl Options {
     // Sets a flag, which was not set before.
     fn raise(&mut self, flag: Flag) -> Result<(), OptionFault>
         ensures raised { OnOk result (Raises flag self.old self.new) }
-        ensures fault { IfErr result (IsOf (flag_word flag)) }
+        ensures fault { IfErr result (IsWrong (flag_word flag) OptionError.Twice) }
+        ensures twice { OnErr result (is_raised flag self.old ≡ true) }
     {
         if self.is_raised(flag) {
             return Err(OptionFault::Wrong(flag.word(), OptionError::Twice));
@@ -472,7 +475,8 @@ fn flag_of(word: &str) -> Option<Flag>
 
 fn text(alloc: Global, option: Valued, value: &str) -> Result<String, OptionFault>
     ensures text { IfOk result (λ text. (string_bytes text ≡ value.now) × (value.now ≢ [])) }
-    ensures fault { IfErr result (IsOf (valued_word option)) }
+    ensures fault { IfErr result (λ fault. (fault ≡ OptionFault.Memory)
+        ⊎ (IsWrong (valued_word option) OptionError.Missing fault × (value.now ≡ []))) }
 {
     if value.is_empty() {
         return Err(OptionFault::Wrong(option.word(), OptionError::Missing));
@@ -482,7 +486,8 @@ fn text(alloc: Global, option: Valued, value: &str) -> Result<String, OptionFaul
 
 fn count(option: Valued, value: &str) -> Result<usize, OptionFault>
     ensures count { IfOk result (IsCount value.now) }
-    ensures fault { IfErr result (IsOf (valued_word option)) }
+    ensures fault { IfErr result (IsWrong (valued_word option) OptionError.Count) }
+    ensures none { OnErr result (NoCount value.now) }
 {
     match read_count(value) {
         Some(count) if count > 0 => Ok(count),
@@ -492,7 +497,8 @@ fn count(option: Valued, value: &str) -> Result<usize, OptionFault>
 
 fn bytes(option: Valued, value: &str) -> Result<u64, OptionFault>
     ensures count { IfOk result (IsByteCount value.now) }
-    ensures fault { IfErr result (IsOf (valued_word option)) }
+    ensures fault { IfErr result (IsWrong (valued_word option) OptionError.ByteCount) }
+    ensures none { OnErr result (NoByteCount value.now) }
 {
     let (digits, unit) = split_unit(value);
     match read_count(digits) {
@@ -505,7 +511,8 @@ fn bytes(option: Valued, value: &str) -> Result<u64, OptionFault>
 
 // Reads a decimal number without a sign.
 fn read_count(word: &str) -> Option<usize>
-    ensures { IfSome result (IsNumber word.now) }
+    ensures some { IfSome result (IsNumber word.now) }
+    ensures none { IfNone result ((n : ℕ) → n < 2 ^ 64 → ¬ IsNumber word.now n) }
 {
     if !word.as_bytes().first()?.is_ascii_digit() {
         return None;
@@ -515,7 +522,9 @@ fn read_count(word: &str) -> Option<usize>
 
 // Returns the text before the letter of a unit, and the number of bytes of the unit.
 fn split_unit(text: &str) -> (&str, u64)
-    ensures { HasUnit text.now result.0.now result.1 }
+    ensures unit { HasUnit text.now result.0.now result.1 }
+    ensures only { (digits : List ℕ) (unit : ℕ) → IsNumeral 10 digits → HasUnit text.now digits unit
+        → (digits ≡ result.0.now) × (unit ≡ result.1) }
 {
     if let Some(digits) = text.strip_suffix('K') {
         return (digits, 1 << 10);
