@@ -204,11 +204,11 @@ IsRead words (Run options arguments) =
 
 -- ---- faults
 
--- no count is spelled so; numbers have 64 bits
+-- this is no number from 1 that has 64 bits
 abbrev pub NoCount : List ℕ → Type 0
 NoCount value = (n : ℕ) → n < 2 ^ 64 → ¬ IsCount value n
 
--- no number of bytes is spelled so
+-- this is no number of bytes from 1 that has 64 bits
 abbrev pub NoByteCount : List ℕ → Type 0
 NoByteCount value = (n : ℕ) → n < 2 ^ 64 → ¬ IsByteCount value n
 

@@ -137,7 +137,7 @@ pub enum OptionError {
     /// The value is not a decimal number from 1 that a `usize` can represent.
     #[error("not a number from 1")]
     Count,
-    /// The value is not a decimal number from 1 with `K`, `M`, `G` or no letter after it, or a `u64` can't represent it.
+    /// The value is not a decimal number from 1, with `K`, `M`, `G` or no letter after it, that a `u64` can represent.
     #[error("not a number of bytes from 1, as 500, 64K, 10M or 2G")]
     ByteCount,
 }
@@ -178,11 +178,11 @@ pub enum Request {
 /// Returns what the words after the program's name ask for. They are read from the left, up to `-h`, `--help` or
 /// `--version`.
 ///
-/// Each option is set at most once, anywhere before `--`. The words after that are arguments. A value follows a `=` or is
-/// the next word, as in `--keep=7` and `--keep 7`. In a word of its own it may not begin with a dash. `--max-bytes` takes
-/// `N[K|M|G]`, with 1,024 bytes for `K`.
+/// Each option is set at most once, anywhere before `--`. The words after that are arguments. A value follows a `=`
+/// or is the next word, as in `--keep=7` and `--keep 7`. In a word of its own it may not begin with a dash.
+/// `--max-bytes` takes `N[K|M|G]`, with 1,024 bytes for `K`.
 ///
-/// `OptionFault::Unknown` and `OptionFault::Wrong` name the first wrong word.
+/// `OptionFault::Unknown` and `OptionFault::Wrong` report the first wrong word.
 pub fn read(alloc: Global, words: &[String]) -> Result<Request, OptionFault>
     ensures read { IfOk result (IsRead words.now) }
     ensures plain { AreUndashed words.now → IfOk result (IsPlain words.now) }
@@ -249,6 +249,7 @@ impl Reading {
     ghost use Rattle.std.specs.Prelude.{◌≡◌, true, IfErr, OnOk};
     ghost use Rattle.program_options.specs.Options.{Adds, IsFresh, IsWrongOption, Rejects, Takes, TakesOption};
 
+    // Returns what was read before the first word.
     fn new(alloc: Global) -> Reading
         ensures { IsFresh result }
     {
@@ -444,6 +445,7 @@ fn with_value(word: &str) -> Option<(Valued, &str)>
     Some((valued_of(name)?, value))
 }
 
+// Returns the option with a value that has this word.
 fn valued_of(word: &str) -> Option<Valued>
     ensures some { IfSome result (λ option. word.now ≡ valued_word option) }
     ensures none { IfNone result ((option : Valued) → word.now ≢ valued_word option) }
@@ -458,6 +460,7 @@ fn valued_of(word: &str) -> Option<Valued>
     }
 }
 
+// Returns the flag that has this word.
 fn flag_of(word: &str) -> Option<Flag>
     ensures some { IfSome result (λ flag. word.now ≡ flag_word flag) }
     ensures none { IfNone result ((flag : Flag) → word.now ≢ flag_word flag) }
@@ -473,6 +476,7 @@ fn flag_of(word: &str) -> Option<Flag>
     }
 }
 
+// Returns the value of an option that is a text, which is not empty.
 fn text(alloc: Global, option: Valued, value: &str) -> Result<String, OptionFault>
     ensures text { IfOk result (λ text. (string_bytes text ≡ value.now) × (value.now ≢ [])) }
     ensures fault { IfErr result (λ fault. (fault ≡ OptionFault.Memory)
@@ -484,6 +488,7 @@ fn text(alloc: Global, option: Valued, value: &str) -> Result<String, OptionFaul
     Ok(String::from_str(alloc, value)?)
 }
 
+// Returns the value of an option that is a number from 1.
 fn count(option: Valued, value: &str) -> Result<usize, OptionFault>
     ensures count { IfOk result (IsCount value.now) }
     ensures fault { IfErr result (IsWrong (valued_word option) OptionError.Count) }
@@ -495,6 +500,7 @@ fn count(option: Valued, value: &str) -> Result<usize, OptionFault>
     }
 }
 
+// Returns the value of an option that is a number of bytes from 1.
 fn bytes(option: Valued, value: &str) -> Result<u64, OptionFault>
     ensures count { IfOk result (IsByteCount value.now) }
     ensures fault { IfErr result (IsWrong (valued_word option) OptionError.ByteCount) }
