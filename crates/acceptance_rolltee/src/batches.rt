@@ -3,7 +3,7 @@ use crate::expect::expect_eq;
 use file_watch::FileCounts;
 use program_io::Host;
 use program_options::Options;
-use rolltee_core::tee::{Logs, tee, tee_with};
+use rolltee_core::tee::{Logs, TeeLog, tee, tee_with};
 use std::alloc::{AllocError, Global};
 use std::io::{Read, Write};
 use std::process::Abort;
@@ -43,6 +43,8 @@ impl<R: Wait> Write for Failing<R> {
         Ok(())
     }
 }
+
+impl<R: Wait> TeeLog for Failing<R> {}
 
 #[derive(Drop)]
 struct FailingLogs<R: Wait + Drop> {

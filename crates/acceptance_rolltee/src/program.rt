@@ -3,7 +3,7 @@ use crate::expect::expect_eq;
 use file_watch::FileCounts;
 use program_io::Host;
 use program_options::Options;
-use rolltee_core::tee::{Logs, tee, tee_with};
+use rolltee_core::tee::{Logs, TeeLog, tee, tee_with};
 use std::alloc::{AllocError, Global};
 use std::io::{Read, Write};
 use std::process::Abort;
@@ -49,6 +49,8 @@ impl<R: Clock> Write for Stuck<R> {
         Ok(())
     }
 }
+
+impl<R: Clock> TeeLog for Stuck<R> {}
 
 #[derive(Clone, Copy)]
 struct StuckLogs<R> {
@@ -102,6 +104,8 @@ impl<R: Clock> Write for Interrupting<R> {
     }
 }
 
+impl<R: Clock> TeeLog for Interrupting<R> {}
+
 #[derive(Drop)]
 struct InterruptingLogs<R: Drop> {
     rt: R,
@@ -153,6 +157,8 @@ impl Write for Narrow {
         Ok(())
     }
 }
+
+impl TeeLog for Narrow {}
 
 #[derive(Clone, Copy)]
 struct NarrowLogs {

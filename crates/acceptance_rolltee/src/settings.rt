@@ -3,7 +3,7 @@ use crate::expect::expect_eq;
 use file_watch::FileCounts;
 use program_io::Host;
 use program_options::Options;
-use rolltee_core::tee::{Logs, tee_with};
+use rolltee_core::tee::{Logs, TeeLog, tee_with};
 use std::alloc::{AllocError, Global};
 use std::io::{Read, Write};
 use std::process::Abort;
@@ -132,6 +132,8 @@ impl<R: Clock> Write for Gated<R> {
         Ok(())
     }
 }
+
+impl<R: Clock> TeeLog for Gated<R> {}
 
 #[derive(Drop)]
 struct GatedLogs<R: Drop> {

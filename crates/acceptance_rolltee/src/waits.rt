@@ -4,7 +4,7 @@ use file_watch::FileCounts;
 use program_io::Host;
 use program_options::Options;
 use rolltee_core::feed::{Feed, WatchedLog};
-use rolltee_core::tee::{Logs, tee};
+use rolltee_core::tee::{Logs, TeeLog, tee};
 use std::alloc::{AllocError, Global};
 use std::io::{Read, Write};
 use std::process::Abort;
@@ -58,6 +58,8 @@ impl<R: Clock> Write for Slow<R> {
         Ok(())
     }
 }
+
+impl<R: Clock> TeeLog for Slow<R> {}
 
 #[derive(Drop)]
 struct SlowLogs<R: Drop> {

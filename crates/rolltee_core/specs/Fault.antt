@@ -9,7 +9,7 @@ use Rattle.std.specs.IoError.{error_kind}
 use Rattle.program_io.specs.declared.CopyFault.{CopyFault}
 use Rattle.program_io.specs.declared.CopyFault.TheVariants.{Read as Failed, Write as Refused, Cut}
 use Rattle.rolltee_core.specs.declared.tee.Fault.{Fault}
-use Rattle.rolltee_core.specs.declared.tee.Fault.TheVariants.{Usage, Open, Thread, Read, Write, Pending, Full, Memory}
+use Rattle.rolltee_core.specs.declared.tee.Fault.TheVariants.{Usage, Unknown, Option as OfOption, Open, Thread, Read, Write, Lost, Pending, Full, Memory}
 
 -- the first argument is the word for no rotation
 abbrev pub NamesNoRotation : List (String Global) → Type 0
@@ -35,21 +35,27 @@ copying_fault Cut = Write
 -- the status of a process that a fault ended
 abbrev pub status_of : Fault → ℕ
 status_of Usage = 2
+status_of (Unknown word) = 2
+status_of (OfOption option error) = 2
 status_of (Open error) = 1
 status_of Thread = 1
 status_of Read = 1
 status_of Write = 1
+status_of (Lost losses) = 1
 status_of Pending = 1
 status_of Full = 1
 status_of Memory = 3
 
--- the report of a fault, on a line; an error of opening has its own words
+-- the report of a fault, on a line; a fault with an error, a word or a number has further words
 abbrev pub words_of : Fault → Option (List ℕ)
 words_of Usage = Some (codes "usage: rolltee ROTATION DIR PREFIX" ++ (10 ∷ []))
+words_of (Unknown word) = None
+words_of (OfOption option error) = None
 words_of (Open error) = None
 words_of Thread = Some (codes "no thread" ++ (10 ∷ []))
 words_of Read = Some (codes "read failed" ++ (10 ∷ []))
 words_of Write = Some (codes "write failed" ++ (10 ∷ []))
+words_of (Lost losses) = None
 words_of Pending = Some (codes "shutdown pending" ++ (10 ∷ []))
 words_of Full = Some (codes "shutdown full" ++ (10 ∷ []))
 words_of Memory = Some (codes "no memory" ++ (10 ∷ []))

@@ -8,6 +8,7 @@ use program_options::Options;
 use std::alloc::{AllocError, Global};
 use std::io;
 use std::io::{ErrorKind, Write};
+use std::marker::Model;
 use std::rt::Files;
 use std::sync::Arc;
 use tracing_appender::folder::DirFolder;
@@ -16,10 +17,19 @@ use tracing_appender::rolling::{
 };
 use tracing_appender::store::Folder;
 
+/// A log of lines.
+pub trait TeeLog: Write {
+    /// The last line, of which a write failed, is not written on.
+    fn give_up(&mut self) {}
+}
+
+/// A log that takes everything.
+impl TeeLog for io::Sink {}
+
 /// Opens logs: those of the file system, or a test's own.
-pub trait Logs: 'static {
+pub trait Logs {
     /// A log.
-    type Log: Write + Send + Drop + 'static;
+    type Log: TeeLog + Send + Drop + 'static;
 
     /// Opens a log of this rotation in this folder. The names of its files begin with `prefix`. `counts` has the faults of
     /// its files.
@@ -31,13 +41,12 @@ pub trait Logs: 'static {
         options: &Options,
         counts: Arc<FileCounts, Global>,
     ) -> Result<Self::Log, InitError>;
-
-    /// Tells a log that its last line, which a write did not take whole, is not written on.
-    fn give_up(_log: &mut Self::Log) {}
 }
 
 impl Logs for HostRuntime {
-    type Log = FileLog<HostRuntime>;
+    ghost use Rattle.appender_rolling.specs.Appender.{OpensSome};
+
+    type Log = DirLog<HostRuntime>;
 
     fn open_log(
         &self,
@@ -46,58 +55,70 @@ impl Logs for HostRuntime {
         prefix: &str,
         options: &Options,
         counts: Arc<FileCounts, Global>,
-    ) -> Result<FileLog<HostRuntime>, InitError> {
-        let opener = Opener::new(*self, rotation, directory, prefix, options)?;
-        FileLog::new(opener, counts)
-    }
-
-    fn give_up(log: &mut FileLog<HostRuntime>) {
-        log.give_up();
+    ) -> Result<DirLog<HostRuntime>, InitError>
+        ensures opens { IfOk result (λ opened. OpensSome ⟦<DirFolder<HostRuntime> as Folder>⟧
+            ⟦<SystemClock<HostRuntime> as Clock>⟧ (config_of rotation prefix.now options.now) opened.log) }
+        ensures config { IfOk result (λ opened. opened.config ≡ config_of rotation prefix.now options.now) }
+    {
+        let opener = DirOpener::new(*self, rotation, directory, prefix, options)?;
+        let watch = DirWatch::new(*self, directory, counts)?;
+        FileLog::new(opener, watch, options.whole_lines)
     }
 }
 
-// A log in the file system.
-type Log<R> = RollingFile<DirFolder<R>, SystemClock<R>>;
+/// Opens one log, again and again.
+pub trait Opens<S: Folder, C: Clock>: Drop {
+    ghost use Rattle.std.specs.Prelude.{IfOk};
+    ghost use Rattle.appender_rolling.specs.Appender.{OpensSome};
+    ghost use Rattle.appender_rolling.specs.Config.{Config};
 
-// What is needed to open a log, and to open it again.
+    /// The configuration of the log.
+    ghost config: { Self → Config };
+
+    /// Opens the log at the moment of its clock. Errors are those of `Builder::open_in`.
+    fn open(&self) -> Result<RollingFile<S, C>, InitError>
+        ensures { IfOk result (OpensSome S.Folder C.Clock (config self.now)) };
+}
+
+/// Opens a log in a folder of the file system, by the system's clock.
 #[derive(Drop)]
-struct Opener<R> {
+pub struct DirOpener<R> {
     rt: R,
     settings: Builder,
     directory: String,
     // Whether each flush syncs.
     syncs: bool,
-    // Whether a part of a line is ended by a newline before the next line.
-    whole_lines: bool,
 }
 
-impl<R: Files + AllocGlobal + Eprint + std::time::Clock + Clone + Drop> Opener<R> {
-    ghost use Rattle.appender_rolling.specs.Appender.{OpensSome};
-
-    fn new(
+impl<R: AllocGlobal + Drop> DirOpener<R> {
+    /// Returns the opener of the log that the options ask for. `AllocError` if memory is refused.
+    pub fn new(
         rt: R,
         rotation: Rotation,
         directory: &str,
         prefix: &str,
         options: &Options,
-    ) -> Result<Opener<R>, AllocError>
+    ) -> Result<DirOpener<R>, AllocError>
         ensures { IfOk result (λ opener. opener.settings ≡ config_of rotation prefix.now options.now) }
     {
         let settings = settings(rt.alloc(), rotation, prefix, options)?;
         let directory = String::from_str(rt.alloc(), directory)?;
-        Ok(Opener {
+        Ok(DirOpener {
             rt,
             settings,
             directory,
             syncs: options.sync,
-            whole_lines: options.whole_lines,
         })
     }
+}
 
-    // Opens the log at the moment of the clock.
-    fn open(&self) -> Result<Log<R>, InitError>
-        ensures { IfOk result (OpensSome ⟦<DirFolder<R> as Folder>⟧ ⟦<SystemClock<R> as Clock>⟧ self.now.settings) }
-    {
+impl<R: Files + AllocGlobal + Eprint + std::time::Clock + Clone + Drop> Opens<
+    DirFolder<R>,
+    SystemClock<R>,
+> for DirOpener<R> {
+    ghost config = { λ opener. opener.settings };
+
+    fn open(&self) -> Result<RollingFile<DirFolder<R>, SystemClock<R>>, InitError> {
         let folder = DirFolder::new(self.rt.clone()?, self.directory.as_str())?;
         let folder = if self.syncs { folder.synced() } else { folder };
         let clock = SystemClock::new(self.rt.clone()?);
@@ -130,13 +151,18 @@ fn settings(
     )
 }
 
-/// A log in the file system. Before each write and at each flush it looks for its open file. If that was removed, renamed,
-/// replaced or truncated, it reports that, and opens the log again for the next write.
+/// A log in the file system.
+pub type DirLog<R> = FileLog<DirFolder<R>, SystemClock<R>, DirWatch<R>, DirOpener<R>>;
+
+/// A log whose open file other programs may change. Before each write and at each flush it looks for that. If it was removed,
+/// renamed, replaced or truncated, the watch reports it, and the log is opened again for the next write.
 #[derive(Drop)]
-pub struct FileLog<R: Files + AllocGlobal + Eprint + std::time::Clock + Clone + Drop> {
-    opener: Opener<R>,
-    log: Log<R>,
-    watch: DirWatch<R>,
+pub struct FileLog<S: Folder, C: Clock, W: Watch<S>, O: Opens<S, C>> {
+    opener: O,
+    log: RollingFile<S, C>,
+    watch: W,
+    // Whether a part of a line is ended by a newline before the next line.
+    whole_lines: bool,
     // The open file's least length in bytes: what it had at its opening, and what was appended.
     length: u64,
     // Whether the last byte that was appended to the open file is no newline.
@@ -147,14 +173,32 @@ pub struct FileLog<R: Files + AllocGlobal + Eprint + std::time::Clock + Clone + 
     gone: bool,
 }
 
-impl<R: Files + AllocGlobal + Eprint + std::time::Clock + Clone + Drop> FileLog<R> {
-    fn new(opener: Opener<R>, counts: Arc<FileCounts, Global>) -> Result<FileLog<R>, InitError> {
-        let watch = DirWatch::new(opener.rt.clone()?, opener.directory.as_str(), counts)?;
+impl<S: Folder, C: Clock, W: Watch<S>, O: Opens<S, C>> Model for FileLog<S, C, W, O> {
+    ghost use Rattle.rolltee_core.specs.Log.{Reopening};
+
+    ghost Value = { Reopening S S.File C };
+
+    ghost view = { λ l. record { log = l.log; config = O.config l.opener } };
+}
+
+impl<S: Folder, C: Clock, W: Watch<S>, O: Opens<S, C>> FileLog<S, C, W, O> {
+    ghost use Rattle.std.specs.Prelude.{ℤ, OnOk};
+    ghost use Rattle.std.specs.Io.{WritesAtMost};
+    ghost use Rattle.appender_rolling.specs.Appender.{AppendsNow, OpensSome};
+    ghost use Rattle.appender_rolling.specs.Roller.{Looks};
+    ghost use Rattle.rolltee_core.specs.Log.{IsFound, MayEndPart};
+
+    /// Opens the log.
+    pub fn new(opener: O, watch: W, whole_lines: bool) -> Result<FileLog<S, C, W, O>, InitError>
+        ensures opens { IfOk result (λ opened. OpensSome S.Folder C.Clock (O.config opener) opened.log) }
+        ensures config { IfOk result (λ opened. opened.config ≡ O.config opener) }
+    {
         let log = opener.open()?;
         let mut opened = FileLog {
             opener,
             log,
             watch,
+            whole_lines,
             length: 0,
             within: false,
             cut: false,
@@ -165,16 +209,19 @@ impl<R: Files + AllocGlobal + Eprint + std::time::Clock + Clone + Drop> FileLog<
     }
 
     // Looks how long the open file is, and whether it ends with a part of a line.
-    fn look_at_file(&mut self) {
+    fn look_at_file(&mut self)
+        ensures { self.new ≡ self.old }
+    {
         let (folder, file) = (self.log.folder(), self.log.open_file());
-        self.length = Watch::<DirFolder<R>>::length(&self.watch, file);
+        self.length = self.watch.length(file);
         self.within = false;
-        self.cut = self.opener.whole_lines
-            && !self.watch.ends_line(folder, file, self.log.open_name());
+        self.cut = self.whole_lines && !self.watch.ends_line(folder, file, self.log.open_name());
     }
 
     // Compares the open file with what its name leads to, and its length, until a difference is reported.
-    fn compare(&mut self) {
+    fn compare(&mut self)
+        ensures { self.new ≡ self.old }
+    {
         if !self.gone {
             let found = self.watch.finds(
                 self.log.folder(),
@@ -187,10 +234,16 @@ impl<R: Files + AllocGlobal + Eprint + std::time::Clock + Clone + Drop> FileLog<
     }
 
     // Opens the log again if its file is not found.
-    fn find_file(&mut self) -> io::Result<()> {
+    fn find_file(&mut self) -> io::Result<()>
+        ensures found { OnOk result (IsFound S.Folder C.Clock self.old self.new.log) }
+        ensures config { self.new.config ≡ self.old.config }
+    {
         self.compare();
         if self.gone {
-            self.log = self.opener.open().map_err(cause_of)?;
+            match self.opener.open() {
+                Ok(log) => self.log = log,
+                Err(error) => return Err(cause_of(error)),
+            }
             self.gone = false;
             self.look_at_file();
         }
@@ -198,7 +251,12 @@ impl<R: Files + AllocGlobal + Eprint + std::time::Clock + Clone + Drop> FileLog<
     }
 
     // Begins the next file if one is due for so many bytes.
-    fn check_clock(&mut self, length: usize) {
+    fn check_clock(&mut self, length: usize)
+        ensures looks { (moment : ℤ) × (switch : Switch) × C.Clock.now_gives self.old.log.clock moment
+            × Looks S.Folder moment length switch self.old.log.roller self.new.log.roller }
+        ensures clock { self.new.log.clock ≡ self.old.log.clock }
+        ensures config { self.new.config ≡ self.old.config }
+    {
         let moment = self.log.moment();
         match self.log.see_for(moment, length) {
             Switch::None => {}
@@ -207,7 +265,10 @@ impl<R: Files + AllocGlobal + Eprint + std::time::Clock + Clone + Drop> FileLog<
     }
 
     // Ends a part of a line by a newline.
-    fn end_part(&mut self) -> io::Result<()> {
+    fn end_part(&mut self) -> io::Result<()>
+        ensures ends { OnOk result (MayEndPart S.Folder self.old.log self.new.log) }
+        ensures config { self.new.config ≡ self.old.config }
+    {
         if self.cut {
             if self.append(b"\n")? == 0 {
                 return Err(io::Error::from(ErrorKind::WriteZero));
@@ -218,7 +279,11 @@ impl<R: Files + AllocGlobal + Eprint + std::time::Clock + Clone + Drop> FileLog<
     }
 
     // Adds bytes to the open file by one append.
-    fn append(&mut self, bytes: &[u8]) -> io::Result<usize> {
+    fn append(&mut self, bytes: &[u8]) -> io::Result<usize>
+        ensures bound { WritesAtMost result bytes.now }
+        ensures appends { AppendsNow S.Folder bytes.now result self.old.log self.new.log }
+        ensures config { self.new.config ≡ self.old.config }
+    {
         let taken = self.log.append(bytes)?;
         self.length = self.length.saturating_add(taken as u64);
         if taken > 0 {
@@ -226,16 +291,23 @@ impl<R: Files + AllocGlobal + Eprint + std::time::Clock + Clone + Drop> FileLog<
         }
         Ok(taken)
     }
-
-    // The line that a write did not take whole is not written on.
-    fn give_up(&mut self) {
-        self.cut = self.cut || (self.opener.whole_lines && self.within);
-    }
 }
 
-impl<R: Files + AllocGlobal + Eprint + std::time::Clock + Clone + Drop> Write for FileLog<R> {
+impl<S: Folder, C: Clock, W: Watch<S>, O: Opens<S, C>> Write for FileLog<S, C, W, O> {
+    ghost use Rattle.std.specs.Prelude.{None, OnOk};
+    ghost use Rattle.std.specs.Io.{WritesAtMost};
+    ghost use Rattle.std.specs.Io.KnownBytes.{Keeps, WriteAppends};
+    ghost use Rattle.appender_rolling.specs.Appender.{FlushesNow};
+    ghost use Rattle.rolltee_core.specs.Log.{PutsOn};
+
     /// Adds the first of the bytes to the file of the clock's moment, by one append.
-    fn write(&mut self, bytes: &[u8]) -> io::Result<usize> {
+    fn write(&mut self, bytes: &[u8]) -> io::Result<usize>
+        ensures bound { WritesAtMost result bytes.now }
+        ensures bytes { WriteAppends None None result bytes.now }
+        ensures puts { OnOk result (PutsOn S.Folder C.Clock bytes.now result
+            self.old self.new.log) }
+        ensures config { self.new.config ≡ self.old.config }
+    {
         self.find_file()?;
         self.check_clock(bytes.len());
         self.end_part()?;
@@ -243,10 +315,19 @@ impl<R: Files + AllocGlobal + Eprint + std::time::Clock + Clone + Drop> Write fo
     }
 
     /// Flushes the open file, and looks for it.
-    fn flush(&mut self) -> io::Result<()> {
+    fn flush(&mut self) -> io::Result<()>
+        ensures bytes { Keeps None None }
+        ensures flushes { FlushesNow S.Folder result self.old.log self.new.log }
+    {
         let flushed = self.log.flush();
         self.compare();
         flushed
+    }
+}
+
+impl<S: Folder, C: Clock, W: Watch<S>, O: Opens<S, C>> TeeLog for FileLog<S, C, W, O> {
+    fn give_up(&mut self) {
+        self.cut = self.cut || (self.whole_lines && self.within);
     }
 }
 

@@ -6,7 +6,7 @@ ghost use Rattle.rolltee_core.specs.Fault.{status_of, unless_memory, words_of, H
 ghost use Rattle.appender_names.specs.RotationText.{IsNoRotation};
 
 use crate::feed::{Feed, WatchedLog};
-pub use crate::logs::Logs;
+pub use crate::logs::{Logs, TeeLog};
 use crate::losses::Losses;
 use crate::waiting::WaitingLog;
 use file_watch::FileCounts;
@@ -231,7 +231,7 @@ fn copy_through<R: Host, L: Logs, I: Read, O: Write + Drop>(
     let log = logs
         .open_log(rotation, directory, prefix, options, files.clone()?)
         .map_err(Fault::Open)?;
-    let log = WaitingLog::<R, L>::new(rt, !options.no_wait, log);
+    let log = WaitingLog::new(rt, !options.no_wait, log);
     let lost = copy_to(rt, log, options, input, output)?;
     let gone = files.gone();
     all_written(Losses { gone, ..lost }, options.is_plain())

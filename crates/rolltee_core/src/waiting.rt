@@ -3,7 +3,7 @@ ghost use Rattle.std.specs.Prelude.{None};
 ghost use Rattle.std.specs.Io.{WritesAtMost};
 ghost use Rattle.std.specs.Io.KnownBytes.{Keeps, WriteAppends};
 
-use crate::logs::Logs;
+use crate::logs::TeeLog;
 use std::io;
 use std::io::{ErrorKind, Write};
 use std::sync::Wait;
@@ -13,21 +13,21 @@ use tracing_appender::waiting::write_waiting;
 /// A log whose writes may wait, as those of `write_waiting` do. Each returns how much the log took at once, and its error
 /// means that none of the bytes was written, so that lines that are written together can be told apart.
 #[derive(Drop)]
-pub struct WaitingLog<R: Drop, L: Logs> {
+pub struct WaitingLog<R, W> {
     rt: R,
     waits: bool,
-    log: L::Log,
+    log: W,
 }
 
-impl<R: Drop, L: Logs> WaitingLog<R, L> {
+impl<R, W> WaitingLog<R, W> {
     /// Returns a log that waits by the clock of `rt`, and prints on its standard error; without `waits` it returns each
     /// fault.
-    pub fn new(rt: R, waits: bool, log: L::Log) -> WaitingLog<R, L> {
+    pub fn new(rt: R, waits: bool, log: W) -> WaitingLog<R, W> {
         WaitingLog { rt, waits, log }
     }
 }
 
-impl<R: Wait + Clock + Eprint + Drop, L: Logs> Write for WaitingLog<R, L> {
+impl<R: Wait + Clock + Eprint, W: TeeLog> Write for WaitingLog<R, W> {
     /// Writes the first of the bytes. After an error that isn't `Interrupted` the line in which they are is not written on.
     fn write(&mut self, bytes: &[u8]) -> io::Result<usize>
         ensures bound { WritesAtMost result bytes.now }
@@ -40,7 +40,7 @@ impl<R: Wait + Clock + Eprint + Drop, L: Logs> Write for WaitingLog<R, L> {
         };
         match taken {
             Err(fault) if fault.kind() != ErrorKind::Interrupted => {
-                L::give_up(&mut self.log);
+                self.log.give_up();
                 Err(fault)
             }
             taken => taken,

@@ -1,0 +1,7 @@
+-- What holds whatever an outcome is.
+use Rattle.std.proofs.Common.{OnOk}
+use Rattle.std.specs.Prelude.{Result, Ok, Err}
+
+pub on_ok : {A E : Type 0} → (outcome : Result A E) → {P : Type 0} → P → OnOk outcome P
+on_ok (Ok a) p = p
+on_ok (Err e) p = tt
