@@ -4,7 +4,7 @@ ghost use Rattle.std.specs.Io.KnownBytes.{Appends};
 ghost use Rattle.audit_trail_core.specs.Fault.{account_text, status_of, ReportsStatus};
 ghost use Rattle.audit_trail_core.specs.Gather.{SendsLines};
 
-use crate::trail::{Fault, TrailLog, open_trail, report_fault};
+use crate::trail::{Fault, Limits, TrailLog, open_trail, report_fault};
 use file_watch::FileCounts;
 use program_io::{Host, ShortLines, end_line, read_line};
 use std::alloc::{AllocError, Global};
@@ -43,13 +43,13 @@ pub trait Trails {
 pub struct DiskTrails<H> {
     rt: HostRuntime,
     host: H,
-    files: usize,
+    limits: Limits,
 }
 
 impl<H: Host> DiskTrails<H> {
-    /// Returns trails that keep so many files; 0 is all of them. `host` waits while the disk is full.
-    pub fn new(rt: HostRuntime, host: H, files: usize) -> DiskTrails<H> {
-        DiskTrails { rt, host, files }
+    /// Returns trails with files within `limits`. `host` waits while the disk is full.
+    pub fn new(rt: HostRuntime, host: H, limits: Limits) -> DiskTrails<H> {
+        DiskTrails { rt, host, limits }
     }
 }
 
@@ -63,7 +63,7 @@ impl<H: Host> Trails for DiskTrails<H> {
         directory: &str,
         counts: Arc<FileCounts, Global>,
     ) -> Result<TrailLog<HostRuntime, H>, InitError> {
-        open_trail(&self.rt, self.host, self.files, directory, counts)
+        open_trail(&self.rt, self.host, self.limits, directory, counts)
     }
 
     fn open_source(&self, log: &TrailLog<HostRuntime, H>, path: &str) -> Result<File, Fault> {
