@@ -74,6 +74,18 @@ pub record AreDefaults (o : Options) : Type 0 where
   pub timestamps : o.timestamps ≡ false
   pub whole_lines : o.whole_lines ≡ false
 
+-- nothing is asked for but a number of files and of bytes
+pub record AreLimits (o : Options) : Type 0 where
+  pub suffix : string_bytes o.suffix ≡ []
+  pub link : string_bytes o.link ≡ []
+  pub queue : o.queue ≡ 0
+  pub lossy : o.lossy ≡ false
+  pub no_wait : o.no_wait ≡ false
+  pub sync : o.sync ≡ false
+  pub echo : o.echo ≡ false
+  pub timestamps : o.timestamps ≡ false
+  pub whole_lines : o.whole_lines ≡ false
+
 abbrev pub is_some_text : List ℕ → Bool
 is_some_text [] = false
 is_some_text text = true
@@ -185,6 +197,12 @@ abbrev pub IsPlain : List (String Global) → Request → Type 0
 IsPlain words AsksHelp = ⊥
 IsPlain words AsksVersion = ⊥
 IsPlain words (Run options arguments) = AreDefaults options × (map string_bytes arguments.items ≡ map string_bytes words)
+
+-- nothing is asked for but limits
+abbrev pub HasLimits : Request → Type 0
+HasLimits AsksHelp = Unit {0}
+HasLimits AsksVersion = Unit {0}
+HasLimits (Run options arguments) = AreLimits options
 
 -- no word begins with a dash
 abbrev pub AreUndashed : List (String Global) → Type 0

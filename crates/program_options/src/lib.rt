@@ -3,7 +3,7 @@
 
 ghost use Rattle.std.specs.Prelude.{◌≡◌, ◌≢◌, [], ◌∷◌, ◌++◌, IfOk, IfSome, string_bytes};
 ghost use Rattle.program_io.specs.Options.{begins_with_dash};
-ghost use Rattle.program_options.specs.Options.{flag_word, valued_word, AreUndashed, HasUnit, IsByteCount, IsCount, IsNextAfter, IsNumber, IsPlain, IsRead};
+ghost use Rattle.program_options.specs.Options.{flag_word, valued_word, AreUndashed, HasUnit, HasLimits, IsByteCount, IsCount, IsNextAfter, IsNumber, IsPlain, IsRead};
 
 use std::alloc::{AllocError, Global};
 use thiserror::Error;
@@ -36,6 +36,7 @@ pub struct Options {
 }
 
 impl Options {
+    ghost use Rattle.std.specs.Prelude.{◌≡◌, ◌↔◌, true};
     ghost use Rattle.program_options.specs.Options.{AreDefaults};
 
     /// Returns what is asked for if there is no option.
@@ -55,6 +56,13 @@ impl Options {
             timestamps: false,
             whole_lines: false,
         }
+    }
+
+    /// Returns whether nothing is asked for.
+    pub fn is_plain(&self) -> bool
+        ensures { (result ≡ true) ↔ AreDefaults self.now }
+    {
+        self.keep == 0 && self.max_bytes == 0 && self.other_word().is_none()
     }
 }
 
@@ -175,6 +183,22 @@ pub fn read(alloc: Global, words: &[String]) -> Result<Request, OptionFault>
     }
 }
 
+/// Reads words as `read` does, for a program with no options but `--keep` and `--max-bytes`. Any other option is
+/// `OptionFault::Unknown`, with its word.
+pub fn read_limits(alloc: Global, words: &[String]) -> Result<Request, OptionFault>
+    ensures read { IfOk result (IsRead words.now) }
+    ensures plain { AreUndashed words.now → IfOk result (IsPlain words.now) }
+    ensures limits { IfOk result HasLimits }
+{
+    let request = read(alloc, words)?;
+    if let Request::Run(options, _) = &request {
+        if let Some(word) = options.other_word() {
+            return Err(OptionFault::Unknown(String::from_str(alloc, word)?));
+        }
+    }
+    Ok(request)
+}
+
 // What the next word is.
 #[derive(Clone, Copy)]
 enum Next {
@@ -256,8 +280,8 @@ impl Reading {
 }
 
 impl Options {
-    ghost use Rattle.std.specs.Prelude.{◌≡◌, OnOk};
-    ghost use Rattle.program_options.specs.Options.{has, raised, Sets};
+    ghost use Rattle.std.specs.Prelude.{◌≡◌, IfNone, IfSome, OnOk};
+    ghost use Rattle.program_options.specs.Options.{has, is_raised, AreLimits, Raises, Sets};
 
     // Sets the value of an option, which was not set before.
     fn set(&mut self, alloc: Global, option: Valued, value: &str) -> Result<(), OptionFault>
@@ -287,6 +311,27 @@ impl Options {
             Valued::Link => !self.link.is_empty(),
             Valued::Queue => self.queue > 0,
         }
+    }
+
+    // Returns the word of the first option that was set, of those other than `--keep` and `--max-bytes`.
+    fn other_word(&self) -> Option<&'static str>
+        ensures none { IfNone result (AreLimits self.now) }
+        ensures some { IfSome result (λ word. ¬ AreLimits self.now) }
+    {
+        let valued = [Valued::Suffix, Valued::Link, Valued::Queue];
+        if let Some(option) = valued.iter().find(|option| self.has(**option)) {
+            return Some(option.word());
+        }
+        let flags = [
+            Flag::Lossy,
+            Flag::NoWait,
+            Flag::Sync,
+            Flag::Echo,
+            Flag::Timestamps,
+            Flag::WholeLines,
+        ];
+        let flag = flags.iter().find(|flag| self.is_raised(**flag))?;
+        Some(flag.word())
     }
 
     // Sets a flag, which was not set before.
