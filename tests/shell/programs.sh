@@ -199,8 +199,9 @@ for name in rolltee audit_trail rollplay; do
   run "$program" --version < /dev/null
   check "$name --version" "0|$name, over a port of tracing-appender 0.2.5|" "$(told)"
   for option in -x --helpme -; do
+    case $name in audit_trail) unknown="$option: unknown option"$'\n' ;; *) unknown= ;; esac
     run "$program" "$option" "$work/option" app --help < /dev/null
-    check "$name $option" "2||$usage" "$(told)"
+    check "$name $option" "2||$unknown$usage" "$(told)"
   done
   check "$name: options make no folder" no "$([ -e "$work/option" ] && echo yes || echo no)"
   for option in --help --version; do
@@ -262,15 +263,49 @@ run "$audit_trail" --keep 1 "$keep" < "$lines"
 for name in audit.2020-01-01.log audit.2020-01-02.log audit-export.log audit.log; do echo old > "$keep/$name"; done
 run "$audit_trail" "$keep" < /dev/null
 check 'audit_trail keeps all files' '0||6' "$(told)$(ls "$keep" | wc -l)"
-run "$audit_trail" --keep 2 "$keep" < /dev/null
-check 'audit_trail --keep 2' '0||audit-export.log audit.2020-01-02.log audit.log latest.log' \
-  "$(told)$(cd "$keep" && ls | grep -v "$(readlink latest.log)" | paste -s -d ' ')"
-run "$audit_trail" --keep 1 "$keep" < /dev/null
-check 'audit_trail --keep 1: the log of today' "0||$lines_wanted" "$(told)$(content "$keep/latest.log")"
-for words in --keep '--keep 0' '--keep x' '--keep -1' '--keep 18446744073709551616'; do
-  run "$audit_trail" $words "$keep" < "$lines"
-  check "audit_trail $words" '2||--keep needs a number of files, 1 or more' "$(told)"
+for words in '--keep 2' '--keep=2' '--keep 2 --'; do
+  echo old > "$keep/audit.2020-01-01.log"
+  run "$audit_trail" $words "$keep" < /dev/null
+  check "audit_trail $words" '0||audit-export.log audit.2020-01-02.log audit.log latest.log' \
+    "$(told)$(cd "$keep" && ls | grep -v "$(readlink latest.log)" | paste -s -d ' ')"
 done
+run "$audit_trail" "$keep" --keep 1 < /dev/null
+check 'audit_trail --keep 1: the log of today' "0||$lines_wanted" "$(told)$(content "$keep/latest.log")"
+for words in --keep '--keep 0' --keep=0 '--keep x' '--keep 18446744073709551616'; do
+  run "$audit_trail" $words "$keep" < "$lines"
+  check "audit_trail $words" '2||--keep: not a number from 1' "$(told)"
+done
+run "$audit_trail" --keep -1 "$keep" < "$lines"
+check 'audit_trail --keep -1' '2||--keep: a value is missing' "$(told)"
+run "$audit_trail" "$keep" --keep < "$lines"
+check 'audit_trail DIR --keep' '2||--keep: a value is missing' "$(told)"
+run "$audit_trail" --keep 1 "$keep" --keep=2 < "$lines"
+check 'audit_trail --keep, twice' '2||--keep: given twice' "$(told)"
+run "$audit_trail" --kep 3 "$keep" < "$lines"
+check 'audit_trail --kep 3' $'2||--kep: unknown option\nusage: audit_trail DIRECTORY [SOURCE..]' "$(told)"
+run "$audit_trail" --lossy "$keep" < "$lines"
+check 'audit_trail --lossy' $'2||--lossy: unknown option\nusage: audit_trail DIRECTORY [SOURCE..]' "$(told)"
+for words in '--max-bytes x' '--max-bytes 0' '--max-bytes 0K' '--max-bytes=1KB'; do
+  run "$audit_trail" $words "$keep" < "$lines"
+  check "audit_trail $words" '2||--max-bytes: not a number of bytes from 1, as 500, 64K, 10M or 2G' "$(told)"
+done
+
+# 20 lines of 128 bytes: 8 of them are 1 KiB.
+limited=$work/limited
+for ((i = 0; i < 20; i++)); do printf '%0127d\n' "$i"; done > "$work/lines.20"
+run "$audit_trail" --max-bytes 1K "$limited" < "$work/lines.20"
+check 'audit_trail --max-bytes 1K: the sizes of the files' '0||1024 1024 512' \
+  "$(told)$(stat -c %s "$limited"/audit.* | paste -s -d ' ')"
+check 'audit_trail --max-bytes 1K: all lines' same \
+  "$(cat "$limited"/audit.* | cmp -s - "$work/lines.20" && echo same || echo other)"
+check 'audit_trail --max-bytes 1K: the names' 'audit.D.000000.log audit.D.000001.log audit.D.000002.log latest.log' \
+  "$(ls "$limited" | sed -E 's/[0-9]{4}-[0-9]{2}-[0-9]{2}/D/' | paste -s -d ' ')"
+run "$audit_trail" --keep 2 --max-bytes=1K "$limited" "$work/lines.20" < /dev/null
+check 'audit_trail --keep 2 --max-bytes=1K, a file' '0|accepted 20 handed 20 left 0 dropped 0|1024 512' \
+  "$(told)$(stat -c %s "$limited"/audit.* | paste -s -d ' ')"
+check 'audit_trail --keep 2 --max-bytes=1K, a file: the names' 'audit.D.000004.log audit.D.000005.log latest.log' \
+  "$(ls "$limited" | sed -E 's/[0-9]{4}-[0-9]{2}-[0-9]{2}/D/' | paste -s -d ' ')"
+check 'audit_trail --max-bytes: the link' "$(tail -n 4 "$work/lines.20")" "$(cat "$limited/latest.log")"
 check 'an empty folder is not the current one' '-trail' "$(ls "$work/place")"
 
 run "$rollplay" here there < "$script"
