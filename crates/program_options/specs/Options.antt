@@ -1,5 +1,5 @@
 -- Options among the words of a command line.
-use Rattle.std.specs.Prelude.{◌≡◌, ◌≢◌, ◌⊎◌, ◌≤◌, ◌*◌, ℕ, zero, suc, Bool, true, false, List, [], ◌∷◌, ◌++◌, String, string_bytes, codes, map, nat_lt}
+use Rattle.std.specs.Prelude.{◌≡◌, ◌≢◌, ◌⊎◌, ◌≤◌, ◌*◌, ℕ, zero, suc, Bool, true, false, List, [], ◌∷◌, ◌++◌, String, string_bytes, codes, map, nat_lt, Contains}
 use Rattle.std.specs.Str.Parse.{IsNumeral, digits_value}
 use Rattle.std.specs.declared.alloc.Global.{Global}
 use Rattle.program_io.specs.Options.{begins_with_dash}
@@ -8,6 +8,8 @@ use Rattle.program_options.specs.declared.Valued.{Valued}
 use Rattle.program_options.specs.declared.Valued.TheVariants.{Keep, MaxBytes, Suffix, Link, Queue}
 use Rattle.program_options.specs.declared.Flag.{Flag}
 use Rattle.program_options.specs.declared.Flag.TheVariants.{Lossy, NoWait, Sync, Echo, Timestamps, WholeLines}
+use Rattle.program_options.specs.declared.OptionFault.{OptionFault}
+use Rattle.program_options.specs.declared.OptionFault.TheVariants.{Unknown, Wrong, Memory as NoMemory}
 use Rattle.program_options.specs.declared.Request.{Request}
 use Rattle.program_options.specs.declared.Request.TheVariants.{Help as AsksHelp, Version as AsksVersion, Run}
 use Rattle.program_options.specs.declared.Next.{Next}
@@ -191,6 +193,32 @@ IsRead words AsksVersion = (k : ℕ) × (rest : List (String Global)) × (r : Re
 IsRead words (Run options arguments) =
     (k : ℕ) × (r : Reading) × Reaches words k [] r × (r.options ≡ options) × (r.arguments ≡ arguments)
     × ((r.next ≡ Any) ⊎ (r.next ≡ Argument))
+
+-- ---- faults
+
+-- the fault is of this option, or of memory
+abbrev pub IsOf : List ℕ → OptionFault → Type 0
+IsOf option (Unknown text) = ⊥
+IsOf option (Wrong name error) = name.now ≡ option
+IsOf option NoMemory = Unit {0}
+
+-- the fault names this word, or the option that the word begins with, or is of memory
+abbrev pub Names : List ℕ → OptionFault → Type 0
+Names word (Unknown text) = string_bytes text ≡ word
+Names word (Wrong name error) = (word ≡ name.now) ⊎ ((value : List ℕ) × (word ≡ name.now ++ (61 ∷ value)))
+Names word NoMemory = Unit {0}
+
+-- a fault of a word, by what was read before it
+abbrev pub HasFault : Next → List ℕ → OptionFault → Type 0
+HasFault (Value option) word fault = IsOf (valued_word option) fault
+HasFault next word fault = Names word fault
+
+-- the fault names one of the words, or is of memory
+abbrev pub IsFaultOf : List (String Global) → OptionFault → Type 0
+IsFaultOf words NoMemory = Unit {0}
+IsFaultOf words fault = (word : String Global) × Contains words word × Names (string_bytes word) fault
+
+-- ---- requests
 
 -- nothing is asked for, and the arguments are the words
 abbrev pub IsPlain : List (String Global) → Request → Type 0

@@ -1,9 +1,9 @@
 //! Options of programs that write logs, among the words of a command line.
 #![tactic(auto)]
 
-ghost use Rattle.std.specs.Prelude.{◌≡◌, ◌≢◌, [], ◌∷◌, ◌++◌, IfOk, IfSome, string_bytes};
+ghost use Rattle.std.specs.Prelude.{◌≡◌, ◌≢◌, [], ◌∷◌, ◌++◌, IfErr, IfOk, IfSome, string_bytes};
 ghost use Rattle.program_io.specs.Options.{begins_with_dash};
-ghost use Rattle.program_options.specs.Options.{flag_word, valued_word, AreUndashed, HasUnit, HasLimits, IsByteCount, IsCount, IsNextAfter, IsNumber, IsPlain, IsRead};
+ghost use Rattle.program_options.specs.Options.{flag_word, valued_word, AreUndashed, HasLimits, HasUnit, IsByteCount, IsCount, IsFaultOf, IsNextAfter, IsOf, IsNumber, IsPlain, IsRead};
 
 use std::alloc::{AllocError, Global};
 use thiserror::Error;
@@ -145,6 +145,11 @@ pub enum OptionFault {
 }
 
 impl From<AllocError> for OptionFault {
+    ghost use Rattle.std.specs.Prelude.{◌≡◌};
+    ghost use Rattle.program_options.specs.declared.OptionFault.TheVariants.{Memory};
+
+    ghost from_gives = { λ _ e. e ≡ Memory };
+
     fn from(_error: AllocError) -> OptionFault {
         OptionFault::Memory
     }
@@ -166,6 +171,7 @@ pub enum Request {
 pub fn read(alloc: Global, words: &[String]) -> Result<Request, OptionFault>
     ensures read { IfOk result (IsRead words.now) }
     ensures plain { AreUndashed words.now → IfOk result (IsPlain words.now) }
+    ensures fault { IfErr result (IsFaultOf words.now) }
 {
     let mut reading = Reading::new(alloc);
     let mut rest = words;
@@ -222,8 +228,8 @@ struct Reading {
 }
 
 impl Reading {
-    ghost use Rattle.std.specs.Prelude.{OnOk};
-    ghost use Rattle.program_options.specs.Options.{Adds, IsFresh, Takes, TakesOption};
+    ghost use Rattle.std.specs.Prelude.{◌≡◌, IfErr, OnOk};
+    ghost use Rattle.program_options.specs.Options.{Adds, HasFault, IsFresh, Names, Takes, TakesOption};
 
     fn new(alloc: Global) -> Reading
         ensures { IsFresh result }
@@ -237,7 +243,8 @@ impl Reading {
 
     // Takes the next word.
     fn take(&mut self, alloc: Global, word: &str) -> Result<(), OptionFault>
-        ensures { OnOk result (Takes word.now self.old self.new) }
+        ensures taken { OnOk result (Takes word.now self.old self.new) }
+        ensures fault { IfErr result (HasFault self.old.next word.now) }
     {
         match self.next {
             Next::Value(option) if begins(word) => {
@@ -254,7 +261,8 @@ impl Reading {
 
     // Takes a word that begins with a dash.
     fn take_option(&mut self, alloc: Global, word: &str) -> Result<(), OptionFault>
-        ensures { OnOk result (TakesOption word.now self.old self.new) }
+        ensures taken { OnOk result (TakesOption word.now self.old self.new) }
+        ensures fault { IfErr result (Names word.now) }
     {
         if let Some(next) = next_after(word) {
             self.next = next;
@@ -271,7 +279,8 @@ impl Reading {
 
     // Adds an argument.
     fn add(&mut self, alloc: Global, word: &str) -> Result<(), OptionFault>
-        ensures { OnOk result (Adds word.now self.old self.new) }
+        ensures added { OnOk result (Adds word.now self.old self.new) }
+        ensures fault { IfErr result (λ fault. fault ≡ OptionFault.Memory) }
     {
         let argument = String::from_str(alloc, word)?;
         self.arguments.push(argument).map_err(AllocError::from)?;
@@ -280,12 +289,14 @@ impl Reading {
 }
 
 impl Options {
-    ghost use Rattle.std.specs.Prelude.{◌≡◌, IfNone, IfSome, OnOk};
-    ghost use Rattle.program_options.specs.Options.{has, is_raised, AreLimits, Raises, Sets};
+    ghost use Rattle.std.specs.Prelude.{◌≡◌, IfErr, IfNone, IfSome, OnOk};
+    ghost use Rattle.std.specs.List.{find};
+    ghost use Rattle.program_options.specs.Options.{flag_word, has, is_raised, valued_word, AreLimits, IsOf, Raises, Sets};
 
     // Sets the value of an option, which was not set before.
     fn set(&mut self, alloc: Global, option: Valued, value: &str) -> Result<(), OptionFault>
-        ensures { OnOk result (Sets option value.now self.old self.new) }
+        ensures set { OnOk result (Sets option value.now self.old self.new) }
+        ensures fault { IfErr result (IsOf (valued_word option)) }
     {
         if self.has(option) {
             return Err(OptionFault::Wrong(option.word(), OptionError::Twice));
@@ -318,25 +329,38 @@ impl Options {
         ensures none { IfNone result (AreLimits self.now) }
         ensures some { IfSome result (λ word. ¬ AreLimits self.now) }
     {
-        let valued = [Valued::Suffix, Valued::Link, Valued::Queue];
-        if let Some(option) = valued.iter().find(|option| self.has(**option)) {
+        if let Some(option) = self.first_set(&[Valued::Suffix, Valued::Link, Valued::Queue]) {
             return Some(option.word());
         }
-        let flags = [
+        let flag = self.first_raised(&[
             Flag::Lossy,
             Flag::NoWait,
             Flag::Sync,
             Flag::Echo,
             Flag::Timestamps,
             Flag::WholeLines,
-        ];
-        let flag = flags.iter().find(|flag| self.is_raised(**flag))?;
+        ])?;
         Some(flag.word())
+    }
+
+    // Returns the first of these options that was set.
+    fn first_set(&self, options: &[Valued]) -> Option<Valued>
+        ensures { result ≡ find (λ option. has option self.now) options.now }
+    {
+        options.iter().copied().find(|option| self.has(*option))
+    }
+
+    // Returns the first of these flags that was set.
+    fn first_raised(&self, flags: &[Flag]) -> Option<Flag>
+        ensures { result ≡ find (λ flag. is_raised flag self.now) flags.now }
+    {
+        flags.iter().copied().find(|flag| self.is_raised(*flag))
     }
 
     // Sets a flag, which was not set before.
     fn raise(&mut self, flag: Flag) -> Result<(), OptionFault>
-        ensures { OnOk result (Raises flag self.old self.new) }
+        ensures raised { OnOk result (Raises flag self.old self.new) }
+        ensures fault { IfErr result (IsOf (flag_word flag)) }
     {
         if self.is_raised(flag) {
             return Err(OptionFault::Wrong(flag.word(), OptionError::Twice));
@@ -425,7 +449,8 @@ fn flag_of(word: &str) -> Option<Flag>
 }
 
 fn text(alloc: Global, option: Valued, value: &str) -> Result<String, OptionFault>
-    ensures { IfOk result (λ text. (string_bytes text ≡ value.now) × (value.now ≢ [])) }
+    ensures text { IfOk result (λ text. (string_bytes text ≡ value.now) × (value.now ≢ [])) }
+    ensures fault { IfErr result (IsOf (valued_word option)) }
 {
     if value.is_empty() {
         return Err(OptionFault::Wrong(option.word(), OptionError::Missing));
@@ -434,7 +459,8 @@ fn text(alloc: Global, option: Valued, value: &str) -> Result<String, OptionFaul
 }
 
 fn count(option: Valued, value: &str) -> Result<usize, OptionFault>
-    ensures { IfOk result (IsCount value.now) }
+    ensures count { IfOk result (IsCount value.now) }
+    ensures fault { IfErr result (IsOf (valued_word option)) }
 {
     match read_count(value) {
         Some(count) if count > 0 => Ok(count),
@@ -443,7 +469,8 @@ fn count(option: Valued, value: &str) -> Result<usize, OptionFault>
 }
 
 fn bytes(option: Valued, value: &str) -> Result<u64, OptionFault>
-    ensures { IfOk result (IsByteCount value.now) }
+    ensures count { IfOk result (IsByteCount value.now) }
+    ensures fault { IfErr result (IsOf (valued_word option)) }
 {
     let (digits, unit) = split_unit(value);
     match read_count(digits) {

@@ -1,12 +1,16 @@
 use Rattle.std.proofs.Common.{rules}
 use Rattle.program_options.specs.declared.Request.TheVariants.{Help as AsksHelp, Version as AsksVersion, Run}
+use Rattle.std.proofs.lemmas.Result.{err_from_is_err_and}
+use Rattle.program_options.specs.declared.OptionError.TheVariants.{Missing}
+use Rattle.program_options.specs.declared.OptionFault.TheVariants.{Wrong}
+use Rattle.program_options.proofs.Faults.{fault_of_option, fault_of_word}
 use Rattle.program_options.proofs.Words.{at_end, next_reached, open_next, plain_request}
 use Rattle.program_options.proofs.read.Goals as goal
 
 pub returns-in-Help-clause-read : goal.returns-in-Help-clause-read
 returns-in-Help-clause-read c =
     let split = rw c.in-Some.is at c.split_first.ensures.cases in
-    let taken = rw c.in_ok-take.was at c.take.ensures in
+    let taken = rw c.in_ok-take.was at c.take.ensures.taken in
     let takes = rw c.as_str.ensures.value at taken in
     let reached = next_reached _ _ _ _ _ _ c.loop-word.invariant.reached split.0 takes in
     (reached.0, c.in-Some.behind.now, c.take.new.self, reached.1, search rules)
@@ -17,7 +21,7 @@ returns-in-Help-clause-plain c = λ all. plain_request _ AsksHelp all (returns-i
 pub returns-in-Version-clause-read : goal.returns-in-Version-clause-read
 returns-in-Version-clause-read c =
     let split = rw c.in-Some.is at c.split_first.ensures.cases in
-    let taken = rw c.in_ok-take.was at c.take.ensures in
+    let taken = rw c.in_ok-take.was at c.take.ensures.taken in
     let takes = rw c.as_str.ensures.value at taken in
     let reached = next_reached _ _ _ _ _ _ c.loop-word.invariant.reached split.0 takes in
     (reached.0, c.in-Some.behind.now, c.take.new.self, reached.1, search rules)
@@ -28,18 +32,29 @@ returns-in-Version-clause-plain c = λ all. plain_request _ AsksVersion all (ret
 pub loop-word-preserved : goal.loop-word-preserved
 loop-word-preserved c =
     let split = rw c.in-Some.is at c.split_first.ensures.cases in
-    let taken = rw c.in_ok-take.was at c.take.ensures in
+    let taken = rw c.in_ok-take.was at c.take.ensures.taken in
     let takes = rw c.as_str.ensures.value at taken in
     record {
       reached = next_reached _ _ _ _ _ _ c.loop-word.invariant.reached split.0 takes;
       goes_on = open_next _ c.in_default-next.not-Help c.in_default-next.not-Version;
     }
 
-pub returns-in_default-next-2 : goal.returns-in_default-next-2
-returns-in_default-next-2 c =
+pub returns-in_default-next-2-clause-read : goal.returns-in_default-next-2-clause-read
+returns-in_default-next-2-clause-read c =
     let empty = rw c.in_default.is at c.split_first.ensures.cases in
-    let read = at_end _ _ _ c.loop-word.invariant.reached empty c.loop-word.invariant.goes_on c.in_default-next-2.not-Value in
-    record {
-      read = read;
-      plain = λ all. plain_request _ (Run c.loop-word.reading.options c.loop-word.reading.arguments) all read;
-    }
+    at_end _ _ _ c.loop-word.invariant.reached empty c.loop-word.invariant.goes_on c.in_default-next-2.not-Value
+
+pub returns-in_default-next-2-clause-plain : goal.returns-in_default-next-2-clause-plain
+returns-in_default-next-2-clause-plain c =
+    λ all. plain_request _ (Run c.loop-word.reading.options c.loop-word.reading.arguments) all (returns-in_default-next-2-clause-read c)
+
+pub returns-in_err-take-clause-fault : goal.returns-in_err-take-clause-fault
+returns-in_err-take-clause-fault c =
+    let p = err_from_is_err_and c.from_residual.result c.from_residual.ensures.1 in
+    let split = rw c.in-Some.is at c.split_first.ensures.cases in
+    let faulty = rw c.in_err-take.was at c.take.ensures.fault in
+    let has = rw c.as_str.ensures.value at faulty in
+    rw (p.1, p.2) (fault_of_word _ _ _ _ _ _ c.loop-word.invariant.reached split.0 has)
+
+pub returns-in-Value-clause-fault : goal.returns-in-Value-clause-fault
+returns-in-Value-clause-fault c = fault_of_option _ _ _ _ (Wrong c.word.result Missing) c.loop-word.invariant.reached c.in-Value.is (search rules)

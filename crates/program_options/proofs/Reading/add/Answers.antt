@@ -1,8 +1,8 @@
 use Rattle.std.proofs.Common.{rules, refl}
 use Rattle.program_options.proofs.Reading.add.Goals as goal
 
-pub returns : goal.returns
-returns c = record {
+pub returns-clause-added : goal.returns-clause-added
+returns-clause-added c = record {
   argument = c.in_ok-argument.argument;
   bytes = search rules;
   arguments = search rules;
