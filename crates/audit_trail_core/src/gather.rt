@@ -129,19 +129,30 @@ fn keep_sources<
 {
     let Sources { paths, inputs } = sources;
     match gather_counting(rt, log, inputs) {
-        Ok((account, lost, sent)) => {
-            let ended = report_ends(paths, sent, errors);
-            let lost = report_lost(lost, errors);
-            let gone = report_gone(counts.gone(), errors);
-            let unsynced = report_unsynced(counts.unsynced(), errors);
-            let reported = print_account(account, output, errors);
-            greater(
-                greater(greater(ended, lost), greater(gone, unsynced)),
-                reported,
-            )
-        }
+        Ok(gathered) => report_gathered(paths, gathered, counts, output, errors),
         Err(fault) => report_fault(&fault, errors),
     }
+}
+
+// Reports the faults of the sources with these paths, of the lines and of the log files, and writes the account. Returns
+// the greatest status of these.
+fn report_gathered<I: Drop, O: Write, E: Write>(
+    paths: Vec<&str>,
+    gathered: (Account, u64, Vec<Sending<I>>),
+    counts: &FileCounts,
+    output: &mut O,
+    errors: &mut E,
+) -> u8
+    ensures reported { ReportsStatus result (E.contents errors.old) (E.contents errors.new) }
+    ensures printed { result ≡ 0 → Appends (O.contents output.old) (O.contents output.new)
+        (account_text gathered.0.accepted gathered.0.handed gathered.0.left gathered.0.dropped) }
+{
+    let (account, lost, sent) = gathered;
+    let ended = report_ends(paths, sent, errors);
+    let lost = report_lost(lost, errors);
+    let files = report_files(counts, errors);
+    let reported = print_account(account, output, errors);
+    greater(greater(ended, lost), greater(files, reported))
 }
 
 fn greater(one: u8, other: u8) -> u8
@@ -176,6 +187,15 @@ fn report_lost<E: Write>(lost: u64, errors: &mut E) -> u8
         return 0;
     }
     report_fault(&Fault::Lost(lost), errors)
+}
+
+// Reports the faults of log files that were counted, and returns the greatest status of these.
+fn report_files<E: Write>(counts: &FileCounts, errors: &mut E) -> u8
+    ensures { ReportsStatus result (E.contents errors.old) (E.contents errors.new) }
+{
+    let gone = report_gone(counts.gone(), errors);
+    let unsynced = report_unsynced(counts.unsynced(), errors);
+    greater(gone, unsynced)
 }
 
 // Reports the number of log files that were not found again, if there are any, and returns the status of that.
