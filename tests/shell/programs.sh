@@ -199,8 +199,9 @@ for name in rolltee audit_trail rollplay; do
   run "$program" --version < /dev/null
   check "$name --version" "0|$name, over a port of tracing-appender 0.2.5|" "$(told)"
   for option in -x --helpme -; do
+    case $name in rollplay) unknown= ;; *) unknown="$option: unknown option"$'\n' ;; esac
     run "$program" "$option" "$work/option" app --help < /dev/null
-    check "$name $option" "2||$usage" "$(told)"
+    check "$name $option" "2||$unknown$usage" "$(told)"
   done
   check "$name: options make no folder" no "$([ -e "$work/option" ] && echo yes || echo no)"
   for option in --help --version; do
@@ -209,7 +210,7 @@ for name in rolltee audit_trail rollplay; do
   done
 done
 
-for word in minutely hourly daily weekly never --no-wait 'pieces of 1 MiB' \
+for word in minutely hourly daily weekly never --no-wait \
   "(trap '' INT TERM HUP QUIT; exec rolltee" "  trap '' INT TERM HUP QUIT" '  exec rolltee'; do
   run "$rolltee" --help < /dev/null
   check "rolltee --help: $word" yes "$(grep -qF -e "$word" "$out" && echo yes || echo no)"
@@ -226,7 +227,7 @@ check 'rolltee -- --help' '2||usage: rolltee ROTATION DIR PREFIX' "$(told)"
 run "$rolltee" never '' app < "$lines"
 check 'rolltee, an empty folder' '2||usage: rolltee ROTATION DIR PREFIX' "$(told)"
 
-# Its switch is the first argument that begins with a dash.
+# Options may be anywhere before `--`.
 for words in "--no-wait never $work/switch app" "never --no-wait $work/switch app" "never $work/switch app --no-wait" \
   "--no-wait -- never $work/switch app"; do
   rm -rf "$work/switch"
@@ -235,12 +236,85 @@ for words in "--no-wait never $work/switch app" "never --no-wait $work/switch ap
   check "rolltee ${words//$work/}: the log" $'[one\ntwo]' "$(content "$work/switch/app")"
 done
 rm -rf "$work/switch"
-for words in "-- --no-wait $work/switch app" "--no-wait --no-wait never $work/switch app" \
-  "--no-wait -x never $work/switch app" "--no-wait=1 never $work/switch app" "--no-wait never $work/switch"; do
+# What is wrong is named.
+usage='usage: rolltee ROTATION DIR PREFIX'
+while IFS='|' read -r words wanted; do
   run "$rolltee" $words < "$lines"
-  check "rolltee ${words//$work/}" '2||usage: rolltee ROTATION DIR PREFIX' "$(told)"
+  check "rolltee ${words//$work/}" "2||$wanted" "$(told)"
+done << END
+-- --no-wait $work/switch app|$usage
+--no-wait never $work/switch|$usage
+--no-wait --no-wait never $work/switch app|--no-wait: given twice
+never $work/switch app --keep|--keep: a value is missing
+never $work/switch app --keep 0|--keep: not a number from 1
+never $work/switch app --keep 1|--keep: not without a rotation
+never $work/switch app --max-bytes 1|--max-bytes: not without a rotation
+--max-bytes x hourly $work/switch app|--max-bytes: not a number of bytes from 1, as 500, 64K, 10M or 2G
+never --link=a --link=b $work/switch app|--link: given twice
+END
+for word in -x --no-wait=1 --kep; do
+  run "$rolltee" "$word" never "$work/switch" app < "$lines"
+  check "rolltee $word never DIR app" "2||$word: unknown option"$'\n'"$usage" "$(told)"
 done
-check 'rolltee --no-wait: wrong arguments make no folder' no "$([ -e "$work/switch" ] && echo yes || echo no)"
+check 'rolltee, wrong options make no folder' no "$([ -e "$work/switch" ] && echo yes || echo no)"
+for option in --help --version; do
+  run "$rolltee" $option < /dev/null
+  check "rolltee $option: at most 40 lines of 80 characters" 0 "$(awk 'NR > 40 || length > 80' "$out" | wc -l)"
+done
+
+run "$rolltee" --echo never "$work/echo" app --suffix log --link=latest < "$lines"
+check 'rolltee --echo' $'0|one\ntwo|' "$(told)"
+check 'rolltee --suffix --link' $'[one\ntwo]' "$(content "$work/echo/latest")"
+check 'rolltee --suffix --link: names' $'app.log\nlatest' "$(ls "$work/echo")"
+run "$rolltee" hourly "$work/times" app --timestamps < "$lines"
+check 'rolltee --timestamps' '0||' "$(told)"
+check 'rolltee --timestamps: the log' 2 \
+  "$(cat "$work"/times/* | grep -cE "^$(date -u +%Y-%m-%dT%H:)[0-9]{2}:[0-9]{2}\.[0-9]{6}Z (one|two)$")"
+timeout 5 "$rolltee" never "$work/unheard" app --echo > /dev/full 2> "$err" < "$lines"
+check 'rolltee --echo > /dev/full' '1|lines not echoed: 2' "$?|$(cat "$err")"
+check 'rolltee --echo > /dev/full: the log' $'[one\ntwo]' "$(content "$work/unheard/app")"
+# A reader that ends after a line, as a pager does.
+seq 20000 | timeout 9 "$rolltee" --echo never "$work/reader" app 2> "$err" | head -n 1 > "$out"
+check 'rolltee --echo | head: what it says' '1|lines not echoed: ' "${PIPESTATUS[1]}|$(sed 's/[0-9]*$//' "$err")"
+check 'rolltee --echo | head: the log' same "$(seq 20000 | cmp -s - "$work/reader/app" && echo same || echo other)"
+run "$rolltee" --max-bytes 1K --keep 2 weekly "$work/kept" app < <(for ((i = 0; i < 20; i++)); do printf '%0127d\n' "$i"; done)
+check 'rolltee --max-bytes 1K --keep 2: the sizes of the files' '0||1024 512' \
+  "$(told)$(stat -c %s "$work"/kept/* | paste -s -d ' ')"
+touch "$work/kept/app.conf" "$work/kept/app.2020-01-01"
+run "$rolltee" --max-bytes 1K --keep 1 weekly "$work/kept" app < "$lines"
+check 'rolltee --keep 1: files of others stay' '0||app.2020-01-01 app.D.N app.conf' \
+  "$(told)$(ls "$work/kept" | sed -E 's/[0-9-]{10}\.[0-9]{6}$/D.N/' | paste -s -d ' ')"
+printf par > "$work/kept/part"
+run "$rolltee" --whole-lines never "$work/kept" part < "$lines"
+check 'rolltee --whole-lines' $'0||[par\none\ntwo]' "$(told)$(content "$work/kept/part")"
+if command -v strace > /dev/null; then
+  for option in '' --sync; do
+    timeout 9 strace -f -e trace=fdatasync,fsync -o "$out" "$rolltee" $option never "$work/synced" app < "$lines"
+    check "rolltee $option: whether it syncs" "${option:+yes}" "$(grep -qE 'f(data)?sync\(' "$out" && echo yes)"
+  done
+else
+  skip 'rolltee --sync' 'no strace'
+fi
+
+# A log file that someone removes, moves or cuts while a line is waited for: the next line begins a new file.
+lost_file() {
+  local what=$1 command=$2 words=$3 log=$work/lost/app
+  rm -rf "$work/lost" "$work/lines.fifo"
+  mkfifo "$work/lines.fifo"
+  timeout 9 "$rolltee" never "$work/lost" app < "$work/lines.fifo" > "$out" 2> "$err" &
+  local running=$!
+  exec 9> "$work/lines.fifo"
+  echo one >&9
+  wait_until has_lines "$log" 1
+  (cd "$work/lost" && eval "$command")
+  echo two >&9
+  wait_until has_lines "$log" 1
+  exec 9>&-
+  wait "$running"
+  status=$?
+  check "rolltee, a log file that is $what" "1||$log: log file $words"$'\nlog files not found again: 1' "$(told)"
+  check "rolltee, a log file that is $what: the log" '[two]' "$(content "$log")"
+}
 run "$rolltee" --no-wait --version < /dev/null
 check 'rolltee --no-wait --version' '0|rolltee, over a port of tracing-appender 0.2.5|' "$(told)"
 
@@ -262,15 +336,49 @@ run "$audit_trail" --keep 1 "$keep" < "$lines"
 for name in audit.2020-01-01.log audit.2020-01-02.log audit-export.log audit.log; do echo old > "$keep/$name"; done
 run "$audit_trail" "$keep" < /dev/null
 check 'audit_trail keeps all files' '0||6' "$(told)$(ls "$keep" | wc -l)"
-run "$audit_trail" --keep 2 "$keep" < /dev/null
-check 'audit_trail --keep 2' '0||audit-export.log audit.2020-01-02.log audit.log latest.log' \
-  "$(told)$(cd "$keep" && ls | grep -v "$(readlink latest.log)" | paste -s -d ' ')"
-run "$audit_trail" --keep 1 "$keep" < /dev/null
-check 'audit_trail --keep 1: the log of today' "0||$lines_wanted" "$(told)$(content "$keep/latest.log")"
-for words in --keep '--keep 0' '--keep x' '--keep -1' '--keep 18446744073709551616'; do
-  run "$audit_trail" $words "$keep" < "$lines"
-  check "audit_trail $words" '2||--keep needs a number of files, 1 or more' "$(told)"
+for words in '--keep 2' '--keep=2' '--keep 2 --'; do
+  echo old > "$keep/audit.2020-01-01.log"
+  run "$audit_trail" $words "$keep" < /dev/null
+  check "audit_trail $words" '0||audit-export.log audit.2020-01-02.log audit.log latest.log' \
+    "$(told)$(cd "$keep" && ls | grep -v "$(readlink latest.log)" | paste -s -d ' ')"
 done
+run "$audit_trail" "$keep" --keep 1 < /dev/null
+check 'audit_trail --keep 1: the log of today' "0||$lines_wanted" "$(told)$(content "$keep/latest.log")"
+for words in --keep '--keep 0' --keep=0 '--keep x' '--keep 18446744073709551616'; do
+  run "$audit_trail" $words "$keep" < "$lines"
+  check "audit_trail $words" '2||--keep: not a number from 1' "$(told)"
+done
+run "$audit_trail" --keep -1 "$keep" < "$lines"
+check 'audit_trail --keep -1' '2||--keep: a value is missing' "$(told)"
+run "$audit_trail" "$keep" --keep < "$lines"
+check 'audit_trail DIR --keep' '2||--keep: a value is missing' "$(told)"
+run "$audit_trail" --keep 1 "$keep" --keep=2 < "$lines"
+check 'audit_trail --keep, twice' '2||--keep: given twice' "$(told)"
+run "$audit_trail" --kep 3 "$keep" < "$lines"
+check 'audit_trail --kep 3' $'2||--kep: unknown option\nusage: audit_trail DIRECTORY [SOURCE..]' "$(told)"
+run "$audit_trail" --lossy "$keep" < "$lines"
+check 'audit_trail --lossy' $'2||--lossy: unknown option\nusage: audit_trail DIRECTORY [SOURCE..]' "$(told)"
+for words in '--max-bytes x' '--max-bytes 0' '--max-bytes 0K' '--max-bytes=1KB'; do
+  run "$audit_trail" $words "$keep" < "$lines"
+  check "audit_trail $words" '2||--max-bytes: not a number of bytes from 1, as 500, 64K, 10M or 2G' "$(told)"
+done
+
+# 20 lines of 128 bytes: 8 of them are 1 KiB.
+limited=$work/limited
+for ((i = 0; i < 20; i++)); do printf '%0127d\n' "$i"; done > "$work/lines.20"
+run "$audit_trail" --max-bytes 1K "$limited" < "$work/lines.20"
+check 'audit_trail --max-bytes 1K: the sizes of the files' '0||1024 1024 512' \
+  "$(told)$(stat -c %s "$limited"/audit.* | paste -s -d ' ')"
+check 'audit_trail --max-bytes 1K: all lines' same \
+  "$(cat "$limited"/audit.* | cmp -s - "$work/lines.20" && echo same || echo other)"
+check 'audit_trail --max-bytes 1K: the names' 'audit.D.000000.log audit.D.000001.log audit.D.000002.log latest.log' \
+  "$(ls "$limited" | sed -E 's/[0-9]{4}-[0-9]{2}-[0-9]{2}/D/' | paste -s -d ' ')"
+run "$audit_trail" --keep 2 --max-bytes=1K "$limited" "$work/lines.20" < /dev/null
+check 'audit_trail --keep 2 --max-bytes=1K, a file' '0|accepted 20 handed 20 left 0 dropped 0|1024 512' \
+  "$(told)$(stat -c %s "$limited"/audit.* | paste -s -d ' ')"
+check 'audit_trail --keep 2 --max-bytes=1K, a file: the names' 'audit.D.000004.log audit.D.000005.log latest.log' \
+  "$(ls "$limited" | sed -E 's/[0-9]{4}-[0-9]{2}-[0-9]{2}/D/' | paste -s -d ' ')"
+check 'audit_trail --max-bytes: the link' "$(tail -n 4 "$work/lines.20")" "$(cat "$limited/latest.log")"
 check 'an empty folder is not the current one' '-trail' "$(ls "$work/place")"
 
 run "$rollplay" here there < "$script"
@@ -295,7 +403,7 @@ for ((i = 0; i < 400; i++)); do printf '%0127d\n' "$i"; done > "$many"
 mkdir "$disk"
 if mount -t tmpfs -o size=16k programs "$disk" 2> "$err"; then
   run "$rolltee" --no-wait never "$disk/logs" app < "$many"
-  check 'rolltee --no-wait, a full disk' '1||write failed' "$(told)"
+  check 'rolltee --no-wait, a full disk' '1||lines not written whole: ' "$status|$(cat "$out")|$(sed 's/[0-9]*$//' "$err")"
   check 'rolltee --no-wait, a full disk: the log begins with the lines' same \
     "$(cmp -s -n "$(stat -c %s "$disk/logs/app")" "$disk/logs/app" "$many" && echo same || echo other)"
   rm -r "$disk/logs"
@@ -535,6 +643,13 @@ for part in '' 'part of a line'; do
   check "$name" '0||' "$(told)"
   check "$name: the log" '' "$(diff "$wanted" "$log" 2>&1 | head -8)"
 done
+
+# ---- log files that others change
+
+lost_file removed 'rm app' 'removed, renamed or replaced'
+lost_file moved 'mv app app.1' 'removed, renamed or replaced'
+lost_file truncated ': > app' truncated
+lost_file 'gone with its folder' 'rm -r ../lost' 'removed, renamed or replaced'
 
 # ---- a supervisor
 

@@ -7,6 +7,8 @@ mod expect;
 #[cfg(test)]
 mod flushes;
 #[cfg(test)]
+mod limits;
+#[cfg(test)]
 mod lines;
 #[cfg(test)]
 mod program;

@@ -205,7 +205,7 @@ fn ends_line(body: Option<&[u8]>) -> bool
 
 // A folder in memory whose calls of these numbers fail, and whose appends of these take one byte. Opening
 // a log is the first call.
-fn failing_folder(
+pub(super) fn failing_folder(
     rt: &(impl AllocGlobal + Abort),
     failing: Range<u64>,
     short: &[u64],
@@ -258,9 +258,22 @@ pub(super) fn try_open(
     lost: &'static [&'static str],
     counts: Arc<FileCounts, Global>,
 ) -> Result<TestLog, InitError> {
+    try_open_within(alloc, folder, step, lost, counts, 0)
+}
+
+// The same, with files of so many bytes. Opening such a log is two calls of the folder.
+pub(super) fn try_open_within(
+    alloc: Global,
+    folder: Disturbed,
+    step: i64,
+    lost: &'static [&'static str],
+    counts: Arc<FileCounts, Global>,
+    bytes: u64,
+) -> Result<TestLog, InitError> {
     let builder = Builder::new()
         .rotation(Rotation::HOURLY)
-        .filename_prefix(alloc, "app")?;
+        .filename_prefix(alloc, "app")?
+        .max_file_bytes(bytes);
     let now = Cell::new(1_580_551_260);
     match builder.open_in(alloc, folder, Ticking { now, step }) {
         Ok(log) => Ok(LineLog::new(log, Looking { lost, counts })),
@@ -269,7 +282,7 @@ pub(super) fn try_open(
 }
 
 // Checks what a file of a folder in memory holds.
-fn expect_file(rt: &impl Abort, folder: &Disturbed, name: &str, text: &str) {
+pub(super) fn expect_file(rt: &impl Abort, folder: &Disturbed, name: &str, text: &str) {
     match folder.folder.bytes(name) {
         Some(bytes) => expect_eq_of(rt, name, bytes, text.as_bytes()),
         None => assert!(rt; false, "no {name}"),
@@ -280,7 +293,7 @@ const TEN: &str = "app.2020-02-01-10";
 
 const ELEVEN: &str = "app.2020-02-01-11";
 
-fn write(alloc: Global, log: &mut TestLog, text: &str) -> Result<(), Fault> {
+pub(super) fn write(alloc: Global, log: &mut TestLog, text: &str) -> Result<(), Fault> {
     let mut input = text.as_bytes();
     write_lines(alloc, &mut input, log)
 }

@@ -1,6 +1,6 @@
 // The whole program over a real folder; its lines over folders in memory, and several sources.
 use crate::expect::expect_eq;
-use audit_trail_core::trail::{Fault, keep, report_fault};
+use audit_trail_core::trail::{Fault, Limits, keep, report_fault};
 use program_io::Host;
 use std::io::{Read, Write};
 use std::os::unix::fs::symlink;
@@ -9,6 +9,9 @@ use std::rt::{Files, Runtime};
 use std::test::Fail;
 use std::{env, fs, io, process};
 use tracing_appender::rolling::InitError;
+
+// All files are kept, and take any number of bytes.
+pub(crate) const ALL: Limits = Limits { files: 0, bytes: 0 };
 
 // An input that can't be read.
 #[derive(Drop)]
@@ -38,16 +41,26 @@ fn check<R: Runtime + Host + Abort, I: Read + Drop>(
     told: &str,
 ) {
     let mut errors = Vec::new(rt.alloc());
-    let kept = keep(rt, *rt, 0, arguments, &mut input, &mut errors);
+    let kept = keep(rt, *rt, ALL, arguments, &mut input, &mut errors);
     expect_eq(rt, errors.as_slice(), told.as_bytes());
     expect_eq(rt, kept.err().unwrap_or(0), status);
 }
 
 // Writes one line by a run that keeps so many files.
 fn add_keeping<R: Runtime + Host + Abort>(rt: &R, files: usize, arguments: &[String]) {
+    add_within(rt, Limits { files, bytes: 0 }, arguments, "line\n");
+}
+
+// Writes a text by a run within these limits.
+pub(crate) fn add_within<R: Runtime + Host + Abort>(
+    rt: &R,
+    limits: Limits,
+    arguments: &[String],
+    text: &str,
+) {
     let mut errors = Vec::new(rt.alloc());
-    let mut input = b"line\n".as_slice();
-    let kept = keep(rt, *rt, files, arguments, &mut input, &mut errors);
+    let mut input = text.as_bytes();
+    let kept = keep(rt, *rt, limits, arguments, &mut input, &mut errors);
     expect_eq(rt, errors.as_slice(), b"".as_slice());
     expect_eq(rt, kept.is_ok(), true);
 }
@@ -143,6 +156,16 @@ fn tells_its_usage(rt: HostRuntime) -> Result<(), Fail> {
         2,
         "usage: audit_trail DIRECTORY [SOURCE..]\n",
     );
+    Ok(())
+}
+
+#[test]
+fn tells_an_option_that_is_unknown(rt: HostRuntime) -> Result<(), Fail> {
+    let mut errors = Vec::new(rt.alloc());
+    let fault = Fault::Unknown(String::from_str(rt.alloc(), "--kep")?);
+    expect_eq(&rt, report_fault(&fault, &mut errors), 2);
+    let told = "--kep: unknown option\nusage: audit_trail DIRECTORY [SOURCE..]\n";
+    expect_eq(&rt, errors.as_slice(), told.as_bytes());
     Ok(())
 }
 

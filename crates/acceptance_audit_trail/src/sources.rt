@@ -1,7 +1,7 @@
 // Several sources: over a real folder, and over logs and sources of these tests.
 use crate::expect::expect_eq;
 use crate::lines::{Disturbed, TestLog, try_open};
-use crate::program::{Given, Harm, Harming, clear, fresh, latest, newest_text};
+use crate::program::{ALL, Given, Harm, Harming, clear, fresh, latest, newest_text};
 use audit_trail_core::gather::{DiskTrails, Trails, keep_all};
 use audit_trail_core::trail::{Fault, open_trail};
 use file_watch::FileCounts;
@@ -85,7 +85,7 @@ fn gives_an_account_of_all_sources(rt: HostRuntime) -> Result<(), Fail> {
     let faults = faults_of(rt.alloc(), &sources)?;
     check_account(
         rt,
-        &DiskTrails::new(rt, rt, 0),
+        &DiskTrails::new(rt, rt, ALL),
         directory.as_str(),
         sources.as_slice(),
         "accepted 5 handed 5 left 0 dropped 0\n",
@@ -207,11 +207,11 @@ fn tells_a_log_that_is_gone(rt: HostRuntime) -> Result<(), Fail> {
     let alloc = rt.alloc();
     for harm in [Harm::Removed, Harm::Linked, Harm::Truncated] {
         let directory = fresh(&rt, "harmed")?;
-        open_trail(&rt, rt, 0, directory.as_str(), FileCounts::new(alloc)?)?;
+        open_trail(&rt, rt, ALL, directory.as_str(), FileCounts::new(alloc)?)?;
         fs::write(&rt, latest(&rt, directory.as_str()), "old\n")?;
         let trails = Harmed {
             rt,
-            trails: DiskTrails::new(rt, rt, 0),
+            trails: DiskTrails::new(rt, rt, ALL),
             directory: directory.clone()?,
             harm,
         };
@@ -242,12 +242,12 @@ fn ends_a_part_of_a_line_that_another_run_left(rt: HostRuntime) -> Result<(), Fa
         ("a\npar", "a\npar\nnext\n"),
         ("p", "p\nnext\n"),
     ] {
-        open_trail(&rt, rt, 0, directory.as_str(), FileCounts::new(alloc)?)?;
+        open_trail(&rt, rt, ALL, directory.as_str(), FileCounts::new(alloc)?)?;
         fs::write(&rt, latest(&rt, directory.as_str()), left)?;
         let account = account_of(alloc, 1)?;
         check_account(
             rt,
-            &DiskTrails::new(rt, rt, 0),
+            &DiskTrails::new(rt, rt, ALL),
             directory.as_str(),
             &paths,
             account.as_str(),
@@ -285,7 +285,7 @@ fn fresh_link(rt: &HostRuntime, name: &str) -> io::Result<String> {
 fn refuses_sources_in_the_folder_of_the_log(rt: HostRuntime) -> Result<(), Fail> {
     let alloc = rt.alloc();
     let directory = fresh(&rt, "own")?;
-    open_trail(&rt, rt, 0, directory.as_str(), FileCounts::new(alloc)?)?;
+    open_trail(&rt, rt, ALL, directory.as_str(), FileCounts::new(alloc)?)?;
     let own = own_sources(&rt, directory.as_str())?;
     let (mut paths, mut faults) = (Vec::new(alloc), String::new(alloc));
     for path in &own.as_slice()[..4] {
@@ -298,7 +298,7 @@ fn refuses_sources_in_the_folder_of_the_log(rt: HostRuntime) -> Result<(), Fail>
     let account = account_of(alloc, 2)?;
     check_account(
         rt,
-        &DiskTrails::new(rt, rt, 0),
+        &DiskTrails::new(rt, rt, ALL),
         directory.as_str(),
         paths.as_slice(),
         account.as_str(),
@@ -318,7 +318,7 @@ fn refuses_sources_in_the_folder_of_the_log(rt: HostRuntime) -> Result<(), Fail>
 fn knows_the_file_of_the_log(rt: HostRuntime) -> Result<(), Fail> {
     let alloc = rt.alloc();
     let (directory, hard) = (fresh(&rt, "known")?, fresh_link(&rt, "hard")?);
-    let trail = open_trail(&rt, rt, 0, directory.as_str(), FileCounts::new(alloc)?)?;
+    let trail = open_trail(&rt, rt, ALL, directory.as_str(), FileCounts::new(alloc)?)?;
     let named = format!(in alloc; "{directory}/{}", trail.log().open_name())?;
     fs::hard_link(&rt, named, hard.as_str())?;
     for (path, wanted) in [(hard.as_str(), true), ("/dev/null", false)] {

@@ -8,12 +8,12 @@
 use audit_trail_core::gather::{DiskTrails, keep_all};
 use audit_trail_core::lock::lock_files;
 use audit_trail_core::trail;
-use audit_trail_core::trail::Fault;
-use program_io::options::{Request, request_of};
+use audit_trail_core::trail::{Fault, Limits};
 use program_io::report::print;
 use program_io::streams::fill_streams;
 use program_io::waiting::WaitingInput;
 use program_io::{Host, arguments};
+use program_options::{Request, read_limits};
 use std::fs::File;
 use std::process::ExitCode;
 
@@ -21,15 +21,21 @@ static HELP: &str = concat!(
     "Writes each line of standard input, or of files, to the log of its day.\n",
     "\n",
     "usage: audit_trail DIRECTORY [SOURCE..]\n",
-    "       audit_trail --keep N DIRECTORY [SOURCE..]\n",
+    "       audit_trail [--keep N] [--max-bytes N] DIRECTORY [SOURCE..]\n",
     "       audit_trail --help | -h | --version\n",
     "\n",
-    "  DIRECTORY  the folder of the logs, which is made if it is not there\n",
-    "  SOURCE     a file whose lines are written in place of those of standard input;\n",
-    "             the account of all their lines is printed\n",
-    "  --keep N   keeps the N newest files, by the days in their names, and removes older\n",
-    "             ones of this log; without it all are kept\n",
-    "  --         ends the options: the words after it are arguments\n",
+    "  DIRECTORY      the folder of the logs, which is made if it is not there\n",
+    "  SOURCE         a file whose lines are written in place of those of standard\n",
+    "                 input; the account of all their lines is printed\n",
+    "  --keep N       keeps the N newest files, by the dates in their names, and\n",
+    "                 removes older ones of this log; without it all are kept\n",
+    "  --max-bytes N  begins the next file of the day before a line that does not fit\n",
+    "                 into N bytes: as 500, 64K, 10M or 2G, where K is 1024 bytes. A\n",
+    "                 longer line has a file of its own. A number follows the date in\n",
+    "                 each name, as in audit.2026-11-28.000000.log, and each start\n",
+    "                 begins the next number. --keep counts files with a number only\n",
+    "                 with this option, and files without one only without it\n",
+    "  --             ends the options: the words after it are arguments\n",
     "\n",
     "Status: 0 if every line was written; 1 if no log was opened, an input not read, a line\n",
     "not written whole, a sync failed, or a log file truncated or not found again: removed,\n",
@@ -62,9 +68,9 @@ fn main(rt: HostRuntime) -> ExitCode {
         return ExitCode::FAILURE;
     }
     let status = match arguments(&rt) {
-        Ok(mut arguments) => match take_keep(&mut arguments) {
-            Ok(files) => run(rt, &rt, files, request_of(arguments)),
-            Err(fault) => trail::report_fault(&fault, &mut rt.stderr()),
+        Ok(words) => match read_limits(rt.alloc(), words.as_slice()) {
+            Ok(request) => run(rt, &rt, request),
+            Err(fault) => trail::report_fault(&Fault::from(fault), &mut rt.stderr()),
         },
         Err(fault) => {
             let fault = Fault::Argument.unless_memory(fault.kind());
@@ -74,53 +80,35 @@ fn main(rt: HostRuntime) -> ExitCode {
     ExitCode::from(status)
 }
 
-// Removes `--keep` and the number after it, if they are the first arguments, and returns the number. Without them
-// returns 0, for all files. `Fault::Keep` if no number from 1 on follows.
-fn take_keep(arguments: &mut Vec<String>) -> Result<usize, Fault> {
-    let files = match arguments.as_slice() {
-        [option, number, ..] if option.as_str() == "--keep" => number_of_files(number.as_str())?,
-        [option] if option.as_str() == "--keep" => return Err(Fault::Keep),
-        _ => return Ok(0),
-    };
-    for _ in 0..2 {
-        if !arguments.is_empty() {
-            let _ = arguments.remove(0);
-        }
-    }
-    Ok(files)
-}
-
-fn number_of_files(word: &str) -> Result<usize, Fault> {
-    match word.parse::<usize>() {
-        Ok(files) if files > 0 => Ok(files),
-        _ => Err(Fault::Keep),
-    }
-}
-
-fn run<R: Host>(rt: R, host: &HostRuntime, files: usize, request: Request) -> u8 {
-    let (mut output, mut errors) = (host.stdout(), host.stderr());
+fn run<R: Host>(rt: R, host: &HostRuntime, request: Request) -> u8 {
+    let mut output = host.stdout();
     match request {
         Request::Help => print(&mut output, HELP, 1),
         Request::Version => print(&mut output, VERSION, 1),
-        Request::Run(arguments) => keep(rt, host, files, arguments.as_slice()),
-        Request::Unknown => trail::report_fault(&Fault::Usage, &mut errors),
+        Request::Run(options, arguments) => {
+            let limits = Limits {
+                files: options.keep,
+                bytes: options.max_bytes,
+            };
+            keep(rt, host, limits, arguments.as_slice())
+        }
     }
 }
 
 // Locks the folder of the log, if files may be removed.
-fn lock(host: &HostRuntime, files: usize, arguments: &[String]) -> Result<Option<File>, Fault> {
+fn lock(host: &HostRuntime, limits: Limits, arguments: &[String]) -> Result<Option<File>, Fault> {
     match arguments {
-        [directory, ..] if files > 0 && !directory.is_empty() => {
+        [directory, ..] if limits.files > 0 && !directory.is_empty() => {
             lock_files(host, directory.as_str())
         }
         _ => Ok(None),
     }
 }
 
-// Keeps the lines of standard input, or of the files that are named, in so many files.
-fn keep<R: Host>(rt: R, host: &HostRuntime, files: usize, arguments: &[String]) -> u8 {
+// Keeps the lines of standard input, or of the files that are named, in files within these limits.
+fn keep<R: Host>(rt: R, host: &HostRuntime, limits: Limits, arguments: &[String]) -> u8 {
     let (mut output, mut errors) = (host.stdout(), host.stderr());
-    let _lock = match lock(host, files, arguments) {
+    let _lock = match lock(host, limits, arguments) {
         Ok(lock) => lock,
         Err(fault) => return trail::report_fault(&fault, &mut errors),
     };
@@ -128,14 +116,14 @@ fn keep<R: Host>(rt: R, host: &HostRuntime, files: usize, arguments: &[String]) 
         [directory, ..] if directory.is_empty() => trail::report_fault(&Fault::Usage, &mut errors),
         [directory, paths @ ..] if !paths.is_empty() => {
             let directory = directory.as_str();
-            let trails = DiskTrails::new(*host, rt, files);
+            let trails = DiskTrails::new(*host, rt, limits);
             keep_all(rt, &trails, directory, paths, &mut output, &mut errors)
         }
         _ => {
             let kept = trail::keep(
                 host,
                 rt,
-                files,
+                limits,
                 arguments,
                 &mut WaitingInput::new(rt, host.stdin()),
                 &mut errors,

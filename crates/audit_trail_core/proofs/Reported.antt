@@ -3,7 +3,7 @@ use Rattle.std.proofs.Common.{◌≡◌, ◌⊎◌, ◌∙◌, ℕ, ◌≤◌, L
 use Rattle.std.specs.Io.KnownBytes.{Appends, Keeps}
 use Rattle.audit_trail_core.specs.Fault.{account_text, status_of, ReportsStatus}
 use Rattle.audit_trail_core.specs.declared.trail.Fault.{Fault}
-use Rattle.audit_trail_core.specs.declared.trail.Fault.TheVariants.{Usage, Keep, Argument, Open, Read, Write, Cut, Lost, Gone, Unsynced, Locked, Own, Account, Thread, Memory}
+use Rattle.audit_trail_core.specs.declared.trail.Fault.TheVariants.{Usage, Unknown, Option as WrongOption, Argument, Open, Read, Write, Cut, Lost, Gone, Unsynced, Locked, Own, Account, Thread, Memory}
 
 pub keeps_same : (a : Option (List ℕ)) → Keeps a a
 keeps_same None = tt
@@ -17,7 +17,8 @@ keeps_twice (Some xs) (Some ys) (Some zs) h k = k ∙ h
 
 pub some_status : (fault : Fault) → ¬ (status_of fault ≡ 0)
 some_status Usage e = omega (arith, e)
-some_status Keep e = omega (arith, e)
+some_status (Unknown word) e = omega (arith, e)
+some_status (WrongOption option error) e = omega (arith, e)
 some_status Argument e = omega (arith, e)
 some_status (Open error) e = omega (arith, e)
 some_status (Read error) e = omega (arith, e)

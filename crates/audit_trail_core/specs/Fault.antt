@@ -9,8 +9,10 @@ use Rattle.std.specs.declared.io.ErrorKind.TheVariants.{OutOfMemory}
 use Rattle.appender_names.specs.declared.error.InitError.{InitError}
 use Rattle.appender_names.specs.declared.error.InitError.TheVariants.{Directory, File, Symlink, Memory as NoRoom}
 use Rattle.program_io.specs.Report.{AppendsBeginning}
+use Rattle.program_options.specs.declared.OptionFault.{OptionFault}
+use Rattle.program_options.specs.declared.OptionFault.TheVariants.{Unknown as UnknownWord, Wrong, Memory as NoMemory}
 use Rattle.audit_trail_core.specs.declared.trail.Fault.{Fault}
-use Rattle.audit_trail_core.specs.declared.trail.Fault.TheVariants.{Usage, Keep, Argument, Open, Read, Write, Cut, Lost, Gone, Unsynced, Locked, Own, Account, Thread, Memory}
+use Rattle.audit_trail_core.specs.declared.trail.Fault.TheVariants.{Usage, Unknown, Option as WrongOption, Argument, Open, Read, Write, Cut, Lost, Gone, Unsynced, Locked, Own, Account, Thread, Memory}
 
 -- the fault, or that memory was refused if its error is of that kind
 abbrev pub unless_memory : ErrorKind → Fault → Fault
@@ -25,6 +27,12 @@ opening_fault (File cause) = unless_memory (error_kind cause) (Open (File cause)
 opening_fault (Symlink cause) = unless_memory (error_kind cause) (Open (Symlink cause))
 opening_fault error = Open error
 
+-- the fault of a command line that was not read
+abbrev pub options_fault : OptionFault → Fault
+options_fault (UnknownWord word) = Unknown word
+options_fault (Wrong option error) = WrongOption option error
+options_fault NoMemory = Memory
+
 -- the fault of a line of which this number of bytes were taken
 abbrev pub line_fault : ℕ → Error → Fault
 line_fault taken error = unless_memory (error_kind error) (if taken == 0 then Write error else Cut error)
@@ -32,7 +40,8 @@ line_fault taken error = unless_memory (error_kind error) (if taken == 0 then Wr
 -- the status of a process that a fault ended
 abbrev pub status_of : Fault → ℕ
 status_of Usage = 2
-status_of Keep = 2
+status_of (Unknown word) = 2
+status_of (WrongOption option error) = 2
 status_of Argument = 2
 status_of (Open error) = 1
 status_of (Read error) = 1
@@ -47,10 +56,9 @@ status_of (Account error) = 1
 status_of Thread = 1
 status_of Memory = 3
 
--- the report of a fault, on a line; a fault with an error or a number has further words
+-- the report of a fault, on a line; a fault with an error, a word or a number has further words
 abbrev pub words_of : Fault → Option (List ℕ)
 words_of Usage = Some (codes "usage: audit_trail DIRECTORY [SOURCE..]" ++ (10 ∷ []))
-words_of Keep = Some (codes "--keep needs a number of files, 1 or more" ++ (10 ∷ []))
 words_of Argument = Some (codes "an argument is not UTF-8" ++ (10 ∷ []))
 words_of Locked = Some (codes "another audit_trail --keep writes to the log directory" ++ (10 ∷ []))
 words_of Own = Some (codes "source in the log directory" ++ (10 ∷ []))

@@ -1,5 +1,5 @@
 -- The effects of a line and of a run. `kind` has the ghost members of a kind of folder, and `time` those of a kind of clock.
-use Rattle.std.specs.Prelude.{◌≡◌, ◌≢◌, ◌⊎◌, ℕ, ◌+◌, ◌<◌, ◌≤◌, zero, suc, Bool, true, false, not, List, [], ◌∷◌, length, Ok, Err, Result, IsTrue, codes}
+use Rattle.std.specs.Prelude.{◌≡◌, ◌≢◌, ◌⊎◌, ℕ, ℤ, ◌+◌, ◌<◌, ◌≤◌, zero, suc, Bool, true, false, not, List, [], ◌∷◌, length, Ok, Err, Result, IsTrue, codes}
 use Rattle.std.specs.Io.BufRead.{take_through, drop_through, ends_with_byte}
 use Rattle.std.specs.declared.io.Error.{Error}
 use Rattle.appender_names.specs.declared.rotation.RotationKind.TheVariants.{Daily}
@@ -9,9 +9,9 @@ use Rattle.appender_store.specs.declared.store.Folder.{Ghosts}
 use Rattle.appender_rolling.specs.declared.rolling.Switch.{Switch}
 use Rattle.appender_rolling.specs.declared.rolling.Switch.TheVariants.{None as Stayed}
 use Rattle.appender_rolling.specs.declared.rolling.clock.Clock.{Ghosts as Readings}
-use Rattle.appender_rolling.specs.Appender.{Appending, FlushesNow, OpensSome, SeesNow}
+use Rattle.appender_rolling.specs.Appender.{Appending, FlushesNow, OpensSome}
 use Rattle.appender_rolling.specs.Config.{Config}
-use Rattle.appender_rolling.specs.Roller.{WritesSoFar}
+use Rattle.appender_rolling.specs.Roller.{Looks, WritesSoFar}
 use Rattle.file_watch.specs.Ends.{EndsLine}
 use Rattle.program_io.specs.Line.{ended}
 
@@ -48,11 +48,15 @@ pub record AddsPart {S F C : Type 0} (kind : Ghosts S F) (bytes : List ℕ) (tak
   pub taken_is : taken ≡ length adds.so_far.taken
   pub some : rest ≢ []
 
--- The clock was read. If that began no file, nothing changed. Else the end of the open file was read, since another run
--- may have left a part of a line there.
-pub record LooksAtClock {S F C : Type 0} (kind : Ghosts S F) (time : Readings C) (old new : Trailing S F C) : Type 0 where
+-- The clock was read, and it was checked whether a file is due at the moment that it returned, with so many bytes to write. If
+-- that began no file, nothing changed. Else the end of the open file was read, since another run may have left a part of a line
+-- there.
+pub record LooksAtClock {S F C : Type 0} (kind : Ghosts S F) (time : Readings C) (len : ℕ) (old new : Trailing S F C) : Type 0 where
+  pub moment : ℤ
+  pub reading : time.now_gives old.log.clock moment
   pub switch : Switch
-  pub sees : SeesNow kind time switch old.log new.log
+  pub looks : Looks kind moment len switch old.log.roller new.log.roller
+  pub clock : new.log.clock ≡ old.log.clock
   pub same : switch ≡ Stayed → new.cut ≡ old.cut
   pub seen : new.cut ≡ false → EndsWhole kind new.log
 
@@ -61,11 +65,11 @@ abbrev pub EndsPart : {S F C : Type 0} → Ghosts S F → Bool → List (Result 
 EndsPart kind true answers old new = Adds kind answers (10 ∷ []) [] old new
 EndsPart kind false answers old new = (answers ≡ []) × (new ≡ old)
 
--- A line was put: after one check of the clock, all of it was added to one file, where it begins a line. At most 100 appends were
--- interrupted.
+-- A line was put: after one check of the clock for a line of its length, all of it was added to one file, where it begins a line.
+-- At most 100 appends were interrupted.
 pub record PutsLine {S F C : Type 0} (kind : Ghosts S F) (time : Readings C) (line : List ℕ) (old new : Trailing S F C) : Type 0 where
   pub looked : Trailing S F C
-  pub looks : LooksAtClock kind time old looked
+  pub looks : LooksAtClock kind time (length line) old looked
   pub ending : List (Result ℕ Error)
   pub begun : Appending S F C
   pub ends : EndsPart kind looked.cut ending looked.log begun
@@ -82,10 +86,11 @@ AddsSome {S} {F} {C} kind line taken looked new =
     ⊎ ((ending : List (Result ℕ Error)) × (begun : Appending S F C) × EndsPart kind looked.cut ending looked.log begun
     × EndsWhole kind begun × AddsPart kind line taken begun new)
 
--- A line was not put whole: after one check of the clock, this number of its bytes were added to one file, where they begin a line.
+-- A line was not put whole: after one check of the clock for a line of its length, this number of its bytes were added to one file,
+-- where they begin a line.
 pub record PutsPart {S F C : Type 0} (kind : Ghosts S F) (time : Readings C) (line : List ℕ) (taken : ℕ) (old new : Trailing S F C) : Type 0 where
   pub looked : Trailing S F C
-  pub looks : LooksAtClock kind time old looked
+  pub looks : LooksAtClock kind time (length line) old looked
   pub adds : AddsSome kind line taken looked new.log
   pub cut : taken ≢ 0 → new.cut ≡ true
 
@@ -110,9 +115,10 @@ PutsLines {S} {F} {C} kind time (suc count) unflushed text start rest now =
 
 -- ---- a run
 
--- The trail's log: a file a day, `audit.yyyy-MM-dd.log`, and a link to the newest. So many are kept, known by their names; 0 is all of them.
-abbrev pub trail_config : ℕ → Config
-trail_config files = record { rotation = rotation_of Daily; prefix = codes "audit"; suffix = codes "log"; link = codes "latest.log"; max_files = files; by_name = true; max_bytes = 0 }
+-- The trail's log: a file a day, `audit.yyyy-MM-dd.log`, and a link to the newest. So many files are kept, known by their names; 0 is
+-- all of them. Each takes so many bytes, and a number follows the date in its name; 0 is no limit, and there is no number.
+abbrev pub trail_config : (files bytes : ℕ) → Config
+trail_config files bytes = record { rotation = rotation_of Daily; prefix = codes "audit"; suffix = codes "log"; link = codes "latest.log"; max_files = files; by_name = true; max_bytes = bytes }
 
 -- all lines of the text were put, with flushes between them, and then the log was flushed
 pub record FlushesLines {S F C : Type 0} (kind : Ghosts S F) (time : Readings C) (text : List ℕ) (begun now : Trailing S F C) : Type 0 where
@@ -123,8 +129,8 @@ pub record FlushesLines {S F C : Type 0} (kind : Ghosts S F) (time : Readings C)
   pub flushes : FlushesNow kind (Ok tt) written.log now.log
 
 -- The log was opened, all lines of the text were put into it, and it was flushed. It is this log now.
-pub record KeepsLines {S F C : Type 0} (kind : Ghosts S F) (time : Readings C) (files : ℕ) (text : List ℕ) (kept : Trailing S F C) : Type 0 where
+pub record KeepsLines {S F C : Type 0} (kind : Ghosts S F) (time : Readings C) (files bytes : ℕ) (text : List ℕ) (kept : Trailing S F C) : Type 0 where
   pub begun : Trailing S F C
-  pub opens : OpensSome kind time (trail_config files) begun.log
+  pub opens : OpensSome kind time (trail_config files bytes) begun.log
   pub seen : begun.cut ≡ false → EndsWhole kind begun.log
   pub lines : FlushesLines kind time text begun kept

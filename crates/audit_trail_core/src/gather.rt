@@ -4,7 +4,7 @@ ghost use Rattle.std.specs.Io.KnownBytes.{Appends};
 ghost use Rattle.audit_trail_core.specs.Fault.{account_text, status_of, ReportsStatus};
 ghost use Rattle.audit_trail_core.specs.Gather.{SendsLines};
 
-use crate::trail::{Fault, TrailLog, open_trail, report_fault};
+use crate::trail::{Fault, Limits, TrailLog, open_trail, report_fault};
 use file_watch::FileCounts;
 use program_io::{Host, ShortLines, end_line, read_line};
 use std::alloc::{AllocError, Global};
@@ -43,13 +43,13 @@ pub trait Trails {
 pub struct DiskTrails<H> {
     rt: HostRuntime,
     host: H,
-    files: usize,
+    limits: Limits,
 }
 
 impl<H: Host> DiskTrails<H> {
-    /// Returns trails that keep so many files; 0 is all of them. `host` waits while the disk is full.
-    pub fn new(rt: HostRuntime, host: H, files: usize) -> DiskTrails<H> {
-        DiskTrails { rt, host, files }
+    /// Returns trails with files within `limits`. `host` waits while the disk is full.
+    pub fn new(rt: HostRuntime, host: H, limits: Limits) -> DiskTrails<H> {
+        DiskTrails { rt, host, limits }
     }
 }
 
@@ -63,7 +63,7 @@ impl<H: Host> Trails for DiskTrails<H> {
         directory: &str,
         counts: Arc<FileCounts, Global>,
     ) -> Result<TrailLog<HostRuntime, H>, InitError> {
-        open_trail(&self.rt, self.host, self.files, directory, counts)
+        open_trail(&self.rt, self.host, self.limits, directory, counts)
     }
 
     fn open_source(&self, log: &TrailLog<HostRuntime, H>, path: &str) -> Result<File, Fault> {
@@ -129,19 +129,30 @@ fn keep_sources<
 {
     let Sources { paths, inputs } = sources;
     match gather_counting(rt, log, inputs) {
-        Ok((account, lost, sent)) => {
-            let ended = report_ends(paths, sent, errors);
-            let lost = report_lost(lost, errors);
-            let gone = report_gone(counts.gone(), errors);
-            let unsynced = report_unsynced(counts.unsynced(), errors);
-            let reported = print_account(account, output, errors);
-            greater(
-                greater(greater(ended, lost), greater(gone, unsynced)),
-                reported,
-            )
-        }
+        Ok(gathered) => report_gathered(paths, gathered, counts, output, errors),
         Err(fault) => report_fault(&fault, errors),
     }
+}
+
+// Reports the faults of the sources with these paths, of the lines and of the log files, and writes the account. Returns
+// the greatest status of these.
+fn report_gathered<I: Drop, O: Write, E: Write>(
+    paths: Vec<&str>,
+    gathered: (Account, u64, Vec<Sending<I>>),
+    counts: &FileCounts,
+    output: &mut O,
+    errors: &mut E,
+) -> u8
+    ensures reported { ReportsStatus result (E.contents errors.old) (E.contents errors.new) }
+    ensures printed { result ≡ 0 → Appends (O.contents output.old) (O.contents output.new)
+        (account_text gathered.0.accepted gathered.0.handed gathered.0.left gathered.0.dropped) }
+{
+    let (account, lost, sent) = gathered;
+    let ended = report_ends(paths, sent, errors);
+    let lost = report_lost(lost, errors);
+    let files = report_files(counts, errors);
+    let reported = print_account(account, output, errors);
+    greater(greater(ended, lost), greater(files, reported))
 }
 
 fn greater(one: u8, other: u8) -> u8
@@ -176,6 +187,15 @@ fn report_lost<E: Write>(lost: u64, errors: &mut E) -> u8
         return 0;
     }
     report_fault(&Fault::Lost(lost), errors)
+}
+
+// Reports the faults of log files that were counted, and returns the greatest status of these.
+fn report_files<E: Write>(counts: &FileCounts, errors: &mut E) -> u8
+    ensures { ReportsStatus result (E.contents errors.old) (E.contents errors.new) }
+{
+    let gone = report_gone(counts.gone(), errors);
+    let unsynced = report_unsynced(counts.unsynced(), errors);
+    greater(gone, unsynced)
 }
 
 // Reports the number of log files that were not found again, if there are any, and returns the status of that.

@@ -71,14 +71,14 @@ impl<S: Folder, C: Clock, W: Watch<S>> LineLog<S, C, W> {
         }
     }
 
-    /// Checks the clock once, and then adds all of a line to the open file, where it begins a line. An interrupted
-    /// append is repeated, at most 100 times for a line.
+    /// Checks the clock once, with the line's length, and then adds all of the line to the open file, where it begins a
+    /// line. An interrupted append is repeated, at most 100 times for a line.
     pub fn write_line(&mut self, line: &[u8]) -> Result<(), LineFault>
         ensures ok { OnOk result (PutsLine S.Folder C.Clock line.now self.old self.new) }
         ensures part { IfErr result (λ fault. PutsPart S.Folder C.Clock line.now fault.taken self.old self.new) }
         ensures err { IfErr result (λ fault. error_kind fault.error ≢ Interrupted) }
     {
-        self.look();
+        self.look(line.len());
         let repeats = self.end_part()?;
         self.cut = true;
         match add_all(&mut self.log, line, repeats) {
@@ -95,13 +95,13 @@ impl<S: Folder, C: Clock, W: Watch<S>> LineLog<S, C, W> {
         }
     }
 
-    // Checks the clock, and how a file ends that is opened then.
-    fn look(&mut self)
-        ensures { LooksAtClock S.Folder C.Clock self.old self.new }
+    // Checks the clock before a line of so many bytes, and how a file ends that is opened then.
+    fn look(&mut self, length: usize)
+        ensures { LooksAtClock S.Folder C.Clock length self.old self.new }
     {
         let moment = self.log.moment();
-        self.compare_before(moment);
-        match self.log.see(moment) {
+        self.compare_before(moment, length);
+        match self.log.see_for(moment, length) {
             Switch::None => {}
             Switch::Opened => {
                 self.watch.count_unsynced(self.log.folder(), self.unsynced);
@@ -113,11 +113,12 @@ impl<S: Folder, C: Clock, W: Watch<S>> LineLog<S, C, W> {
         }
     }
 
-    // Compares the open file with what its name leads to, if another file is opened at this moment.
-    fn compare_before(&mut self, moment: i64)
+    // Compares the open file with what its name leads to, if another file is opened at this moment for a line of so many
+    // bytes.
+    fn compare_before(&mut self, moment: i64, length: usize)
         ensures { self.new ≡ self.old }
     {
-        if self.log.due(moment) {
+        if self.log.due_for(moment, length) {
             self.compare();
         }
     }

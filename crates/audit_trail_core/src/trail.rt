@@ -1,7 +1,7 @@
 //! An audit trail of lines.
 ghost use Rattle.std.specs.Prelude.{◌≡◌, ◌≢◌, ◌≤◌, ℕ, List, [], length, false, Some, Ok, Err, OnOk, IfOk, IfErr, IfSome, IsOk};
 ghost use Rattle.std.specs.Io.KnownBytes.{Keeps};
-ghost use Rattle.audit_trail_core.specs.Fault.{line_fault, opening_fault, status_of, unless_memory, words_of, ReportsFault};
+ghost use Rattle.audit_trail_core.specs.Fault.{line_fault, opening_fault, options_fault, status_of, unless_memory, words_of, ReportsFault};
 ghost use Rattle.audit_trail_core.specs.Trail.{EndsWhole, MayFlush, PutsLine, PutsLines, FlushesLines, KeepsLines, trail_config};
 ghost use Rattle.appender_rolling.specs.Appender.{FlushesNow, OpensSome};
 ghost use Rattle.std.specs.IoError.{error_kind};
@@ -12,6 +12,7 @@ use crate::lines::{LineFault, LineLog};
 use file_watch::{DirWatch, FileCounts, Watch};
 use program_io::report::report;
 use program_io::{ShortLines, end_line, read_line};
+use program_options::{OptionError, OptionFault};
 use std::alloc::{AllocError, Global};
 use std::io::{BufReader, ErrorKind, Read, Write};
 use std::rt::Runtime;
@@ -26,15 +27,28 @@ use tracing_appender::store::{Folder, NoticeKind};
 /// The log is flushed whenever so many bytes were written since the last flush.
 const FLUSHED_BYTES: usize = 1 << 20;
 
+/// How many files a trail keeps, and how many bytes each takes.
+#[derive(Clone, Copy, Debug)]
+pub struct Limits {
+    /// The number of files that are kept; 0 is all of them.
+    pub files: usize,
+    /// The number of bytes of a file; 0 is no limit. The next file of the day begins before a line that does not fit. A
+    /// longer line has a file of its own, and a newline that ends a part of a line is not counted.
+    pub bytes: u64,
+}
+
 /// Why a trail ended early.
 #[derive(Debug, Drop, Error)]
 pub enum Fault {
     /// There was no argument.
     #[error("usage: audit_trail DIRECTORY [SOURCE..]")]
     Usage,
-    /// No number of files from 1 on followed `--keep`.
-    #[error("--keep needs a number of files, 1 or more")]
-    Keep,
+    /// A word that begins with a dash was no option.
+    #[error("{0}: unknown option\nusage: audit_trail DIRECTORY [SOURCE..]")]
+    Unknown(String),
+    /// An option was given twice, or its value was missing or wrong.
+    #[error("{0}: {1}")]
+    Option(&'static str, OptionError),
     /// An argument was not UTF-8.
     #[error("an argument is not UTF-8")]
     Argument,
@@ -83,7 +97,7 @@ impl Fault {
         ensures { result ≡ status_of self.now }
     {
         match self {
-            Fault::Usage | Fault::Keep | Fault::Argument => 2,
+            Fault::Usage | Fault::Unknown(_) | Fault::Option(..) | Fault::Argument => 2,
             Fault::Memory => 3,
             _ => 1,
         }
@@ -95,7 +109,6 @@ impl Fault {
     {
         match self {
             Fault::Usage => b"usage: audit_trail DIRECTORY [SOURCE..]\n",
-            Fault::Keep => b"--keep needs a number of files, 1 or more\n",
             Fault::Argument => b"an argument is not UTF-8\n",
             Fault::Locked => b"another audit_trail --keep writes to the log directory\n",
             Fault::Own => b"source in the log directory\n",
@@ -151,6 +164,19 @@ impl From<AllocError> for Fault {
     }
 }
 
+/// A fault of the options.
+impl From<OptionFault> for Fault {
+    ghost from_gives = { λ fault reported. reported ≡ options_fault fault };
+
+    fn from(fault: OptionFault) -> Fault {
+        match fault {
+            OptionFault::Unknown(word) => Fault::Unknown(word),
+            OptionFault::Wrong(option, error) => Fault::Option(option, error),
+            OptionFault::Memory => Fault::Memory,
+        }
+    }
+}
+
 /// A fault of opening the log.
 impl From<InitError> for Fault {
     ghost from_gives = { λ error fault. fault ≡ opening_fault error };
@@ -190,7 +216,7 @@ pub type TrailFolder<R, H> = DirFolder<R, Waits<H>>;
 pub type TrailLog<R, H> = LineLog<TrailFolder<R, H>, SystemClock<R>, DirWatch<R>>;
 
 /// Writes each line of `input` to the log of its day, in the folder that the one argument names, and returns the log,
-/// flushed and synced. The folder keeps so many files, or all of them if `files` is 0. The log is also flushed and synced
+/// flushed and synced. Its files are within `limits`. The log is also flushed and synced
 /// after a read that returned less than was asked for, and once a MiB. While the disk is full it waits by
 /// `host`, whose standard error says so. The first fault goes to `errors`, whose own faults are ignored. The error is the status
 /// of the process: 1 if the log was not opened, the input not read, a line not written whole, a flush failed or a log
@@ -198,7 +224,7 @@ pub type TrailLog<R, H> = LineLog<TrailFolder<R, H>, SystemClock<R>, DirWatch<R>
 pub fn keep<R: Runtime + AllocGlobal, H: Waiter, I: Read, E: Write>(
     rt: &R,
     host: H,
-    files: usize,
+    limits: Limits,
     arguments: &[String],
     input: &mut I,
     errors: &mut E,
@@ -209,10 +235,10 @@ pub fn keep<R: Runtime + AllocGlobal, H: Waiter, I: Read, E: Write>(
     ensures reported { IfErr result (λ status. (fault : Fault) ×
         ReportsFault fault status (E.contents errors.old) (E.contents errors.new)) }
     ensures lines { IfOk result (λ log. (text : List ℕ) → I.remaining input.old ≡ Some text →
-        KeepsLines ⟦<TrailFolder<R, H> as Folder>⟧ ⟦<SystemClock<R> as Clock>⟧ files text log) }
+        KeepsLines ⟦<TrailFolder<R, H> as Folder>⟧ ⟦<SystemClock<R> as Clock>⟧ limits.files limits.bytes text log) }
     ensures synced { IfOk result (λ log. (⟦<TrailFolder<R, H> as Folder>⟧.noted log.log.roller.folder).flushes ≡ 0) }
 {
-    match copy_lines(rt, host, files, arguments, input) {
+    match copy_lines(rt, host, limits, arguments, input) {
         Ok(log) => Ok(log),
         Err(fault) => Err(report_fault(&fault, errors)),
     }
@@ -234,36 +260,36 @@ pub fn report_fault<E: Write>(fault: &Fault, errors: &mut E) -> u8
 fn copy_lines<R: Runtime + AllocGlobal, H: Waiter, I: Read>(
     rt: &R,
     host: H,
-    files: usize,
+    limits: Limits,
     arguments: &[String],
     input: &mut I,
 ) -> Result<TrailLog<R, H>, Fault>
     ensures usage { length arguments.now ≢ 1 → result ≡ Err Fault.Usage }
     ensures lines { IfOk result (λ log. (text : List ℕ) → I.remaining input.old ≡ Some text →
-        KeepsLines ⟦<TrailFolder<R, H> as Folder>⟧ ⟦<SystemClock<R> as Clock>⟧ files text log) }
+        KeepsLines ⟦<TrailFolder<R, H> as Folder>⟧ ⟦<SystemClock<R> as Clock>⟧ limits.files limits.bytes text log) }
     ensures synced { IfOk result (λ log. (⟦<TrailFolder<R, H> as Folder>⟧.noted log.log.roller.folder).flushes ≡ 0) }
 {
     let [directory] = arguments else {
         return Err(Fault::Usage);
     };
     let mut input = BufReader::new(rt.alloc(), InputReads::new(ShortLines::new(input)))?;
-    log_lines(rt, host, files, directory.as_str(), &mut input)
+    log_lines(rt, host, limits, directory.as_str(), &mut input)
 }
 
 // Opens the log, writes each line of `input` to it, and flushes it.
 fn log_lines<R: Runtime + AllocGlobal, H: Waiter, I: LineInput>(
     rt: &R,
     host: H,
-    files: usize,
+    limits: Limits,
     directory: &str,
     input: &mut I,
 ) -> Result<TrailLog<R, H>, Fault>
     ensures lines { IfOk result (λ log. (text : List ℕ) → I.remaining input.old ≡ Some text →
-        KeepsLines ⟦<TrailFolder<R, H> as Folder>⟧ ⟦<SystemClock<R> as Clock>⟧ files text log) }
+        KeepsLines ⟦<TrailFolder<R, H> as Folder>⟧ ⟦<SystemClock<R> as Clock>⟧ limits.files limits.bytes text log) }
     ensures synced { IfOk result (λ log. (⟦<TrailFolder<R, H> as Folder>⟧.noted log.log.roller.folder).flushes ≡ 0) }
 {
     let counts = FileCounts::new(rt.alloc())?;
-    let mut log = open_trail(rt, host, files, directory, counts)?;
+    let mut log = open_trail(rt, host, limits, directory, counts)?;
     write_and_flush(rt.alloc(), input, &mut log)?;
     check_files(&log)?;
     Ok(log)
@@ -311,36 +337,36 @@ fn flush<S: Folder, C: Clock, W: Watch<S>>(log: &mut LineLog<S, C, W>) -> Result
     }
 }
 
-/// Opens the trail in a folder, which is made if it is absent, and keeps so many files; 0 is all. `counts` has the faults
-/// of its files.
+/// Opens the trail in a folder, which is made if it is absent, with files within `limits`. `counts` has the faults of its
+/// files.
 pub fn open_trail<R: Runtime + AllocGlobal, H: Waiter>(
     rt: &R,
     host: H,
-    files: usize,
+    limits: Limits,
     directory: &str,
     counts: Arc<FileCounts, Global>,
 ) -> Result<TrailLog<R, H>, InitError>
     ensures opens { IfOk result (λ trail. OpensSome ⟦<TrailFolder<R, H> as Folder>⟧ ⟦<SystemClock<R> as Clock>⟧
-        (trail_config files) trail.log) }
+        (trail_config limits.files limits.bytes) trail.log) }
     ensures seen { IfOk result (λ trail. trail.cut ≡ false → EndsWhole ⟦<TrailFolder<R, H> as Folder>⟧ trail.log) }
 {
     let watch = DirWatch::new(rt.clone()?, directory, counts)?;
-    Ok(LineLog::new(open_log(rt, host, files, directory)?, watch))
+    Ok(LineLog::new(open_log(rt, host, limits, directory)?, watch))
 }
 
-/// Opens the log of the day in a folder, which is made if it is absent, and keeps so many files; 0 is all. Each flush
-/// syncs its file.
+/// Opens the log of the day in a folder, which is made if it is absent, with files within `limits`. Each flush syncs its
+/// file.
 pub fn open_log<R: Runtime + AllocGlobal, H: Waiter>(
     rt: &R,
     host: H,
-    files: usize,
+    limits: Limits,
     directory: &str,
 ) -> Result<RollingFile<TrailFolder<R, H>, SystemClock<R>>, InitError>
     ensures { IfOk result (OpensSome ⟦<TrailFolder<R, H> as Folder>⟧ ⟦<SystemClock<R> as Clock>⟧
-        (trail_config files)) }
+        (trail_config limits.files limits.bytes)) }
 {
     fs::create_dir_all(rt, directory).map_err(InitError::Directory)?;
-    let settings = settings(rt.alloc(), files)?;
+    let settings = settings(rt.alloc(), limits)?;
     let clock = SystemClock::new(rt.clone()?);
     let folder = DirFolder::new(rt.clone()?, directory)?
         .synced()
@@ -351,15 +377,16 @@ pub fn open_log<R: Runtime + AllocGlobal, H: Waiter>(
     }
 }
 
-fn settings(alloc: Global, files: usize) -> Result<Builder, AllocError>
-    ensures { IfOk result (λ builder. builder ≡ trail_config files) }
+fn settings(alloc: Global, limits: Limits) -> Result<Builder, AllocError>
+    ensures { IfOk result (λ builder. builder ≡ trail_config limits.files limits.bytes) }
 {
     let named = Builder::new()
         .rotation(Rotation::DAILY)
         .filename_prefix(alloc, "audit")?
         .filename_suffix(alloc, "log")?;
     let linked = named.latest_symlink(alloc, "latest.log")?;
-    Ok(linked.max_log_files(files).log_files_by_name(true))
+    let kept = linked.max_log_files(limits.files).log_files_by_name(true);
+    Ok(kept.max_file_bytes(limits.bytes))
 }
 
 /// Writes each line of `input` with its newline. A last line without one gets one. Flushes the log after a line if the

@@ -14,14 +14,12 @@ returns-in-Opened g c =
     let found = ap (λ (l : Trailing _ _ _). l.log) c.self.view_is in
     let same = ap (λ (l : Trailing _ _ _). l.log) (c.self-2.view_is ∙ c.compare_before.ensures) in
     record {
+      moment = c.moment-moment.result;
+      reading = subst (λ (log : Appending _ _ _). g.C.Clock.now_gives log.clock c.moment-moment.result) found c.moment-moment.ensures;
       switch = Opened;
-      sees = record {
-        moment = c.moment-moment.result;
-        reading = subst (λ (log : Appending _ _ _). g.C.Clock.now_gives log.clock c.moment-moment.result) found c.moment-moment.ensures;
-        sees = subst (λ (log : Appending _ _ _). SwitchesFile g.S.Folder c.moment-moment.result 0 log.roller c.see.new.self.roller) same
-            (subst (λ m. SwitchesFile g.S.Folder m 0 c.self-2.inside.log.roller c.see.new.self.roller) moment c.in-Opened.ensures.sees);
-        clock = c.in-Opened.ensures.clock ∙ ap (λ (log : Appending _ _ _). log.clock) same;
-      };
+      looks = subst (λ (log : Appending _ _ _). SwitchesFile g.S.Folder c.moment-moment.result c.args.length log.roller c.see_for.new.self.roller) same
+          (subst (λ m. SwitchesFile g.S.Folder m c.args.length c.self-2.inside.log.roller c.see_for.new.self.roller) moment c.in-Opened.ensures.sees);
+      clock = c.in-Opened.ensures.clock ∙ ap (λ (log : Appending _ _ _). log.clock) same;
       same = λ is. absurd (let both : Opened ≡ Stayed = is in cc);
       seen = λ whole. c.ends_whole.ensures (is_so c.ends_whole.result whole);
     }
@@ -33,14 +31,12 @@ returns-in-Failed g c =
     let found = ap (λ (l : Trailing _ _ _). l.log) c.self.view_is in
     let same = ap (λ (l : Trailing _ _ _). l.log) (c.self-2.view_is ∙ c.compare_before.ensures) in
     record {
+      moment = c.moment-moment.result;
+      reading = subst (λ (log : Appending _ _ _). g.C.Clock.now_gives log.clock c.moment-moment.result) found c.moment-moment.ensures;
       switch = Failed;
-      sees = record {
-        moment = c.moment-moment.result;
-        reading = subst (λ (log : Appending _ _ _). g.C.Clock.now_gives log.clock c.moment-moment.result) found c.moment-moment.ensures;
-        sees = subst (λ (log : Appending _ _ _). KeepsFile g.S.Folder c.moment-moment.result 0 log.roller c.see.new.self.roller) same
-            (subst (λ m. KeepsFile g.S.Folder m 0 c.self-2.inside.log.roller c.see.new.self.roller) moment c.in-Failed.ensures.sees);
-        clock = c.in-Failed.ensures.clock ∙ ap (λ (log : Appending _ _ _). log.clock) same;
-      };
+      looks = subst (λ (log : Appending _ _ _). KeepsFile g.S.Folder c.moment-moment.result c.args.length log.roller c.see_for.new.self.roller) same
+          (subst (λ m. KeepsFile g.S.Folder m c.args.length c.self-2.inside.log.roller c.see_for.new.self.roller) moment c.in-Failed.ensures.sees);
+      clock = c.in-Failed.ensures.clock ∙ ap (λ (log : Appending _ _ _). log.clock) same;
       same = λ is. absurd (let both : Failed ≡ Stayed = is in cc);
       seen = λ whole. c.ends_whole-in-Failed.ensures (is_so c.ends_whole-in-Failed.result whole);
     }
