@@ -1,4 +1,4 @@
 pub mod Copied
 pub mod Pieces
 pub mod Reported
-pub mod Switch
+pub mod Without

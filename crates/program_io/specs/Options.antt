@@ -37,11 +37,3 @@ IsRequest arguments Unknown = Decides arguments AsksUnknown
 IsRequest arguments (Run work) =
     ((position is_dashed arguments ≡ None) × (work.items ≡ arguments))
     ⊎ (Decides arguments End × (work.items ≡ before_first is_dashed arguments ++ after_first is_dashed arguments))
-
--- The first argument that begins with a dash is the switch, and is left out, or it is another word, and all stay.
-abbrev pub TakesSwitch : {A : Type 0} → List ℕ → List (String A) → List (String A) → Bool → Type 0
-TakesSwitch switch old new true =
-    ((place : ℕ) × (word : String _) × (position is_dashed old ≡ Some place) × (slice_index_or old place word ≡ word) × (string_bytes word ≡ switch))
-    × (new ≡ before_first is_dashed old ++ after_first is_dashed old)
-TakesSwitch switch old new false =
-    ((place : ℕ) (word : String _) → position is_dashed old ≡ Some place → slice_index_or old place word ≡ word → string_bytes word ≢ switch) × (new ≡ old)

@@ -38,6 +38,7 @@ pub mod report;
 pub mod streams;
 pub mod waiting;
 
+use memchr::memchr;
 use std::alloc::{AllocError, Global};
 use std::io::{BufRead, ErrorKind, Read, Write};
 use std::rt::Env;
@@ -203,14 +204,11 @@ fn piece_length(bytes: &[u8], room: usize) -> usize
     ensures some { 0 < length bytes.now → 0 < room → 0 < result }
     ensures line { All (λ x. x ≢ 10) (take (result - 1) bytes.now) }
 {
-    let mut length = 0;
-    while length < bytes.len() && length < room {
-        if bytes[length] == b'\n' {
-            return length + 1;
-        }
-        length += 1;
+    let most = bytes.len().min(room);
+    match memchr(b'\n', &bytes[..most]) {
+        Some(place) => place + 1,
+        None => most,
     }
-    length
 }
 
 // Returns whether a piece is a whole line, or has no room for more.

@@ -1,6 +1,6 @@
 //! Options of a program.
 ghost use Rattle.std.specs.Prelude.{◌≡◌, position};
-ghost use Rattle.program_io.specs.Options.{begins_with_dash, is_dashed, means, IsRequest, TakesSwitch};
+ghost use Rattle.program_io.specs.Options.{begins_with_dash, is_dashed, means, IsRequest};
 
 /// What a program is asked to do.
 #[derive(Debug, Drop)]
@@ -33,21 +33,6 @@ pub fn request_of(arguments: Vec<String>) -> Request
         }
         Meaning::Unknown => Request::Unknown,
     }
-}
-
-/// Removes the first argument that begins with a dash if it is this switch, and returns whether it is. Otherwise nothing
-/// changes.
-pub fn take_switch(arguments: &mut Vec<String>, switch: &str) -> bool
-    ensures { TakesSwitch switch.now arguments.old.items arguments.new.items result }
-{
-    let Some(place) = first_dashed(arguments.as_slice()) else {
-        return false;
-    };
-    if arguments[place].as_str() != switch {
-        return false;
-    }
-    let _ = arguments.remove(place);
-    true
 }
 
 // The meaning of a word that begins with a dash.

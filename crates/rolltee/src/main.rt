@@ -1,4 +1,4 @@
-//! Writes each line of standard input to a log: `rolltee [OPTIONS] ROTATION DIR PREFIX`. The log begins a new file each
+//! Writes each line of standard input to a log: `rolltee ROTATION DIR PREFIX [OPTION]...`. The log begins a new file each
 //! minute, hour, day or week of UTC. One thread reads the lines, and another writes them.
 #![tactic(auto)]
 
@@ -13,7 +13,7 @@ use std::process::ExitCode;
 static HELP: &str = concat!(
     "Writes each line of standard input to a log whose files begin at times of UTC.\n",
     "\n",
-    "usage: rolltee [OPTIONS] ROTATION DIR PREFIX\n",
+    "usage: rolltee ROTATION DIR PREFIX [OPTION]...\n",
     "       rolltee --help | -h | --version\n",
     "\n",
     "  ROTATION       minutely, hourly, daily, weekly or never\n",

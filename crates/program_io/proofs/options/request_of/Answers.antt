@@ -1,5 +1,5 @@
 use Rattle.std.proofs.Common.{rules, ◌∙◌, inr}
-use Rattle.program_io.proofs.Switch.{without_first}
+use Rattle.program_io.proofs.Without.{without_first}
 use Rattle.program_io.proofs.options.request_of.Goals as goal
 
 pub returns-in-Help : goal.returns-in-Help
