@@ -85,6 +85,8 @@ pub struct DirWatch<R> {
     // Ends with a slash.
     path: String,
     counts: Arc<FileCounts, Global>,
+    // Whether a file that couldn't be compared is found.
+    lenient: bool,
 }
 
 // What happened to a log file.
@@ -112,7 +114,14 @@ impl<R: Files + AllocGlobal + Eprint + Clone + Drop> DirWatch<R> {
             rt,
             path: base,
             counts,
+            lenient: false,
         })
+    }
+
+    /// Takes a file that couldn't be compared, as for want of memory, for one that is found.
+    pub fn lenient(mut self) -> DirWatch<R> {
+        self.lenient = true;
+        self
     }
 
     /// Returns what was counted.
@@ -202,6 +211,7 @@ impl<R: Files + AllocGlobal + Eprint + Clone + Drop, P: WritePolicy> Watch<DirFo
         let lost = match self.loss(folder, file, name, length) {
             Ok(None) => return true,
             Ok(Some(loss)) => Ok(loss),
+            Err(_) if self.lenient => return true,
             Err(fault) => Err(fault),
         };
         self.report(name, lost);

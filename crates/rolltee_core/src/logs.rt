@@ -61,7 +61,7 @@ impl Logs for HostRuntime {
         ensures config { IfOk result (λ opened. opened.config ≡ config_of rotation prefix.now options.now) }
     {
         let opener = DirOpener::new(*self, rotation, directory, prefix, options)?;
-        let watch = DirWatch::new(*self, directory, counts)?;
+        let watch = DirWatch::new(*self, directory, counts)?.lenient();
         FileLog::new(opener, watch, options.whole_lines)
     }
 }

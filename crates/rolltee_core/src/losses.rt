@@ -11,8 +11,7 @@ pub struct Losses {
     pub dropped: u64,
     /// The number of lines that were not written whole to the output.
     pub unechoed: u64,
-    /// The number of log files that were removed, renamed, replaced or truncated while they were written to, or
-    /// couldn't be compared with what their names lead to.
+    /// The number of log files that were removed, renamed, replaced or truncated while they were written to.
     pub gone: u64,
 }
 

@@ -170,8 +170,8 @@ pub fn tee<R: Host, L: Logs, I: Read, E: Write>(
 }
 
 /// Does what `tee` does, with options. If they ask for it, each line is also written to `output`. The status is also 1 if a
-/// line was dropped, or not written whole to `output`, or if a log file was not found again; it is 2 if the rotation does
-/// not allow an option.
+/// line was dropped or not written whole to `output`, or a log file was not found again. It is 2 if the rotation does not
+/// allow an option.
 pub fn tee_with<R: Host, L: Logs, I: Read, O: Write + Drop, E: Write>(
     rt: R,
     logs: &L,
