@@ -93,7 +93,7 @@ ends_with (Value option) on value = absurd (value option refl)
 ends_with Help on value = absurd on
 ends_with Version on value = absurd on
 
-no_words : (words : List (String Global)) → length words ≡ 0 → words ≡ []
+pub no_words : (words : List (String Global)) → length words ≡ 0 → words ≡ []
 no_words [] e = refl
 no_words (word ∷ words) e = absurd (omega (arith, e))
 

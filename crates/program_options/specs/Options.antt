@@ -1,5 +1,5 @@
--- Options among the words of a command line.
-use Rattle.std.specs.Prelude.{◌≡◌, ◌≢◌, ◌⊎◌, ◌≤◌, ◌*◌, ℕ, zero, suc, Bool, true, false, List, [], ◌∷◌, ◌++◌, String, string_bytes, codes, map, nat_lt, Contains}
+-- The options of a command line.
+use Rattle.std.specs.Prelude.{◌≡◌, ◌≢◌, ◌⊎◌, ◌<◌, ◌≤◌, ◌*◌, ◌^◌, ℕ, zero, suc, Bool, true, false, List, [], ◌∷◌, ◌++◌, String, string_bytes, codes, map, nat_lt, Contains, Vec}
 use Rattle.std.specs.Str.Parse.{IsNumeral, digits_value}
 use Rattle.std.specs.declared.alloc.Global.{Global}
 use Rattle.program_io.specs.Options.{begins_with_dash}
@@ -8,6 +8,8 @@ use Rattle.program_options.specs.declared.Valued.{Valued}
 use Rattle.program_options.specs.declared.Valued.TheVariants.{Keep, MaxBytes, Suffix, Link, Queue}
 use Rattle.program_options.specs.declared.Flag.{Flag}
 use Rattle.program_options.specs.declared.Flag.TheVariants.{Lossy, NoWait, Sync, Echo, Timestamps, WholeLines}
+use Rattle.program_options.specs.declared.OptionError.{OptionError}
+use Rattle.program_options.specs.declared.OptionError.TheVariants.{Missing, Twice, Count, ByteCount}
 use Rattle.program_options.specs.declared.OptionFault.{OptionFault}
 use Rattle.program_options.specs.declared.OptionFault.TheVariants.{Unknown, Wrong, Memory as NoMemory}
 use Rattle.program_options.specs.declared.Request.{Request}
@@ -28,7 +30,7 @@ pub record IsCount (word : List ℕ) (n : ℕ) : Type 0 where
   pub number : IsNumber word n
   pub from_one : 1 ≤ n
 
--- the letter of a unit, or none, follows the digits; the unit has this number of bytes
+-- the digits, and the letter of a unit of this number of bytes; no letter is one byte
 abbrev pub HasUnit : List ℕ → List ℕ → ℕ → Type 0
 HasUnit text digits bytes =
     ((text ≡ digits ++ codes "K") × (bytes ≡ 1024))
@@ -47,6 +49,7 @@ pub record IsByteCount (text : List ℕ) (n : ℕ) : Type 0 where
 
 -- ---- options
 
+-- the word of an option with a value
 abbrev pub valued_word : Valued → List ℕ
 valued_word Keep = codes "--keep"
 valued_word MaxBytes = codes "--max-bytes"
@@ -54,6 +57,7 @@ valued_word Suffix = codes "--suffix"
 valued_word Link = codes "--link"
 valued_word Queue = codes "--queue"
 
+-- the word of an option without a value
 abbrev pub flag_word : Flag → List ℕ
 flag_word Lossy = codes "--lossy"
 flag_word NoWait = codes "--no-wait"
@@ -62,7 +66,7 @@ flag_word Echo = codes "--echo"
 flag_word Timestamps = codes "--timestamps"
 flag_word WholeLines = codes "--whole-lines"
 
--- nothing is asked for
+-- no option is set
 pub record AreDefaults (o : Options) : Type 0 where
   pub keep : o.keep ≡ 0
   pub max_bytes : o.max_bytes ≡ 0
@@ -76,7 +80,7 @@ pub record AreDefaults (o : Options) : Type 0 where
   pub timestamps : o.timestamps ≡ false
   pub whole_lines : o.whole_lines ≡ false
 
--- nothing is asked for but a number of files and of bytes
+-- no option is set but the numbers of files and of bytes
 pub record AreLimits (o : Options) : Type 0 where
   pub suffix : string_bytes o.suffix ≡ []
   pub link : string_bytes o.link ≡ []
@@ -88,6 +92,7 @@ pub record AreLimits (o : Options) : Type 0 where
   pub timestamps : o.timestamps ≡ false
   pub whole_lines : o.whole_lines ≡ false
 
+-- a text that is not empty
 abbrev pub is_some_text : List ℕ → Bool
 is_some_text [] = false
 is_some_text text = true
@@ -100,7 +105,7 @@ has Suffix o = is_some_text (string_bytes o.suffix)
 has Link o = is_some_text (string_bytes o.link)
 has Queue o = nat_lt 0 o.queue
 
--- the value is one of the option, which was not set before, and nothing else changed
+-- the option has this value now, and nothing else changed
 abbrev pub GetsValue : Valued → List ℕ → Options → Options → Type 0
 GetsValue Keep value old new = IsCount value new.keep × (new ≡ record old { keep = new.keep })
 GetsValue MaxBytes value old new = IsByteCount value new.max_bytes × (new ≡ record old { max_bytes = new.max_bytes })
@@ -108,9 +113,11 @@ GetsValue Suffix value old new = (value ≢ []) × (string_bytes new.suffix ≡ 
 GetsValue Link value old new = (value ≢ []) × (string_bytes new.link ≡ value) × (new ≡ record old { link = new.link })
 GetsValue Queue value old new = IsCount value new.queue × (new ≡ record old { queue = new.queue })
 
+-- the option was not set before, and has this value now; nothing else changed
 abbrev pub Sets : Valued → List ℕ → Options → Options → Type 0
 Sets option value old new = (has option old ≡ false) × GetsValue option value old new
 
+-- the options with this flag set
 abbrev pub raised : Flag → Options → Options
 raised Lossy o = record o { lossy = true }
 raised NoWait o = record o { no_wait = true }
@@ -134,7 +141,7 @@ Raises flag old new = (is_raised flag old ≡ false) × (new ≡ raised flag old
 
 -- ---- words
 
--- what is read after a word
+-- the meaning of the next word after this one
 abbrev pub IsNextAfter : List ℕ → Next → Type 0
 IsNextAfter word Any = ⊥
 IsNextAfter word (Value option) = word ≡ valued_word option
@@ -156,7 +163,7 @@ pub record Adds (word : List ℕ) (old new : Reading) : Type 0 where
   pub options : new.options ≡ old.options
   pub next : new.next ≡ old.next
 
--- The word is one that says what is read next; or an option without a value; or one with its value.
+-- The word gives the next one its meaning, sets a flag, or sets an option to the value after its `=`.
 abbrev pub TakesOption : List ℕ → Reading → Reading → Type 0
 TakesOption word old new =
     ((next : Next) × IsNextAfter word next × (new ≡ record old { next = next }))
@@ -164,19 +171,20 @@ TakesOption word old new =
     ⊎ ((option : Valued) × (value : List ℕ) × (word ≡ valued_word option ++ (61 ∷ value))
     × Sets option value old.options new.options × (new ≡ record old { options = new.options }))
 
--- the value of an option, which does not begin with a dash
+-- the word is the value of this option, and does not begin with a dash
 pub record TakesValue (option : Valued) (word : List ℕ) (old new : Reading) : Type 0 where
   pub undashed : begins_with_dash word ≡ false
   pub sets : Sets option word old.options new.options
   pub after : new ≡ record old { options = new.options; next = Any }
 
--- a word is taken as one of these, by what was read before
+-- the word is read with the meaning that those before gave it
 abbrev pub TakesAs : Next → List ℕ → Reading → Reading → Type 0
 TakesAs (Value option) word old new = TakesValue option word old new
 TakesAs Any word old new =
     ((begins_with_dash word ≡ true) × TakesOption word old new) ⊎ ((begins_with_dash word ≡ false) × Adds word old new)
 TakesAs next word old new = Adds word old new
 
+-- the word is read
 abbrev pub Takes : List ℕ → Reading → Reading → Type 0
 Takes word old new = TakesAs old.next word old new
 
@@ -186,7 +194,7 @@ Reaches words zero rest r = (rest ≡ words) × IsFresh r
 Reaches words (suc k) rest r =
     (word : String Global) × (before : Reading) × Reaches words k (word ∷ rest) before × Takes (string_bytes word) before r
 
--- The words were read from the left, up to one that asks for help or for the version, or to the end.
+-- The words were read from the left, up to one that asks for the usage or the version, or to the end.
 abbrev pub IsRead : List (String Global) → Request → Type 0
 IsRead words AsksHelp = (k : ℕ) × (rest : List (String Global)) × (r : Reading) × Reaches words k rest r × (r.next ≡ Help)
 IsRead words AsksVersion = (k : ℕ) × (rest : List (String Global)) × (r : Reading) × Reaches words k rest r × (r.next ≡ Version)
@@ -196,41 +204,105 @@ IsRead words (Run options arguments) =
 
 -- ---- faults
 
--- the fault is of this option, or of memory
-abbrev pub IsOf : List ℕ → OptionFault → Type 0
-IsOf option (Unknown text) = ⊥
-IsOf option (Wrong name error) = name.now ≡ option
-IsOf option NoMemory = Unit {0}
+-- this is no number from 1 that has 64 bits
+abbrev pub NoCount : List ℕ → Type 0
+NoCount value = (n : ℕ) → n < 2 ^ 64 → ¬ IsCount value n
 
--- the fault names this word, or the option that the word begins with, or is of memory
+-- this is no number of bytes from 1 that has 64 bits
+abbrev pub NoByteCount : List ℕ → Type 0
+NoByteCount value = (n : ℕ) → n < 2 ^ 64 → ¬ IsByteCount value n
+
+-- the reason why this value of an option is rejected, after these options
+abbrev pub IsReason : Valued → List ℕ → Options → OptionError → Type 0
+IsReason option value o Twice = has option o ≡ true
+IsReason Keep value o Count = NoCount value
+IsReason MaxBytes value o ByteCount = NoByteCount value
+IsReason Suffix value o Missing = value ≡ []
+IsReason Link value o Missing = value ≡ []
+IsReason Queue value o Count = NoCount value
+IsReason option value o error = ⊥
+
+-- the option of this word is rejected for this reason
+abbrev pub IsWrong : List ℕ → OptionError → OptionFault → Type 0
+IsWrong word reason (Wrong name error) = (name.now ≡ word) × (error ≡ reason)
+IsWrong word reason (Unknown text) = ⊥
+IsWrong word reason NoMemory = ⊥
+
+-- the value of this option is rejected after these options, or memory ran out
+abbrev pub IsWrongValue : Valued → List ℕ → Options → OptionFault → Type 0
+IsWrongValue option value o (Wrong name error) = (name.now ≡ valued_word option) × IsReason option value o error
+IsWrongValue option value o (Unknown text) = ⊥
+IsWrongValue option value o NoMemory = Unit {0}
+
+-- the word begins with a dash and is no option
+pub record IsUnknown (word : List ℕ) : Type 0 where
+  pub dashed : begins_with_dash word ≡ true
+  pub no_next : (next : Next) → ¬ IsNextAfter word next
+  pub no_flag : (flag : Flag) → word ≢ flag_word flag
+  pub no_value : (option : Valued) (value : List ℕ) → word ≢ valued_word option ++ (61 ∷ value)
+
+-- A word that begins with a dash is no option, sets a flag again, or has a value that is rejected; or memory ran out.
+abbrev pub IsWrongOption : List ℕ → Options → OptionFault → Type 0
+IsWrongOption word o (Unknown text) = (string_bytes text ≡ word) × IsUnknown word
+IsWrongOption word o (Wrong name error) =
+    ((flag : Flag) × (word ≡ flag_word flag) × (name.now ≡ word) × (error ≡ Twice) × (is_raised flag o ≡ true))
+    ⊎ ((option : Valued) × (value : List ℕ) × (word ≡ valued_word option ++ (61 ∷ value)) × (name.now ≡ valued_word option) × IsReason option value o error)
+IsWrongOption word o NoMemory = Unit {0}
+
+-- the word is rejected with the meaning that those before gave it
+abbrev pub Rejects : Next → List ℕ → Options → OptionFault → Type 0
+Rejects (Value option) word o fault =
+    ((begins_with_dash word ≡ true) × IsWrong (valued_word option) Missing fault)
+    ⊎ ((begins_with_dash word ≡ false) × IsWrongValue option word o fault)
+Rejects Any word o fault = IsWrongOption word o fault
+Rejects next word o fault = fault ≡ NoMemory
+
+-- The words before one were read, and that one is rejected; or all were read, and the last option has no value; or memory
+-- ran out.
+abbrev pub IsFaultOf : List (String Global) → OptionFault → Type 0
+IsFaultOf words NoMemory = Unit {0}
+IsFaultOf words fault =
+    ((k : ℕ) × (word : String Global) × (rest : List (String Global)) × (r : Reading) × Reaches words k (word ∷ rest) r
+    × Rejects r.next (string_bytes word) r.options fault)
+    ⊎ ((k : ℕ) × (r : Reading) × (option : Valued) × Reaches words k [] r × (r.next ≡ Value option) × IsWrong (valued_word option) Missing fault)
+
+-- the fault names the word, or the option that the word is or has before a `=`
 abbrev pub Names : List ℕ → OptionFault → Type 0
 Names word (Unknown text) = string_bytes text ≡ word
 Names word (Wrong name error) = (word ≡ name.now) ⊎ ((value : List ℕ) × (word ≡ name.now ++ (61 ∷ value)))
 Names word NoMemory = Unit {0}
 
--- a fault of a word, by what was read before it
-abbrev pub HasFault : Next → List ℕ → OptionFault → Type 0
-HasFault (Value option) word fault = IsOf (valued_word option) fault
-HasFault next word fault = Names word fault
+-- the fault names one of the words, or memory ran out
+abbrev pub NamesSome : List (String Global) → OptionFault → Type 0
+NamesSome words NoMemory = Unit {0}
+NamesSome words fault = (word : String Global) × Contains words word × Names (string_bytes word) fault
 
--- the fault names one of the words, or is of memory
-abbrev pub IsFaultOf : List (String Global) → OptionFault → Type 0
-IsFaultOf words NoMemory = Unit {0}
-IsFaultOf words fault = (word : String Global) × Contains words word × Names (string_bytes word) fault
+-- this is the word of an option that is set, other than those of the limits
+abbrev pub IsOther : List ℕ → Options → Type 0
+IsOther word o =
+    ((option : Valued) × (option ≢ Keep) × (option ≢ MaxBytes) × (has option o ≡ true) × (word ≡ valued_word option))
+    ⊎ ((flag : Flag) × (is_raised flag o ≡ true) × (word ≡ flag_word flag))
+
+-- the fault names an option that the words set beside the limits
+abbrev pub NamesOther : List (String Global) → OptionFault → Type 0
+NamesOther words (Unknown text) =
+    (options : Options) × (arguments : Vec (String Global) Global) × IsRead words (Run options arguments) × IsOther (string_bytes text) options
+NamesOther words (Wrong name error) = ⊥
+NamesOther words NoMemory = ⊥
 
 -- ---- requests
 
--- nothing is asked for, and the arguments are the words
+-- no option is set, and the arguments are the words
 abbrev pub IsPlain : List (String Global) → Request → Type 0
 IsPlain words AsksHelp = ⊥
 IsPlain words AsksVersion = ⊥
 IsPlain words (Run options arguments) = AreDefaults options × (map string_bytes arguments.items ≡ map string_bytes words)
 
--- nothing is asked for but limits
-abbrev pub HasLimits : Request → Type 0
-HasLimits AsksHelp = Unit {0}
-HasLimits AsksVersion = Unit {0}
-HasLimits (Run options arguments) = AreLimits options
+-- no other options are set
+abbrev pub HasOnlyLimits : Request → Type 0
+HasOnlyLimits AsksHelp = Unit {0}
+HasOnlyLimits AsksVersion = Unit {0}
+HasOnlyLimits (Run options arguments) = AreLimits options
 
 -- no word begins with a dash
 abbrev pub AreUndashed : List (String Global) → Type 0

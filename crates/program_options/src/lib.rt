@@ -1,37 +1,41 @@
-//! Options of programs that write logs, among the words of a command line.
+//! Command-line options of programs that write logs.
 #![tactic(auto)]
 
-ghost use Rattle.std.specs.Prelude.{◌≡◌, ◌≢◌, [], ◌∷◌, ◌++◌, IfErr, IfOk, IfSome, string_bytes};
+ghost use Rattle.std.specs.Prelude.{◌≡◌, ◌≢◌, ◌⊎◌, ◌<◌, ◌^◌, ℕ, List, [], ◌∷◌, ◌++◌, IfErr, IfNone, IfOk, IfSome, OnErr, string_bytes};
+ghost use Rattle.std.specs.Str.Parse.{IsNumeral};
+ghost use Rattle.program_options.specs.declared.Flag.{Flag};
+ghost use Rattle.program_options.specs.declared.Next.{Next};
+ghost use Rattle.program_options.specs.declared.Valued.{Valued};
 ghost use Rattle.program_io.specs.Options.{begins_with_dash};
-ghost use Rattle.program_options.specs.Options.{flag_word, valued_word, AreUndashed, HasLimits, HasUnit, IsByteCount, IsCount, IsFaultOf, IsNextAfter, IsOf, IsNumber, IsPlain, IsRead};
+ghost use Rattle.program_options.specs.Options.{flag_word, valued_word, AreUndashed, HasOnlyLimits, HasUnit, IsByteCount, IsCount, IsFaultOf, IsNextAfter, IsNumber, IsPlain, IsRead, IsWrong, NamesOther, NamesSome, NoByteCount, NoCount};
 
 use std::alloc::{AllocError, Global};
 use thiserror::Error;
 
-/// What is asked of a run beside its rotation, its folder and the beginning of its files' names.
+/// What a command line asks for beside its arguments.
 #[derive(Debug, Drop)]
 pub struct Options {
-    /// The number of log files that are kept; 0 is all.
+    /// `--keep`: the number of log files that are kept; 0 is all.
     pub keep: usize,
-    /// The number of bytes after which the next file of a period begins; 0 is no limit.
+    /// `--max-bytes`: the number of bytes after which the next file of a period begins; 0 is no limit.
     pub max_bytes: u64,
-    /// The end of the files' names; an empty one is none.
+    /// `--suffix`: the suffix of the log files' names; an empty one is none.
     pub suffix: String,
-    /// The name of a link to the newest file; an empty one is none.
+    /// `--link`: the name of a symbolic link to the newest log file; an empty one is none.
     pub link: String,
-    /// The greatest number of queued lines; 0 is the program's own.
+    /// `--queue`: the greatest number of queued lines; 0 is the program's default.
     pub queue: usize,
-    /// Whether a line that finds no room in the queue is dropped. Else the input waits.
+    /// `--lossy`: whether a line is dropped if the queue is full. Otherwise the input waits.
     pub lossy: bool,
-    /// Whether lines are lost while the disk is full. Else they wait.
+    /// `--no-wait`: whether lines are dropped while the disk is full. Otherwise they wait.
     pub no_wait: bool,
-    /// Whether each flush of the log also syncs it.
+    /// `--sync`: whether each flush of the log also syncs it.
     pub sync: bool,
-    /// Whether each line is also written to the output.
+    /// `--echo`: whether each line is also written to standard output.
     pub echo: bool,
-    /// Whether each line begins with the time at which it was read.
+    /// `--timestamps`: whether each line begins with the time at which it was read.
     pub timestamps: bool,
-    /// Whether a part of a line is ended by a newline before the next line.
+    /// `--whole-lines`: whether a part of a line is ended by a newline before the next line.
     pub whole_lines: bool,
 }
 
@@ -39,7 +43,7 @@ impl Options {
     ghost use Rattle.std.specs.Prelude.{◌≡◌, ◌↔◌, true};
     ghost use Rattle.program_options.specs.Options.{AreDefaults};
 
-    /// Returns what is asked for if there is no option.
+    /// Returns the options of a command line that sets none.
     pub fn new(alloc: Global) -> Options
         ensures { AreDefaults result }
     {
@@ -58,7 +62,7 @@ impl Options {
         }
     }
 
-    /// Returns whether nothing is asked for.
+    /// Returns whether no option is set.
     pub fn is_plain(&self) -> bool
         ensures { (result ≡ true) ↔ AreDefaults self.now }
     {
@@ -66,7 +70,7 @@ impl Options {
     }
 }
 
-// An option that has a value, in its own word or in the next one.
+// An option with a value.
 #[derive(Clone, Copy, Debug, PartialEq, Eq)]
 enum Valued {
     Keep,
@@ -77,7 +81,7 @@ enum Valued {
 }
 
 impl Valued {
-    // Returns its word.
+    // Returns the word of the option.
     fn word(self) -> &'static str
         ensures { result.now ≡ valued_word self }
     {
@@ -103,7 +107,7 @@ enum Flag {
 }
 
 impl Flag {
-    // Returns its word.
+    // Returns the word of the option.
     fn word(self) -> &'static str
         ensures { result.now ≡ flag_word self }
     {
@@ -118,29 +122,34 @@ impl Flag {
     }
 }
 
-/// What is wrong with an option.
+/// The reason why an option is rejected.
 #[derive(Clone, Copy, Debug, PartialEq, Eq, Error)]
 pub enum OptionError {
+    /// There is no value: the words end, the next one begins with a dash, or the text is empty.
     #[error("a value is missing")]
     Missing,
+    /// The option was set before.
     #[error("given twice")]
     Twice,
+    /// The program has no use for the option without a rotation. `read` never returns it.
     #[error("not without a rotation")]
     Never,
+    /// The value is not a decimal number from 1 that a `usize` can represent.
     #[error("not a number from 1")]
     Count,
+    /// The value is not a decimal number from 1, with `K`, `M`, `G` or no letter after it, that a `u64` can represent.
     #[error("not a number of bytes from 1, as 500, 64K, 10M or 2G")]
     ByteCount,
 }
 
-/// Why the words of a command line can't be read.
+/// The reason why a command line is rejected.
 #[derive(Debug, Drop)]
 pub enum OptionFault {
     /// This word begins with a dash and is no option.
     Unknown(String),
-    /// This option was given twice, or its value is missing or wrong.
+    /// The option of this word is rejected.
     Wrong(&'static str, OptionError),
-    /// Memory was refused.
+    /// Out of memory.
     Memory,
 }
 
@@ -155,23 +164,30 @@ impl From<AllocError> for OptionFault {
     }
 }
 
-/// What the words of a command line ask for.
+/// What a command line asks for.
 #[derive(Debug, Drop)]
 pub enum Request {
-    /// To print how the program is used.
+    /// To print the usage.
     Help,
-    /// To print its version.
+    /// To print the version.
     Version,
-    /// Its work, with these options, on these arguments.
+    /// The program's work, with these options and arguments.
     Run(Options, Vec<String>),
 }
 
-/// Reads the words after the program's name, up to one that asks for help or for the version. An option may be anywhere
-/// before `--`.
+/// Returns what the words after the program's name ask for. They are read from the left, up to `-h`, `--help` or
+/// `--version`.
+///
+/// Each option is set at most once, anywhere before `--`. The words after that are arguments. A value follows a `=`
+/// or is the next word, as in `--keep=7` and `--keep 7`. In a word of its own it may not begin with a dash.
+/// `--max-bytes` takes `N[K|M|G]`, with 1,024 bytes for `K`.
+///
+/// `OptionFault::Unknown` and `OptionFault::Wrong` report the first wrong word.
 pub fn read(alloc: Global, words: &[String]) -> Result<Request, OptionFault>
     ensures read { IfOk result (IsRead words.now) }
     ensures plain { AreUndashed words.now → IfOk result (IsPlain words.now) }
     ensures fault { IfErr result (IsFaultOf words.now) }
+    ensures named { IfErr result (NamesSome words.now) }
 {
     let mut reading = Reading::new(alloc);
     let mut rest = words;
@@ -189,12 +205,13 @@ pub fn read(alloc: Global, words: &[String]) -> Result<Request, OptionFault>
     }
 }
 
-/// Reads words as `read` does, for a program with no options but `--keep` and `--max-bytes`. Any other option is
-/// `OptionFault::Unknown`, with its word.
+/// Returns what `read` does, for a program with no options but `--keep` and `--max-bytes`. `OptionFault::Unknown` if
+/// another one was set: it has the word of the first of those in the order of `Options`.
 pub fn read_limits(alloc: Global, words: &[String]) -> Result<Request, OptionFault>
     ensures read { IfOk result (IsRead words.now) }
     ensures plain { AreUndashed words.now → IfOk result (IsPlain words.now) }
-    ensures limits { IfOk result HasLimits }
+    ensures limits { IfOk result HasOnlyLimits }
+    ensures fault { IfErr result (λ fault. IsFaultOf words.now fault ⊎ NamesOther words.now fault) }
 {
     let request = read(alloc, words)?;
     if let Request::Run(options, _) = &request {
@@ -205,7 +222,7 @@ pub fn read_limits(alloc: Global, words: &[String]) -> Result<Request, OptionFau
     Ok(request)
 }
 
-// What the next word is.
+// The meaning of the next word.
 #[derive(Clone, Copy)]
 enum Next {
     // An option or an argument.
@@ -214,12 +231,13 @@ enum Next {
     Value(Valued),
     // An argument, after `--`.
     Argument,
-    // Not read, since the word before asks for help or for the version.
+    // It is not read, since the last one asks for the usage.
     Help,
+    // It is not read, since the last one asks for the version.
     Version,
 }
 
-// What the words so far ask for.
+// What was read so far.
 #[derive(Drop)]
 struct Reading {
     options: Options,
@@ -228,9 +246,10 @@ struct Reading {
 }
 
 impl Reading {
-    ghost use Rattle.std.specs.Prelude.{◌≡◌, IfErr, OnOk};
-    ghost use Rattle.program_options.specs.Options.{Adds, HasFault, IsFresh, Names, Takes, TakesOption};
+    ghost use Rattle.std.specs.Prelude.{◌≡◌, true, IfErr, OnOk};
+    ghost use Rattle.program_options.specs.Options.{Adds, IsFresh, IsWrongOption, Rejects, Takes, TakesOption};
 
+    // Returns what was read before the first word.
     fn new(alloc: Global) -> Reading
         ensures { IsFresh result }
     {
@@ -241,10 +260,10 @@ impl Reading {
         }
     }
 
-    // Takes the next word.
+    // Reads the next word.
     fn take(&mut self, alloc: Global, word: &str) -> Result<(), OptionFault>
         ensures taken { OnOk result (Takes word.now self.old self.new) }
-        ensures fault { IfErr result (HasFault self.old.next word.now) }
+        ensures fault { IfErr result (Rejects self.old.next word.now self.old.options) }
     {
         match self.next {
             Next::Value(option) if begins(word) => {
@@ -259,10 +278,11 @@ impl Reading {
         }
     }
 
-    // Takes a word that begins with a dash.
+    // Reads a word that begins with a dash.
     fn take_option(&mut self, alloc: Global, word: &str) -> Result<(), OptionFault>
+        requires { begins_with_dash word.now ≡ true }
         ensures taken { OnOk result (TakesOption word.now self.old self.new) }
-        ensures fault { IfErr result (Names word.now) }
+        ensures fault { IfErr result (IsWrongOption word.now self.old.options) }
     {
         if let Some(next) = next_after(word) {
             self.next = next;
@@ -289,14 +309,14 @@ impl Reading {
 }
 
 impl Options {
-    ghost use Rattle.std.specs.Prelude.{◌≡◌, IfErr, IfNone, IfSome, OnOk};
+    ghost use Rattle.std.specs.Prelude.{◌≡◌, true, IfErr, IfNone, IfSome, OnErr, OnOk};
     ghost use Rattle.std.specs.List.{find};
-    ghost use Rattle.program_options.specs.Options.{flag_word, has, is_raised, valued_word, AreLimits, IsOf, Raises, Sets};
+    ghost use Rattle.program_options.specs.Options.{flag_word, has, is_raised, valued_word, AreLimits, IsOther, IsWrong, IsWrongValue, Raises, Sets};
 
     // Sets the value of an option, which was not set before.
     fn set(&mut self, alloc: Global, option: Valued, value: &str) -> Result<(), OptionFault>
         ensures set { OnOk result (Sets option value.now self.old self.new) }
-        ensures fault { IfErr result (IsOf (valued_word option)) }
+        ensures fault { IfErr result (IsWrongValue option value.now self.old) }
     {
         if self.has(option) {
             return Err(OptionFault::Wrong(option.word(), OptionError::Twice));
@@ -328,6 +348,7 @@ impl Options {
     fn other_word(&self) -> Option<&'static str>
         ensures none { IfNone result (AreLimits self.now) }
         ensures some { IfSome result (λ word. ¬ AreLimits self.now) }
+        ensures word { IfSome result (λ word. IsOther word.now self.now) }
     {
         if let Some(option) = self.first_set(&[Valued::Suffix, Valued::Link, Valued::Queue]) {
             return Some(option.word());
@@ -360,7 +381,8 @@ impl Options {
     // Sets a flag, which was not set before.
     fn raise(&mut self, flag: Flag) -> Result<(), OptionFault>
         ensures raised { OnOk result (Raises flag self.old self.new) }
-        ensures fault { IfErr result (IsOf (flag_word flag)) }
+        ensures fault { IfErr result (IsWrong (flag_word flag) OptionError.Twice) }
+        ensures twice { OnErr result (is_raised flag self.old ≡ true) }
     {
         if self.is_raised(flag) {
             return Err(OptionFault::Wrong(flag.word(), OptionError::Twice));
@@ -401,9 +423,10 @@ fn begins(word: &str) -> bool
     }
 }
 
-// Returns what follows a word that neither sets nor raises anything by itself.
+// Returns the meaning of the next word after one that sets nothing by itself.
 fn next_after(word: &str) -> Option<Next>
-    ensures { IfSome result (IsNextAfter word.now) }
+    ensures some { IfSome result (IsNextAfter word.now) }
+    ensures none { IfNone result ((next : Next) → ¬ IsNextAfter word.now next) }
 {
     match word {
         "--" => Some(Next::Argument),
@@ -413,16 +436,19 @@ fn next_after(word: &str) -> Option<Next>
     }
 }
 
-// Returns the option of a word, and its value after a `=`.
+// Returns the option before the first `=` of a word, and the value after it.
 fn with_value(word: &str) -> Option<(Valued, &str)>
-    ensures { IfSome result (λ given. word.now ≡ valued_word given.0 ++ (61 ∷ given.1.now)) }
+    ensures some { IfSome result (λ given. word.now ≡ valued_word given.0 ++ (61 ∷ given.1.now)) }
+    ensures none { IfNone result ((option : Valued) (value : List ℕ) → word.now ≢ valued_word option ++ (61 ∷ value)) }
 {
     let (name, value) = word.split_once('=')?;
     Some((valued_of(name)?, value))
 }
 
+// Returns the option with a value that has this word.
 fn valued_of(word: &str) -> Option<Valued>
-    ensures { IfSome result (λ option. word.now ≡ valued_word option) }
+    ensures some { IfSome result (λ option. word.now ≡ valued_word option) }
+    ensures none { IfNone result ((option : Valued) → word.now ≢ valued_word option) }
 {
     match word {
         "--keep" => Some(Valued::Keep),
@@ -434,8 +460,10 @@ fn valued_of(word: &str) -> Option<Valued>
     }
 }
 
+// Returns the flag that has this word.
 fn flag_of(word: &str) -> Option<Flag>
-    ensures { IfSome result (λ flag. word.now ≡ flag_word flag) }
+    ensures some { IfSome result (λ flag. word.now ≡ flag_word flag) }
+    ensures none { IfNone result ((flag : Flag) → word.now ≢ flag_word flag) }
 {
     match word {
         "--lossy" => Some(Flag::Lossy),
@@ -448,9 +476,11 @@ fn flag_of(word: &str) -> Option<Flag>
     }
 }
 
+// Returns the value of an option that is a text, which is not empty.
 fn text(alloc: Global, option: Valued, value: &str) -> Result<String, OptionFault>
     ensures text { IfOk result (λ text. (string_bytes text ≡ value.now) × (value.now ≢ [])) }
-    ensures fault { IfErr result (IsOf (valued_word option)) }
+    ensures fault { IfErr result (λ fault. (fault ≡ OptionFault.Memory)
+        ⊎ (IsWrong (valued_word option) OptionError.Missing fault × (value.now ≡ []))) }
 {
     if value.is_empty() {
         return Err(OptionFault::Wrong(option.word(), OptionError::Missing));
@@ -458,9 +488,11 @@ fn text(alloc: Global, option: Valued, value: &str) -> Result<String, OptionFaul
     Ok(String::from_str(alloc, value)?)
 }
 
+// Returns the value of an option that is a number from 1.
 fn count(option: Valued, value: &str) -> Result<usize, OptionFault>
     ensures count { IfOk result (IsCount value.now) }
-    ensures fault { IfErr result (IsOf (valued_word option)) }
+    ensures fault { IfErr result (IsWrong (valued_word option) OptionError.Count) }
+    ensures none { OnErr result (NoCount value.now) }
 {
     match read_count(value) {
         Some(count) if count > 0 => Ok(count),
@@ -468,9 +500,11 @@ fn count(option: Valued, value: &str) -> Result<usize, OptionFault>
     }
 }
 
+// Returns the value of an option that is a number of bytes from 1.
 fn bytes(option: Valued, value: &str) -> Result<u64, OptionFault>
     ensures count { IfOk result (IsByteCount value.now) }
-    ensures fault { IfErr result (IsOf (valued_word option)) }
+    ensures fault { IfErr result (IsWrong (valued_word option) OptionError.ByteCount) }
+    ensures none { OnErr result (NoByteCount value.now) }
 {
     let (digits, unit) = split_unit(value);
     match read_count(digits) {
@@ -483,7 +517,8 @@ fn bytes(option: Valued, value: &str) -> Result<u64, OptionFault>
 
 // Reads a decimal number without a sign.
 fn read_count(word: &str) -> Option<usize>
-    ensures { IfSome result (IsNumber word.now) }
+    ensures some { IfSome result (IsNumber word.now) }
+    ensures none { IfNone result ((n : ℕ) → n < 2 ^ 64 → ¬ IsNumber word.now n) }
 {
     if !word.as_bytes().first()?.is_ascii_digit() {
         return None;
@@ -493,7 +528,9 @@ fn read_count(word: &str) -> Option<usize>
 
 // Returns the text before the letter of a unit, and the number of bytes of the unit.
 fn split_unit(text: &str) -> (&str, u64)
-    ensures { HasUnit text.now result.0.now result.1 }
+    ensures unit { HasUnit text.now result.0.now result.1 }
+    ensures only { (digits : List ℕ) (unit : ℕ) → IsNumeral 10 digits → HasUnit text.now digits unit
+        → (digits ≡ result.0.now) × (unit ≡ result.1) }
 {
     if let Some(digits) = text.strip_suffix('K') {
         return (digits, 1 << 10);

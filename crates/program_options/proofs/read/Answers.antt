@@ -1,9 +1,9 @@
 use Rattle.std.proofs.Common.{rules}
 use Rattle.program_options.specs.declared.Request.TheVariants.{Help as AsksHelp, Version as AsksVersion, Run}
-use Rattle.std.proofs.lemmas.Result.{err_from_is_err_and}
+use Rattle.std.proofs.lemmas.Result.{err_from_is_err_and, IfErr-weaker}
 use Rattle.program_options.specs.declared.OptionError.TheVariants.{Missing}
 use Rattle.program_options.specs.declared.OptionFault.TheVariants.{Wrong}
-use Rattle.program_options.proofs.Faults.{fault_of_option, fault_of_word}
+use Rattle.program_options.proofs.Faults.{fault_at_end, fault_of_word, names_some}
 use Rattle.program_options.proofs.Words.{at_end, next_reached, open_next, plain_request}
 use Rattle.program_options.proofs.read.Goals as goal
 
@@ -53,8 +53,16 @@ returns-in_err-take-clause-fault c =
     let p = err_from_is_err_and c.from_residual.result c.from_residual.ensures.1 in
     let split = rw c.in-Some.is at c.split_first.ensures.cases in
     let faulty = rw c.in_err-take.was at c.take.ensures.fault in
-    let has = rw c.as_str.ensures.value at faulty in
-    rw (p.1, p.2) (fault_of_word _ _ _ _ _ _ c.loop-word.invariant.reached split.0 has)
+    let rejects = rw c.as_str.ensures.value at faulty in
+    rw (p.1, p.2) (fault_of_word _ _ _ _ _ _ c.loop-word.invariant.reached split.0 rejects)
+
+pub returns-in_err-take-clause-named : goal.returns-in_err-take-clause-named
+returns-in_err-take-clause-named c = IfErr-weaker _ _ _ (names_some _) (returns-in_err-take-clause-fault c)
 
 pub returns-in-Value-clause-fault : goal.returns-in-Value-clause-fault
-returns-in-Value-clause-fault c = fault_of_option _ _ _ _ (Wrong c.word.result Missing) c.loop-word.invariant.reached c.in-Value.is (search rules)
+returns-in-Value-clause-fault c =
+    let empty = rw c.in_default.is at c.split_first.ensures.cases in
+    fault_at_end _ _ _ _ c.word.result c.loop-word.invariant.reached empty c.in-Value.is c.word.ensures
+
+pub returns-in-Value-clause-named : goal.returns-in-Value-clause-named
+returns-in-Value-clause-named c = names_some _ (Wrong c.word.result Missing) (returns-in-Value-clause-fault c)
