@@ -33,7 +33,8 @@ pub struct Limits {
     /// The number of files that are kept; 0 is all of them.
     pub files: usize,
     /// The number of bytes of a file; 0 is no limit. The next file of the day begins before a line that does not fit. A
-    /// longer line has a file of its own, and a newline that ends a part of a line is not counted.
+    /// longer line has a file of its own. A newline that ends a part of a line may be one byte more. If the next file
+    /// can't be opened, the last one takes as many bytes again.
     pub bytes: u64,
 }
 
