@@ -82,6 +82,26 @@ for program in "$rolltee" "$audit_trail" "$rollplay"; do
 done
 [ "$failed" = 0 ] || { echo "$passed passed, $failed failed"; exit 1; }
 
+# ---- installed with their pages
+
+PREFIX=$work/prefix run "$top/install"
+check 'install' '0||' "$(told)"
+check 'install: the files' 'bin/audit_trail bin/rolltee share/man/man1/audit_trail.1 share/man/man1/rolltee.1' \
+  "$(cd "$work/prefix" && find . -type f | sed 's/^..//' | sort | paste -s -d ' ')"
+run "$work/prefix/bin/rolltee" --version
+check 'install: rolltee runs' '0|rolltee, over a port of tracing-appender 0.2.5|' "$(told)"
+# Each option of --help is in the page, and the other way round.
+for name in rolltee audit_trail; do
+  check "man/$name.1: the options of --help" \
+    "$("$top/crates/$name/out/$name" --help | grep -oE '^ +--[a-z-]+' | tr -d ' ' | sort -u | paste -s -d ' ')" \
+    "$(sed -n 's/^\.It Fl -\([a-z-]*\).*/--\1/p' "$top/man/$name.1" | sort -u | paste -s -d ' ')"
+  if command -v mandoc > /dev/null; then
+    check "man/$name.1: mandoc" '' "$(mandoc -T lint -W warning "$top/man/$name.1" 2>/dev/null)"
+  else
+    skip "man/$name.1: mandoc" 'no mandoc'
+  fi
+done
+
 # ---- standard streams that are closed
 
 # What is written to a closed stream is lost, and nothing is read of one: the log holds the lines alone.
