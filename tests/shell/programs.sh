@@ -316,6 +316,15 @@ else
   skip 'rolltee --sync' 'no strace'
 fi
 
+# Two that begin a log at once, in a folder that is not there.
+seq 100 > "$work/hundred"
+for ((i = 0; i < 25; i++)); do
+  "$rolltee" never "$work/at_once.$i" app < "$work/hundred" 2>> "$work/at_once" &
+  "$rolltee" never "$work/at_once.$i" app < "$work/hundred" 2>> "$work/at_once"
+  wait $!
+done
+check 'two rolltee at once' '|5000' "$(cat "$work/at_once")|$(cat "$work"/at_once.*/app | wc -l)"
+
 # A log file that someone removes, moves or cuts while a line is waited for: the next line begins a new file.
 lost_file() {
   local what=$1 command=$2 words=$3 log=$work/lost/app

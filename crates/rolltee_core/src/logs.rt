@@ -6,11 +6,11 @@ use crate::tee::Fault;
 use file_watch::{DirWatch, FileCounts, Watch};
 use program_options::Options;
 use std::alloc::{AllocError, Global};
-use std::io;
 use std::io::{ErrorKind, Write};
 use std::marker::Model;
 use std::rt::Files;
 use std::sync::Arc;
+use std::{fs, io};
 use tracing_appender::folder::DirFolder;
 use tracing_appender::rolling::{
     Builder, Clock, InitError, RollingFile, Rotation, Switch, SystemClock,
@@ -119,6 +119,7 @@ impl<R: Files + AllocGlobal + Eprint + std::time::Clock + Clone + Drop> Opens<
     ghost config = { λ opener. opener.settings };
 
     fn open(&self) -> Result<RollingFile<DirFolder<R>, SystemClock<R>>, InitError> {
+        make_folder(&self.rt, &self.settings, self.directory.as_str())?;
         let folder = DirFolder::new(self.rt.clone()?, self.directory.as_str())?;
         let folder = if self.syncs { folder.synced() } else { folder };
         let clock = SystemClock::new(self.rt.clone()?);
@@ -126,6 +127,20 @@ impl<R: Files + AllocGlobal + Eprint + std::time::Clock + Clone + Drop> Opens<
             Ok(log) => Ok(log),
             Err((error, _, _)) => Err(error),
         }
+    }
+}
+
+// Makes the folder of the log, unless the names of its files are not allowed. So programs that begin one log at once find it.
+fn make_folder<R: Files + AllocGlobal>(
+    rt: &R,
+    settings: &Builder,
+    directory: &str,
+) -> Result<(), InitError> {
+    let _ = settings.names(rt.alloc())?;
+    match fs::create_dir_all(rt, directory) {
+        Ok(()) => Ok(()),
+        Err(fault) if fault.kind() == ErrorKind::OutOfMemory => Err(InitError::Memory),
+        Err(fault) => Err(InitError::Directory(fault)),
     }
 }
 
