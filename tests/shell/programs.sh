@@ -695,13 +695,13 @@ done
 exec sleep 20
 END
   # A signal may end the shell before its trap: then it has read nothing, and isn't counted.
-  printf "#!/bin/sh\ntrap '' INT TERM HUP QUIT\necho >> '%s'\nexec '%s' never '%s' app\n" \
+  printf "#!/bin/sh\ntrap '' INT TERM HUP QUIT\necho >> '%s'\nexec '%s' --keep 7 --max-bytes 10M daily '%s' app\n" \
     "$work/starts" "$rolltee" "$work/supervised" > "$service/log/run"
   chmod +x "$service/run" "$service/log/run"
   runsv "$service" &
   running=$!
   for ((turn = 0; turn < 300; turn++)); do
-    [ "$(line_count "$work/supervised/app")" -lt 1000 ] || break
+    [ "$(cat "$work"/supervised/app.* 2> /dev/null | wc -l)" -lt 1000 ] || break
     for signal in term interrupt hup quit; do sv "$signal" "$service/log"; done
     sleep 0.01
   done
@@ -712,7 +712,7 @@ if command -v runsv > /dev/null && command -v sv > /dev/null; then
   supervised
   check 'rolltee under runsv, after signals: it was started once' 1 "$(line_count "$work/starts")"
   check 'rolltee under runsv, after signals: the log' same \
-    "$(seq -f 'line %g' 1000 | cmp -s - "$work/supervised/app" && echo same || echo other)"
+    "$(seq -f 'line %g' 1000 | cmp -s - <(cat "$work"/supervised/app.*) && echo same || echo other)"
 else
   skip 'rolltee under runsv' 'no runsv'
 fi

@@ -197,11 +197,11 @@ impl<S: Folder, C: Clock, W: Watch<S>, O: Opens<S, C>> Model for FileLog<S, C, W
 }
 
 impl<S: Folder, C: Clock, W: Watch<S>, O: Opens<S, C>> FileLog<S, C, W, O> {
-    ghost use Rattle.std.specs.Prelude.{ℤ, OnOk};
+    ghost use Rattle.std.specs.Prelude.{ℤ, OnOk, OnErr};
     ghost use Rattle.std.specs.Io.{WritesAtMost};
     ghost use Rattle.appender_rolling.specs.Appender.{AppendsNow, OpensSome};
     ghost use Rattle.appender_rolling.specs.Roller.{Looks};
-    ghost use Rattle.rolltee_core.specs.Log.{IsFound, MayEndPart};
+    ghost use Rattle.rolltee_core.specs.Log.{EndsNoPart, IsFound, MayEndPart};
 
     /// Opens the log.
     pub fn new(opener: O, watch: W, whole_lines: bool) -> Result<FileLog<S, C, W, O>, InitError>
@@ -251,6 +251,7 @@ impl<S: Folder, C: Clock, W: Watch<S>, O: Opens<S, C>> FileLog<S, C, W, O> {
     // Opens the log again if its file is not found.
     fn find_file(&mut self) -> io::Result<()>
         ensures found { OnOk result (IsFound S.Folder C.Clock self.old self.new.log) }
+        ensures lost { OnErr result (self.new.log ≡ self.old.log) }
         ensures config { self.new.config ≡ self.old.config }
     {
         self.compare();
@@ -282,6 +283,7 @@ impl<S: Folder, C: Clock, W: Watch<S>, O: Opens<S, C>> FileLog<S, C, W, O> {
     // Ends a part of a line by a newline.
     fn end_part(&mut self) -> io::Result<()>
         ensures ends { OnOk result (MayEndPart S.Folder self.old.log self.new.log) }
+        ensures stays { OnErr result (EndsNoPart S.Folder self.old.log self.new.log) }
         ensures config { self.new.config ≡ self.old.config }
     {
         if self.cut {
@@ -309,18 +311,18 @@ impl<S: Folder, C: Clock, W: Watch<S>, O: Opens<S, C>> FileLog<S, C, W, O> {
 }
 
 impl<S: Folder, C: Clock, W: Watch<S>, O: Opens<S, C>> Write for FileLog<S, C, W, O> {
-    ghost use Rattle.std.specs.Prelude.{None, OnOk};
+    ghost use Rattle.std.specs.Prelude.{None, OnOk, IfErr};
     ghost use Rattle.std.specs.Io.{WritesAtMost};
     ghost use Rattle.std.specs.Io.KnownBytes.{Keeps, WriteAppends};
     ghost use Rattle.appender_rolling.specs.Appender.{FlushesNow};
-    ghost use Rattle.rolltee_core.specs.Log.{PutsOn};
+    ghost use Rattle.rolltee_core.specs.Log.{PutsNone, PutsOn};
 
     /// Adds the first of the bytes to the file of the clock's moment, by one append.
     fn write(&mut self, bytes: &[u8]) -> io::Result<usize>
         ensures bound { WritesAtMost result bytes.now }
         ensures bytes { WriteAppends None None result bytes.now }
-        ensures puts { OnOk result (PutsOn S.Folder C.Clock bytes.now result
-            self.old self.new.log) }
+        ensures puts { OnOk result (PutsOn S.Folder C.Clock bytes.now result self.old self.new.log) }
+        ensures fails { IfErr result (λ error. PutsNone S.Folder C.Clock bytes.now error self.old self.new.log) }
         ensures config { self.new.config ≡ self.old.config }
     {
         self.find_file()?;

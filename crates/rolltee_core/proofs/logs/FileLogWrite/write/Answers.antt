@@ -1,19 +1,55 @@
-use Rattle.rolltee_core.specs.Log.{PutsOn}
-use Rattle.rolltee_core.proofs.Outcome.{on_ok}
+use Rattle.std.proofs.Common.{inl, inr, subst}
+use Rattle.appender_rolling.specs.Appender.{AppendsNow}
+use Rattle.rolltee_core.specs.Log.{LooksFor, PutsOn}
+use Rattle.rolltee_core.proofs.Outcome.{if_err, on_ok}
 use Rattle.rolltee_core.proofs.logs.FileLogWrite.write.Goals as goal
 
 pub returns-clause-puts : goal.returns-clause-puts
 returns-clause-puts g c =
     let puts : PutsOn g.S.Folder g.C.Clock c.args.bytes.now c.append.result c.args.self.now c.append.new.self.log = record {
-      found = c.find_file.new.self.log;
-      is_found = c.in_ok-find_file.ensures.found;
-      moment = c.check_clock.ensures.looks.0;
-      reading = c.check_clock.ensures.looks.2;
-      switch = c.check_clock.ensures.looks.1;
       looked = c.check_clock.new.self.log;
-      looks = c.check_clock.ensures.looks.3;
-      clock = c.check_clock.ensures.clock;
+      looks = record {
+        found = c.find_file.new.self.log;
+        is_found = c.in_ok-find_file.ensures.found;
+        moment = c.check_clock.ensures.looks.0;
+        reading = c.check_clock.ensures.looks.2;
+        switch = c.check_clock.ensures.looks.1;
+        looks = c.check_clock.ensures.looks.3;
+        clock = c.check_clock.ensures.clock;
+      };
       ended = c.end_part.new.self.log;
       ends = c.in_ok-end_part.ensures.ends;
       appends = c.append.ensures.appends;
     } in on_ok c.append.result puts
+
+pub returns-clause-fails : goal.returns-clause-fails
+returns-clause-fails g c = if_err c.append.result (λ error is. inr (inr (record {
+  looked = c.check_clock.new.self.log;
+  looks = record {
+    found = c.find_file.new.self.log;
+    is_found = c.in_ok-find_file.ensures.found;
+    moment = c.check_clock.ensures.looks.0;
+    reading = c.check_clock.ensures.looks.2;
+    switch = c.check_clock.ensures.looks.1;
+    looks = c.check_clock.ensures.looks.3;
+    clock = c.check_clock.ensures.clock;
+  };
+  ended = c.end_part.new.self.log;
+  ends = c.in_ok-end_part.ensures.ends;
+  appends = subst (λ answer. AppendsNow g.S.Folder c.args.bytes.now answer c.end_part.new.self.log c.append.new.self.log) is c.append.ensures.appends;
+})))
+
+pub returns-in_err-end_part-clause-fails : goal.returns-in_err-end_part-clause-fails
+returns-in_err-end_part-clause-fails g c = if_err c.from_residual-in_err-end_part.result (λ error is. inr (inl (
+  c.check_clock.new.self.log,
+  record {
+    found = c.find_file.new.self.log;
+    is_found = c.in_ok-find_file.ensures.found;
+    moment = c.check_clock.ensures.looks.0;
+    reading = c.check_clock.ensures.looks.2;
+    switch = c.check_clock.ensures.looks.1;
+    looks = c.check_clock.ensures.looks.3;
+    clock = c.check_clock.ensures.clock;
+  },
+  c.in_err-end_part.ensures.stays,
+)))
