@@ -19,7 +19,7 @@ use tracing_appender::store::Folder;
 
 /// A log of lines.
 pub trait TeeLog: Write {
-    /// The last line, of which a write failed, is not written on.
+    /// Says that the last line, of which a write failed, is not written on.
     fn give_up(&mut self) {}
 }
 
@@ -66,7 +66,7 @@ impl Logs for HostRuntime {
     }
 }
 
-/// Opens one log, again and again.
+/// Opens one log, each time it is asked to.
 pub trait Opens<S: Folder, C: Clock>: Drop {
     ghost use Rattle.std.specs.Prelude.{IfOk};
     ghost use Rattle.appender_rolling.specs.Appender.{OpensSome};
@@ -275,8 +275,8 @@ impl<S: Folder, C: Clock, W: Watch<S>, O: Opens<S, C>> FileLog<S, C, W, O> {
     {
         let moment = self.log.moment();
         match self.log.see_for(moment, length) {
-            Switch::None => {}
-            Switch::Opened | Switch::Failed => self.look_at_file(),
+            Switch::Opened => self.look_at_file(),
+            Switch::None | Switch::Failed => {}
         }
     }
 
