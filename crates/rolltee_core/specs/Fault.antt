@@ -8,6 +8,8 @@ use Rattle.std.specs.declared.io.ErrorKind.TheVariants.{OutOfMemory}
 use Rattle.std.specs.IoError.{error_kind}
 use Rattle.program_io.specs.declared.CopyFault.{CopyFault}
 use Rattle.program_io.specs.declared.CopyFault.TheVariants.{Read as Failed, Write as Refused, Cut}
+use Rattle.program_options.specs.declared.OptionFault.{OptionFault}
+use Rattle.program_options.specs.declared.OptionFault.TheVariants.{Unknown as UnknownWord, Wrong, Memory as NoMemory}
 use Rattle.rolltee_core.specs.declared.tee.Fault.{Fault}
 use Rattle.rolltee_core.specs.declared.tee.Fault.TheVariants.{Usage, Unknown, Option as OfOption, Open, Thread, Read, Write, Lost, Pending, Full, Memory}
 
@@ -31,6 +33,12 @@ abbrev pub copying_fault : CopyFault → Fault
 copying_fault (Failed error) = unless_memory (error_kind error) Read
 copying_fault (Refused error) = unless_memory (error_kind error) Write
 copying_fault Cut = Write
+
+-- the fault of a command line that was not read
+abbrev pub options_fault : OptionFault → Fault
+options_fault (UnknownWord word) = Unknown word
+options_fault (Wrong option error) = OfOption option error
+options_fault NoMemory = Memory
 
 -- the status of a process that a fault ended
 abbrev pub status_of : Fault → ℕ

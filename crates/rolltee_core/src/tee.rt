@@ -50,7 +50,7 @@ pub enum Fault {
     /// A line was not taken whole, by the queue or by the log.
     #[error("write failed")]
     Write,
-    /// So much was lost.
+    /// Lines or log files were lost.
     #[error("{0}")]
     Lost(Losses),
     /// The log was still being flushed a second after its last line.
@@ -111,6 +111,10 @@ impl From<AllocError> for Fault {
 
 /// A fault of the words of a command line.
 impl From<OptionFault> for Fault {
+    ghost use Rattle.rolltee_core.specs.Fault.{options_fault};
+
+    ghost from_gives = { λ fault reported. reported ≡ options_fault fault };
+
     fn from(fault: OptionFault) -> Fault {
         match fault {
             OptionFault::Unknown(word) => Fault::Unknown(word),
