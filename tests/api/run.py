@@ -6,7 +6,8 @@
 
 The page has what a user of `tracing_appender` and `appender_log` reaches. A comparison also fails if a public item has
 no doc comment, or if a line of the sources that declares one is not on the page. It finds these lines by their form
-alone, without the reader that makes the page. The last line of a comparison is `N passed, M failed`.
+alone, without the reader that makes the page. It also fails if an example in a doc comment is not the text of a module
+of `crates/doc_examples`. The last line of a comparison is `N passed, M failed`.
 """
 import re
 import sys
@@ -14,6 +15,7 @@ from collections import Counter
 
 sys.dont_write_bytecode = True
 
+from examples import check_examples
 from library import TOP, TYPES, Library
 from page import page
 
@@ -138,6 +140,7 @@ def main():
     compare(tally, parts)
     check_documentation(tally, library)
     check_lines(tally, library, text)
+    check_examples(tally)
     print(f"{tally.passed} passed, {tally.failed} failed")
     return int(tally.failed > 0)
 

@@ -32,24 +32,28 @@ import tempfile
 sys.dont_write_bytecode = True
 
 HERE = pathlib.Path(__file__).resolve().parent
-CRATES = ["acceptance_schedules", "acceptance_threads", "acceptance_counted", "acceptance_sharing", "appender_log"]
+CRATES = ["acceptance_schedules", "acceptance_threads", "acceptance_counted", "acceptance_folder", "appender_log"]
 # Their tests hold however slow threads are: time may pass also while a thread can go on.
 OF_SLOW_THREADS = {"acceptance_schedules"}
 # These write hundreds or thousands of lines, so that one schedule has tens of thousands of steps. Small tests of
 # acceptance_schedules have the same threads, with two lines each.
 TOO_LONG = {
     "acceptance_threads": [
-        "crowds::a_guard_that_waits_strands_no_sender",
-        "crowds::a_guard_without_a_place_strands_no_sender",
+        "crowds::a_guard_that_waits_leaves_no_sender_asleep",
+        "crowds::a_guard_without_a_place_leaves_no_sender_asleep",
         "crowds::crowds_get_through",
         "plain_ends::the_worker_ends_after_the_last_clone",
     ],
     "acceptance_counted": [
-        "counted::tickets_are_told_and_lines_come_in_order",
+        "counted::tickets_are_returned_and_lines_are_in_order",
         "counting::lines_of_many_senders_are_taken_or_lost",
     ],
-    "acceptance_sharing": ["limited::no_line_of_full_files_is_lost"],
-    "appender_log": ["tests::two_threads_share_a_sink"],
+    "acceptance_folder": [
+        "limited::no_line_of_full_files_is_lost",
+        "links::a_reader_finds_a_file_at_every_moment",
+        "links::three_writers_of_one_link_all_make_it",
+    ],
+    "appender_log": ["tests::times_rise_in_a_long_log_of_threads", "tests::two_threads_share_a_sink"],
 }
 SEARCHES = ["each", "random", "pct"]
 EACH_SECONDS = 5

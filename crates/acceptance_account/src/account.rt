@@ -1,10 +1,10 @@
-//! An account of a run by its steps and replies alone: which reply each step gets, and what its files get.
+//! An account of a run from only its steps and replies: which reply each step gets, and what its files get.
 ghost use Rattle.std.specs.Prelude.{◌≡◌, ◌≢◌, ◌⊎◌, ◌≤◌, ◌<◌, ℕ, ◌↔◌, ◌++◌, ◌∷◌, [], IsTrue, length, drop, IfOk, OnOk, false};
 ghost use Rattle.appender_rolling.specs.Config.{last_of};
 ghost use Rattle.appender_queue.specs.Queue.{one_less as less_one};
 ghost use Rattle.appender_replay.specs.Replay.{with_replies};
 ghost use Rattle.appender_replay.specs.Headline as spec;
-ghost use Rattle.acceptance_account.specs.Inside.{IsOfferAnswer, shut_answer, has_line, accepted_more, taken_next, given_up};
+ghost use Rattle.acceptance_account.specs.Inside.{IsOfferAnswer, shut_answer, account_has_line, with_accepted, with_next_taken, with_line_given_up};
 
 use crate::files::Files;
 use crate::settings::{AccountError, FileStamp, Settings};
@@ -65,7 +65,7 @@ pub struct Account {
 impl Model for Account {
     ghost use Rattle.appender_replay.specs.Headline as spec;
 
-    ghost Value = { spec.Account };
+    ghost Value = { spec.RunAccount };
 
     ghost view = { λ a. record {
       accepted = a.accepted.items;
@@ -137,7 +137,7 @@ impl Account {
 
     // Returns how many places of the queue are taken. The shutdown takes one too.
     fn taken_places(&self) -> u64
-        ensures { result ≡ spec.taken_places self.now }
+        ensures { result ≡ spec.account_places self.now }
     {
         let lines = self.accepted().saturating_sub(self.handed);
         if self.shutdown.is_some() {
@@ -149,7 +149,7 @@ impl Account {
 
     // Returns whether there is room for one more. With the limit 0 there is for one line, if the worker waits.
     fn has_room(&self, limit: usize) -> bool
-        ensures { result ≡ spec.has_room limit self.now }
+        ensures { result ≡ spec.account_has_room limit self.now }
     {
         if limit == 0 {
             self.taken_places() == 0 && self.idle
@@ -160,7 +160,7 @@ impl Account {
 
     /// Returns the reply to an offer.
     pub fn offer_answer(&self, limit: usize) -> Reply
-        ensures value { result ≡ spec.offer_answer limit self.now }
+        ensures value { result ≡ spec.account_offer_reply limit self.now }
         ensures kind { IsOfferAnswer result }
     {
         if self.closed || self.accepted() == u64::MAX {
@@ -196,7 +196,7 @@ impl Account {
 
     /// Returns the reply to a take.
     pub fn take_answer(&self) -> Reply
-        ensures { result ≡ spec.take_answer self.now }
+        ensures { result ≡ spec.account_take_reply self.now }
     {
         if self.closed {
             Reply::Ended
@@ -213,7 +213,7 @@ impl Account {
 
     // Returns whether a line was not handed that was accepted before the shutdown.
     fn has_line(&self) -> bool
-        ensures value { result ≡ has_line self.now }
+        ensures value { result ≡ account_has_line self.now }
         ensures below { IsTrue result → self.now.handed < length self.now.accepted }
     {
         self.handed < self.accepted() && self.handed < self.shutdown.unwrap_or(self.accepted())
@@ -235,13 +235,13 @@ impl Account {
 
     // The same of an offer.
     fn demands_of_offer(&self, limit: usize, line: &[u8], reply: Reply) -> bool
-        ensures { IsTrue result ↔ (((reply ≡ Reply.NoMemory) × (line.now ≢ [])) ⊎ (reply ≡ spec.offer_answer limit self.now)) }
+        ensures { IsTrue result ↔ (((reply ≡ Reply.NoMemory) × (line.now ≢ [])) ⊎ (reply ≡ spec.account_offer_reply limit self.now)) }
     {
         lacks_memory(line, reply) || self.answers_offer(limit, reply)
     }
 
     fn answers_offer(&self, limit: usize, reply: Reply) -> bool
-        ensures { IsTrue result ↔ (reply ≡ spec.offer_answer limit self.now) }
+        ensures { IsTrue result ↔ (reply ≡ spec.account_offer_reply limit self.now) }
     {
         is_answer(reply, self.offer_answer(limit))
     }
@@ -270,7 +270,7 @@ impl Account {
         step: &Step,
         reply: Reply,
     ) -> Result<(), AccountError>
-        ensures { OnOk result (self.new ≡ spec.after settings.now self.old (step.now, reply)) }
+        ensures { OnOk result (self.new ≡ spec.account_after settings.now self.old (step.now, reply)) }
     {
         match (step, reply) {
             (Step::Offer(_, line), Reply::Accepted(_)) => self.accept(alloc, line),
@@ -292,7 +292,7 @@ impl Account {
     }
 
     fn accept(&mut self, alloc: Global, line: &[u8]) -> Result<(), AccountError>
-        ensures { OnOk result (self.new ≡ accepted_more self.old line.now) }
+        ensures { OnOk result (self.new ≡ with_accepted self.old line.now) }
     {
         let line = Line {
             bytes: Vec::from_slice(alloc, line)?,
@@ -309,7 +309,7 @@ impl Account {
         moment: i64,
         reply: Reply,
     ) -> Result<(), AccountError>
-        ensures { OnOk result (self.new ≡ spec.after settings.now self.old (Step.Work moment, reply)) }
+        ensures { OnOk result (self.new ≡ spec.account_after settings.now self.old (Step.Work moment, reply)) }
     {
         match reply {
             Reply::Took(_) => self.take(alloc),
@@ -340,7 +340,7 @@ impl Account {
 
     // Takes the first line that was not handed.
     fn take(&mut self, alloc: Global) -> Result<(), AccountError>
-        ensures { OnOk result (self.new ≡ taken_next self.old) }
+        ensures { OnOk result (self.new ≡ with_next_taken self.old) }
     {
         self.rest = match self.accepted.get(self.handed as usize) {
             Some(line) => line.copy(alloc)?,
@@ -360,7 +360,7 @@ impl Account {
         alloc: Global,
         answer: Result<usize, ErrorKind>,
     ) -> Result<(), AccountError>
-        ensures { OnOk result (self.new ≡ spec.after_answer answer self.old) }
+        ensures { OnOk result (self.new ≡ spec.account_after_write answer self.old) }
     {
         match answer {
             Ok(0) => self.give_up(alloc),
@@ -375,7 +375,7 @@ impl Account {
     }
 
     fn give_up(&mut self, alloc: Global)
-        ensures { self.new ≡ given_up self.old }
+        ensures { self.new ≡ with_line_given_up self.old }
     {
         self.rest = Vec::new(alloc);
         self.whole = false;

@@ -3,9 +3,9 @@ ghost use Rattle.std.specs.Prelude.{◌≡◌, ◌↔◌, ◌≤◌, ◌+◌, �
 ghost use Rattle.std.specs.Str.{bytes_eq};
 ghost use Rattle.appender_names.specs.Rotation.{IsMoment};
 ghost use Rattle.appender_rolling.specs.Config.{last_of};
-ghost use Rattle.appender_rolling.specs.Roller.{count_of, wanted as wanted_of};
+ghost use Rattle.appender_rolling.specs.Roller.{written_count, room_needed as wanted_of};
 ghost use Rattle.appender_replay.specs.Headline as spec;
-ghost use Rattle.acceptance_account.specs.Inside.{is_full, begun, after_flush};
+ghost use Rattle.acceptance_account.specs.Inside.{is_newest_full, with_attempt, after_flush};
 
 use crate::settings::{AccountError, FileStamp, LAST_NUMBER, Settings};
 use appender_names::rotation::in_range;
@@ -74,7 +74,7 @@ impl Model for Files {
 // Returns the later of two moments. A moment out of range counts as not read.
 fn later(latest: i64, moment: i64) -> i64
     requires { IsMoment latest }
-    ensures value { result ≡ spec.later latest moment }
+    ensures value { result ≡ spec.later_moment latest moment }
     ensures in_range { IsMoment result }
 {
     if in_range(moment) {
@@ -103,7 +103,7 @@ fn exceeds(max: u64, since: u64, wanted: u64) -> bool
 
 /// Returns how many bytes an answer counts.
 pub fn count(answer: Result<usize, ErrorKind>) -> usize
-    ensures { result ≡ count_of answer }
+    ensures { result ≡ written_count answer }
 {
     match answer {
         Ok(count) => count,
@@ -113,7 +113,7 @@ pub fn count(answer: Result<usize, ErrorKind>) -> usize
 
 // Returns the bytes that a write took.
 fn taken(bytes: &[u8], answer: Result<usize, ErrorKind>) -> &[u8]
-    ensures { result.now ≡ take (count_of answer) bytes.now }
+    ensures { result.now ≡ take (written_count answer) bytes.now }
 {
     let count = count(answer).min(bytes.len());
     &bytes[..count]
@@ -144,7 +144,7 @@ impl Files {
         first: FileStamp,
     ) -> Result<Files, AccountError>
         requires { first.number ≤ last_of settings.now }
-        ensures { IfOk result (λ files. files ≡ spec.opened settings.now first) }
+        ensures { IfOk result (λ files. files ≡ spec.files_at_opening settings.now first) }
     {
         let file = settings.file_name(first)?;
         Ok(Files {
@@ -197,7 +197,7 @@ impl Files {
 
     // Returns whether a write of `len` bytes would exceed the limit of the newest file, and there is a next number.
     fn is_full(&self, settings: &Settings, len: usize) -> bool
-        ensures { result ≡ is_full settings.now self.now len }
+        ensures { result ≡ is_newest_full settings.now self.now len }
     {
         settings.is_limited()
             && self.newest.number() < LAST_NUMBER
@@ -230,7 +230,7 @@ impl Files {
         switch: Switch,
         answer: Result<usize, ErrorKind>,
     ) -> bool
-        ensures { IsTrue result ↔ ((count_of answer ≤ length bytes.now)
+        ensures { IsTrue result ↔ ((written_count answer ≤ length bytes.now)
             × ((switch ≡ Switch.None) ↔ (spec.due_file settings.now self.now moment (length bytes.now) ≡ None))) }
     {
         count(answer) <= bytes.len() && self.demands_switch(settings, moment, bytes.len(), switch)
@@ -244,7 +244,7 @@ impl Files {
         len: usize,
         switch: Switch,
     ) -> Result<(), AccountError>
-        ensures { OnOk result (self.new ≡ spec.after_look settings.now moment len switch self.old) }
+        ensures { OnOk result (self.new ≡ spec.files_after_check settings.now moment len switch self.old) }
     {
         let due = self.due_file(settings, moment, len);
         self.latest = later(self.latest, moment);
@@ -262,7 +262,7 @@ impl Files {
         switch: Switch,
     ) -> Result<(), AccountError>
         requires { stamp.number ≤ last_of settings.now }
-        ensures { OnOk result (self.new ≡ spec.after_attempt settings.now (Some stamp) switch self.old) }
+        ensures { OnOk result (self.new ≡ spec.files_after_attempt settings.now (Some stamp) switch self.old) }
     {
         match switch {
             Switch::Opened => {
@@ -278,7 +278,7 @@ impl Files {
 
     // Notes the stamp of an attempt.
     fn begin(&mut self, stamp: FileStamp) -> Result<(), AccountError>
-        ensures { OnOk result (self.new ≡ begun self.old stamp) }
+        ensures { OnOk result (self.new ≡ with_attempt self.old stamp) }
     {
         self.earlier
             .insert(0, self.newest)
@@ -295,7 +295,7 @@ impl Files {
         bytes: &[u8],
         answer: Result<usize, ErrorKind>,
     ) -> Result<(), AccountError>
-        ensures { OnOk result (self.new ≡ spec.after_write bytes.now answer self.old) }
+        ensures { OnOk result (self.new ≡ spec.files_after_write bytes.now answer self.old) }
     {
         let taken = taken(bytes, answer);
         self.since = sum(self.since, taken.len() as u64)?;
@@ -318,7 +318,7 @@ impl Files {
 
     /// Returns what was written to the file of this name.
     pub fn written(&self, alloc: Global, name: &str) -> Result<Vec<u8>, AccountError>
-        ensures { IfOk result (λ bytes. bytes.items ≡ spec.written name.now self.now.writes) }
+        ensures { IfOk result (λ bytes. bytes.items ≡ spec.written_to_name name.now self.now.writes) }
     {
         let mut all = Vec::new(alloc);
         for write in &self.writes {

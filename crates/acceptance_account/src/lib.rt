@@ -1,4 +1,4 @@
-//! An account of a run by its steps and replies alone, and tests that replies and folders are as it says.
+//! An account of a run from only its steps and replies, and tests that replies and folders are as it says.
 #![tactic(auto)]
 
 pub mod account;

@@ -1,4 +1,4 @@
-//! The same account of a roller alone.
+//! The same account of a roller without a queue.
 ghost use Rattle.std.specs.Prelude.{◌≡◌, ◌≤◌, ◌↔◌, IsTrue, IfOk, OnOk};
 ghost use Rattle.appender_rolling.specs.Config.{last_of};
 ghost use Rattle.appender_replay.specs.Replay.{with_replies};

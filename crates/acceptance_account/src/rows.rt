@@ -302,7 +302,7 @@ fn check_failing(rt: &impl AllocAndAbort, fault: &str, script: &str) -> Result<u
 }
 
 #[test]
-fn so_they_do_where_each_call_fails_in_turn(rt: HostRuntime) -> Result<(), Fail> {
+fn the_account_is_followed_if_each_call_fails_in_turn(rt: HostRuntime) -> Result<(), Fail> {
     for script in &BUSY {
         let failing = format!(in rt.alloc(); "\n{script}")?;
         // The folder could not be made, the file not opened, the link not made.

@@ -171,7 +171,7 @@ impl Trails for Unsynced {
 
 // The worker's flushes fail, or one at a switch. The worker prints why.
 #[test]
-fn tells_flushes_of_sources_that_failed(rt: HostRuntime) -> Result<(), Fail> {
+fn reports_flushes_of_sources_that_failed(rt: HostRuntime) -> Result<(), Fail> {
     let alloc = rt.alloc();
     for step in [0, 3600] {
         let paths = [String::from_str(alloc, "any")?];

@@ -258,7 +258,7 @@ fn a_part_of_a_line_is_left_at_the_limit(rt: HostRuntime) {
 
 // A file that is gone is reported before the next one begins, also if it has room for a shorter line.
 #[test]
-fn a_file_that_is_gone_is_told_at_the_limit(rt: HostRuntime) {
+fn a_file_that_is_gone_is_reported_at_the_limit(rt: HostRuntime) {
     let mut log = limited(&rt, MemoryFolder::new(rt.alloc()), 60, &[FIRST], 4);
     assert!(rt; write(rt.alloc(), &mut log, "a\n").is_ok());
     expect_eq(&rt, log.watch().counts.gone(), 0);

@@ -338,7 +338,7 @@ fn a_line_is_given_up_after_a_hundred_interruptions(rt: HostRuntime) {
 }
 
 #[test]
-fn a_line_cut_short_is_told_and_ended(rt: HostRuntime) {
+fn a_line_cut_short_is_reported_and_ended(rt: HostRuntime) {
     let mut log = open(&rt, failing_folder(&rt, 3..4, &[2]), 60, &[], false);
     assert!(rt; matches!(write(rt.alloc(), &mut log, "ab\nc\n"), Err(Fault::Cut(_))));
     assert!(rt; matches!(log.write(b"d\n"), Ok(2)));
@@ -357,7 +357,7 @@ fn a_line_cut_short_is_left_at_a_switch(rt: HostRuntime) {
 }
 
 #[test]
-fn a_write_that_fails_is_told(rt: HostRuntime) {
+fn a_write_that_fails_is_reported(rt: HostRuntime) {
     let mut log = open(&rt, failing_folder(&rt, 2..3, &[]), 60, &[], false);
     assert!(rt; matches!(write(rt.alloc(), &mut log, "ab\n"), Err(Fault::Write(_))));
     assert!(rt; matches!(log.write(b"c\n"), Ok(2)));
@@ -397,7 +397,7 @@ static LOST: [(&[&str], u64, u64); 4] = [
 ];
 
 #[test]
-fn each_file_that_is_gone_is_told_once(rt: HostRuntime) {
+fn each_file_that_is_gone_is_reported_once(rt: HostRuntime) {
     for (lost, before, after) in &LOST {
         let folder = MemoryFolder::new(rt.alloc());
         let mut log = open(&rt, folder, 1800, *lost, false);

@@ -1,13 +1,13 @@
 // The whole program over a real folder; its lines over folders in memory, and several sources.
 use crate::expect::expect_eq;
 use audit_trail_core::trail::{Fault, Limits, keep, report_fault};
-use program_io::Host;
 use std::io::{Read, Write};
 use std::os::unix::fs::symlink;
 use std::process::Abort;
 use std::rt::{Files, Runtime};
 use std::test::Fail;
 use std::{env, fs, io, process};
+use tracing_appender::non_blocking::Host;
 use tracing_appender::rolling::InitError;
 
 // All files are kept, and take any number of bytes.
@@ -148,7 +148,7 @@ fn keeps_the_newest_files_by_their_names(rt: HostRuntime) -> Result<(), Fail> {
 }
 
 #[test]
-fn tells_its_usage(rt: HostRuntime) -> Result<(), Fail> {
+fn prints_its_usage(rt: HostRuntime) -> Result<(), Fail> {
     check(
         &rt,
         &[],
@@ -160,7 +160,7 @@ fn tells_its_usage(rt: HostRuntime) -> Result<(), Fail> {
 }
 
 #[test]
-fn tells_an_option_that_is_unknown(rt: HostRuntime) -> Result<(), Fail> {
+fn reports_an_option_that_is_unknown(rt: HostRuntime) -> Result<(), Fail> {
     let mut errors = Vec::new(rt.alloc());
     let fault = Fault::Unknown(String::from_str(rt.alloc(), "--kep")?);
     expect_eq(&rt, report_fault(&fault, &mut errors), 2);
@@ -176,7 +176,7 @@ static ARGUMENTS: [(io::ErrorKind, &str, u8); 2] = [
 ];
 
 #[test]
-fn tells_arguments_that_are_not_read(rt: HostRuntime) {
+fn reports_arguments_that_are_not_read(rt: HostRuntime) {
     for (kind, told, status) in &ARGUMENTS {
         let mut errors = Vec::new(rt.alloc());
         let fault = Fault::Argument.unless_memory(*kind);
@@ -186,7 +186,7 @@ fn tells_arguments_that_are_not_read(rt: HostRuntime) {
 }
 
 #[test]
-fn tells_a_folder_that_is_none(rt: HostRuntime) -> Result<(), Fail> {
+fn reports_a_folder_that_is_none(rt: HostRuntime) -> Result<(), Fail> {
     let arguments = Vec::from_array(rt.alloc(), [fresh(&rt, "file")?])?;
     let path = arguments[0].as_str();
     fs::write(&rt, path, "here")?;
@@ -198,7 +198,7 @@ fn tells_a_folder_that_is_none(rt: HostRuntime) -> Result<(), Fail> {
 }
 
 #[test]
-fn tells_an_input_that_is_not_read(rt: HostRuntime) -> Result<(), Fail> {
+fn reports_an_input_that_is_not_read(rt: HostRuntime) -> Result<(), Fail> {
     let arguments = Vec::from_array(rt.alloc(), [fresh(&rt, "read")?])?;
     let told = "read failed: permission denied\n";
     check(&rt, arguments.as_slice(), Broken, 1, told);
@@ -235,7 +235,7 @@ impl Read for Given {
 }
 
 #[test]
-fn tells_a_line_that_never_ends(rt: HostRuntime) -> Result<(), Fail> {
+fn reports_a_line_that_never_ends(rt: HostRuntime) -> Result<(), Fail> {
     let arguments = Vec::from_array(rt.alloc(), [fresh(&rt, "endless")?])?;
     let told = "read failed: line too long\n";
     check(&rt, arguments.as_slice(), Given::new(false), 1, told);
@@ -256,7 +256,7 @@ static OPENINGS: [(io::ErrorKind, &str, u8); 2] = [
 ];
 
 #[test]
-fn tells_logs_that_are_not_opened(rt: HostRuntime) {
+fn reports_logs_that_are_not_opened(rt: HostRuntime) {
     for (kind, told, status) in &OPENINGS {
         let mut errors = Vec::new(rt.alloc());
         let fault = Fault::from(InitError::File(io::Error::from(*kind)));
@@ -346,7 +346,7 @@ impl Read for Harming {
 }
 
 #[test]
-fn tells_a_log_that_is_gone(rt: HostRuntime) -> Result<(), Fail> {
+fn reports_a_log_that_is_gone(rt: HostRuntime) -> Result<(), Fail> {
     let faults = "log files not found again: 1\n";
     for harm in [
         Harm::Removed,

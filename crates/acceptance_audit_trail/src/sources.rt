@@ -5,7 +5,6 @@ use crate::program::{ALL, Given, Harm, Harming, clear, fresh, latest, newest_tex
 use audit_trail_core::gather::{DiskTrails, Trails, keep_all};
 use audit_trail_core::trail::{Fault, open_trail};
 use file_watch::FileCounts;
-use program_io::Host;
 use std::alloc::{AllocError, Global};
 use std::io::{Read, Write};
 use std::os::unix::fs::symlink;
@@ -13,6 +12,7 @@ use std::process::Abort;
 use std::sync::Arc;
 use std::test::Fail;
 use std::{fs, io};
+use tracing_appender::non_blocking::Host;
 use tracing_appender::rolling::InitError;
 use tracing_appender::store::MemoryFolder;
 
@@ -79,7 +79,7 @@ fn check_written(rt: &(impl AllocGlobal + Abort), written: &str) {
 }
 
 #[test]
-fn gives_an_account_of_all_sources(rt: HostRuntime) -> Result<(), Fail> {
+fn prints_an_account_of_all_sources(rt: HostRuntime) -> Result<(), Fail> {
     let directory = fresh(&rt, "sources")?;
     let sources = sources(&rt)?;
     let faults = faults_of(rt.alloc(), &sources)?;
@@ -159,7 +159,7 @@ fn check_narrow<R: Host + Abort>(
 }
 
 #[test]
-fn tells_lines_that_found_no_room(rt: HostRuntime) -> Result<(), Fail> {
+fn reports_lines_that_found_no_room(rt: HostRuntime) -> Result<(), Fail> {
     Ok(check_narrow(rt, 7, "long", "lines not written whole: 1\n")?)
 }
 
@@ -203,7 +203,7 @@ impl<T: Trails + Drop> Trails for Harmed<T> {
 
 // The log has a line of another run, since the worker may write none of these before the harm.
 #[test]
-fn tells_a_log_that_is_gone(rt: HostRuntime) -> Result<(), Fail> {
+fn reports_a_log_that_is_gone(rt: HostRuntime) -> Result<(), Fail> {
     let alloc = rt.alloc();
     for harm in [Harm::Removed, Harm::Linked, Harm::Truncated] {
         let directory = fresh(&rt, "harmed")?;
@@ -315,7 +315,7 @@ fn refuses_sources_in_the_folder_of_the_log(rt: HostRuntime) -> Result<(), Fail>
 
 // The log's own file is known by any name.
 #[test]
-fn knows_the_file_of_the_log(rt: HostRuntime) -> Result<(), Fail> {
+fn finds_the_file_of_the_log(rt: HostRuntime) -> Result<(), Fail> {
     let alloc = rt.alloc();
     let (directory, hard) = (fresh(&rt, "known")?, fresh_link(&rt, "hard")?);
     let trail = open_trail(&rt, rt, ALL, directory.as_str(), FileCounts::new(alloc)?)?;
@@ -383,7 +383,7 @@ impl Write for Full {
 }
 
 #[test]
-fn tells_an_account_that_is_not_written(rt: HostRuntime) -> Result<(), Fail> {
+fn reports_an_account_that_is_not_written(rt: HostRuntime) -> Result<(), Fail> {
     let mut errors = Vec::new(rt.alloc());
     let paths = [String::from_str(rt.alloc(), "short")?];
     let trails = Narrow { room: 4 };
@@ -395,7 +395,7 @@ fn tells_an_account_that_is_not_written(rt: HostRuntime) -> Result<(), Fail> {
 }
 
 #[test]
-fn tells_nothing_if_all_is_written(rt: HostRuntime) -> Result<(), Fail> {
+fn reports_nothing_if_all_is_written(rt: HostRuntime) -> Result<(), Fail> {
     let (mut output, mut errors) = (Vec::new(rt.alloc()), Vec::new(rt.alloc()));
     let paths = [String::from_str(rt.alloc(), "short")?];
     let trails = Narrow { room: 4 };
@@ -448,7 +448,7 @@ impl Trails for FailingTrails {
 }
 
 #[test]
-fn tells_the_first_fault_of_each_source(rt: HostRuntime) -> Result<(), Fail> {
+fn reports_the_first_fault_of_each_source(rt: HostRuntime) -> Result<(), Fail> {
     let alloc = rt.alloc();
     let paths = [
         String::from_str(alloc, "one")?,

@@ -6,9 +6,8 @@ use crate::counted_crowd::{Tickets, expect_in_order, write_by_ten};
 use crate::expect::{Totals, expect_eq, expect_shown, expect_text, put};
 use acceptance_gate::{Gate, Seen, new_gate};
 use appender_non_blocking::non_blocking::{
-    Blanks, CountedGuard, CountedSender, NonBlockingBuilder, Sent, Shut, Unsettled,
+    Blanks, CountedGuard, CountedSender, Host, NonBlockingBuilder, Sent, Shut, Unsettled,
 };
-use program_io::Host;
 use std::alloc::{AllocError, Global};
 use std::io;
 use std::marker::Brand;
@@ -20,9 +19,9 @@ use std::sync::ledger::Ledger;
 #[derive(Clone, Copy)]
 enum SenderStep {
     // The first sender writes a line, with this reply.
-    Tells(&'static [u8], Sent),
+    WritesLine(&'static [u8], Sent),
     // Ten threads write a hundred lines each.
-    TellsByTen,
+    WritesByTen,
     // The writer reaches the line that the gate holds.
     IsHeld,
     // These numbers of lines of the first sender are queued and were dropped.
@@ -92,7 +91,7 @@ fn run<R: Host + Abort>(rt: R, story: &Story) {
         seen,
         told: Vec::new(rt.alloc()),
     };
-    tell::<Brand, Brand, Brand, Brand, R>(
+    start_story::<Brand, Brand, Brand, Brand, R>(
         &mut stage,
         story,
         writer,
@@ -102,7 +101,7 @@ fn run<R: Host + Abort>(rt: R, story: &Story) {
 }
 
 // Makes the senders and their guard, with which the story is played.
-fn tell<
+fn start_story<
     A: Ledger + Send + Sync + 'static,
     H: Ledger + Send + Sync + 'static,
     S: Ledger + Send + Sync + 'static,
@@ -277,7 +276,7 @@ fn can_be_shown<A: Ledger, H: Ledger, S: Ledger, C: Ledger, R: Host + Abort>(
 /// parameters of a `CountedSender`.
 pub(crate) trait TicketSender: Send + Drop + 'static {
     /// Writes a line, and returns what became of it.
-    fn tell(&mut self, line: &[u8]) -> io::Result<Sent>;
+    fn write_ticketed(&mut self, line: &[u8]) -> io::Result<Sent>;
 
     /// How many lines are queued, and how many were dropped.
     fn counts(&self) -> (u64, usize);
@@ -293,7 +292,7 @@ impl<
     C: Ledger + Send + Sync + 'static,
     R: Host,
 > TicketSender for CountedSender<A, H, S, C, R> {
-    fn tell(&mut self, line: &[u8]) -> io::Result<Sent> {
+    fn write_ticketed(&mut self, line: &[u8]) -> io::Result<Sent> {
         self.write_line(line)
     }
 
@@ -307,9 +306,9 @@ impl<
 }
 
 // Writes a line by the first sender, and compares the reply.
-fn expect_told<T: TicketSender, R: Abort>(rt: &R, senders: &mut Vec<T>, line: &[u8], wanted: Sent) {
+fn expect_sent<T: TicketSender, R: Abort>(rt: &R, senders: &mut Vec<T>, line: &[u8], wanted: Sent) {
     let sender = senders.first_mut().expect(rt, "a sender");
-    let told = sender.tell(line).expect(rt, "the queue is open");
+    let told = sender.write_ticketed(line).expect(rt, "the queue is open");
     expect_eq(rt, told, wanted);
 }
 
@@ -329,8 +328,10 @@ impl<R: Host + Abort> Stage<R> {
     fn plays<T: TicketSender>(&mut self, senders: &mut Vec<T>, steps: &[SenderStep]) {
         for step in steps {
             match *step {
-                SenderStep::Tells(line, wanted) => expect_told(&self.rt, senders, line, wanted),
-                SenderStep::TellsByTen => self.told = write_by_ten(self.rt, senders),
+                SenderStep::WritesLine(line, wanted) => expect_sent(
+                    &self.rt, senders, line, wanted,
+                ),
+                SenderStep::WritesByTen => self.told = write_by_ten(self.rt, senders),
                 SenderStep::IsHeld => assert!(self.rt; self.seen.is_held(self.rt)),
                 SenderStep::Counts(queued, dropped) => {
                     expect_counts(&self.rt, senders.as_slice(), (queued, dropped));
@@ -365,7 +366,7 @@ static TELLS_TICKETS: Story = Story {
     limit: 4,
     lossy: false,
     senders: 10,
-    steps: &[SenderStep::TellsByTen],
+    steps: &[SenderStep::WritesByTen],
     end: End::Settles(Totals {
         accepted: 1000,
         handed: 1000,
@@ -376,7 +377,7 @@ static TELLS_TICKETS: Story = Story {
 };
 
 #[test]
-fn tickets_are_told_and_lines_come_in_order(rt: HostRuntime) {
+fn tickets_are_returned_and_lines_are_in_order(rt: HostRuntime) {
     run(rt, &TELLS_TICKETS);
 }
 
@@ -385,7 +386,7 @@ static SENDS_LONG: Story = Story {
     limit: 4,
     lossy: false,
     senders: 1,
-    steps: &[SenderStep::Tells(&[b'|'; 600], Sent::Queued(1))],
+    steps: &[SenderStep::WritesLine(&[b'|'; 600], Sent::Queued(1))],
     end: End::Settles(Totals {
         accepted: 1,
         handed: 1,
@@ -396,7 +397,7 @@ static SENDS_LONG: Story = Story {
 };
 
 #[test]
-fn a_long_line_comes_whole(rt: HostRuntime) {
+fn a_long_line_is_whole(rt: HostRuntime) {
     run(rt, &SENDS_LONG);
 }
 
@@ -405,13 +406,13 @@ static LEAVES_LINES: Story = Story {
     lossy: true,
     senders: 1,
     steps: &[
-        SenderStep::Tells(b"held", Sent::Queued(1)),
+        SenderStep::WritesLine(b"held", Sent::Queued(1)),
         SenderStep::IsHeld,
-        SenderStep::Tells(b"b", Sent::Queued(2)),
+        SenderStep::WritesLine(b"b", Sent::Queued(2)),
     ],
     end: End::Shuts(
         &[
-            SenderStep::Tells(b"c", Sent::Queued(3)),
+            SenderStep::WritesLine(b"c", Sent::Queued(3)),
             SenderStep::Counts(3, 0),
             SenderStep::Opens,
         ],
@@ -426,7 +427,7 @@ static LEAVES_LINES: Story = Story {
 };
 
 #[test]
-fn lines_behind_the_shutdown_are_left(rt: HostRuntime) {
+fn lines_after_the_shutdown_are_left(rt: HostRuntime) {
     run(rt, &LEAVES_LINES);
 }
 
@@ -435,13 +436,13 @@ static SETTLES_WITH_SHARE: Story = Story {
     lossy: true,
     senders: 1,
     steps: &[
-        SenderStep::Tells(b"held", Sent::Queued(1)),
+        SenderStep::WritesLine(b"held", Sent::Queued(1)),
         SenderStep::IsHeld,
     ],
     end: End::ShutsWithShare(
         &[
-            SenderStep::Tells(b"b", Sent::Queued(2)),
-            SenderStep::Tells(b"c", Sent::Queued(3)),
+            SenderStep::WritesLine(b"b", Sent::Queued(2)),
+            SenderStep::WritesLine(b"c", Sent::Queued(3)),
             SenderStep::Opens,
         ],
         Totals {
@@ -455,7 +456,7 @@ static SETTLES_WITH_SHARE: Story = Story {
 };
 
 #[test]
-fn the_share_comes_with_the_account(rt: HostRuntime) {
+fn the_share_is_returned_with_the_account(rt: HostRuntime) {
     run(rt, &SETTLES_WITH_SHARE);
 }
 
@@ -493,10 +494,10 @@ static DROPS_LINES: Story = Story {
     senders: 1,
     steps: &[
         SenderStep::LastTicket(0),
-        SenderStep::Tells(b"held", Sent::Queued(1)),
+        SenderStep::WritesLine(b"held", Sent::Queued(1)),
         SenderStep::IsHeld,
-        SenderStep::Tells(b"a", Sent::Queued(2)),
-        SenderStep::Tells(b"b", Sent::Dropped),
+        SenderStep::WritesLine(b"a", Sent::Queued(2)),
+        SenderStep::WritesLine(b"b", Sent::Dropped),
         SenderStep::Counts(2, 1),
         SenderStep::LastTicket(2),
         SenderStep::Opens,
@@ -520,9 +521,9 @@ static FINDS_NO_ROOM: Story = Story {
     lossy: false,
     senders: 1,
     steps: &[
-        SenderStep::Tells(b"held", Sent::Queued(1)),
+        SenderStep::WritesLine(b"held", Sent::Queued(1)),
         SenderStep::IsHeld,
-        SenderStep::Tells(b"a", Sent::Queued(2)),
+        SenderStep::WritesLine(b"a", Sent::Queued(2)),
     ],
     end: End::FindsNoRoom(Totals {
         accepted: 2,
@@ -544,9 +545,9 @@ static DROPS_ITS_GUARD: Story = Story {
     lossy: false,
     senders: 1,
     steps: &[
-        SenderStep::Tells(b"held", Sent::Queued(1)),
+        SenderStep::WritesLine(b"held", Sent::Queued(1)),
         SenderStep::IsHeld,
-        SenderStep::Tells(b"a", Sent::Queued(2)),
+        SenderStep::WritesLine(b"a", Sent::Queued(2)),
     ],
     end: End::DropsGuard,
     came: Came::Count(2),

@@ -2,8 +2,7 @@
 use crate::counted::TicketSender;
 use crate::expect::{expect_eq, put};
 use acceptance_gate::Seen;
-use appender_non_blocking::non_blocking::Sent;
-use program_io::Host;
+use appender_non_blocking::non_blocking::{Host, Sent};
 use std::alloc::{AllocError, Global};
 use std::process::Abort;
 use std::thread::JoinHandle;
@@ -22,14 +21,14 @@ fn text(alloc: Global, sender: usize, line: usize) -> Result<String, AllocError>
 }
 
 // Writes a line, and returns its ticket if that is then the sender's last one.
-fn tell_one<T: TicketSender, R: Host>(
+fn write_one<T: TicketSender, R: Host>(
     rt: R,
     sender: &mut T,
     number: usize,
     line: usize,
 ) -> Option<u64> {
     let text = text(rt.alloc(), number, line).ok()?;
-    match sender.tell(text.as_bytes()) {
+    match sender.write_ticketed(text.as_bytes()) {
         Ok(Sent::Queued(ticket)) if sender.last_ticket() == ticket => Some(ticket),
         _ => None,
     }
@@ -39,7 +38,7 @@ fn tell_one<T: TicketSender, R: Host>(
 fn write_hundred<T: TicketSender, R: Host>(rt: R, number: usize, mut sender: T) -> (T, Vec<u64>) {
     let mut tickets = Vec::new(rt.alloc());
     for line in 0..100usize {
-        if let Some(ticket) = tell_one(rt, &mut sender, number, line) {
+        if let Some(ticket) = write_one(rt, &mut sender, number, line) {
             let _ = tickets.push(ticket).is_ok();
         }
     }
@@ -102,13 +101,13 @@ pub(crate) fn expect_in_order<R: Host + Abort>(rt: R, told: &[Tickets], seen: &S
     expect_eq(&rt, told.len(), 10);
     expect_eq(&rt, seen.count(), 1000);
     for sender in told {
-        stands_in_order(rt, sender, seen);
+        are_in_order(rt, sender, seen);
     }
 }
 
 // Each ticket is greater than the sender's last one, and its line was written at its position. All lines
 // differ, so no ticket was returned twice.
-fn stands_in_order<R: Host + Abort>(rt: R, told: &Tickets, seen: &Seen) {
+fn are_in_order<R: Host + Abort>(rt: R, told: &Tickets, seen: &Seen) {
     expect_eq(&rt, told.tickets.len(), 100);
     let mut last = 0u64;
     for (line, ticket) in told.tickets.iter().enumerate() {

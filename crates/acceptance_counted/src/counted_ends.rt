@@ -5,14 +5,12 @@ ghost use Rattle.appender_non_blocking.specs.Account.{AreBlanksOf};
 use crate::counted::TicketSender;
 use crate::expect::{expect_eq, expect_text};
 use acceptance_gate::{Gate, Seen, new_gate};
-use appender_non_blocking::non_blocking::{Blanks, CountedGuard, NonBlockingBuilder, Sent, Shut};
-use program_io::Host;
+use appender_non_blocking::non_blocking::{Blanks, Host, NonBlockingBuilder, Sent, Shut};
 use std::io::{ErrorKind, Write};
 use std::marker::Brand;
 use std::process::Abort;
-use std::sync::Wait;
 use std::sync::ledger::Ledger;
-use std::time::{Clock, Duration};
+use std::time::Duration;
 use std::{fs, io, thread};
 
 /// What a test does with three senders of one worker and their guard.
@@ -30,19 +28,6 @@ pub(crate) enum Act {
     Closes,
 }
 
-/// A guard of counted senders. A proof over it is shorter than one over the five parameters of a
-/// `CountedGuard`.
-trait Shuts: Drop {
-    fn shuts(&mut self) -> Shut;
-}
-
-impl<A: Ledger, H: Ledger, S: Ledger, C: Ledger, R: Wait + Clock + Print + Drop> Shuts
-    for CountedGuard<A, H, S, C, R> {
-    fn shuts(&mut self) -> Shut {
-        self.shut()
-    }
-}
-
 /// Plays over a queue of three lines and three senders, and drops them.
 pub(crate) fn run<R: Host + Abort, W: Write + Send + Drop + 'static>(
     rt: R,
@@ -51,10 +36,10 @@ pub(crate) fn run<R: Host + Abort, W: Write + Send + Drop + 'static>(
     lossy: bool,
     act: Act,
 ) {
-    tell::<Brand, Brand, Brand, Brand, R, W>(rt, writer, seen, lossy, act, Blanks::new(3));
+    start_act::<Brand, Brand, Brand, Brand, R, W>(rt, writer, seen, lossy, act, Blanks::new(3));
 }
 
-fn tell<
+fn start_act<
     A: Ledger + Send + Sync + 'static,
     H: Ledger + Send + Sync + 'static,
     S: Ledger + Send + Sync + 'static,
@@ -69,63 +54,71 @@ fn tell<
         .lossy(lossy)
         .thread_name(rt.alloc(), "counter")
         .expect(&rt, "memory");
-    let (mut senders, guard) = builder
+    let (mut senders, mut guard) = builder
         .finish_counted::<A, H, S, C, _, R>(rt, rt.alloc(), writer, 3, blanks)
         .expect(&rt, "a worker");
-    play(rt, seen, act, &mut senders, guard);
+    match act {
+        Act::Closes => {
+            expect_eq(&rt, guard.shut(), Shut::Sent);
+            expect_closed(rt, &mut senders);
+            expect_eq(&rt, guard.shut(), Shut::Closed);
+            drop(guard);
+        }
+        _ => play(rt, seen, act, &mut senders, guard),
+    }
     drop(senders);
 }
 
-fn play<T: TicketSender, G: Shuts, R: Host + Abort>(
+fn play<T: TicketSender, G: Drop, R: Host + Abort>(
     rt: R,
     seen: &Seen,
     act: Act,
     senders: &mut Vec<T>,
-    mut guard: G,
+    guard: G,
 ) {
     match act {
         Act::LeavesOne => leaves_one(rt, seen, senders, guard),
         Act::Fills => fills(rt, seen, senders),
-        Act::Writes => expect_told(rt, senders, b"a", Sent::Queued(1)),
+        Act::Writes => expect_sent(rt, senders, b"a", Sent::Queued(1)),
         Act::WritesEmptyLines => {
-            expect_told(rt, senders, b"", Sent::Queued(1));
-            expect_told(rt, senders, b"a", Sent::Queued(2));
-            expect_told(rt, senders, b"", Sent::Queued(3));
+            expect_sent(rt, senders, b"", Sent::Queued(1));
+            expect_sent(rt, senders, b"a", Sent::Queued(2));
+            expect_sent(rt, senders, b"", Sent::Queued(3));
         }
-        Act::Closes => closes(rt, senders, &mut guard),
+        Act::Closes => expect_closed(rt, senders),
     }
 }
 
 // Writes a line by the first sender, and compares the reply.
-fn expect_told<T: TicketSender, R: Abort + Copy>(
+fn expect_sent<T: TicketSender, R: Abort + Copy>(
     rt: R,
     senders: &mut Vec<T>,
     line: &[u8],
     wanted: Sent,
 ) {
     let sender = senders.first_mut().expect(&rt, "a sender");
-    let told = sender.tell(line).expect(&rt, "the queue is open");
+    let told = sender.write_ticketed(line).expect(&rt, "the queue is open");
     expect_eq(&rt, told, wanted);
 }
 
 // The writer holds a line, and three more find room.
 fn fill<T: TicketSender, R: Host + Abort>(rt: R, seen: &Seen, senders: &mut Vec<T>) {
-    expect_told(rt, senders, b"held", Sent::Queued(1));
+    expect_sent(rt, senders, b"held", Sent::Queued(1));
     assert!(rt; seen.is_held(rt));
-    expect_told(rt, senders, b"a", Sent::Queued(2));
-    expect_told(rt, senders, b"b", Sent::Queued(3));
-    expect_told(rt, senders, b"c", Sent::Queued(4));
+    expect_sent(rt, senders, b"a", Sent::Queued(2));
+    expect_sent(rt, senders, b"b", Sent::Queued(3));
+    expect_sent(rt, senders, b"c", Sent::Queued(4));
 }
 
 fn fills<T: TicketSender, R: Host + Abort>(rt: R, seen: &Seen, senders: &mut Vec<T>) {
     fill(rt, seen, senders);
-    expect_told(rt, senders, b"d", Sent::Dropped);
+    expect_sent(rt, senders, b"d", Sent::Dropped);
     seen.opens();
 }
 
 // The guard, which finds no room for its shutdown, and two of three senders are dropped. The worker finds
 // the queue empty, and closes it if it counts no sender. Then the third sender writes.
-fn leaves_one<T: TicketSender, G: Shuts, R: Host + Abort>(
+fn leaves_one<T: TicketSender, G: Drop, R: Host + Abort>(
     rt: R,
     seen: &Seen,
     senders: &mut Vec<T>,
@@ -138,17 +131,16 @@ fn leaves_one<T: TicketSender, G: Shuts, R: Host + Abort>(
     seen.opens();
     assert!(rt; seen.flushes_come(rt, 1));
     for ticket in 5..105u64 {
-        expect_told(rt, senders, b"d", Sent::Queued(ticket));
+        expect_sent(rt, senders, b"d", Sent::Queued(ticket));
     }
 }
 
-// Shuts the queue, and writes until a sender finds it closed. Then the guard finds so too.
-fn closes<T: TicketSender, G: Shuts, R: Host + Abort>(rt: R, senders: &mut Vec<T>, guard: &mut G) {
+// Writes until a sender finds the queue closed, after a shutdown.
+fn expect_closed<T: TicketSender, R: Host + Abort>(rt: R, senders: &mut Vec<T>) {
     let sender = senders.first_mut().expect(&rt, "a sender");
-    expect_eq(&rt, guard.shuts(), Shut::Sent);
     let mut closed = false;
     for _ in 0..10_000u32 {
-        match sender.tell(b"late") {
+        match sender.write_ticketed(b"late") {
             Ok(_) => thread::sleep(&rt, Duration::from_millis(1)),
             Err(fault) => {
                 assert!(rt; fault.kind() == ErrorKind::Other);
@@ -158,7 +150,6 @@ fn closes<T: TicketSender, G: Shuts, R: Host + Abort>(rt: R, senders: &mut Vec<T
         }
     }
     assert!(rt; closed);
-    expect_eq(&rt, guard.shuts(), Shut::Closed);
 }
 
 #[test]

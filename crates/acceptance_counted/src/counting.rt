@@ -1,8 +1,7 @@
 // Lines that a counting writer counts, by itself and in a worker's thread.
 use crate::expect::{expect_eq, expect_eq_of};
-use appender_non_blocking::non_blocking::{Closing, NonBlocking, NonBlockingBuilder};
+use appender_non_blocking::non_blocking::{Closing, Host, NonBlocking, NonBlockingBuilder};
 use appender_worker::worker::{CountingWriter, LineCounts};
-use program_io::Host;
 use std::alloc::AllocError;
 use std::io::{ErrorKind, Write};
 use std::process::Abort;

@@ -5,7 +5,7 @@ use crate::runs::{DiskStep, Outcome};
 use crate::scene::{ELEVEN, START, TWELVE, disk_of, expect_texts, put_file, write_log};
 use fake_files::disk::{Call, Disk};
 
-// A disk that holds `other.txt` alone.
+// A disk that holds only `other.txt`.
 fn kept_disk(rt: &impl AllocAndAbort) -> Disk {
     disk_of(rt, &[("other.txt", "kept")])
 }
@@ -97,7 +97,7 @@ fn expect_counted(rt: &impl AllocAndAbort, outcome: &Outcome, of: &[DiskStep]) {
 }
 
 #[test]
-fn what_is_counted_stands(rt: HostRuntime) {
+fn counts_are_of_what_was_written(rt: HostRuntime) {
     for (steps, answers, files, printed) in &WRITES {
         let outcome = write_unlinked(&rt, steps);
         expect_texts(&rt, &outcome, (*answers, *files, *printed), steps);
@@ -155,7 +155,7 @@ fn write_linked(rt: &impl AllocAndAbort, stands: bool, call: usize, name: &'stat
 }
 
 #[test]
-fn a_link_that_comes_in_between_is_not_followed(rt: HostRuntime) {
+fn a_link_that_is_made_meanwhile_is_not_followed(rt: HostRuntime) {
     for (stands, call, name, answers, files, printed) in &LINKS {
         let outcome = write_linked(&rt, *stands, *call, *name);
         expect_texts(

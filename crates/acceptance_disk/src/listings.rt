@@ -77,7 +77,7 @@ fn hidden_logs(rt: &impl AllocAndAbort) -> Disk {
 }
 
 #[test]
-fn what_cannot_be_told_stays(rt: HostRuntime) {
+fn what_has_no_name_or_kind_is_not_removed(rt: HostRuntime) {
     let disk = hidden_logs(&rt);
     expect_eq(
         &rt,

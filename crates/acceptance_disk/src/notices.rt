@@ -61,16 +61,16 @@ fn write_failing(rt: &impl AllocAndAbort, call: Call, link: &str) -> Outcome {
     write_log(rt, &disk, 2, link, &steps)
 }
 
-fn expect_told(rt: &impl Abort, outcome: &Outcome, call: Call, printed: &str) {
+fn expect_notices(rt: &impl Abort, outcome: &Outcome, call: Call, printed: &str) {
     expect_eq(rt, outcome.printed.as_str(), printed);
     expect_eq_of(rt, call, outcome.counted.as_str(), "onetwothreefour");
 }
 
 #[test]
-fn each_fault_is_told_once_at_each_boundary(rt: HostRuntime) {
+fn each_fault_is_reported_once_at_each_boundary(rt: HostRuntime) {
     for (call, link, printed) in &NOTICES {
         let outcome = write_failing(&rt, *call, *link);
-        expect_told(&rt, &outcome, *call, *printed);
+        expect_notices(&rt, &outcome, *call, *printed);
     }
 }
 

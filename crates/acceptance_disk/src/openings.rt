@@ -50,7 +50,7 @@ fn open_both_ways(rt: &impl AllocAndAbort, disk: &Disk, wanted: &str) {
 }
 
 #[test]
-fn an_opening_tells_what_was_refused(rt: HostRuntime) {
+fn an_opening_reports_what_was_refused(rt: HostRuntime) {
     for (moment, has_folder, call, wanted) in &REFUSALS {
         let disk = Disk::new(rt.alloc());
         disk.seconds.set(*moment);

@@ -3,7 +3,7 @@
 use crate::expect::{AllocAndAbort, expect_eq, expect_eq_of};
 use crate::runs::{DiskStep, Outcome, folder_of};
 use crate::scene::{ELEVEN, START, disk_of, expect_texts, write_log};
-use fake_files::disk::{Call, Disk};
+use fake_files::disk::{Call, Disk, Kind};
 use std::io::ErrorKind;
 use tracing_appender::store::Folder;
 
@@ -41,7 +41,7 @@ fn a_link_that_another_process_made_is_replaced(rt: HostRuntime) {
 fn write_standing(rt: &impl AllocAndAbort, pipe_comes: bool) -> Outcome {
     let disk = disk_of(rt, &[(LOG, "x")]);
     if pipe_comes {
-        disk.pipe_comes.set(Some((2, LOG)));
+        disk.entry_comes.set(Some((2, LOG, Kind::Pipe)));
     }
     disk.hides_bytes.set(!pipe_comes);
     let outcome = write_log(rt, &disk, 0, "", &TWO_LINES);
@@ -50,13 +50,44 @@ fn write_standing(rt: &impl AllocAndAbort, pipe_comes: bool) -> Outcome {
 }
 
 #[test]
-fn a_pipe_that_comes_in_between_is_refused_and_not_waited_for(rt: HostRuntime) {
+fn a_pipe_that_is_made_meanwhile_is_refused_and_not_waited_for(rt: HostRuntime) {
     let wanted = (
         "failed to create log file: not a plain file\n",
         "app.2020-02-01-10|\n",
         "failures 2\n",
     );
     expect_texts(&rt, &write_standing(&rt, true), wanted, &"a pipe");
+}
+
+// What another process puts there between the look at a free name and the making of the file, the replies, the entries and
+// the failures of the folder.
+static COME_FIRST: [(Kind, (&str, &str, &str)); 2] = [
+    (
+        Kind::File,
+        (
+            "open\nnone ok 3\n",
+            "app.2020-02-01-10 xone\n",
+            "failures 0\n",
+        ),
+    ),
+    (
+        Kind::Pipe,
+        (
+            "failed to create log file: not a plain file\n",
+            "app.2020-02-01-10|\n",
+            "failures 2\n",
+        ),
+    ),
+];
+
+#[test]
+fn a_file_that_another_process_makes_first_is_appended_to(rt: HostRuntime) {
+    for (kind, wanted) in &COME_FIRST {
+        let disk = Disk::new(rt.alloc());
+        disk.entry_comes.set(Some((2, LOG, *kind)));
+        let outcome = write_log(&rt, &disk, 0, "", &TWO_LINES[..1]);
+        expect_texts(&rt, &outcome, *wanted, kind);
+    }
 }
 
 #[test]

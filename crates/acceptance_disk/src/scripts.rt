@@ -101,7 +101,7 @@ fn check_script(rt: &impl AllocAndAbort, text: &str) {
 }
 
 #[test]
-fn a_disk_comes_to_hold_what_memory_does(rt: HostRuntime) {
+fn a_disk_has_the_content_of_memory(rt: HostRuntime) {
     let mut compared = 0usize;
     let mut rest = PLAYED.text;
     for _ in 0..PLAYED.rows {

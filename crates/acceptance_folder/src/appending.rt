@@ -52,7 +52,7 @@ fn say_hello_to_each<R: FilesAndAbort + time::Clock>(rt: R, directory: &str) {
     }
 }
 
-// Checks that one file alone is there, which reads as `Hello`, and returns its name.
+// Checks that just one file is there, which reads as `Hello`, and returns its name.
 fn expect_hello(rt: &impl FilesAndAbort, directory: &str) -> String {
     let mut names = names_in(rt, directory);
     expect_eq_of(rt, directory, names.len(), 1);
@@ -252,7 +252,7 @@ fn write_two_hours(rt: &impl FilesAndAbort, place: io::Result<String>) {
 }
 
 #[test]
-fn the_next_hour_goes_to_the_next_file(rt: HostRuntime) {
+fn the_next_hour_is_in_the_next_file(rt: HostRuntime) {
     write_two_hours(&rt, place_of(rt, "hours"));
 }
 
@@ -374,7 +374,7 @@ impl time::Clock for Stopped {
 }
 
 #[test]
-fn the_system_clock_tells_whole_seconds(rt: HostRuntime) {
+fn the_system_clock_returns_whole_seconds(rt: HostRuntime) {
     for (seconds, moment) in [
         (None, i64::MIN),
         (Some(0), 0),

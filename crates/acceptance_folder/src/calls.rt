@@ -298,7 +298,7 @@ static APPENDS: [FolderStep; 6] = [
 ];
 
 #[test]
-fn appends_go_behind_what_stands(rt: HostRuntime) {
+fn appends_are_after_the_content(rt: HostRuntime) {
     take_in(&rt, place_of(rt, "appends"), "", &APPENDS);
 }
 
@@ -386,11 +386,11 @@ static LISTING: [FolderStep; 6] = [
 ];
 
 #[test]
-fn a_listing_tells_kinds_and_creation(rt: HostRuntime) {
+fn a_listing_has_kinds_and_creation(rt: HostRuntime) {
     take_in(&rt, place_of(rt, "listing"), "", &LISTING);
 }
 
-// The link is in place of `log` at the first opening alone.
+// The link is in place of `log` only at the first opening.
 static SWAPPED: [FolderStep; 5] = [
     FolderStep::Fill(&[Entry::File("victim", "kept"), Entry::File("log", "text")]),
     FolderStep::Refused(&[Call::Open], &["log"], ErrorKind::AlreadyExists),
@@ -413,7 +413,7 @@ fn open_swapped<F: Files + AllocGlobal + Eprint + Clone + Drop>(
 
 // The name leads to a plain file before and after, but not to the one that was opened.
 #[test]
-fn a_link_that_comes_and_goes_is_not_followed(rt: HostRuntime) {
+fn a_link_that_is_made_and_removed_is_not_followed(rt: HostRuntime) {
     let target = Cell::new(Some("victim"));
     open_swapped(
         &rt,

@@ -81,7 +81,7 @@ fn is_named_after<R: FilesAndAbort>(rt: R, directory: &str, deed: Deed) -> bool 
 }
 
 #[test]
-fn a_folder_tells_whether_a_name_leads_to_an_open_file(rt: HostRuntime) {
+fn a_folder_returns_whether_a_name_leads_to_an_open_file(rt: HostRuntime) {
     let place = place_of(rt, "named").expect(&rt, "a place");
     clear(&rt, place.as_str());
     for (deed, wanted) in &DEEDS {

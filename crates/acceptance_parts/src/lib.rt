@@ -1,4 +1,4 @@
-//! Tests of each part of a log alone, by public calls: names, folders in memory, retention, the queue, the worker
+//! Tests of each part of a log by itself, by public calls: names, folders in memory, retention, the queue, the worker
 //! and the writing of a line.
 #![tactic(auto)]
 

@@ -83,7 +83,7 @@ fn check_run(rt: &impl AllocAndAbort, row: usize, run: &LineRun) {
 }
 
 #[test]
-fn lines_are_written_as_told(rt: HostRuntime) {
+fn lines_are_written_as_expected(rt: HostRuntime) {
     for (row, run) in LINE_RUNS.iter().enumerate() {
         check_run(&rt, row, run);
     }

@@ -1,7 +1,7 @@
 // Periods, names and readings, with the cases of the Rust crate's own tests, and the texts of errors.
 
 use crate::expect::{AllocAndAbort, expect_eq, expect_eq_of};
-use appender_core::error::InitError;
+use appender_core::error::{InitError, NameFault};
 use appender_core::names::Names;
 use appender_core::rotation::{ParseRotationError, Rotation, in_range};
 use std::io;
@@ -304,35 +304,46 @@ fn texts_that_are_no_days(rt: HostRuntime) {
     }
 }
 
-// A rotation, a prefix, a suffix and whether names may have them.
-static PARTS: [(Rotation, &'static str, &'static str, bool); 13] = [
-    (Rotation::DAILY, "a/b", "", false),
-    (Rotation::DAILY, "", "a/", false),
-    (Rotation::DAILY, "a\0", "", false),
-    (Rotation::NEVER, "a", "\0", false),
-    (Rotation::DAILY, "..", "", true),
-    (Rotation::DAILY, "", ".", true),
-    (Rotation::NEVER, ".", "", false),
-    (Rotation::NEVER, "..", "", false),
-    (Rotation::NEVER, "", ".", false),
-    (Rotation::NEVER, "", "..", false),
-    (Rotation::NEVER, "..", ".", true),
-    (Rotation::NEVER, "...", "", true),
-    (Rotation::NEVER, "", "", true),
+// A rotation, a prefix and a suffix, and which of them names cannot have.
+static PARTS: [(Rotation, &'static str, &'static str, Option<NameFault>); 14] = [
+    (Rotation::DAILY, "a/b", "", Some(NameFault::Prefix)),
+    (Rotation::DAILY, "", "a/", Some(NameFault::Suffix)),
+    (Rotation::NEVER, "a/", "\0", Some(NameFault::Prefix)),
+    (Rotation::DAILY, "a\0", "", Some(NameFault::Prefix)),
+    (Rotation::NEVER, "a", "\0", Some(NameFault::Suffix)),
+    (Rotation::DAILY, "..", "", None),
+    (Rotation::DAILY, "", ".", None),
+    (Rotation::NEVER, ".", "", Some(NameFault::Prefix)),
+    (Rotation::NEVER, "..", "", Some(NameFault::Prefix)),
+    (Rotation::NEVER, "", ".", Some(NameFault::Suffix)),
+    (Rotation::NEVER, "", "..", Some(NameFault::Suffix)),
+    (Rotation::NEVER, "..", ".", None),
+    (Rotation::NEVER, "...", "", None),
+    (Rotation::NEVER, "", "", None),
 ];
 
-// Checks that names were made, or that they are refused.
-fn expect_made(rt: &impl Abort, prefix: &str, made: &Result<Names, InitError>, allowed: bool) {
-    expect_eq_of(rt, prefix, made.is_ok(), allowed);
-    expect_eq_of(rt, prefix, matches!(made, Err(InitError::Name)), !allowed);
+// Checks that names were made, or that they are refused for this fault.
+fn expect_made(
+    rt: &impl Abort,
+    prefix: &str,
+    made: Result<Names, InitError>,
+    wanted: Option<NameFault>,
+) {
+    let fault = match made {
+        Ok(_) => None,
+        Err(InitError::Name(fault)) => Some(fault),
+        Err(_) => rt.panic("another error"),
+    };
+    expect_eq_of(rt, prefix, fault, wanted);
 }
 
 #[test]
 fn parts_of_names(rt: HostRuntime) {
-    for (rotation, prefix, suffix, allowed) in &PARTS {
-        expect_eq(&rt, Names::is_allowed(*rotation, prefix, suffix), *allowed);
+    for (rotation, prefix, suffix, fault) in &PARTS {
+        let is_allowed = Names::is_allowed(*rotation, prefix, suffix);
+        expect_eq_of(&rt, *prefix, is_allowed, fault.is_none());
         let made = Names::new(rt.alloc(), *rotation, prefix, suffix);
-        expect_made(&rt, prefix, &made, *allowed);
+        expect_made(&rt, prefix, made, *fault);
     }
 }
 
@@ -367,7 +378,13 @@ fn expect_text(rt: &impl AllocAndAbort, error: InitError, code: u8, begin: &str,
 #[test]
 fn texts_of_errors(rt: HostRuntime) {
     expect_text(&rt, InitError::Moment, 4, "moment out of range", "");
-    expect_text(&rt, InitError::Name, 5, "name not allowed", "");
+    expect_text(
+        &rt,
+        InitError::Name(NameFault::Prefix),
+        5,
+        "name not allowed",
+        "",
+    );
     expect_text(&rt, InitError::Memory, 6, "out of memory", "");
 }
 
@@ -386,4 +403,70 @@ fn texts_of_errors_with_a_fault(rt: HostRuntime) {
     let fault = io::ErrorKind::PermissionDenied;
     let rest = io::Error::from(fault).to_string(rt.alloc());
     expect_texts_with(&rt, fault, rest.expect(&rt, "memory").as_str());
+}
+
+// Checks the kind and the words of an error of input and output that an opening's error becomes, and its source.
+fn expect_io(
+    rt: &impl AllocAndAbort,
+    error: InitError,
+    source: Option<io::ErrorKind>,
+    kind: io::ErrorKind,
+    words: &str,
+) {
+    expect_eq_of(rt, words, error.source().map(|e| e.kind()), source);
+    let error = io::Error::from(error);
+    expect_eq_of(rt, words, error.kind(), kind);
+    let text = error.to_string(rt.alloc()).expect(rt, "memory");
+    expect_eq(rt, text.as_str(), words);
+}
+
+fn expect_invalid(rt: &impl AllocAndAbort, error: InitError, words: &str) {
+    expect_io(rt, error, None, io::ErrorKind::InvalidInput, words);
+}
+
+#[test]
+fn errors_of_input_and_output(rt: HostRuntime) {
+    expect_invalid(&rt, InitError::Moment, "moment out of range");
+    expect_invalid(&rt, InitError::Limit, "byte limit without a rotation");
+    let fault = InitError::Name(NameFault::Prefix);
+    expect_invalid(
+        &rt,
+        fault,
+        "name not allowed: the prefix cannot be part of a file name",
+    );
+    let fault = InitError::Name(NameFault::Suffix);
+    expect_invalid(
+        &rt,
+        fault,
+        "name not allowed: the suffix cannot be part of a file name",
+    );
+    let fault = InitError::Name(NameFault::Link);
+    expect_invalid(
+        &rt,
+        fault,
+        "name not allowed: the link cannot be a file name",
+    );
+    let fault = InitError::Name(NameFault::Clash);
+    expect_invalid(
+        &rt,
+        fault,
+        "name not allowed: the link has the name of a log file",
+    );
+    let kind = io::ErrorKind::OutOfMemory;
+    expect_io(&rt, InitError::Memory, None, kind, "out of memory");
+}
+
+// The words of an error that the file system gave are cut after 80 bytes.
+#[test]
+fn errors_of_the_file_system(rt: HostRuntime) {
+    let denied = io::Error::from_raw_os_error(13);
+    let kind = io::ErrorKind::PermissionDenied;
+    let words = "failed to create log directory: Permission denied (os error 13)";
+    expect_io(&rt, InitError::Directory(denied), Some(kind), kind, words);
+    let words = "failed to create log file: Permission denied (os error 13)";
+    expect_io(&rt, InitError::File(denied), Some(kind), kind, words);
+    let full = io::Error::from_raw_os_error(28);
+    let kind = io::ErrorKind::StorageFull;
+    let words = "failed to create symlink to latest log file: No space left on device (os erro...";
+    expect_io(&rt, InitError::Symlink(full), Some(kind), kind, words);
 }

@@ -210,7 +210,7 @@ fn check_run(rt: &impl AllocAndAbort, row: usize, run: &QueueRun) {
 }
 
 #[test]
-fn queues_answer_as_told(rt: HostRuntime) {
+fn queues_reply_as_expected(rt: HostRuntime) {
     for (row, run) in QUEUE_RUNS.iter().enumerate() {
         check_run(&rt, row, run);
     }
@@ -260,7 +260,7 @@ fn fill_twice(rt: &impl AllocAndAbort, queue: &mut LineQueue) {
 }
 
 #[test]
-fn every_place_of_a_long_queue_serves(rt: HostRuntime) {
+fn every_place_of_a_long_queue_takes_lines(rt: HostRuntime) {
     let mut queue = queue_of(&rt, 128_000, true);
     fill_twice(&rt, &mut queue);
     offer_too_much(&rt, &mut queue);

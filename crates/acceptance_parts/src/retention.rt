@@ -91,7 +91,7 @@ static GONE: [(usize, &[usize]); 7] = [
 ];
 
 #[test]
-fn the_lowest_candidates_go_in_rank_order(rt: HostRuntime) {
+fn the_lowest_candidates_are_removed_in_rank_order(rt: HostRuntime) {
     let names = names_of(&rt, Rotation::HOURLY, "app", "");
     let listed = mixed_listing(&rt);
     for (max, wanted) in &GONE {
@@ -121,7 +121,7 @@ static GONE_BY_NAME: [(usize, &str, &[usize]); 6] = [
 ];
 
 #[test]
-fn by_name_the_earliest_periods_go_and_the_opened_file_stays(rt: HostRuntime) {
+fn by_name_the_earliest_periods_are_removed_but_not_the_opened_file(rt: HostRuntime) {
     let names = names_of(&rt, Rotation::HOURLY, "app", "log");
     let listed = listing(&rt, &NAMED);
     for (max, opened, wanted) in &GONE_BY_NAME {

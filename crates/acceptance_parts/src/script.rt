@@ -12,7 +12,7 @@ pub(crate) enum Act {
 }
 
 // Is interrupted so often, then does what its script says, and then takes everything. Contracts see
-// of a writer its text alone, so its writes and flushes are counted.
+// of a writer only its text, so its writes and flushes are counted.
 #[derive(Drop)]
 pub(crate) struct Script {
     alloc: Global,

@@ -157,7 +157,7 @@ fn check_run(rt: &impl AllocAndAbort, row: usize, run: &WorkerRun) {
 }
 
 #[test]
-fn workers_do_as_told(rt: HostRuntime) {
+fn workers_do_as_expected(rt: HostRuntime) {
     for (row, run) in WORKER_RUNS.iter().enumerate() {
         check_run(&rt, row, run);
     }

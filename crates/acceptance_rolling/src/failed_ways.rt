@@ -400,7 +400,7 @@ fn a_limit_moves_no_boundary(rt: HostRuntime) {
     expect_case(rt, &FULL);
 }
 
-// With a limit of four bytes, of which the first append takes one: that byte counts alone.
+// With a limit of four bytes, of which the first append takes one: only that byte counts.
 static SHORT_WRITE: Case = Case {
     limit: 4,
     failing: &[],

@@ -62,7 +62,7 @@ fn write_second(rt: &impl AllocAndAbort) -> MemoryFolder {
 }
 
 #[test]
-fn a_roller_tells_what_is_open(rt: HostRuntime) {
+fn a_roller_returns_what_is_open(rt: HostRuntime) {
     let folder = write_second(&rt);
     expect_eq(
         &rt,
@@ -81,12 +81,12 @@ fn expect_first_name(rt: &impl AllocAndAbort) {
 // Checks that no names have this suffix.
 fn expect_refused(rt: &impl AllocAndAbort, suffix: &str) {
     let names = with_suffix(rt, suffix).names(rt.alloc());
-    let is_refused = matches!(names, Err(InitError::Name));
+    let is_refused = matches!(names, Err(InitError::Name(_)));
     expect_eq(rt, is_refused, true);
 }
 
 #[test]
-fn a_builder_gives_its_names(rt: HostRuntime) {
+fn a_builder_returns_its_names(rt: HostRuntime) {
     expect_first_name(&rt);
     expect_refused(&rt, "a/b");
     expect_shown(&rt, &Builder::default());

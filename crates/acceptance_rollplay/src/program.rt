@@ -151,7 +151,7 @@ static REFUSED: Table = Table {
 };
 
 #[test]
-fn tells_why_nothing_is_opened(rt: HostRuntime) {
+fn reports_why_nothing_is_opened(rt: HostRuntime) {
     check_each(&rt, rt.alloc(), &REFUSED, 1);
 }
 
@@ -355,7 +355,7 @@ fn check_faulty(rt: &impl Abort, alloc: Global, table: &Table) -> Result<(), Fai
 }
 
 #[test]
-fn tells_the_first_faulty_line(rt: HostRuntime) -> Result<(), Fail> {
+fn reports_the_first_faulty_line(rt: HostRuntime) -> Result<(), Fail> {
     check_faulty(&rt, rt.alloc(), &FAULTY)
 }
 
@@ -426,7 +426,7 @@ static STUMBLES: [(io::ErrorKind, u8, &str, &str); 3] = [
 ];
 
 #[test]
-fn tells_a_read_that_fails(rt: HostRuntime) {
+fn reports_a_read_that_fails(rt: HostRuntime) {
     for (fault, status, output, errors) in &STUMBLES {
         let mut input = Stumbling {
             before: b"prefix app\nsta",
@@ -452,7 +452,7 @@ impl Read for Endless {
 }
 
 #[test]
-fn reads_one_byte_behind_the_longest_script(rt: HostRuntime) {
+fn reads_one_byte_after_the_longest_script(rt: HostRuntime) {
     let mut input = Endless { given: 0 };
     check_input(&rt, rt.alloc(), &mut input, 2, "", "bad script\n");
     expect_eq(&rt, input.given, LONGEST + 1);

@@ -8,7 +8,7 @@ use std::process::Abort;
 use std::test::Fail;
 
 #[test]
-fn plays_behind_a_queue(rt: HostRuntime) {
+fn plays_with_a_queue(rt: HostRuntime) {
     check_each(&rt, rt.alloc(), &QUEUED, 0);
 }
 

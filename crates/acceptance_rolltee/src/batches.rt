@@ -1,7 +1,6 @@
 // Lines that are written together: what a fault leaves of them, and how soon they are in the file.
 use crate::expect::expect_eq;
 use file_watch::FileCounts;
-use program_io::Host;
 use program_options::Options;
 use rolltee_core::tee::{Logs, TeeLog, tee, tee_with};
 use std::alloc::{AllocError, Global};
@@ -12,6 +11,7 @@ use std::sync::{Arc, Mutex, Wait};
 use std::test::Fail;
 use std::time::{Clock, Duration, Instant};
 use std::{env, fs, io, process, thread};
+use tracing_appender::non_blocking::Host;
 use tracing_appender::rolling::{InitError, Rotation};
 
 // A log that takes this many bytes, fails once, and then takes everything.
@@ -78,7 +78,7 @@ impl<R: Wait + Copy + Drop + Send + 'static> Logs for FailingLogs<R> {
 
 static TEXT: &[u8] = b"a\nbcd\n\nef\ng";
 
-// What the log has after a fault at this byte: of the line there, the bytes before it alone.
+// What the log has after a fault at this byte: of the line there, only the bytes before it.
 fn cut_at(alloc: Global, place: usize) -> Result<Vec<u8>, AllocError> {
     let mut text = Vec::new(alloc);
     let mut cut = false;

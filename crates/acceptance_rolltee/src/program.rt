@@ -1,7 +1,6 @@
 // The whole program over a real folder.
 use crate::expect::expect_eq;
 use file_watch::FileCounts;
-use program_io::Host;
 use program_options::Options;
 use rolltee_core::tee::{Logs, TeeLog, tee, tee_with};
 use std::alloc::{AllocError, Global};
@@ -14,6 +13,7 @@ use std::sync::atomic::Ordering::SeqCst;
 use std::test::Fail;
 use std::time::{Clock, Duration};
 use std::{env, fs, io, process, thread};
+use tracing_appender::non_blocking::Host;
 use tracing_appender::rolling::{InitError, Rotation};
 
 // An input that can't be read after these bytes.
@@ -180,7 +180,7 @@ impl Logs for NarrowLogs {
     }
 }
 
-// Logs of this rotation alone, in this folder and with this prefix.
+// Logs of only this rotation, in this folder and with this prefix.
 #[derive(Clone, Copy)]
 struct OnlyLogs {
     rotation: Rotation,
@@ -410,7 +410,7 @@ fn opens_a_log_of_each_rotation(rt: HostRuntime) {
 
 // The input fails, and then the log takes longer for its flush than the end waits.
 #[test]
-fn tells_the_first_fault(rt: HostRuntime) {
+fn reports_the_first_fault(rt: HostRuntime) {
     let logs = StuckLogs { rt, millis: 3000 };
     let mut input = Broken {
         left: b"a\n".as_slice(),
@@ -430,7 +430,7 @@ static TAKEN: [(&str, (u8, &str)); 5] = [
 ];
 
 #[test]
-fn tells_lines_that_the_log_did_not_take(rt: HostRuntime) {
+fn reports_lines_that_the_log_did_not_take(rt: HostRuntime) {
     let logs = NarrowLogs {
         kind: io::ErrorKind::PermissionDenied,
     };
@@ -443,7 +443,7 @@ fn tells_lines_that_the_log_did_not_take(rt: HostRuntime) {
 
 // If it is not to wait, a full disk is a fault as others are.
 #[test]
-fn tells_a_full_disk_without_waiting(rt: HostRuntime) {
+fn reports_a_full_disk_without_waiting(rt: HostRuntime) {
     let logs = NarrowLogs {
         kind: io::ErrorKind::StorageFull,
     };
@@ -475,7 +475,7 @@ fn tells_a_full_disk_without_waiting(rt: HostRuntime) {
 
 // The input fails after a line that the log does not take.
 #[test]
-fn tells_the_fault_of_the_input_before_lost_lines(rt: HostRuntime) {
+fn reports_the_fault_of_the_input_before_lost_lines(rt: HostRuntime) {
     let mut input = Broken {
         left: b"refused\n".as_slice(),
         kind: io::ErrorKind::PermissionDenied,
@@ -488,7 +488,7 @@ fn tells_the_fault_of_the_input_before_lost_lines(rt: HostRuntime) {
 }
 
 #[test]
-fn tells_its_usage(rt: HostRuntime) {
+fn prints_its_usage(rt: HostRuntime) {
     let wrong: [&[&str]; 6] = [
         &[],
         &["never", "", "app"],
@@ -505,7 +505,7 @@ fn tells_its_usage(rt: HostRuntime) {
 }
 
 #[test]
-fn tells_a_name_that_is_not_allowed(rt: HostRuntime) {
+fn reports_a_name_that_is_not_allowed(rt: HostRuntime) {
     let directory = fresh(&rt, "name").expect(&rt, "a path");
     let directory = directory.as_str();
     let arguments = ["hourly", directory, "a/b"];
@@ -516,7 +516,7 @@ fn tells_a_name_that_is_not_allowed(rt: HostRuntime) {
 }
 
 #[test]
-fn tells_a_folder_that_is_none(rt: HostRuntime) {
+fn reports_a_folder_that_is_none(rt: HostRuntime) {
     let path = fresh(&rt, "file").expect(&rt, "a path");
     let path = path.as_str();
     fs::write(&rt, path, "here").expect(&rt, "a file");
@@ -529,7 +529,7 @@ fn tells_a_folder_that_is_none(rt: HostRuntime) {
 
 // Also if there is no memory for an opening.
 #[test]
-fn tells_why_no_log_is_opened(rt: HostRuntime) {
+fn reports_why_no_log_is_opened(rt: HostRuntime) {
     let arguments = ["never", "dir", "app"];
     let told = "out of memory\n";
     check(rt, &NoLogs, &arguments, &mut b"a\n".as_slice(), 1, told);
@@ -537,7 +537,7 @@ fn tells_why_no_log_is_opened(rt: HostRuntime) {
 
 // What was read before the fault is written, since the guard is closed all the same.
 #[test]
-fn tells_an_input_that_is_not_read(rt: HostRuntime) {
+fn reports_an_input_that_is_not_read(rt: HostRuntime) {
     for (kind, status, told) in [
         (io::ErrorKind::PermissionDenied, 1, "read failed\n"),
         (io::ErrorKind::OutOfMemory, 3, "no memory\n"),
@@ -555,7 +555,7 @@ fn tells_an_input_that_is_not_read(rt: HostRuntime) {
 
 // The log takes longer for its flush than the end waits.
 #[test]
-fn tells_that_the_log_is_still_flushed(rt: HostRuntime) {
+fn reports_that_the_log_is_still_flushed(rt: HostRuntime) {
     let logs = StuckLogs { rt, millis: 3000 };
     let arguments = ["never", "dir", "app"];
     let told = "shutdown pending\n";

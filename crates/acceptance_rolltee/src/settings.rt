@@ -1,7 +1,6 @@
 // Runs with options.
 use crate::expect::expect_eq;
 use file_watch::FileCounts;
-use program_io::Host;
 use program_options::Options;
 use rolltee_core::tee::{Logs, TeeLog, tee_with};
 use std::alloc::{AllocError, Global};
@@ -14,6 +13,7 @@ use std::sync::{Arc, Mutex, Wait};
 use std::test::Fail;
 use std::time::{Clock, Duration};
 use std::{env, fs, io, process, thread};
+use tracing_appender::non_blocking::Host;
 use tracing_appender::rolling::{InitError, Rotation};
 
 // Runs the program with options over these logs, and compares its status and what it reports.
@@ -399,7 +399,7 @@ impl Write for Closing {
 
 // The log gets all lines, though the output does not.
 #[test]
-fn the_log_goes_on_without_an_output(rt: HostRuntime) -> Result<(), Fail> {
+fn the_log_continues_without_an_output(rt: HostRuntime) -> Result<(), Fail> {
     let directory = fresh(&rt, "echo")?;
     let directory = directory.as_str();
     let mut options = Options::new(rt.alloc());

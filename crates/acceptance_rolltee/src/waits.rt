@@ -1,7 +1,6 @@
 // Logs that are slow or full for a while, and inputs that do not block.
 use crate::expect::expect_eq;
 use file_watch::FileCounts;
-use program_io::Host;
 use program_options::Options;
 use rolltee_core::feed::{Feed, WatchedLog};
 use rolltee_core::tee::{Logs, TeeLog, tee};
@@ -14,7 +13,7 @@ use std::sync::atomic::Ordering::SeqCst;
 use std::test::Fail;
 use std::time::{Clock, Duration};
 use std::{io, thread};
-use tracing_appender::non_blocking::non_blocking;
+use tracing_appender::non_blocking::{Host, non_blocking};
 use tracing_appender::rolling::{InitError, Rotation};
 
 // How a log behaves.

@@ -5,10 +5,9 @@ ghost use Rattle.appender_non_blocking.specs.Account.{AreBlanksOf};
 use crate::expect::{Name, count_written, expect_eq, put};
 use crate::recorder::{Record, Recorder, new_recorder};
 use appender_non_blocking::non_blocking::{
-    Account, Blanks, CountedGuard, CountedSender, CountedWork, LineSender, NonBlockingBuilder,
-    Sent, Shut,
+    Account, Blanks, CountedGuard, CountedSender, CountedWork, Host, LineSender,
+    NonBlockingBuilder, Sent, Shut,
 };
-use program_io::Host;
 use std::marker::Brand;
 use std::process::Abort;
 use std::sync::ledger::Ledger;

@@ -1,6 +1,6 @@
 // What these tests compare.
 use acceptance_gate::Seen;
-use program_io::Host;
+use appender_non_blocking::non_blocking::Host;
 use std::alloc::AllocError;
 use std::fmt::Debug;
 use std::process::Abort;
@@ -67,7 +67,7 @@ fn is_of(row: &[u8], lines: &[&[u8]]) -> bool {
     }
 }
 
-/// Checks that a text has nothing but so many lines.
+/// Checks that a text has only lines, and this number of them.
 pub(crate) fn expect_lines(rt: &impl Abort, text: &[u8], count: usize) {
     expect_eq(rt, text.len(), count.saturating_mul(LENGTH));
 }

@@ -1,12 +1,12 @@
 // Two threads at a boundary of an hourly log in memory.
 use crate::expect::{Name, count_of, expect_eq, expect_lines};
 use appender_log::LogSink;
+use appender_non_blocking::non_blocking::Host;
 use appender_rolling::rolling::{
     Builder, Clock, MakeWriter, RollingFileAppender, RollingWriter, Rotation,
 };
 use appender_store::store::MemoryFolder;
 use log::{Level, Logged, info};
-use program_io::Host;
 use std::alloc::AllocError;
 use std::io::Write;
 use std::process::Abort;

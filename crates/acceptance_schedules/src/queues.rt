@@ -2,9 +2,10 @@
 use crate::expect::{Name, count_written, expect_eq};
 use crate::recorder::{Record, Recorder, new_recorder};
 use appender_log::LogSink;
-use appender_non_blocking::non_blocking::{Closing, NonBlocking, NonBlockingBuilder, WorkerGuard};
+use appender_non_blocking::non_blocking::{
+    Closing, Host, NonBlocking, NonBlockingBuilder, WorkerGuard,
+};
 use log::{Level, Logged, info};
-use program_io::Host;
 use std::alloc::AllocError;
 use std::io::Write;
 use std::process::Abort;

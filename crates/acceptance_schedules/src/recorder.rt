@@ -1,6 +1,6 @@
 // A writer that records its lines, and shows when its worker has ended.
 use acceptance_gate::{Gate, Seen, new_gate};
-use program_io::Host;
+use appender_non_blocking::non_blocking::Host;
 use std::alloc::{AllocError, Global};
 use std::io::{ErrorKind, Write};
 use std::sync::Arc;

@@ -1,8 +1,9 @@
 // What a guard leaves when it is closed, and how soon it returns.
 use crate::expect::expect_eq;
 use acceptance_gate::{Seen, new_gate};
-use appender_non_blocking::non_blocking::{Closing, NonBlocking, NonBlockingBuilder, WorkerGuard};
-use program_io::Host;
+use appender_non_blocking::non_blocking::{
+    Closing, Host, NonBlocking, NonBlockingBuilder, WorkerGuard,
+};
 use std::alloc::Global;
 use std::boxed::Box;
 use std::fmt::Display;
@@ -28,6 +29,14 @@ struct Turns {
 struct InTurn<R> {
     rt: R,
     turns: &'static Turns,
+}
+
+impl<R: AllocGlobal> Alloc for InTurn<R> {
+    type A = Global;
+
+    fn alloc(&self) -> Global {
+        self.rt.alloc()
+    }
 }
 
 impl<R: Wait> Wait for InTurn<R> {}

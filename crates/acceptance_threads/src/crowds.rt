@@ -1,7 +1,8 @@
 // Many senders: none is left asleep while there is room, or once the queue is closed.
 use crate::expect::{expect_eq, put};
-use appender_non_blocking::non_blocking::{Closing, NonBlocking, NonBlockingBuilder, WorkerGuard};
-use program_io::Host;
+use appender_non_blocking::non_blocking::{
+    Closing, Host, NonBlocking, NonBlockingBuilder, WorkerGuard,
+};
 use std::alloc::Global;
 use std::io::Write;
 use std::process::Abort;
@@ -226,12 +227,12 @@ fn crowds_get_through(rt: HostRuntime) {
 // Senders wait for room, and so does the guard, which may take a call that was meant for one of them; and
 // the queue closes while many wait.
 #[test]
-fn a_guard_that_waits_strands_no_sender(rt: HostRuntime) {
+fn a_guard_that_waits_leaves_no_sender_asleep(rt: HostRuntime) {
     run_often(rt, 1);
 }
 
 // With no place in the queue, each line and the shutdown wait until the worker does.
 #[test]
-fn a_guard_without_a_place_strands_no_sender(rt: HostRuntime) {
+fn a_guard_without_a_place_leaves_no_sender_asleep(rt: HostRuntime) {
     run_often(rt, 0);
 }

@@ -1,8 +1,7 @@
 // Limits of a queue, and how its worker ends.
 use crate::scene::{Queue, WorkerStep, play, play_over};
 use acceptance_gate::{Gate, new_gate};
-use appender_non_blocking::non_blocking::Closing;
-use program_io::Host;
+use appender_non_blocking::non_blocking::{Closing, Host};
 use std::io;
 use std::io::{ErrorKind, Write};
 use std::process::Abort;
@@ -51,7 +50,7 @@ static STILL_GOING_ON: [WorkerStep; 6] = [
 ];
 
 #[test]
-fn a_guard_reports_a_worker_that_goes_on(rt: HostRuntime) {
+fn a_guard_reports_a_worker_that_continues(rt: HostRuntime) {
     play(rt, Queue::Lossy(2), b"g", &STILL_GOING_ON);
     play(rt, Queue::Waiting(2), b"g", &STILL_GOING_ON);
 }

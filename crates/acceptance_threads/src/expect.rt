@@ -1,6 +1,6 @@
 // What these tests compare: a call of these makes a proof shorter than `assert_eq!` or `format!` does.
 use acceptance_gate::Seen;
-use program_io::Host;
+use appender_non_blocking::non_blocking::Host;
 use std::alloc::AllocError;
 use std::fmt::Debug;
 use std::process::Abort;

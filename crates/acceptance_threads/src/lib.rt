@@ -15,6 +15,8 @@ mod lines;
 #[cfg(test)]
 mod log_sink;
 #[cfg(test)]
+mod losses;
+#[cfg(test)]
 mod plain_ends;
 #[cfg(test)]
 mod scene;

@@ -3,9 +3,8 @@ use crate::expect::{debug_text, expect_eq};
 use crate::scene::{Queue, WorkerStep, expect_taken, play, play_over};
 use acceptance_gate::{Gate, new_gate};
 use appender_non_blocking::non_blocking::{
-    Closing, DEFAULT_BUFFERED_LINES_LIMIT, NonBlocking, NonBlockingBuilder, non_blocking,
+    Closing, DEFAULT_BUFFERED_LINES_LIMIT, Host, NonBlocking, NonBlockingBuilder, non_blocking,
 };
-use program_io::Host;
 use std::io::{ErrorKind, Write};
 use std::process::Abort;
 use std::test::Fail;
@@ -87,7 +86,7 @@ static EVERY_BYTE: [WorkerStep; 4] = [
 ];
 
 #[test]
-fn every_byte_comes_as_it_was(rt: HostRuntime) {
+fn every_byte_is_unchanged(rt: HostRuntime) {
     play(rt, Queue::Named("bytes"), b"", &EVERY_BYTE);
 }
 
@@ -104,7 +103,7 @@ static BEHIND_THE_SHUTDOWN: [WorkerStep; 8] = [
 ];
 
 #[test]
-fn lines_behind_the_shutdown_are_not_written(rt: HostRuntime) {
+fn lines_after_the_shutdown_are_not_written(rt: HostRuntime) {
     play(rt, Queue::Default, b"g", &BEHIND_THE_SHUTDOWN);
 }
 
@@ -142,7 +141,7 @@ static STAYS_FULL: [WorkerStep; 7] = [
 ];
 
 #[test]
-fn a_guard_tells_that_the_queue_stays_full(rt: HostRuntime) {
+fn a_guard_reports_that_the_queue_stays_full(rt: HostRuntime) {
     play(rt, Queue::Waiting(1), b"g", &STAYS_FULL);
 }
 

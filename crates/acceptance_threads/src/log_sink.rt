@@ -2,9 +2,10 @@
 use crate::expect::{expect_eq, expect_text};
 use acceptance_gate::{Seen, new_gate};
 use appender_log::LogSink;
-use appender_non_blocking::non_blocking::{Closing, NonBlocking, NonBlockingBuilder, WorkerGuard};
+use appender_non_blocking::non_blocking::{
+    Closing, Host, NonBlocking, NonBlockingBuilder, WorkerGuard,
+};
 use log::{Level, Log, Logged, debug, error, info, trace, warn};
-use program_io::Host;
 use std::io::Write;
 use std::process::Abort;
 use std::test::Fail;

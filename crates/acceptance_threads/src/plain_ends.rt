@@ -1,8 +1,7 @@
 // When the worker of plain senders ends, and how many lines its queue takes.
 use crate::expect::expect_eq;
 use acceptance_gate::{Gate, new_gate};
-use appender_non_blocking::non_blocking::{Closing, NonBlocking, NonBlockingBuilder};
-use program_io::Host;
+use appender_non_blocking::non_blocking::{Closing, Host, NonBlocking, NonBlockingBuilder};
 use std::io::Write;
 use std::process::Abort;
 use std::sync::Wait;

@@ -2,11 +2,10 @@
 // scene is shorter than one over all that it holds.
 use crate::expect::{expect_eq, expect_shown, expect_text, put};
 use acceptance_gate::{Seen, new_gate};
-use appender_base::make_writer::MakeWriter;
 use appender_non_blocking::non_blocking::{
-    Closing, ErrorCounter, NonBlocking, NonBlockingBuilder, WorkerGuard,
+    Closing, ErrorCounter, Host, NonBlocking, NonBlockingBuilder, WorkerGuard,
 };
-use program_io::Host;
+use appender_traits::make_writer::MakeWriter;
 use std::alloc::{AllocError, Global};
 use std::io::{ErrorKind, Write};
 use std::process::Abort;

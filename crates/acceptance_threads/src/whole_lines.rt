@@ -1,8 +1,9 @@
 // One call of `write_all` is one line, whatever its length.
 use crate::expect::expect_text;
 use acceptance_gate::new_gate;
-use appender_non_blocking::non_blocking::{Closing, NonBlocking, NonBlockingBuilder, WorkerGuard};
-use program_io::Host;
+use appender_non_blocking::non_blocking::{
+    Closing, Host, NonBlocking, NonBlockingBuilder, WorkerGuard,
+};
 use std::alloc::{AllocError, Global};
 use std::io;
 use std::io::{ErrorKind, Write};
@@ -72,7 +73,7 @@ fn line_of(alloc: Global, length: usize) -> Result<Vec<u8>, AllocError> {
 
 // Buffers of up to 512 bytes are used again: a longer line is before and after each short one.
 #[test]
-fn long_lines_come_whole(rt: HostRuntime) -> Result<(), Fail> {
+fn long_lines_are_whole(rt: HostRuntime) -> Result<(), Fail> {
     let lengths = [513usize, 511, 1_048_576, 512, 5000, 1];
     let (writer, seen) = new_gate(rt, b"held")?;
     let (mut sender, guard) = waiting(rt, writer)?;

@@ -3,7 +3,7 @@ use Rattle.std.specs.Prelude.{◌≡◌, ◌<◌, ℕ, ◌-◌, Bool, true, fals
 use Rattle.appender_queue.specs.Queue.{Queue}
 
 -- the queue, and who sleeps or waits for it
-pub record Held : Type 0 where
+pub record LockedState : Type 0 where
   pub queue : Queue
   -- the worker sleeps, and was not woken
   pub asleep : Bool
@@ -13,18 +13,18 @@ pub record Held : Type 0 where
   pub waiting : ℕ
 
 -- a thread that has waited is no longer counted, and its wake-up is used
-abbrev pub after_waiting : Bool → Held → Held
+abbrev pub after_waiting : Bool → LockedState → LockedState
 after_waiting waited h = if waited then record h { woken = false; waiting = h.waiting - 1 } else h
 
 -- One of those who wait for room is woken or not: none if nobody waits, and no second one before the first has taken the lock.
-pub record WakesSender (old : Held) (wakes : Bool) (new : Held) : Type 0 where
+pub record DecidesSenderWakeup (old : LockedState) (wakes : Bool) (new : LockedState) : Type 0 where
   pub woken : new.woken ≡ (old.woken || wakes)
   pub waiter : wakes ≡ true → (old.woken ≡ false) × (0 < old.waiting)
   pub waiting : new.waiting ≡ old.waiting
 
 -- The worker is woken or not, and so is one of those who wait. A worker that isn't woken sleeps on, if it slept, and it is woken
 -- only if it slept.
-pub record Wakes (old : Held) (wakes_worker wakes_sender : Bool) (new : Held) : Type 0 where
+pub record DecidesWakeups (old : LockedState) (wakes_worker wakes_sender : Bool) (new : LockedState) : Type 0 where
   pub worker : new.asleep ≡ (old.asleep && not wakes_worker)
   pub sleeper : wakes_worker ≡ true → old.asleep ≡ true
-  pub sender : WakesSender old wakes_sender new
+  pub sender : DecidesSenderWakeup old wakes_sender new

@@ -19,6 +19,6 @@ after_offer_at q None line = after_offer q line
 after_offer_at q (Some place) line = after_offer_from q place line
 
 -- the queue answers and is left as by its own offer, from the sender's place if it has one
-pub record Offers (old : Queue) (place : Option ℕ) (line : Vec ℕ Global) (result : Result (ℕ × Pace) Refused) (new : Queue) : Type 0 where
+pub record OffersWithPace (old : Queue) (place : Option ℕ) (line : Vec ℕ Global) (result : Result (ℕ × Pace) Refused) (new : Queue) : Type 0 where
   pub reply : AddsPace (offer_reply old line) result
   pub after : new ≡ after_offer_at old place line.items

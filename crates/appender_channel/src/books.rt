@@ -1,4 +1,4 @@
-//! Counts of a queue that ledgers check, and who may count.
+//! Counts of a queue in ledgers, by which proofs tie the counts of senders, guard and worker to those of the queue.
 ghost use Rattle.std.specs.Prelude.{◌≡◌, ℕ, ◌+◌, ◌^◌, ◌<◌, Option, Some, None, IfSome};
 ghost use Rattle.appender_channel.specs.Tally.{
   Tally,
@@ -10,8 +10,11 @@ ghost use Rattle.appender_channel.specs.Tally.{
 
 use std::sync::ledger::{Book, Ledger, Share};
 
-/// Books of a queue's counts, under its lock, and the shares of them that senders, guard and worker have.
-/// Uncounted senders keep none: then each type here takes no bytes, and each call does nothing.
+/// The books of a queue: one for each of its counts, under the queue's lock. A sender, the guard or the worker counts
+/// by a share of a book, which it passes to the call.
+///
+/// `FourBooks` counts. `NoBooks` is for senders that are not counted: its types take no bytes, and its calls do
+/// nothing.
 pub trait Books: Drop {
     /// A sender's share.
     type Mine: Drop;
@@ -23,23 +26,27 @@ pub trait Books: Drop {
     /// What the worker returns at its end.
     type Done: Drop;
 
-    /// The books agree with these counts of the queue.
+    /// Whether the totals of the books are these counts of the queue.
     ghost agree: { Self → Tally → Type 0 };
-    /// Who may count a line, a shutdown, what the worker takes.
+    /// Whether a sender with this share may count a line.
     ghost may_accept: { Self.Mine → Type 0 };
 
+    /// Whether a guard with this share may count a shutdown.
     ghost may_shut: { Self.Shutdowns → Type 0 };
 
+    /// Whether a worker with these shares may count what it takes.
     ghost may_take: { Self.Pass → Type 0 };
-    /// The place from which a sender offers its lines, if it has one.
+    /// The place in the queue of a sender with this share, if it has one.
     ghost place_of: { Self.Mine → Option ℕ };
-    /// One line, one shutdown, one take of a line more.
+    /// Whether the second share has one accepted line more than the first.
     ghost counts_line: { Self.Mine → Self.Mine → Type 0 };
 
+    /// Whether the second share has the shutdown, and the first has none.
     ghost counts_shutdown: { Self.Shutdowns → Self.Shutdowns → Type 0 };
 
+    /// Whether the second shares have one taken line more than the first.
     ghost counts_take: { Self.Pass → Self.Pass → Type 0 };
-    /// The worker has closed the queue.
+    /// Whether a worker with these shares has counted the closing of the queue.
     ghost has_ended: { Self.Pass → Type 0 };
 
     /// Returns the place from which a sender offers its lines, if it has one. The queue has that place.
@@ -72,7 +79,7 @@ pub trait Books: Drop {
         requires { may_take pass.old }
         ensures { (t : Tally) → agree self.old t → agree self.new (with_closing t) × has_ended pass.new };
 
-    /// Returns what a worker that has ended returns.
+    /// Returns what a worker that has ended returns. It has closed the queue: so a loop that ends early isn't proved.
     fn done(pass: Self::Pass) -> Self::Done
         requires { has_ended pass };
 }
@@ -145,10 +152,12 @@ pub struct SenderShare<A: Ledger> {
     pub place: usize,
 }
 
-/// All of the books of handed lines and of closings.
+/// The shares by which a worker counts: all parts of the ledger of handed lines, and all of that of closings.
 #[derive(Drop)]
 pub struct Pass<H: Ledger, C: Ledger> {
+    /// Its amount is the number of lines that the worker took.
     pub handed: Share<H>,
+    /// Its amount is 1 once the worker has closed the queue, and 0 before.
     pub closings: Share<C>,
 }
 

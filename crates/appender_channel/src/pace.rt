@@ -2,8 +2,8 @@
 //! The numbers are measured: they change how fast lines are queued and written, and nothing else.
 ghost use Rattle.std.specs.Prelude.{◌≡◌};
 
-use appender_base::sync::yield_for;
 use appender_queue::queue::LineQueue;
+use appender_sync::yield_for;
 use std::thread;
 
 /// How often the worker looks again at an empty queue, and a sender at a full one, before it sleeps.
@@ -20,13 +20,14 @@ const LEAST_FULL_TURNS: u32 = 1024;
 
 const MOST_FULL_TURNS: u32 = 8192;
 
-// A run of so many lines is long enough.
+// A run of this number of lines is long enough, or in a queue of few lines one of a quarter of its limit.
 const LONG_RUN: usize = 128;
 
 // How long a sender yields if the worker is far behind.
 const BEHIND_TURNS: u32 = 2048;
 
-/// How many buffers of written lines are kept for other lines.
+/// How many buffers of written lines are kept for other lines. A line of a sender that lives on then needs no allocation,
+/// and no free in another thread.
 pub const MOST_SPARES: usize = 4096;
 
 /// The most bytes of a buffer that is kept.
@@ -47,7 +48,7 @@ const OFTEN: u64 = 15;
 /// long as that makes its runs of lines longer.
 #[derive(Clone, Copy)]
 pub struct FullBackoff {
-    // Before the first look; 0 is a yield alone.
+    // Before the first look; 0 is just a yield.
     turns: u32,
     // How many lines were queued since the last full queue.
     lines: usize,
@@ -93,7 +94,7 @@ impl FullBackoff {
     }
 }
 
-/// What a sender does after its line is queued.
+/// What a sender does after its line is queued, also in lossy mode. It is bounded, and no error can follow.
 #[derive(Clone, Copy)]
 pub enum Pace {
     /// It goes on at once.

@@ -1,4 +1,4 @@
-//! What the lock protects, and who is to be woken after it is released.
+//! The state that the lock of a queue protects, and which threads are woken after the lock is released.
 ghost use Rattle.std.specs.Prelude.{
   ◌≡◌,
   ◌<◌,
@@ -17,7 +17,7 @@ ghost use Rattle.std.specs.Prelude.{
   IfSome,
 };
 ghost use Rattle.appender_queue.specs.Queue.{IsLawful, has_room, last_ticket_of};
-ghost use Rattle.appender_queue.specs.QueueChanges.{OfferFromLeaves};
+ghost use Rattle.appender_queue.specs.QueueChanges.{OfferFromChanges};
 ghost use Rattle.appender_queue.specs.QueueReplies.{offer_reply};
 ghost use Rattle.appender_channel.specs.Offers.{after_offer_at};
 
@@ -32,12 +32,12 @@ use std::alloc::{AllocError, Global};
 use std::marker::Model;
 use std::sync::ledger::{Ledger, Share};
 
-/// Who is to be woken. It can't be dropped: whoever releases the lock has to use it.
+/// Which threads to wake. It can't be dropped: the thread that releases the lock has to use it.
 #[must_use]
 pub struct Wakeups {
-    /// The worker.
+    /// Whether to wake the worker.
     pub worker: bool,
-    /// One thread that waits for room. It wakes the next one if there is more.
+    /// Whether to wake one thread that waits for room. That thread wakes the next one if there is more room.
     pub sender: bool,
 }
 
@@ -68,7 +68,7 @@ pub struct Counted {
     _counted: (),
 }
 
-/// The queue and its books, who sleeps, and the buffers that may be used again.
+/// The queue and its books, which threads sleep, and the buffers that may be used again.
 #[derive(Drop)]
 pub struct State<B: Books> {
     // Whether the worker sleeps and was not woken.
@@ -82,14 +82,15 @@ pub struct State<B: Books> {
     books: B,
 }
 
+// Contracts see who sleeps or waits too. With the queue only, a step that wakes nobody would be proved.
 impl<B: Books> Model for State<B> {
     ghost use Rattle.std.specs.Prelude.{◌≡◌, ◌<◌, true, false, not, ◌&&◌};
-    ghost use Rattle.appender_channel.specs.Quiet.{IsQuiet};
+    ghost use Rattle.appender_channel.specs.Quiet.{HasNothingToTake};
     ghost use Rattle.appender_channel.specs.Tally.{tally_of};
-    ghost use Rattle.appender_channel.specs.Held.{Held};
+    ghost use Rattle.appender_channel.specs.Held.{LockedState};
     ghost use Rattle.appender_queue.specs.Queue.{IsLawful, has_room};
 
-    ghost Value = { Held };
+    ghost Value = { LockedState };
 
     ghost view = { λ s. record {
       queue = s.queue;
@@ -102,10 +103,11 @@ impl<B: Books> Model for State<B> {
     // room. The worker sleeps only if a take would find nothing.
     ghost invariant = { λ s. IsLawful s.queue × B.agree s.books (tally_of s.queue)
         × (0 < s.waiting → s.woken ≡ false → (not s.queue.closed && not (has_room s.queue)) ≡ true)
-        × (s.asleep ≡ true → IsQuiet s.queue) };
+        × (s.asleep ≡ true → HasNothingToTake s.queue) };
 }
 
-// Returns whom to wake after a change of the queue. Nobody is woken twice.
+// Returns which threads to wake after a change of the queue. None is woken twice. A closed queue isn't full, so after a
+// closing each thread that waited for room wakes the next one.
 #[inline(always)]
 fn wake_up(
     asleep: &mut bool,
@@ -155,7 +157,7 @@ fn offer_at(queue: &mut LineQueue, place: Option<usize>, line: Vec<u8>) -> Resul
     ensures lawful { IsLawful queue.new }
     ensures rises { IfOk result (λ ticket. IfSome place (λ p. last_ticket_of queue.old p < ticket)) }
     ensures sets { IfOk result (λ ticket. IfSome place (λ p. last_ticket_of queue.new p ≡ ticket)) }
-    ensures leaves { OfferFromLeaves queue.old queue.new line.items result }
+    ensures leaves { OfferFromChanges queue.old queue.new line.items result }
 {
     offers_change_little();
     offers_from_change_little();
@@ -167,11 +169,11 @@ fn offer_at(queue: &mut LineQueue, place: Option<usize>, line: Vec<u8>) -> Resul
 
 impl<B: Books> State<B> {
     ghost use Rattle.std.specs.Prelude.{◌+◌, ◌^◌, ◌≢◌, min, IsSome, IsNone, OnOk, OnErr, IfOk};
-    ghost use Rattle.appender_channel.specs.Held.{after_waiting, WakesSender, Wakes};
-    ghost use Rattle.appender_channel.specs.Offers.{Offers};
+    ghost use Rattle.appender_channel.specs.Held.{after_waiting, DecidesSenderWakeup, DecidesWakeups};
+    ghost use Rattle.appender_channel.specs.Offers.{OffersWithPace};
     ghost use Rattle.appender_channel.specs.Tally.{new_tally};
-    ghost use Rattle.appender_channel.specs.Cases.{OnLine, OnEnd, OnEmpty};
-    ghost use Rattle.appender_queue.specs.Queue.{fresh_with, has_room, left_of};
+    ghost use Rattle.appender_channel.specs.Cases.{IfLine, IfEnd, IfEmpty};
+    ghost use Rattle.appender_queue.specs.Queue.{new_queue_with, has_room, left_of};
     ghost use Rattle.appender_queue.specs.QueueCalls.{Shuts, Takes, AddsSender, DropsSender};
 
     /// Returns an empty queue with no sender and this number of senders' places, beside new books.
@@ -184,7 +186,7 @@ impl<B: Books> State<B> {
     ) -> Result<State<B>, AllocError>
         requires { B.agree books (new_tally places) }
         ensures { IfOk result (λ s. s ≡ record {
-          queue = record (fresh_with limit lossy places) { senders = 0 };
+          queue = record (new_queue_with limit lossy places) { senders = 0 };
           asleep = false;
           woken = false;
           waiting = 0;
@@ -216,13 +218,13 @@ impl<B: Books> State<B> {
         mine: &mut B::Mine,
     ) -> (Result<(u64, Pace), Refused>, Wakeups)
         requires { B.may_accept mine.old }
-        ensures offer { Offers self.old.queue (B.place_of mine.old) line result.0 self.new.queue }
+        ensures offer { OffersWithPace self.old.queue (B.place_of mine.old) line result.0 self.new.queue }
         ensures ticket { IfOk result.0 (λ reply. reply.0 ≡ self.old.queue.accepted + 1) }
         ensures rises { IfOk result.0 (λ reply. IfSome (B.place_of mine.old)
             (λ place. last_ticket_of self.old.queue place < reply.0)) }
         ensures sets { IfOk result.0 (λ reply. IfSome (B.place_of mine.old)
             (λ place. last_ticket_of self.new.queue place ≡ reply.0)) }
-        ensures wakes { Wakes (after_waiting (is_some waited) self.old) result.1.worker result.1.sender self.new }
+        ensures wakes { DecidesWakeups (after_waiting (is_some waited) self.old) result.1.worker result.1.sender self.new }
         ensures counted { OnOk result.0 (B.counts_line mine.old mine.new) }
         ensures refused { OnErr result.0 (mine.new ≡ mine.old) }
     {
@@ -278,7 +280,7 @@ impl<B: Books> State<B> {
     }
 
     /// Whether a guard that waits has to go on. Its wake-up is used.
-    pub fn goes_on_waiting(&mut self) -> bool
+    pub fn keeps_waiting(&mut self) -> bool
         ensures full { result ≡ (not self.old.queue.closed && not (has_room self.old.queue)) }
         ensures same { self.new ≡ record self.old { woken = self.new.woken } }
         ensures waits { result ≡ true → self.new.woken ≡ false }
@@ -295,7 +297,7 @@ impl<B: Books> State<B> {
     pub fn shut(&mut self, waited: Option<Waiter>, mine: &mut B::Shutdowns) -> (Shut, Wakeups)
         requires { B.may_shut mine.old }
         ensures shut { Shuts self.old.queue result.0 self.new.queue }
-        ensures wakes { Wakes (after_waiting (is_some waited) self.old) result.1.worker result.1.sender self.new }
+        ensures wakes { DecidesWakeups (after_waiting (is_some waited) self.old) result.1.worker result.1.sender self.new }
         ensures sent { result.0 ≡ Shut.Sent → B.counts_shutdown mine.old mine.new }
         ensures not_sent { result.0 ≢ Shut.Sent → mine.new ≡ mine.old }
     {
@@ -330,11 +332,11 @@ impl<B: Books> State<B> {
         requires { B.may_take pass.old }
         ensures take { Takes self.old.queue request.waits result.0 self.new.queue }
         ensures worker { result.2.worker ≡ false }
-        ensures sender { WakesSender self.old result.2.sender self.new }
-        ensures line { OnLine result.0 ((B.counts_take pass.old pass.new) × (B.may_take pass.new)
+        ensures sender { DecidesSenderWakeup self.old result.2.sender self.new }
+        ensures line { IfLine result.0 ((B.counts_take pass.old pass.new) × (B.may_take pass.new)
             × (self.new.asleep ≡ false)) }
-        ensures ended { OnEnd result.0 ((B.has_ended pass.new) × (self.new.asleep ≡ false)) }
-        ensures empty { OnEmpty result.0 ((pass.new ≡ pass.old) × (B.may_take pass.new)
+        ensures ended { IfEnd result.0 ((B.has_ended pass.new) × (self.new.asleep ≡ false)) }
+        ensures empty { IfEmpty result.0 ((pass.new ≡ pass.old) × (B.may_take pass.new)
             × (self.new.asleep ≡ request.sleeps)) }
     {
         let State {
@@ -367,8 +369,8 @@ impl<B: Books> State<B> {
         (taken, surplus, wakeups)
     }
 
-    /// The worker is awake, whatever woke it.
-    pub fn wakes(&mut self)
+    /// Notes that the worker is awake.
+    pub fn set_awake(&mut self)
         ensures { self.new ≡ record self.old { asleep = false } }
     {
         self.asleep = false;
@@ -386,7 +388,7 @@ impl<B: Books> State<B> {
     /// Counts one sender less. After the last one, the worker ends.
     pub fn drop_sender(&mut self, counted: Counted) -> Wakeups
         ensures drop { DropsSender self.old.queue self.new.queue.senders self.new.queue }
-        ensures wakes { Wakes self.old result.worker result.sender self.new }
+        ensures wakes { DecidesWakeups self.old result.worker result.sender self.new }
     {
         let Counted { _counted: () } = counted;
         let State {

@@ -4,23 +4,23 @@ use Rattle.std.specs.FinMap as map
 use Rattle.std.specs.declared.io.Error.{Error}
 use Rattle.appender_names.specs.Name.{IsEntry}
 use Rattle.appender_store.specs.Content.{Content}
-use Rattle.appender_store.specs.Folder.{saturating_next}
+use Rattle.appender_store.specs.Folder.{next_count}
 use Rattle.appender_store.specs.declared.store.notices.NoticeCounts.{NoticeCounts}
 
 -- What is seen of a folder of the file system: how many calls of it failed, and how often each kind of notice was noted.
-pub record Disk : Type 0 where
+pub record DirFolderState : Type 0 where
   pub failures : ℕ
   pub noted : NoticeCounts
 
 -- a call counts a failure exactly if it returns an Err
 abbrev pub CountsFailure : {T : Type 0} → ℕ → ℕ → Result T Error → Type 0
-CountsFailure old new result = MatchResult result (λ _. new ≡ old) (λ _. new ≡ saturating_next old)
+CountsFailure old new result = MatchResult result (λ _. new ≡ old) (λ _. new ≡ next_count old)
 
--- so does a call at an entry, and it succeeds for the name of one entry alone
+-- so does a call at an entry, and it succeeds only for the name of one entry
 pub record CallsEntry {T : Type 0} (name : List ℕ) (old new : ℕ) (result : Result T Error) : Type 0 where
   pub counts : CountsFailure old new result
   pub entry : OnOk result (IsEntry name)
 
 -- the content of a folder of the file system
-abbrev pub unknown : Content
-unknown = record { there = false; bodies = []; names = map.empty }
+abbrev pub unknown_content : Content
+unknown_content = record { there = false; bodies = []; names = map.empty }

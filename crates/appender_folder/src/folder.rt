@@ -18,6 +18,11 @@ use std::marker::Model;
 use std::rt::Files;
 use std::{fs, io};
 
+/// What a folder of the file system asks of the runtime: files, memory, and standard error for notices.
+pub trait FilesHost: Files + AllocGlobal + Eprint + Clone + Drop {}
+
+impl<R: Files + AllocGlobal + Eprint + Clone + Drop> FilesHost for R {}
+
 /// A folder of the file system. No contract says what it contains, since other programs write to the disk
 /// too. `failures` counts each call that returns an `Err`, also if an opening goes on after it (a folder or
 /// a link that is absent). Every call rejects a name that is not a single path component with
@@ -36,23 +41,23 @@ pub struct DirFolder<R = HostRuntime, P = NoWait> {
 }
 
 impl<R, P> Model for DirFolder<R, P> {
-    ghost use Rattle.appender_folder.specs.Calls.{Disk};
+    ghost use Rattle.appender_folder.specs.Calls.{DirFolderState};
 
-    ghost Value = { Disk };
+    ghost Value = { DirFolderState };
 
     ghost view = { λ f. record { failures = f.failures; noted = f.noted } };
 }
 
-impl<R: Files + AllocGlobal + Eprint + Clone + Drop> DirFolder<R> {
+impl<R: FilesHost> DirFolder<R> {
     ghost use Rattle.std.specs.Prelude.{◌≡◌, ◌%◌, ◌^◌, IfOk};
-    ghost use Rattle.appender_store.specs.MemoryState.{count_of};
-    ghost use Rattle.appender_store.specs.NoticeCounts.{counts_of};
+    ghost use Rattle.appender_store.specs.MemoryState.{notice_count};
+    ghost use Rattle.appender_store.specs.NoticeCounts.{notice_counts_of};
 
     /// Returns the folder at a path, which need not exist; an empty path is the current directory. Nothing
     /// is read or made.
     pub fn new(rt: R, path: &str) -> Result<DirFolder<R>, AllocError>
         ensures failures { IfOk result (λ folder. folder.failures ≡ 0) }
-        ensures notices { IfOk result (λ folder. counts_of folder.noted ≡
+        ensures notices { IfOk result (λ folder. notice_counts_of folder.noted ≡
             record { lists = 0; removes = 0; flushes = 0; opens = 0 }) }
     {
         let mut base = String::from_str(rt.alloc(), path)?;
@@ -98,10 +103,10 @@ impl<R: Files + AllocGlobal + Eprint + Clone + Drop> DirFolder<R> {
     }
 }
 
-impl<R: Files + AllocGlobal + Eprint + Clone + Drop, P: WritePolicy> DirFolder<R, P> {
+impl<R: FilesHost, P: WritePolicy> DirFolder<R, P> {
     ghost use Rattle.std.specs.Prelude.{◌≡◌, ◌%◌, ◌^◌};
-    ghost use Rattle.appender_store.specs.MemoryState.{count_of};
-    ghost use Rattle.appender_store.specs.NoticeCounts.{counts_of};
+    ghost use Rattle.appender_store.specs.MemoryState.{notice_count};
+    ghost use Rattle.appender_store.specs.NoticeCounts.{notice_counts_of};
 
     /// Makes each flush of a file also sync its data to the disk (`fdatasync`), so that what was written before
     /// survives a loss of power.
@@ -135,7 +140,7 @@ impl<R: Files + AllocGlobal + Eprint + Clone + Drop, P: WritePolicy> DirFolder<R
 
     /// Returns the number of notices of a kind: at most `u64::MAX`, where it stays.
     pub fn notices(&self, kind: NoticeKind) -> u64
-        ensures { result ≡ count_of kind (counts_of self.now.noted) }
+        ensures { result ≡ notice_count kind (notice_counts_of self.now.noted) }
     {
         self.noted.of(kind)
     }
@@ -154,7 +159,7 @@ impl<R: Files + AllocGlobal + Eprint + Clone + Drop, P: WritePolicy> DirFolder<R
 
     // Reports a notice on standard error. A folder that doesn't exist yet has no old files, so that its listing
     // is nothing to report.
-    fn tell(&self, notice: Notice<'_>) -> io::Result<()> {
+    fn print_notice(&self, notice: Notice<'_>) -> io::Result<()> {
         let rt = &self.rt;
         match notice {
             Notice::List(fault) if fault.kind() == ErrorKind::NotFound => Ok(()),
@@ -169,7 +174,7 @@ impl<R: Files + AllocGlobal + Eprint + Clone + Drop, P: WritePolicy> DirFolder<R
     }
 }
 
-// Flushes a file, and then syncs its data if that is asked for.
+// Flushes a file, and then syncs its data if that is asked for: a sync waits for the disk.
 fn flush_file<F: Write + OpenFile>(file: &mut F, syncs: bool) -> io::Result<()>
     ensures { Keeps (F.contents file.old) (F.contents file.new) }
 {
@@ -177,24 +182,24 @@ fn flush_file<F: Write + OpenFile>(file: &mut F, syncs: bool) -> io::Result<()>
     if syncs { file.sync_data() } else { Ok(()) }
 }
 
-impl<R: Files + AllocGlobal + Eprint + Clone + Drop, P: WritePolicy> Folder for DirFolder<R, P> {
+impl<R: FilesHost, P: WritePolicy> Folder for DirFolder<R, P> {
     ghost use Rattle.std.specs.Prelude.{◌≡◌, ◌%◌, ◌^◌, false};
     ghost use Rattle.std.specs.Io.KnownBytes.{Keeps, WriteAppends};
-    ghost use Rattle.appender_store.specs.Folder.{after_note, kind_of};
-    ghost use Rattle.appender_store.specs.NoticeCounts.{counts_of};
-    ghost use Rattle.appender_folder.specs.Calls.{CountsFailure, CallsEntry, unknown};
+    ghost use Rattle.appender_store.specs.Folder.{after_note, notice_kind_of};
+    ghost use Rattle.appender_store.specs.NoticeCounts.{notice_counts_of};
+    ghost use Rattle.appender_folder.specs.Calls.{CountsFailure, CallsEntry, unknown_content};
 
     type File = R::File;
 
     ghost is_known = { false };
 
-    ghost content = { λ _. unknown };
+    ghost content = { λ _. unknown_content };
 
     ghost body = { λ _. 0 };
 
     ghost failures = { λ f. f.failures % 2 ^ 64 };
 
-    ghost noted = { λ f. counts_of f.noted };
+    ghost noted = { λ f. notice_counts_of f.noted };
 
     ghost list_gives = { λ old r new. CountsFailure (old.failures % 2 ^ 64) (new.failures % 2 ^ 64) r };
 
@@ -217,7 +222,7 @@ impl<R: Files + AllocGlobal + Eprint + Clone + Drop, P: WritePolicy> Folder for 
         × Keeps (R.File.contents file) (R.File.contents after) };
 
     ghost note_gives = { λ old said new.
-        counts_of new.noted ≡ after_note (kind_of said) (counts_of old.noted) };
+        notice_counts_of new.noted ≡ after_note (notice_kind_of said) (notice_counts_of old.noted) };
 
     ghost use Rattle.std.proofs.Common.{arith, rules};
 
@@ -252,17 +257,17 @@ impl<R: Files + AllocGlobal + Eprint + Clone + Drop, P: WritePolicy> Folder for 
         self.count_failure(answer)
     }
 
-    /// Checks that a link has this name, and lets `make_link` replace it. The link itself stays, so that its name
-    /// leads to a file at every moment. `NotFound` if nothing has the name, `AlreadyExists` if a file or a
-    /// folder has it.
+    /// Checks that a link has this name, and does not remove it: `make_link` replaces it. So the link is there at every
+    /// moment. `NotFound` if nothing has the name, `AlreadyExists` if a file or a folder has it.
     fn remove_link(&mut self, name: &str) -> io::Result<()> {
         let answer = check_link(&self.rt, self.path.as_str(), name);
         self.count_failure(answer)
     }
 
-    /// Makes a link. If a link has the name, the new one is made as `.NAME.new` and renamed over it; a link that a
-    /// killed process left as `.NAME.new` is removed. `AlreadyExists` if a file or a folder has one of the
-    /// names: it is never replaced.
+    /// Makes a symbolic link, and replaces one of the same name. `AlreadyExists` if a file or a folder has the name.
+    ///
+    /// A replacement is one step: the new link is made under the name `.NAME.new`, and then renamed. A link that a
+    /// killed process left under that name is removed. `AlreadyExists` also if a file or a folder has that name.
     fn make_link(&mut self, name: &str, target: &str) -> io::Result<()> {
         let answer = make_link(&self.rt, self.path.as_str(), name, target);
         self.count_failure(answer)
@@ -281,7 +286,7 @@ impl<R: Files + AllocGlobal + Eprint + Clone + Drop, P: WritePolicy> Folder for 
     fn note(&mut self, notice: Notice<'_>) {
         self.noted.add(notice.kind());
         // A fault of standard error can't be reported.
-        let _ = self.tell(notice);
+        let _ = self.print_notice(notice);
     }
 
     fn failures(&self) -> u64 {

@@ -1,2 +1,4 @@
 mod OneLines
+mod TimeLines
+mod TimeTexts
 mod Unwritten

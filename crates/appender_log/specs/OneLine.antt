@@ -12,11 +12,11 @@ is_control b = nat_lt b 32 || (b == 127)
 
 -- a byte in one line: a newline is `\n`, a carriage return `\r`, another control character `\x` and two hexadecimal
 -- digits, and another byte itself
-abbrev pub escape_of : ℕ → List ℕ
-escape_of b = if b == 10 then 92 ∷ 110 ∷ [] else
+abbrev pub record_escape : ℕ → List ℕ
+record_escape b = if b == 10 then 92 ∷ 110 ∷ [] else
     (if b == 13 then 92 ∷ 114 ∷ [] else
     (if is_control b then 92 ∷ 120 ∷ hex_digit (b / 16) ∷ hex_digit (b % 16) ∷ [] else b ∷ []))
 
 -- the bytes of a text in one line
 abbrev pub one_line : List ℕ → List ℕ
-one_line = flat_map escape_of
+one_line = flat_map record_escape

@@ -1,20 +1,36 @@
 -- What a writer gets of a record.
-use Rattle.std.specs.Prelude.{◌≡◌, ◌⊎◌, ℕ, ◌<◌, Bool, true, false, List, [], ◌++◌, length, take, nat_lt, codes, Option, IfSome}
+use Rattle.std.specs.Prelude.{◌≡◌, ◌⊎◌, ℕ, ◌<◌, ℤ, Bool, true, false, List, [], ◌++◌, length, take, nat_lt, codes, Option, IfSome}
 use Rattle.std.specs.Io.KnownBytes.{Appends, Keeps}
 use Rattle.appender_log.specs.OneLine.{one_line}
+use Rattle.appender_log.specs.Time.{time_text}
 
 -- a text in one line, and a newline; the text is this one, if it is known
-abbrev pub IsLine : Option (List ℕ) → List ℕ → Type 0
-IsLine known line = (text : List ℕ) × IfSome known (λ t. text ≡ t) × (line ≡ one_line text ++ codes "\n")
+abbrev pub IsRecordLine : Option (List ℕ) → List ℕ → Type 0
+IsRecordLine known line = (text : List ℕ) × IfSome known (λ t. text ≡ t) × (line ≡ one_line text ++ codes "\n")
 
 -- known bytes grow by the whole line
 abbrev pub AppendsLine : Option (List ℕ) → Option (List ℕ) → Option (List ℕ) → Type 0
-AppendsLine known old new = (line : List ℕ) × IsLine known line × Appends old new line
+AppendsLine known old new = (line : List ℕ) × IsRecordLine known line × Appends old new line
 
 -- known bytes grow by less than the line: its first bytes, or nothing
 abbrev pub AppendsLess : Option (List ℕ) → Option (List ℕ) → Option (List ℕ) → Type 0
 AppendsLess known old new =
-    (line : List ℕ) × IsLine known line × (n : ℕ) × (n < length line) × Appends old new (take n line)
+    (line : List ℕ) × IsRecordLine known line × (n : ℕ) × (n < length line) × Appends old new (take n line)
+
+-- a line after its time, in nanoseconds since the epoch
+abbrev pub line_at : ℤ → List ℕ → List ℕ
+line_at nanos line = time_text nanos ++ codes " " ++ line
+
+-- the same with the time before the line
+abbrev pub IsLineAt : ℤ → Option (List ℕ) → List ℕ → Type 0
+IsLineAt nanos known line = (rest : List ℕ) × IsRecordLine known rest × (line ≡ line_at nanos rest)
+
+abbrev pub AppendsLineAt : ℤ → Option (List ℕ) → Option (List ℕ) → Option (List ℕ) → Type 0
+AppendsLineAt nanos known old new = (line : List ℕ) × IsLineAt nanos known line × Appends old new line
+
+abbrev pub AppendsLessAt : ℤ → Option (List ℕ) → Option (List ℕ) → Option (List ℕ) → Type 0
+AppendsLessAt nanos known old new =
+    (line : List ℕ) × IsLineAt nanos known line × (n : ℕ) × (n < length line) × Appends old new (take n line)
 
 -- what ends a line that was cut short: nothing if none was
 abbrev pub ending : Bool → List ℕ
@@ -27,3 +43,7 @@ abbrev pub WritesPart : List ℕ → Bool → Bool → Option (List ℕ) → Opt
 WritesPart line before after old new =
     (Keeps old new × (after ≡ before))
     ⊎ ((n : ℕ) × (n < length line) × Appends old new (ending before ++ take n line) × (after ≡ nat_lt 0 n))
+
+-- the bytes of the longest time, and of the space after it
+abbrev pub room : ℕ
+room = 28

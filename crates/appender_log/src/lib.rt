@@ -5,11 +5,12 @@ ghost use Rattle.std.specs.Prelude.{
   ◌≡◌,
   ◌≢◌,
   ◌<◌,
+  ◌≤◌,
   ◌++◌,
   true,
   false,
-  if◌then◌else◌,
-  is_ok,
+  drop,
+  length,
   IfOk,
   IfErr,
   OnOk,
@@ -18,10 +19,23 @@ ghost use Rattle.std.specs.Prelude.{
 ghost use Rattle.std.specs.IoError.{error_kind};
 ghost use Rattle.std.specs.Io.KnownBytes.{Appends, Keeps};
 ghost use Rattle.log.specs.Line.{record_line};
-ghost use Rattle.appender_log.specs.Written.{IsLine, AppendsLine, AppendsLess, WritesPart, ending};
+ghost use Rattle.appender_log.specs.Time.{time_text};
+ghost use Rattle.appender_log.specs.Written.{
+  IsRecordLine,
+  IsLineAt,
+  AppendsLine,
+  AppendsLess,
+  AppendsLineAt,
+  AppendsLessAt,
+  line_at,
+  room,
+  WritesPart,
+  ending,
+};
 
-use appender_base::make_writer::MakeWriter;
-use appender_base::sync::{Backoff, lock};
+use appender_clock::Clock;
+use appender_sync::{Backoff, lock};
+use appender_traits::make_writer::MakeWriter;
 use appender_worker::worker::{LineFault, run_line};
 use log::kv::Source;
 use log::span::Spans;
@@ -34,20 +48,54 @@ use std::sync::atomic::AtomicU64;
 use std::sync::atomic::Ordering::SeqCst;
 use std::sync::{Mutex, Wait};
 use std::{fmt, io};
+use times::{after_room, put_time};
 
 pub mod laws;
 mod one_line;
 #[cfg(test)]
 mod tests;
+mod times;
 
-/// Logs each record as one line, by a writer of its own: by one write if that takes all of it, and with no other
-/// record of this sink between its pieces. After a record that was cut short the next one begins with a
-/// newline. It logs every record that it is given: the logger decides by level. Threads can share it, and a
-/// logger can borrow it. A writer must not log by it: it would wait for itself.
+/// The clock of a sink whose records have no times: nothing reads it. It is as a clock that can't be read.
+#[derive(Clone, Copy, Debug)]
+pub struct NoClock;
+
+impl Clock for NoClock {
+    ghost now_gives = { λ clock m. Unit {0} };
+
+    fn now(&self) -> i64 {
+        i64::MIN
+    }
+}
+
+/// Logs each record as one line, by a writer of its own, and by one write if that takes all of it. No other record of
+/// this sink is between its pieces. After a record that was cut short the next one begins with a
+/// newline. Records have times if the sink is given a clock by `timestamps`. It logs every record that it is
+/// given: the logger decides by level. Threads can share it, and a logger can borrow it. A writer must not log by
+/// it: it would wait for itself.
+///
+/// ```
+/// use appender_log::LogSink;
+/// use log::{Level, Log, Logged, info};
+/// use std::io;
+/// use std::io::Write;
+/// use tracing_appender::non_blocking::{Host, Losses, non_blocking};
+///
+/// pub fn log_read<R: Host, W: Write + Send + Drop + 'static>(rt: R, log: W) -> io::Result<()> {
+///     let (lines, guard) = non_blocking(rt, rt.alloc(), log)?;
+///     let sink = LogSink::new(rt, &lines);
+///     let logger = Logged::new(rt, Level::Info, &sink);
+///     // Queues the line `[INFO  db] read rows=3`.
+///     info!(logger; target: "db", rows = 3; "read");
+///     Losses::from(guard.close()).and_records(sink.lost()).check()
+/// }
+/// ```
 #[derive(Drop)]
-pub struct LogSink<'a, M, R: Drop = HostRuntime> {
+pub struct LogSink<'a, M, R: Drop = HostRuntime, C: Clock = NoClock> {
     rt: R,
     writers: &'a M,
+    // What the times of records are read from, if they have any.
+    clock: Option<C>,
     // Whether the last record was cut short. A thread that writes a record holds it, since a writer of an
     // appender lets other writers write between two writes of its own.
     cut: Mutex<bool>,
@@ -60,8 +108,30 @@ impl<'a, M, R: Drop> LogSink<'a, M, R> {
         LogSink {
             rt,
             writers,
+            clock: None,
             cut: Mutex::new(false),
             lost: AtomicU64::new(0),
+        }
+    }
+}
+
+impl<'a, M, R: Drop, C: Clock> LogSink<'a, M, R, C> {
+    /// Returns this sink with a clock. It writes the clock's time and a space before each record, as in
+    /// `2026-11-27T10:00:00.000000Z [INFO  db] read rows=3`. The form is that of RFC 3339, in UTC, with six digits of
+    /// microseconds, rounded down. A time outside the years 1 to 9998, as of a clock that can't be read, is `-`, which
+    /// is the NILVALUE of RFC 5424. A sink without a clock writes no times.
+    ///
+    /// The clock is read once for each record, under the sink's lock, when the write of the record begins. So the times
+    /// of the records rise as the clock does. If threads wait for the lock, a time is that of the write, and not that
+    /// of the call. The writer is made before the clock is read, so at a boundary a record may be in the file of the period
+    /// before its time. A clock must not log by this sink: it would wait for itself.
+    pub fn timestamps<D: Clock>(self, clock: D) -> LogSink<'a, M, R, D> {
+        LogSink {
+            rt: self.rt,
+            writers: self.writers,
+            clock: Some(clock),
+            cut: self.cut,
+            lost: self.lost,
         }
     }
 
@@ -95,12 +165,35 @@ pub fn write_record<D: Display, K: Source, S: Spans, W: Write>(
     write_line(writer, &mut cut, line.as_slice())
 }
 
+/// Writes a time, a space and the line of a record, as `write_record` writes the line: by one write if that takes all
+/// of it, and with the same errors. The time is in nanoseconds since the epoch, and its text is that of
+/// `LogSink::timestamps`.
+pub fn write_record_at<D: Display, K: Source, S: Spans, W: Write>(
+    alloc: Global,
+    writer: &mut W,
+    nanos: i128,
+    record: &Record<'_, D, K, S>,
+) -> io::Result<()>
+    ensures whole { OnOk result (AppendsLineAt nanos (record_line D.output K.pairs S.scopes «record».now)
+        (W.contents writer.old) (W.contents writer.new)) }
+    ensures beginning { OnErr result (AppendsLessAt nanos (record_line D.output K.pairs S.scopes «record».now)
+        (W.contents writer.old) (W.contents writer.new)) }
+    ensures nothing { IfErr result (λ e. error_kind e ≢ ErrorKind.WriteZero
+        → Keeps (W.contents writer.old) (W.contents writer.new)) }
+    ensures interrupted { IfErr result (λ e. error_kind e ≢ ErrorKind.Interrupted) }
+{
+    let line = line_of(alloc, record)?;
+    let mut line = after_room(alloc, line.as_slice())?;
+    let mut cut = false;
+    write_line_at(writer, &mut cut, nanos, line.as_mut_slice())
+}
+
 // The line of a record, with its newline.
 fn line_of<D: Display, K: Source, S: Spans>(
     alloc: Global,
     record: &Record<'_, D, K, S>,
 ) -> Result<Vec<u8>, AllocError>
-    ensures { IfOk result (λ line. IsLine (record_line D.output K.pairs S.scopes «record».now)
+    ensures { IfOk result (λ line. IsRecordLine (record_line D.output K.pairs S.scopes «record».now)
         line.items) }
 {
     let text = String::format(alloc, Line::new(record))?;
@@ -126,6 +219,25 @@ fn write_line<W: Write>(writer: &mut W, cut: &mut bool, line: &[u8]) -> io::Resu
             Err(error_of(fault))
         }
     }
+}
+
+// Writes a line after its time, which is put into the room before it.
+fn write_line_at<W: Write>(
+    writer: &mut W,
+    cut: &mut bool,
+    nanos: i128,
+    line: &mut [u8],
+) -> io::Result<()>
+    requires room { room ≤ length line.old }
+    ensures whole { OnOk result (cut.new ≡ false
+        × Appends (W.contents writer.old) (W.contents writer.new) (ending cut.old ++ line_at nanos (drop room line.old))) }
+    ensures part { OnErr result (WritesPart (line_at nanos (drop room line.old)) cut.old cut.new
+        (W.contents writer.old) (W.contents writer.new)) }
+    ensures nothing { IfErr result (λ e. error_kind e ≢ ErrorKind.WriteZero → cut.new ≡ true → cut.old ≡ true) }
+    ensures interrupted { IfErr result (λ e. error_kind e ≢ ErrorKind.Interrupted) }
+{
+    let start = put_time(line, nanos);
+    write_line(writer, cut, &line[start..])
 }
 
 // Writes a newline if the last line was cut short.
@@ -162,30 +274,40 @@ fn error_of(fault: LineFault) -> io::Error
     }
 }
 
-// The number of records that were lost by a write.
-fn lost_by(written: &io::Result<()>) -> u64
-    ensures { result ≡ (if is_ok written.now then 0 else 1) }
-{
-    match written {
-        Ok(()) => 0,
-        Err(_) => 1,
-    }
-}
-
-impl<'a, M: MakeWriter<'a>, R: AllocGlobal + Wait + Drop> LogSink<'a, M, R> {
+impl<'a, M: MakeWriter<'a>, R: AllocGlobal + Wait + Drop, C: Clock> LogSink<'a, M, R, C> {
     // Writes a record by a writer of its own.
     fn write<D: Display, K: Source, S: Spans>(
         &self,
         record: &Record<'_, D, K, S>,
     ) -> io::Result<()> {
         let line = line_of(self.rt.alloc(), record)?;
+        match &self.clock {
+            None => self.write_now(line.as_slice()),
+            Some(clock) => self.write_at(clock, line.as_slice()),
+        }
+    }
+
+    fn write_now(&self, line: &[u8]) -> io::Result<()> {
         let mut writer = self.writers.make_writer()?;
         let mut cut = lock(&self.rt, &self.cut, &mut Backoff::NEW);
-        write_line(&mut writer, &mut cut, line.as_slice())
+        write_line(&mut writer, &mut cut, line)
+    }
+
+    // Reads the clock under the lock, so that times rise in the log as they do on the clock.
+    fn write_at(&self, clock: &C, line: &[u8]) -> io::Result<()> {
+        let mut line = after_room(self.rt.alloc(), line)?;
+        let mut writer = self.writers.make_writer()?;
+        let mut cut = lock(&self.rt, &self.cut, &mut Backoff::NEW);
+        write_line_at(
+            &mut writer,
+            &mut cut,
+            clock.now_nanos(),
+            line.as_mut_slice(),
+        )
     }
 }
 
-impl<'a, M: MakeWriter<'a>, R: AllocGlobal + Wait + Drop> Log for LogSink<'a, M, R> {
+impl<'a, M: MakeWriter<'a>, R: AllocGlobal + Wait + Drop, C: Clock> Log for LogSink<'a, M, R, C> {
     ghost use Rattle.std.specs.Prelude.{true, Some, []};
 
     ghost enables = { λ _ _ _. Some true };
@@ -198,9 +320,8 @@ impl<'a, M: MakeWriter<'a>, R: AllocGlobal + Wait + Drop> Log for LogSink<'a, M,
 
     /// Writes the record, or counts it in `lost`.
     fn log<D: Display, K: Source, S: Spans>(&self, record: &Record<'_, D, K, S>) {
-        let lost = lost_by(&self.write(record));
-        if lost > 0 {
-            self.lost.fetch_add(lost, SeqCst);
+        if self.write(record).is_err() {
+            self.lost.fetch_add(1, SeqCst);
         }
     }
 
@@ -216,7 +337,7 @@ impl<'a, M: MakeWriter<'a>, R: AllocGlobal + Wait + Drop> Log for LogSink<'a, M,
     }
 }
 
-impl<M, R: Drop> Debug for LogSink<'_, M, R> {
+impl<M, R: Drop, C: Clock> Debug for LogSink<'_, M, R, C> {
     fn fmt<W: fmt::Write>(&self, f: &mut Formatter<W>) -> fmt::Result {
         f.pad("LogSink { .. }")
     }

@@ -1,6 +1,6 @@
 // Texts in one line.
 ghost use Rattle.std.specs.Prelude.{◌≡◌, ◌<◌, ◌++◌, true, IfOk, OnOk};
-ghost use Rattle.appender_log.specs.OneLine.{hex_digit, is_control, escape_of, one_line};
+ghost use Rattle.appender_log.specs.OneLine.{hex_digit, is_control, record_escape, one_line};
 
 use std::alloc::{AllocError, Global};
 
@@ -44,7 +44,7 @@ fn push_escapes(line: &mut Vec<u8>, text: &[u8]) -> Result<(), AllocError>
 }
 
 fn push_escape(line: &mut Vec<u8>, byte: u8) -> Result<(), AllocError>
-    ensures { OnOk result (line.new.items ≡ line.old.items ++ escape_of byte) }
+    ensures { OnOk result (line.new.items ≡ line.old.items ++ record_escape byte) }
 {
     match byte {
         b'\n' => line.extend_from_slice(b"\\n"),

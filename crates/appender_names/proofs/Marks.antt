@@ -8,7 +8,7 @@ use Rattle.std.proofs.lemmas.Int.{ints}
 use Rattle.appender_names.specs.declared.rotation.RotationKind.{RotationKind}
 use Rattle.appender_names.specs.declared.rotation.RotationKind.TheVariants.{Minutely, Hourly, Daily, Weekly, Never}
 use Rattle.appender_names.specs.DateText.{IsDated, second_of, two_digits, date_text, text_at, unit_of}
-use Rattle.appender_names.specs.Name.{number_text, marked, last_by, before, back, dated_name, IsLaterName}
+use Rattle.appender_names.specs.Name.{number_text, numbered_date, greatest_number, before_suffix, dotted_suffix, dated_name, IsLaterName}
 use Rattle.std.specs.List.{slice_index}
 use Rattle.std.proofs.lemmas.List.{append-nil}
 use Rattle.appender_names.proofs.Clock.{second_is}
@@ -19,9 +19,9 @@ number_less : (j k : ℕ) → j < k → IsLess (number_text j) (number_text k)
 number_less j k h = digits_less (two_digits (j / 10000) ++ two_digits (j / 100 % 100)) (two_digits (k / 10000) ++ two_digits (k / 100 % 100)) (j % 100) (k % 100) (elim (cases_lt (j / 100) (k / 100)) [
   | inl front ↦ inl (digits_less (two_digits (j / 10000)) (two_digits (k / 10000)) (j / 100 % 100) (k / 100 % 100) (elim (cases_lt (j / 10000) (k / 10000)) [
     | inl high ↦ inl (digits_less [] [] (j / 10000) (k / 10000) (inr (refl, high)))
-    | inr back ↦ inr (ap two_digits (omega arith), omega arith)
+    | inr dotted_suffix ↦ inr (ap two_digits (omega arith), omega arith)
   ]))
-  | inr back ↦ (
+  | inr dotted_suffix ↦ (
       let high : j / 10000 ≡ k / 10000 = omega arith in
       let middle : j / 100 % 100 ≡ k / 100 % 100 = omega arith in
       inr (rw (high, middle) refl, omega arith))
@@ -39,15 +39,15 @@ pub record IsWhole (kind : RotationKind) (s : ℤ) : Type 0 where
   pub years : IsDated s
   pub whole : second_of s % unit_of kind ≡ 0
 
-pub marked_length : (b : Bool) (d e : List ℕ) (j k : ℕ) → length d ≡ length e → length (marked b d j) ≡ length (marked b e k)
+pub marked_length : (b : Bool) (d e : List ℕ) (j k : ℕ) → length d ≡ length e → length (numbered_date b d j) ≡ length (numbered_date b e k)
 marked_length false d e j k h = h
 marked_length true [] [] j k h = refl
 marked_length true [] (y ∷ ys) j k h = absurd (omega arith)
 marked_length true (x ∷ xs) [] j k h = absurd (omega arith)
 marked_length true (x ∷ xs) (y ∷ ys) j k h = ap suc (marked_length true xs ys j k (omega arith))
 
-pub mark_less : (b : Bool) (kind : RotationKind) (s t : ℤ) (j k : ℕ) → IsWhole kind s → IsWhole kind t → k ≤ last_by b → IsLaterName s j t k
-    → slice_cmp nat_cmp (marked b (date_text kind s) j) (marked b (date_text kind t) k) ≡ Less
+pub mark_less : (b : Bool) (kind : RotationKind) (s t : ℤ) (j k : ℕ) → IsWhole kind s → IsWhole kind t → k ≤ greatest_number b → IsLaterName s j t k
+    → slice_cmp nat_cmp (numbered_date b (date_text kind s) j) (numbered_date b (date_text kind t) k) ≡ Less
 mark_less false kind s t j k x y top (inl lt) = text_less kind s t x.years y.years x.whole y.whole lt
 mark_less false kind s t j k x y top (inr (same, lt)) = absurd (omega arith)
 mark_less true kind s t j k x y top (inl lt) =
@@ -56,15 +56,15 @@ mark_less true kind s t j k x y top (inr (same, lt)) =
     rw same (cmp_front (date_text kind t) (46 ∷ number_text j) (46 ∷ number_text k) ∙ cmp_front (46 ∷ []) (number_text j) (number_text k) ∙ number_less j k lt [] [])
 
 -- so one text is that of one date and one number
-apart : (b : Bool) (kind : RotationKind) (s t : ℤ) (j k : ℕ) → IsWhole kind s → IsWhole kind t → k ≤ last_by b
-    → marked b (date_text kind s) j ≡ marked b (date_text kind t) k → ¬ IsLaterName s j t k
+apart : (b : Bool) (kind : RotationKind) (s t : ℤ) (j k : ℕ) → IsWhole kind s → IsWhole kind t → k ≤ greatest_number b
+    → numbered_date b (date_text kind s) j ≡ numbered_date b (date_text kind t) k → ¬ IsLaterName s j t k
 apart b kind s t j k x y top e later =
     let less = mark_less b kind s t j k x y top later in
-    let same : slice_cmp nat_cmp (marked b (date_text kind s) j) (marked b (date_text kind t) k) ≡ Equal = rw e (cmp_same (marked b (date_text kind t) k)) in
+    let same : slice_cmp nat_cmp (numbered_date b (date_text kind s) j) (numbered_date b (date_text kind t) k) ≡ Equal = rw e (cmp_same (numbered_date b (date_text kind t) k)) in
     cc
 
-pub mark_once : (b : Bool) (kind : RotationKind) (s t : ℤ) (j k : ℕ) → IsWhole kind s → IsWhole kind t → j ≤ last_by b → k ≤ last_by b
-    → marked b (date_text kind s) j ≡ marked b (date_text kind t) k → (s ≡ t) × (j ≡ k)
+pub mark_once : (b : Bool) (kind : RotationKind) (s t : ℤ) (j k : ℕ) → IsWhole kind s → IsWhole kind t → j ≤ greatest_number b → k ≤ greatest_number b
+    → numbered_date b (date_text kind s) j ≡ numbered_date b (date_text kind t) k → (s ≡ t) × (j ≡ k)
 mark_once b kind s t j k x y low top e =
     let here = (second_is s x.years).0 in
     let there = (second_is t y.years).0 in
@@ -82,15 +82,15 @@ mark_once b kind s t j k x y low top e =
 
 -- ---- places, counted by units and in a unit by numbers
 
-pub place : (b : Bool) (u k : ℕ) → k ≤ last_by b → ((u * suc (last_by b) + k) / suc (last_by b) ≡ u) × ((u * suc (last_by b) + k) % suc (last_by b) ≡ k)
+pub place : (b : Bool) (u k : ℕ) → k ≤ greatest_number b → ((u * suc (greatest_number b) + k) / suc (greatest_number b) ≡ u) × ((u * suc (greatest_number b) + k) % suc (greatest_number b) ≡ k)
 place false u k h = (omega arith, omega arith)
 place true u k h = (omega arith, omega arith)
 
-pub place_low : (b : Bool) (u k end : ℕ) → u < end → k ≤ last_by b → u * suc (last_by b) + k < end * suc (last_by b)
+pub place_low : (b : Bool) (u k end : ℕ) → u < end → k ≤ greatest_number b → u * suc (greatest_number b) + k < end * suc (greatest_number b)
 place_low false u k end lt h = omega arith
 place_low true u k end lt h = omega arith
 
-pub unit_low : (b : Bool) (i end : ℕ) → i < end * suc (last_by b) → (i / suc (last_by b) < end) × (i % suc (last_by b) ≤ last_by b)
+pub unit_low : (b : Bool) (i end : ℕ) → i < end * suc (greatest_number b) → (i / suc (greatest_number b) < end) × (i % suc (greatest_number b) ≤ greatest_number b)
 unit_low false i end h = (omega arith, omega arith)
 unit_low true i end h = (omega arith, omega arith)
 
@@ -106,13 +106,13 @@ append_same (x ∷ xs) (y ∷ ys) t u len same =
     rw (head, append_same xs ys t u len rest) refl
 
 -- the date
-pub marked_date : (b : Bool) (d e : List ℕ) (j k : ℕ) → marked b d j ≡ marked b e k → d ≡ e
+pub marked_date : (b : Bool) (d e : List ℕ) (j k : ℕ) → numbered_date b d j ≡ numbered_date b e k → d ≡ e
 marked_date false d e j k same = same
 marked_date true d e j k same = append_same d e (46 ∷ number_text j) (46 ∷ number_text k) refl same
 
 -- ---- a number in a name
 
-before_back : (t s : List ℕ) → before t s ≡ t ++ back s
+before_back : (t s : List ℕ) → before_suffix t s ≡ t ++ dotted_suffix s
 before_back t [] = sym (append-nil t)
 before_back t (x ∷ xs) = refl
 
@@ -120,13 +120,13 @@ abbrev pub front : List ℕ → List ℕ → List ℕ
 front [] date = date ++ 46 ∷ []
 front (x ∷ xs) date = (x ∷ xs) ++ 46 ∷ (date ++ 46 ∷ [])
 
-bare_is : (s date : List ℕ) (k : ℕ) → before (date ++ 46 ∷ number_text k) s ≡ (date ++ 46 ∷ []) ++ (number_text k ++ back s)
-bare_is s date k = before_back (date ++ 46 ∷ number_text k) s ∙ append_assoc date (46 ∷ number_text k) (back s) ∙ sym (append_assoc date (46 ∷ []) (number_text k ++ back s))
+bare_is : (s date : List ℕ) (k : ℕ) → before_suffix (date ++ 46 ∷ number_text k) s ≡ (date ++ 46 ∷ []) ++ (number_text k ++ dotted_suffix s)
+bare_is s date k = before_back (date ++ 46 ∷ number_text k) s ∙ append_assoc date (46 ∷ number_text k) (dotted_suffix s) ∙ sym (append_assoc date (46 ∷ []) (number_text k ++ dotted_suffix s))
 
-pub numbered_is : (p s date : List ℕ) (k : ℕ) → dated_name p s (marked true date k) ≡ front p date ++ (number_text k ++ back s)
+pub numbered_is : (p s date : List ℕ) (k : ℕ) → dated_name p s (numbered_date true date k) ≡ front p date ++ (number_text k ++ dotted_suffix s)
 numbered_is [] s date k = bare_is s date k
 numbered_is (x ∷ xs) s date k =
-    ap (λ t. (x ∷ xs) ++ 46 ∷ t) (bare_is s date k) ∙ sym (append_assoc (x ∷ xs) (46 ∷ (date ++ 46 ∷ [])) (number_text k ++ back s))
+    ap (λ t. (x ∷ xs) ++ 46 ∷ t) (bare_is s date k) ∙ sym (append_assoc (x ∷ xs) (46 ∷ (date ++ 46 ∷ [])) (number_text k ++ dotted_suffix s))
 
 pub index_behind : (xs ys : List ℕ) (y : ℕ) → slice_index (xs ++ y ∷ ys) (length xs) ≡ y
 index_behind [] ys y = refl
@@ -141,18 +141,18 @@ pub record IsCut (bytes p s date : List ℕ) (keep : ℕ) : Type 0 where
   pub kept : take keep bytes ≡ front p date
   pub digit : slice_index bytes keep ≡ 48
   pub low : keep ≤ length bytes
-  pub room : keep + (6 + length (back s)) ≡ length bytes
+  pub room : keep + (6 + length (dotted_suffix s)) ≡ length bytes
 
-pub cut : (bytes p s date : List ℕ) (tail : ℕ) → bytes ≡ dated_name p s (marked true date 0) → tail ≡ 6 + length (back s) → IsCut bytes p s date (length bytes - tail)
+pub cut : (bytes p s date : List ℕ) (tail : ℕ) → bytes ≡ dated_name p s (numbered_date true date 0) → tail ≡ 6 + length (dotted_suffix s) → IsCut bytes p s date (length bytes - tail)
 cut bytes p s date tail is tail_is =
     let f = front p date in
-    let whole : bytes ≡ f ++ (number_text 0 ++ back s) = is ∙ numbered_is p s date 0 in
-    let size = ap length whole ∙ length-append f (number_text 0 ++ back s) in
-    let count : length (number_text 0 ++ back s) ≡ 6 + length (back s) = omega arith in
+    let whole : bytes ≡ f ++ (number_text 0 ++ dotted_suffix s) = is ∙ numbered_is p s date 0 in
+    let size = ap length whole ∙ length-append f (number_text 0 ++ dotted_suffix s) in
+    let count : length (number_text 0 ++ dotted_suffix s) ≡ 6 + length (dotted_suffix s) = omega arith in
     let same : length bytes - tail ≡ length f = omega (arith, size, count, tail_is) in
     record {
-      kept = rw (same, whole) (take_front f (number_text 0 ++ back s));
-      digit = rw (same, whole) (index_behind f (48 ∷ 48 ∷ 48 ∷ 48 ∷ 48 ∷ back s) 48);
+      kept = rw (same, whole) (take_front f (number_text 0 ++ dotted_suffix s));
+      digit = rw (same, whole) (index_behind f (48 ∷ 48 ∷ 48 ∷ 48 ∷ 48 ∷ dotted_suffix s) 48);
       low = omega arith;
       room = omega (arith, size, count, tail_is);
     }

@@ -9,9 +9,9 @@ use Rattle.std.proofs.lemmas.Int.{ints}
 use Rattle.appender_names.specs.declared.rotation.RotationKind.{RotationKind}
 use Rattle.appender_names.specs.declared.rotation.RotationKind.TheVariants.{Minutely, Hourly, Daily, Weekly, Never}
 use Rattle.appender_names.specs.declared.rotation.Rotation.{Rotation}
-use Rattle.appender_names.specs.Rotation.{IsMoment, period_of, period_of_kind, step_of, StartsItself}
+use Rattle.appender_names.specs.Rotation.{IsMoment, period_of, period_of_kind, step_of, StartsOwnPeriod}
 use Rattle.appender_names.specs.DateText.{IsDated, second_of, date_text, unit_of}
-use Rattle.appender_names.specs.Name.{Naming, name_at, mark_of, dated_name, behind, before, ReadsAt, NamesRise, NamesArePeriods, NamesReadAsStarts, NamesReadOnce}
+use Rattle.appender_names.specs.Name.{Naming, name_at, mark_of, dated_name, after_prefix, before_suffix, ReadsAt, NamesRise, NamesArePeriods, NamesReadAsStarts, NamesReadOnce}
 use Rattle.appender_names.proofs.Periods.{floor, floor_whole, whole_is, period_is, start_is}
 use Rattle.appender_names.proofs.Clock.{second_is}
 use Rattle.appender_names.proofs.Digits.{over}
@@ -72,11 +72,11 @@ one_name n a b p q j k ga gb ea eb low top = (
   λ e. name_at-dated_name n a p j (start_named n.rotation a p ga ea).rotates_is ea ∙ ap (λ s. dated_name n.prefix n.suffix (mark_of n s j)) e.0 ∙ ap (λ i. dated_name n.prefix n.suffix (mark_of n q i)) e.1 ∙ sym (name_at-dated_name n b q k (start_named n.rotation b q gb eb).rotates_is eb),
 )
 
-before_less : (a b s : List ℕ) → length a ≡ length b → slice_cmp nat_cmp a b ≡ Less → slice_cmp nat_cmp (before a s) (before b s) ≡ Less
+before_less : (a b s : List ℕ) → length a ≡ length b → slice_cmp nat_cmp a b ≡ Less → slice_cmp nat_cmp (before_suffix a s) (before_suffix b s) ≡ Less
 before_less a b [] len h = h
 before_less a b (x ∷ xs) len h = cmp_behind a b (46 ∷ x ∷ xs) (46 ∷ x ∷ xs) len h
 
-behind_less : (p a b : List ℕ) → slice_cmp nat_cmp a b ≡ Less → slice_cmp nat_cmp (behind p a) (behind p b) ≡ Less
+behind_less : (p a b : List ℕ) → slice_cmp nat_cmp a b ≡ Less → slice_cmp nat_cmp (after_prefix p a) (after_prefix p b) ≡ Less
 behind_less [] a b h = h
 behind_less (x ∷ xs) a b h = cmp_front (x ∷ xs) (46 ∷ a) (46 ∷ b) ∙ cmp_front (46 ∷ []) a b ∙ h
 
@@ -86,13 +86,13 @@ rise n a b p q j k ga gb ea eb low top later =
     let y = start_named n.rotation b q gb eb in
     let less = mark_less n.numbered n.rotation.kind p q j k (record { years = x.years; whole = x.whole }) (record { years = y.years; whole = y.whole }) top later in
     rw (name_at-dated_name n a p j x.rotates_is ea, name_at-dated_name n b q k y.rotates_is eb)
-    (behind_less n.prefix (before (mark_of n p j) n.suffix) (before (mark_of n q k) n.suffix)
+    (behind_less n.prefix (before_suffix (mark_of n p j) n.suffix) (before_suffix (mark_of n q k) n.suffix)
     (before_less (mark_of n p j) (mark_of n q k) n.suffix (marked_length n.numbered (date_text n.rotation.kind p) (date_text n.rotation.kind q) j k (same_length n.rotation.kind (second_of p) (second_of q))) less))
 
 pub read_once : (n : Naming) → NamesReadOnce n
 read_once = reads_once
 
-pub starts_itself : (r : Rotation) → StartsItself r
+pub starts_itself : (r : Rotation) → StartsOwnPeriod r
 starts_itself r m p gm gp e =
     let h = rotates r.kind m p e in
     let s = step_of r.kind in

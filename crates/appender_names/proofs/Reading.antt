@@ -11,18 +11,18 @@ use Rattle.std.proofs.lemmas.List.{append_cancel_left, append_cancel_right}
 use Rattle.appender_names.specs.declared.rotation.RotationKind.{RotationKind}
 use Rattle.appender_names.specs.declared.rotation.RotationKind.TheVariants.{Minutely, Hourly, Daily, Weekly, Never}
 use Rattle.appender_names.specs.DateText.{IsDated, second_of, unit_of, IsDateText, date_text}
-use Rattle.appender_names.specs.Name.{Naming, Reads, ReadsAt, IsMark, NamesReadOnce, behind, before, dated_name, marked, mark_of, unit_start, numbers_of, second_in, number_in, last_named, reading_at}
+use Rattle.appender_names.specs.Name.{Naming, Reads, ReadsAt, IsMark, NamesReadOnce, after_prefix, before_suffix, dated_name, numbered_date, mark_of, unit_start, numbers_of, second_in, number_in, last_named, reading_at}
 use Rattle.appender_names.proofs.Marks.{IsWhole, mark_once, place, place_low, unit_low}
 use Rattle.std.specs.Option.{option_map}
 use Rattle.appender_names.proofs.Clock.{second_is}
 use Rattle.appender_names.proofs.Digits.{over, whole_second}
 
 -- what is joined comes apart in one way
-pub behind_injective : (p a b : List ℕ) → behind p a ≡ behind p b → a ≡ b
+pub behind_injective : (p a b : List ℕ) → after_prefix p a ≡ after_prefix p b → a ≡ b
 behind_injective [] a b e = e
 behind_injective (x ∷ xs) a b e = let same = append_cancel_left (x ∷ xs) (46 ∷ a) (46 ∷ b) e in cc
 
-pub before_injective : (a b s : List ℕ) → before a s ≡ before b s → a ≡ b
+pub before_injective : (a b s : List ℕ) → before_suffix a s ≡ before_suffix b s → a ≡ b
 before_injective a b [] e = e
 before_injective a b (x ∷ xs) e = append_cancel_right a b (46 ∷ x ∷ xs) e
 
@@ -33,17 +33,17 @@ pub read_whole : (n : Naming) (name : List ℕ) (s : ℤ) (k : ℕ) → ReadsAt 
 read_whole n name s k r = record { years = r.dated_second; whole = whole_second n.rotation.kind s r.dated_second r.whole }
 
 -- a name reads as what is in it between prefix and suffix
-pub reads_mark : (n : Naming) (name rest mark : List ℕ) (s : ℤ) (k : ℕ) → name ≡ behind n.prefix rest → rest ≡ before mark n.suffix → IsMark n.rotation.kind n.numbered mark s k → ReadsAt n name s k
+pub reads_mark : (n : Naming) (name rest mark : List ℕ) (s : ℤ) (k : ℕ) → name ≡ after_prefix n.prefix rest → rest ≡ before_suffix mark n.suffix → IsMark n.rotation.kind n.numbered mark s k → ReadsAt n name s k
 reads_mark n name rest mark s k front back d = record {
   dated_second = d.is_date.years;
   whole = d.is_date.whole;
   number_is = d.number_is;
-  text = front ∙ ap (behind n.prefix) (back ∙ ap (λ u. before u n.suffix) (d.text ∙ ap (λ u. marked n.numbered u k) d.is_date.same));
+  text = front ∙ ap (after_prefix n.prefix) (back ∙ ap (λ u. before_suffix u n.suffix) (d.text ∙ ap (λ u. numbered_date n.numbered u k) d.is_date.same));
 }
 
-pub mark_read : (n : Naming) (name rest mark : List ℕ) (s : ℤ) (k : ℕ) → name ≡ behind n.prefix rest → rest ≡ before mark n.suffix → ReadsAt n name s k → IsMark n.rotation.kind n.numbered mark s k
+pub mark_read : (n : Naming) (name rest mark : List ℕ) (s : ℤ) (k : ℕ) → name ≡ after_prefix n.prefix rest → rest ≡ before_suffix mark n.suffix → ReadsAt n name s k → IsMark n.rotation.kind n.numbered mark s k
 mark_read n name rest mark s k front back r =
-    let middle = behind_injective n.prefix rest (before (mark_of n s k) n.suffix) (sym front ∙ r.text) in
+    let middle = behind_injective n.prefix rest (before_suffix (mark_of n s k) n.suffix) (sym front ∙ r.text) in
     record {
       date = date_text n.rotation.kind s;
       is_date = record { years = r.dated_second; whole = r.whole; same = refl };
@@ -54,13 +54,13 @@ mark_read n name rest mark s k front back r =
 -- the one second and the one number that a name reads as
 pub reads_once : (n : Naming) → NamesReadOnce n
 reads_once n name s t j k a b =
-    let same = before_injective (mark_of n s j) (mark_of n t k) n.suffix (behind_injective n.prefix (before (mark_of n s j) n.suffix) (before (mark_of n t k) n.suffix) (sym a.text ∙ b.text)) in
+    let same = before_injective (mark_of n s j) (mark_of n t k) n.suffix (behind_injective n.prefix (before_suffix (mark_of n s j) n.suffix) (before_suffix (mark_of n t k) n.suffix) (sym a.text ∙ b.text)) in
     mark_once n.numbered n.rotation.kind s t j k (read_whole n name s j a) (read_whole n name t k b) a.number_is b.number_is same
 
 same_key : (s t : ℤ) (j k : ℕ) → ◌≡◌ {A = Option (ℤ × ℕ)} (Some (t, j)) (Some (s, k)) → (t ≡ s) × (j ≡ k)
 same_key s t j k e = (ap (λ (o : Option (ℤ × ℕ)). (unwrap_or o (s, k)).0) e, ap (λ (o : Option (ℤ × ℕ)). (unwrap_or o (s, k)).1) e)
 
-pub reads_exactly : (n : Naming) (name rest mark : List ℕ) (r : Option (ℤ × ℕ)) → name ≡ behind n.prefix rest → rest ≡ before mark n.suffix
+pub reads_exactly : (n : Naming) (name rest mark : List ℕ) (r : Option (ℤ × ℕ)) → name ≡ after_prefix n.prefix rest → rest ≡ before_suffix mark n.suffix
     → MatchOption r ((s : ℤ) (k : ℕ) → ¬ (IsMark n.rotation.kind n.numbered mark s k)) (λ key. IsMark n.rotation.kind n.numbered mark key.0 key.1)
     → (s : ℤ) (k : ℕ) → (r ≡ Some (s, k)) ↔ ReadsAt n name s k
 reads_exactly n name rest mark None front back miss s k = (λ e. cc, λ w. absurd (miss s k (mark_read n name rest mark s k front back w)))
@@ -70,7 +70,7 @@ reads_exactly n name rest mark (Some (t, j)) front back d s k = (
 )
 
 -- the same of what was read with this kind and with or without numbers
-pub reads_as : (n : Naming) (name rest mark : List ℕ) (r : Option (ℤ × ℕ)) (kind : RotationKind) (numbered : Bool) → kind ≡ n.rotation.kind → numbered ≡ n.numbered → name ≡ behind n.prefix rest → rest ≡ before mark n.suffix
+pub reads_as : (n : Naming) (name rest mark : List ℕ) (r : Option (ℤ × ℕ)) (kind : RotationKind) (numbered : Bool) → kind ≡ n.rotation.kind → numbered ≡ n.numbered → name ≡ after_prefix n.prefix rest → rest ≡ before_suffix mark n.suffix
     → MatchOption r ((s : ℤ) (k : ℕ) → ¬ (IsMark kind numbered mark s k)) (λ key. IsMark kind numbered mark key.0 key.1)
     → (s : ℤ) (k : ℕ) → (r ≡ Some (s, k)) ↔ ReadsAt n name s k
 reads_as n name rest mark r kind numbered e f front back d =
@@ -78,11 +78,11 @@ reads_as n name rest mark r kind numbered e f front back d =
     (subst (λ (x : RotationKind). MatchOption r ((s : ℤ) (k : ℕ) → ¬ (IsMark x n.numbered mark s k)) (λ key. IsMark x n.numbered mark key.0 key.1)) e
     (subst (λ (b : Bool). MatchOption r ((s : ℤ) (k : ℕ) → ¬ (IsMark kind b mark s k)) (λ key. IsMark kind b mark key.0 key.1)) f d))
 
-pub reads_none : (n : Naming) (name rest : List ℕ) (r : Option (ℤ × ℕ)) → name ≡ behind n.prefix rest → r ≡ None → ((mark : List ℕ) → rest ≢ before mark n.suffix)
+pub reads_none : (n : Naming) (name rest : List ℕ) (r : Option (ℤ × ℕ)) → name ≡ after_prefix n.prefix rest → r ≡ None → ((mark : List ℕ) → rest ≢ before_suffix mark n.suffix)
     → (s : ℤ) (k : ℕ) → (r ≡ Some (s, k)) ↔ ReadsAt n name s k
 reads_none n name rest r front e miss s k = (
   λ some. cc,
-  λ w. absurd (miss (mark_of n s k) (behind_injective n.prefix rest (before (mark_of n s k) n.suffix) (sym front ∙ w.text))),
+  λ w. absurd (miss (mark_of n s k) (behind_injective n.prefix rest (before_suffix (mark_of n s k) n.suffix) (sym front ∙ w.text))),
 )
 
 -- the second alone

@@ -11,7 +11,7 @@ pub record CivilDate : Type 0 where
 abbrev pub is_leap : ℕ → Bool
 is_leap y = (y % 4 == 0) && (not (y % 100 == 0) || (y % 400 == 0))
 
--- the number of 1 January: of the years before y, which begin with the leap year 0, so many are leap years
+-- the number of 1 January: of the years before y, which begin with the leap year 0, this number are leap years
 abbrev pub first_day : ℕ → ℕ
 first_day y = 365 * y + (y + 3) / 4 - (y + 99) / 100 + (y + 399) / 400
 

@@ -7,6 +7,10 @@ use Rattle.std.specs.declared.cmp.Ordering.TheVariants.{Less}
 use Rattle.std.specs.Int.{int_rem_euclid}
 use Rattle.std.specs.List.{All, list_all}
 use Rattle.std.specs.Option.{option_map}
+use Rattle.appender_names.specs.declared.error.InitError.{InitError}
+use Rattle.appender_names.specs.declared.error.InitError.TheVariants.{Name, Memory, Limit}
+use Rattle.appender_names.specs.declared.error.NameFault.{NameFault}
+use Rattle.appender_names.specs.declared.error.NameFault.TheVariants.{Prefix, Suffix}
 use Rattle.appender_names.specs.declared.rotation.RotationKind.{RotationKind}
 use Rattle.appender_names.specs.declared.rotation.RotationKind.TheVariants.{Never}
 use Rattle.appender_names.specs.declared.rotation.Rotation.{Rotation}
@@ -28,29 +32,29 @@ abbrev pub numbered_naming : Rotation → List ℕ → List ℕ → Naming
 numbered_naming r p s = record { rotation = r; prefix = p; suffix = s; numbered = true }
 
 -- a text after the prefix, if one is set, and a dot
-abbrev pub behind : List ℕ → List ℕ → List ℕ
-behind [] text = text
-behind (p ∷ ps) text = (p ∷ ps) ++ (46 ∷ text)
+abbrev pub after_prefix : List ℕ → List ℕ → List ℕ
+after_prefix [] text = text
+after_prefix (p ∷ ps) text = (p ∷ ps) ++ (46 ∷ text)
 
 -- a text before a dot and the suffix, if one is set
-abbrev pub before : List ℕ → List ℕ → List ℕ
-before text [] = text
-before text (s ∷ ss) = text ++ (46 ∷ s ∷ ss)
+abbrev pub before_suffix : List ℕ → List ℕ → List ℕ
+before_suffix text [] = text
+before_suffix text (s ∷ ss) = text ++ (46 ∷ s ∷ ss)
 
 -- a dot and the suffix, if one is set
-abbrev pub back : List ℕ → List ℕ
-back [] = []
-back (s ∷ ss) = 46 ∷ s ∷ ss
+abbrev pub dotted_suffix : List ℕ → List ℕ
+dotted_suffix [] = []
+dotted_suffix (s ∷ ss) = 46 ∷ s ∷ ss
 
 -- the name that a date has: `prefix.date.suffix`, `prefix.date`, `date.suffix` or `date`
 abbrev pub dated_name : List ℕ → List ℕ → List ℕ → List ℕ
-dated_name prefix suffix date = behind prefix (before date suffix)
+dated_name prefix suffix date = after_prefix prefix (before_suffix date suffix)
 
 -- the name under NEVER: `prefix.suffix`, `prefix`, `suffix` or `date`
 abbrev pub undated_name : List ℕ → List ℕ → List ℕ → List ℕ
 undated_name [] [] date = date
 undated_name [] (s ∷ ss) date = s ∷ ss
-undated_name (p ∷ ps) suffix date = before (p ∷ ps) suffix
+undated_name (p ∷ ps) suffix date = before_suffix (p ∷ ps) suffix
 
 abbrev pub name_by : RotationKind → List ℕ → List ℕ → List ℕ → List ℕ
 name_by Never prefix suffix date = undated_name prefix suffix date
@@ -65,21 +69,21 @@ abbrev pub number_text : ℕ → List ℕ
 number_text k = two_digits (k / 10000) ++ two_digits (k / 100 % 100) ++ two_digits (k % 100)
 
 -- a date, and after it, where names are numbered, a dot and the number
-abbrev pub marked : Bool → List ℕ → ℕ → List ℕ
-marked false date k = date
-marked true date k = date ++ 46 ∷ number_text k
+abbrev pub numbered_date : Bool → List ℕ → ℕ → List ℕ
+numbered_date false date k = date
+numbered_date true date k = date ++ 46 ∷ number_text k
 
 -- the greatest number that a name can have, which is 0 where names aren't numbered
-abbrev pub last_by : Bool → ℕ
-last_by false = 0
-last_by true = 999999
+abbrev pub greatest_number : Bool → ℕ
+greatest_number false = 0
+greatest_number true = 999999
 
 abbrev pub last_number : Naming → ℕ
-last_number n = last_by n.numbered
+last_number n = greatest_number n.numbered
 
 -- what is between prefix and suffix: the date text of s, and the number k where names are numbered
 abbrev pub mark_of : Naming → ℤ → ℕ → List ℕ
-mark_of n s k = marked n.numbered (date_text n.rotation.kind s) k
+mark_of n s k = numbered_date n.numbered (date_text n.rotation.kind s) k
 
 -- the name of file number k of those that a moment belongs to
 abbrev pub name_at : Naming → ℤ → ℕ → List ℕ
@@ -108,6 +112,23 @@ pub record IsNumbering (r : Rotation) (prefix suffix : List ℕ) (numbered : Boo
   pub allowed : IsAllowed r prefix suffix
   pub rotates : numbered ≡ true → ¬ (IsNever r)
 
+-- a text that names can't have beside this other one: it has a `/` or a zero byte, or is the whole name and leads to a folder
+abbrev pub IsNoPart : Rotation → List ℕ → List ℕ → Type 0
+IsNoPart r text other = (¬ IsPart text) ⊎ (IsNever r × IsDots text × (other ≡ []))
+
+-- the prefix or the suffix that is not allowed
+abbrev pub IsPartFault : Rotation → List ℕ → List ℕ → NameFault → Type 0
+IsPartFault r prefix suffix Prefix = IsNoPart r prefix suffix
+IsPartFault r prefix suffix Suffix = IsNoPart r suffix prefix
+IsPartFault r prefix suffix other = ⊥
+
+-- No names were made, for this reason. The checks come in this order: prefix and suffix, the rotation if names are numbered, memory.
+abbrev pub IsNotNamed : Bool → Rotation → List ℕ → List ℕ → InitError → Type 0
+IsNotNamed numbered r prefix suffix (Name fault) = IsPartFault r prefix suffix fault
+IsNotNamed numbered r prefix suffix Limit = IsAllowed r prefix suffix × (numbered ≡ true) × IsNever r
+IsNotNamed numbered r prefix suffix Memory = IsAllowed r prefix suffix × (numbered ≡ true → ¬ IsNever r)
+IsNotNamed numbered r prefix suffix other = ⊥
+
 -- the name of one entry of a folder: not empty, no `/` and no zero byte in it, and neither `.` nor `..`
 pub record IsEntry (name : List ℕ) : Type 0 where
   pub is_part : IsPart name
@@ -133,8 +154,8 @@ pub record ReadsAt (n : Naming) (name : List ℕ) (s : ℤ) (k : ℕ) : Type 0 w
 pub record IsMark (kind : RotationKind) (numbered : Bool) (mark : List ℕ) (s : ℤ) (k : ℕ) : Type 0 where
   pub date : List ℕ
   pub is_date : IsDateText kind date s
-  pub number_is : k ≤ last_by numbered
-  pub text : mark ≡ marked numbered date k
+  pub number_is : k ≤ greatest_number numbered
+  pub text : mark ≡ numbered_date numbered date k
 
 -- the name reads as s, with any number
 abbrev pub Reads : Naming → List ℕ → ℤ → Type 0
@@ -155,7 +176,7 @@ second_in n i = unit_start n.rotation.kind (i / numbers_of n)
 abbrev pub number_in : Naming → ℕ → ℕ
 number_in n i = i % numbers_of n
 
--- of the first so many names the last that is this one: its second and its number
+-- of the first names, as many as the number says, the last that is this one: its second and its number
 unfoldable pub last_named : Naming → List ℕ → ℕ → Option (ℤ × ℕ)
 last_named n name zero = None
 last_named n name (suc i) =
@@ -167,7 +188,7 @@ last_named n name (suc i) =
 unfoldable pub reading_at : Naming → List ℕ → Option (ℤ × ℕ)
 reading_at n name = last_named n name (315569520000 / unit_of n.rotation.kind * numbers_of n)
 
--- the second alone
+-- the second only. Retention needs it as a value, where `Reads` is a relation.
 abbrev pub reading : Naming → List ℕ → Option ℤ
 reading n name = option_map (λ (key : ℤ × ℕ). key.0) (reading_at n name)
 

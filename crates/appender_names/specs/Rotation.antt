@@ -87,8 +87,8 @@ abbrev pub next_of : Rotation → ℤ → Option ℤ
 next_of r m = option_map (λ p. p +ℤ pos (step_of r.kind)) (period_of r m)
 
 -- a start that is a moment of the range starts its own period
-abbrev pub StartsItself : Rotation → Type 0
-StartsItself r = (m p : ℤ) → IsMoment m → IsMoment p → period_of r m ≡ Some p → period_of r p ≡ Some p
+abbrev pub StartsOwnPeriod : Rotation → Type 0
+StartsOwnPeriod r = (m p : ℤ) → IsMoment m → IsMoment p → period_of r m ≡ Some p → period_of r p ≡ Some p
 
 -- a period begins at the greatest boundary that isn't after its moments
 abbrev pub PeriodsBeginAtBoundaries : Rotation → Type 0

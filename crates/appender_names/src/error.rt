@@ -1,9 +1,11 @@
 //! Why an appender cannot be opened.
 ghost use Rattle.std.specs.Prelude.{◌≡◌};
-ghost use Rattle.appender_names.specs.InitError.{code_of};
+ghost use Rattle.appender_names.specs.InitError.{code_of, error_kind_of, cause_of};
 
 use std::alloc::AllocError;
+use std::fmt::InlineText;
 use std::io;
+use std::io::ErrorKind;
 use thiserror::Error;
 
 /// Why an appender cannot be opened.
@@ -21,10 +23,9 @@ pub enum InitError {
     /// The moment is outside the years 1 to 9998 of UTC.
     #[error("moment out of range")]
     Moment,
-    /// Prefix and suffix, the name that they make, or the link's name is not a single path component; or the link
-    /// has the name of a log file.
+    /// The prefix, the suffix or the link cannot be a name, or part of one. The fault says which of them.
     #[error("name not allowed")]
-    Name,
+    Name(NameFault),
     /// Memory was refused.
     #[error("out of memory")]
     Memory,
@@ -33,8 +34,25 @@ pub enum InitError {
     Limit,
 }
 
+/// Which name is not allowed, and why.
+#[derive(Clone, Copy, Debug, PartialEq, Eq, Error)]
+pub enum NameFault {
+    /// The prefix has a `/` or a zero byte. Or, under `NEVER` and without a suffix, it is `.` or `..`.
+    #[error("the prefix cannot be part of a file name")]
+    Prefix,
+    /// The suffix has a `/` or a zero byte. Or, under `NEVER` and without a prefix, it is `.` or `..`.
+    #[error("the suffix cannot be part of a file name")]
+    Suffix,
+    /// The name of the link has a `/` or a zero byte, or is `.` or `..`.
+    #[error("the link cannot be a file name")]
+    Link,
+    /// The link has the name of a log file.
+    #[error("the link has the name of a log file")]
+    Clash,
+}
+
 impl InitError {
-    /// The number of the case, from 1 on.
+    /// Returns the cause as a number: 1 to 7, in the order of the cases above.
     pub fn code(&self) -> u8
         ensures { result ≡ code_of self.now }
     {
@@ -43,9 +61,34 @@ impl InitError {
             InitError::File(_) => 2,
             InitError::Symlink(_) => 3,
             InitError::Moment => 4,
-            InitError::Name => 5,
+            InitError::Name(_) => 5,
             InitError::Memory => 6,
             InitError::Limit => 7,
+        }
+    }
+
+    /// Returns the error of the file system, if that is the cause.
+    pub fn source(&self) -> Option<io::Error>
+        ensures { result ≡ cause_of self.now }
+    {
+        match self {
+            InitError::Directory(error) | InitError::File(error) | InitError::Symlink(error) => {
+                Some(*error)
+            }
+            _ => None,
+        }
+    }
+
+    // The kind of the error of input and output that this one is.
+    fn kind(&self) -> ErrorKind
+        ensures { result ≡ error_kind_of self.now }
+    {
+        match self {
+            InitError::Directory(error) | InitError::File(error) | InitError::Symlink(error) => {
+                error.kind()
+            }
+            InitError::Memory => ErrorKind::OutOfMemory,
+            InitError::Moment | InitError::Name(_) | InitError::Limit => ErrorKind::InvalidInput,
         }
     }
 }
@@ -57,5 +100,29 @@ impl From<AllocError> for InitError {
 
     fn from(_error: AllocError) -> InitError {
         InitError::Memory
+    }
+}
+
+// The most bytes of the words of an `io::Error`.
+const WORDS: usize = 80;
+
+/// Keeps the kind of the cause, and the words, up to 80 bytes. Those of `Name` are followed by the fault's. The kind is
+/// `InvalidInput` for a name, a moment or a limit that is not allowed, and `OutOfMemory` for `Memory`.
+impl From<InitError> for io::Error {
+    ghost use Rattle.std.specs.IoError.{error_kind};
+
+    ghost from_gives = { λ cause e. error_kind e ≡ error_kind_of cause };
+
+    fn from(error: InitError) -> io::Error {
+        let kind = error.kind();
+        let words = match error {
+            InitError::Name(fault) => {
+                InlineText::<{ WORDS }>::of(error)
+                    .and_str(": ", 2)
+                    .and(fault, WORDS)
+            }
+            _ => InlineText::<{ WORDS }>::of(error),
+        };
+        io::Error::new(kind, words.as_str())
     }
 }

@@ -5,7 +5,7 @@ ghost use Rattle.appender_names.specs.declared.rotation.Rotation.{Rotation};
 ghost use Rattle.appender_names.specs.declared.rotation.RotationKind.TheVariants.{Minutely, Hourly, Daily, Weekly};
 ghost use Rattle.appender_names.specs.Equality.{rotation_eq};
 ghost use Rattle.appender_names.specs.Name.{Naming, NamesRise, NamesArePeriods, NamesReadAsStarts, NamesReadOnce, NamesAreEntries};
-ghost use Rattle.appender_names.specs.Rotation.{IsRotation, IsNever, StartsItself, PeriodsBeginAtBoundaries, PeriodsEndAtBoundaries};
+ghost use Rattle.appender_names.specs.Rotation.{IsRotation, IsNever, StartsOwnPeriod, PeriodsBeginAtBoundaries, PeriodsEndAtBoundaries};
 
 use crate::rotation::Rotation;
 
@@ -26,7 +26,7 @@ pub fn equal_rotations_are_the_same()
 
 /// The start of a period is in that period, so that rounding twice is rounding once.
 pub fn periods_start_themselves()
-    ensures { (r : Rotation) → StartsItself r }
+    ensures { (r : Rotation) → StartsOwnPeriod r }
 {}
 
 /// A period reaches from the greatest boundary not after its moments to the least one after them.

@@ -1,15 +1,15 @@
 //! The names of log files, as the documentation of the crate tracing-appender has them: prefix, date and
 //! suffix, with dots between. Dates are those of UTC in the proleptic Gregorian calendar of ISO 8601.
-ghost use Rattle.std.specs.Prelude.{◌≡◌, ◌≢◌, ◌↔◌, ◌≤◌, true, ℕ, ℤ, pos, negsuc, List, [], ◌∷◌, IsTrue, IsOk, IfOk, IfErr, MatchOption, None, Some, Err, string_bytes, string_len, string_capacity, ◌⊎◌, ◌+◌, ◌++◌, ◌<◌, length, if◌then◌else◌};
+ghost use Rattle.std.specs.Prelude.{◌≡◌, ◌≢◌, ◌↔◌, ◌≤◌, true, false, ℕ, ℤ, pos, negsuc, List, [], ◌∷◌, IsTrue, IsOk, IfOk, IfErr, MatchOption, None, Some, Err, string_bytes, string_len, string_capacity, ◌⊎◌, ◌+◌, ◌++◌, ◌<◌, length, if◌then◌else◌};
 ghost use Rattle.appender_names.specs.declared.rotation.RotationKind.TheVariants.{Never};
 ghost use Rattle.appender_names.specs.Rotation.{IsMoment, IsDatable, IsNever};
 ghost use Rattle.appender_names.specs.DateText.{date_text, two_digits};
 ghost use Rattle.std.specs.List.{list_all};
 ghost use Rattle.appender_names.specs.Name as spec;
-ghost use Rattle.appender_names.specs.Name.{IsPart, IsDots, IsEntry, IsAllowed, IsMark, marked, last_by, number_text, back};
+ghost use Rattle.appender_names.specs.Name.{IsPart, IsNoPart, IsPartFault, IsNotNamed, IsDots, IsEntry, IsAllowed, IsMark, numbered_date, greatest_number, number_text, dotted_suffix};
 
 use crate::civil;
-use crate::error::InitError;
+use crate::error::{InitError, NameFault};
 use crate::rotation::{Rotation, RotationKind};
 use std::alloc::{AllocError, Global};
 use std::marker::Model;
@@ -43,16 +43,31 @@ impl Model for Names {
 impl Names {
     ghost use Rattle.appender_names.specs.Name.{Naming, name_of, name_at, last_number, mark_of, naming, numbered_naming, named_moment, Reads, ReadsAt, reading, reading_at};
 
-    /// Returns whether names may have this prefix and this suffix, of which an empty one is none: neither has a
-    /// `/` or a zero byte, and under `NEVER` both together don't make `.` or `..`.
+    /// Returns whether names may have this prefix and this suffix. An empty one is none. Neither may have a `/` or a zero
+    /// byte, and under `NEVER` both together may not make `.` or `..`.
     pub fn is_allowed(rotation: Rotation, prefix: &str, suffix: &str) -> bool
         ensures { IsTrue result ↔ IsAllowed rotation prefix.now suffix.now }
     {
-        is_part(prefix) && is_part(suffix) && (!rotation.is_never() || is_plain(prefix, suffix))
+        Names::check(rotation, prefix, suffix).is_ok()
     }
 
-    /// Returns names with this prefix and this suffix, of which an empty one is none. `Name` if `is_allowed`
-    /// refuses them; else `Memory` if there is no room for a copy of both.
+    // Refuses a prefix and a suffix that are not allowed.
+    #[tactic(auto, using(crate::proofs::Joins::no_prefix_is_allowed, crate::proofs::Joins::no_suffix_is_allowed))]
+    fn check(rotation: Rotation, prefix: &str, suffix: &str) -> Result<(), NameFault>
+        ensures allowed { IsOk result ↔ IsAllowed rotation prefix.now suffix.now }
+        ensures fault { IfErr result (IsPartFault rotation prefix.now suffix.now) }
+    {
+        if is_no_part(rotation, prefix, suffix) {
+            Err(NameFault::Prefix)
+        } else if is_no_part(rotation, suffix, prefix) {
+            Err(NameFault::Suffix)
+        } else {
+            Ok(())
+        }
+    }
+
+    /// Returns names with this prefix and this suffix. An empty one is none. `Name` if `is_allowed` refuses them. Else
+    /// `Memory` if there is no room for a copy of both.
     pub fn new(
         alloc: Global,
         rotation: Rotation,
@@ -60,13 +75,10 @@ impl Names {
         suffix: &str,
     ) -> Result<Names, InitError>
         ensures ok { IfOk result (λ names. names ≡ naming rotation prefix.now suffix.now) }
-        ensures allowed { result ≢ Err InitError.Name → IsAllowed rotation prefix.now suffix.now }
-        ensures name { result ≡ Err InitError.Name → ¬ (IsAllowed rotation prefix.now suffix.now) }
-        ensures err { IfErr result (λ e. (e ≡ InitError.Name) ⊎ (e ≡ InitError.Memory)) }
+        ensures allowed { IsOk result → IsAllowed rotation prefix.now suffix.now }
+        ensures err { IfErr result (IsNotNamed false rotation prefix.now suffix.now) }
     {
-        if !Names::is_allowed(rotation, prefix, suffix) {
-            return Err(InitError::Name);
-        }
+        Names::check(rotation, prefix, suffix).map_err(InitError::Name)?;
         Ok(Names {
             alloc,
             rotation,
@@ -77,8 +89,8 @@ impl Names {
     }
 
     /// Returns names like those of `new`, with a dot and a number of six digits after the date. `Name` if
-    /// `is_allowed` refuses prefix and suffix; else `Limit` if the rotation is `NEVER`, whose names need
-    /// have no date; else `Memory` if there is no room for a copy of both.
+    /// `is_allowed` refuses prefix and suffix. Else `Limit` if the rotation is `NEVER`, whose names need have no date. Else
+    /// `Memory` if there is no room for a copy of both.
     pub fn numbered(
         alloc: Global,
         rotation: Rotation,
@@ -86,16 +98,11 @@ impl Names {
         suffix: &str,
     ) -> Result<Names, InitError>
         ensures ok { IfOk result (λ names. names ≡ numbered_naming rotation prefix.now suffix.now) }
-        ensures allowed { result ≢ Err InitError.Name → IsAllowed rotation prefix.now suffix.now }
-        ensures name { result ≡ Err InitError.Name → ¬ (IsAllowed rotation prefix.now suffix.now) }
-        ensures limit { result ≡ Err InitError.Limit → IsNever rotation }
-        ensures rotates { result ≢ Err InitError.Name → result ≢ Err InitError.Limit →
-            ¬ (IsNever rotation) }
-        ensures err { IfErr result (λ e. (e ≡ InitError.Name) ⊎ (e ≡ InitError.Limit) ⊎ (e ≡ InitError.Memory)) }
+        ensures allowed { IsOk result → IsAllowed rotation prefix.now suffix.now }
+        ensures rotates { IsOk result → ¬ (IsNever rotation) }
+        ensures err { IfErr result (IsNotNamed true rotation prefix.now suffix.now) }
     {
-        if !Names::is_allowed(rotation, prefix, suffix) {
-            return Err(InitError::Name);
-        }
+        Names::check(rotation, prefix, suffix).map_err(InitError::Name)?;
         if rotation.is_never() {
             return Err(InitError::Limit);
         }
@@ -251,8 +258,8 @@ fn read_mark(kind: RotationKind, numbered: bool, mark: &[u8]) -> Option<(i64, u3
 // Returns the date, and the number after it and a dot, if names are numbered; else the number is 0.
 fn split_number(numbered: bool, mark: &[u8]) -> Option<(&[u8], u32)>
     ensures { MatchOption result
-        ((date : List ℕ) (k : ℕ) → k ≤ last_by numbered → mark.now ≢ marked numbered date k)
-        (λ parts. (parts.1 ≤ last_by numbered) × (mark.now ≡ marked numbered parts.0.now parts.1)) }
+        ((date : List ℕ) (k : ℕ) → k ≤ greatest_number numbered → mark.now ≢ numbered_date numbered date k)
+        (λ parts. (parts.1 ≤ greatest_number numbered) × (mark.now ≡ numbered_date numbered parts.0.now parts.1)) }
 {
     if !numbered {
         return Some((mark, 0));
@@ -268,7 +275,7 @@ fn split_number(numbered: bool, mark: &[u8]) -> Option<(&[u8], u32)>
 
 // Returns how many bytes a number and the suffix after it have.
 fn tail_len(suffix: &str) -> usize
-    ensures { result ≡ 6 + length (back suffix.now) }
+    ensures { result ≡ 6 + length (dotted_suffix suffix.now) }
 {
     if suffix.is_empty() {
         6
@@ -279,8 +286,8 @@ fn tail_len(suffix: &str) -> usize
 
 // Adds a dot and the suffix, if one is set, for which there is room.
 fn push_suffix(text: &mut String, suffix: &str)
-    requires { string_len text.old + length (back suffix.now) ≤ string_capacity text.old }
-    ensures { string_bytes text.new ≡ string_bytes text.old ++ back suffix.now }
+    requires { string_len text.old + length (dotted_suffix suffix.now) ≤ string_capacity text.old }
+    ensures { string_bytes text.new ≡ string_bytes text.old ++ dotted_suffix suffix.now }
 {
     if suffix.is_empty() {
         return;
@@ -328,7 +335,7 @@ fn push_digit(text: &mut String, digit: u32)
 // A date, and after it a dot and a number.
 fn numbered_date(date: String, number: u32) -> Result<String, AllocError>
     requires { number ≤ 999_999 }
-    ensures { IfOk result (λ mark. string_bytes mark ≡ marked true (string_bytes date) number) }
+    ensures { IfOk result (λ mark. string_bytes mark ≡ numbered_date true (string_bytes date) number) }
 {
     let mut mark = date;
     mark.reserve(7)?;
@@ -353,15 +360,12 @@ fn is_part(text: &str) -> bool
     text.as_bytes().iter().all(|b| *b != b'/' && *b != 0)
 }
 
-// Returns whether these two, with no date between them, make another name than `.` and `..`.
-fn is_plain(prefix: &str, suffix: &str) -> bool
-    ensures { IsTrue result ↔ ¬ (IsDots (spec.undated_name prefix.now suffix.now [])) }
+// Returns whether names can't have this text beside the other one.
+fn is_no_part(rotation: Rotation, text: &str, other: &str) -> bool
+    ensures fault { result ≡ true → IsNoPart rotation text.now other.now }
+    ensures part { result ≡ false → IsPart text.now × (¬ IsNoPart rotation text.now other.now) }
 {
-    if prefix.is_empty() {
-        !is_dots(suffix)
-    } else {
-        !suffix.is_empty() || !is_dots(prefix)
-    }
+    !is_part(text) || (rotation.is_never() && other.is_empty() && is_dots(text))
 }
 
 fn is_dots(name: &str) -> bool
@@ -404,8 +408,8 @@ fn undated_name(
 
 // Returns what is after the prefix, if one is set, and a dot.
 fn behind<'a>(text: &'a [u8], prefix: &[u8]) -> Option<&'a [u8]>
-    ensures { MatchOption result ((rest : List ℕ) → text.now ≢ spec.behind prefix.now rest)
-        (λ rest. text.now ≡ spec.behind prefix.now rest.now) }
+    ensures { MatchOption result ((rest : List ℕ) → text.now ≢ spec.after_prefix prefix.now rest)
+        (λ rest. text.now ≡ spec.after_prefix prefix.now rest.now) }
 {
     if prefix.is_empty() {
         return Some(text);
@@ -415,8 +419,8 @@ fn behind<'a>(text: &'a [u8], prefix: &[u8]) -> Option<&'a [u8]>
 
 // Returns what is before a dot and the suffix, if one is set.
 fn before<'a>(text: &'a [u8], suffix: &[u8]) -> Option<&'a [u8]>
-    ensures { MatchOption result ((rest : List ℕ) → text.now ≢ spec.before rest suffix.now)
-        (λ rest. text.now ≡ spec.before rest.now suffix.now) }
+    ensures { MatchOption result ((rest : List ℕ) → text.now ≢ spec.before_suffix rest suffix.now)
+        (λ rest. text.now ≡ spec.before_suffix rest.now suffix.now) }
 {
     if suffix.is_empty() {
         return Some(text);

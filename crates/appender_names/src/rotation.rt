@@ -87,8 +87,10 @@ impl Rotation {
         self.kind
     }
 
-    /// Returns the start of the moment's period, in seconds: the greatest boundary that isn't after the moment. The
-    /// first week starts a day before the range that `in_range` tests.
+    /// Returns the start of the period that contains a moment: the greatest boundary that is not after the moment.
+    ///
+    /// Both are in seconds of UTC since the epoch. The moment must be in the range of `in_range`, and the rotation must
+    /// not be `NEVER`. The first week starts a day before that range, on a Sunday.
     pub fn round_date(&self, moment: i64) -> i64
         requires rotates { ¬ (IsNever self.now) }
         requires moment { IsMoment moment }
@@ -165,8 +167,8 @@ impl FromStr for Rotation {
 #[error("unknown rotation")]
 pub struct ParseRotationError;
 
-/// Whether a moment lies in the range from 0001-01-01 00:00:00 to 9998-12-31 23:59:59 UTC, whose
-/// moments all have a name.
+/// Returns whether a moment is in the range from 0001-01-01 00:00:00 to 9998-12-31 23:59:59 UTC, both included. Each of
+/// these moments has a name.
 pub fn in_range(moment: i64) -> bool
     ensures { IsTrue result ↔ IsMoment moment }
 {

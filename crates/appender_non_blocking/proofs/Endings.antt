@@ -1,7 +1,7 @@
 -- A worker may take until a take tells it of the end.
 use Rattle.std.proofs.Common.{◌≡◌, ◌+◌, ℕ, List, [], ◌∷◌, Bool, true, false, ◌==◌, length, drop, refl}
 use Rattle.std.specs.Prelude.{if◌then◌else◌, nat_le, nat_lt}
-use Rattle.appender_channel.specs.Cases.{OnLine, OnEnd, OnEmpty}
+use Rattle.appender_channel.specs.Cases.{IfLine, IfEnd, IfEmpty}
 use Rattle.appender_worker.specs.Core.{Core, Taking, Writing, Flushing, Ending, Over, Answer, Wrote, Interrupted, Failed, Line as FoundLine, is_taking, is_writing, is_flushing, after_took, after_wrote, after_flushed}
 use Rattle.appender_worker.specs.CoreReplies.{found_in}
 use Rattle.appender_queue.specs.declared.queue.Taken.{Taken}
@@ -23,7 +23,7 @@ either : (b : Bool) (x y : Core) (e : Bool) → is_ending x ≡ e → is_ending 
 either true x y e p q = p
 either false x y e p q = q
 
-pub took_goes_on : (core : Core) (taken : Taken) (P : Type 0) → is_taking core ≡ true → OnLine taken P → OnEmpty taken P → is_ending (after_took core (found_in taken)) ≡ false → P
+pub took_goes_on : (core : Core) (taken : Taken) (P : Type 0) → is_taking core ≡ true → IfLine taken P → IfEmpty taken P → is_ending (after_took core (found_in taken)) ≡ false → P
 took_goes_on (Taking waits) (Line ticket l) P is p q goes_on = p
 took_goes_on (Taking waits) Shutdown P is p q goes_on = cc
 took_goes_on (Taking waits) Gone P is p q goes_on = cc
@@ -33,7 +33,7 @@ took_goes_on Flushing taken P is p q goes_on = cc
 took_goes_on (Ending n) taken P is p q goes_on = cc
 took_goes_on Over taken P is p q goes_on = cc
 
-pub took_ends : (core : Core) (taken : Taken) (P : Type 0) → is_taking core ≡ true → OnEnd taken P → is_ending (after_took core (found_in taken)) ≡ true → P
+pub took_ends : (core : Core) (taken : Taken) (P : Type 0) → is_taking core ≡ true → IfEnd taken P → is_ending (after_took core (found_in taken)) ≡ true → P
 took_ends (Taking waits) (Line ticket l) P is p ends = let goes_on = line waits l.items in cc
 took_ends (Taking waits) Shutdown P is p ends = p
 took_ends (Taking waits) Gone P is p ends = p

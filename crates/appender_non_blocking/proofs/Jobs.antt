@@ -3,7 +3,7 @@ use Rattle.std.proofs.Common.{◌≡◌, ◌-◌, ◌<◌, ◌++◌, ◌∷◌, 
 use Rattle.std.proofs.lemmas.List.{map-append, reverse-append, get_or-reverse, get_or-map, length-map, length-reverse}
 use Rattle.appender_non_blocking.specs.Account.{Sums}
 use Rattle.appender_non_blocking.specs.declared.non_blocking.work.Job.{Job}
-use Rattle.appender_non_blocking.specs.Inside.Jobs.{senders_of, works_of, AllDo, AllDid}
+use Rattle.appender_non_blocking.specs.Inside.Jobs.{senders_of, works_of, RunsJobs, RunsWorksWith}
 
 -- one job more at the end is the first in reverse
 snoc : {A X : Type 0} (f : A → X) (xs : List A) (x : A) → reverse (map f (xs ++ x ∷ [])) ≡ f x ∷ reverse (map f xs)
@@ -23,7 +23,7 @@ at f xs i d e h =
     let two : slice_index_or (map f xs) (length xs - 1 - i) e ≡ f (slice_index_or xs (length xs - 1 - i) d) = get_or-map f xs (length xs - 1 - i) d e (omega (arith, h)) in
     rw (one, long) two
 
-pub all_did : {L K : Type 0} (does : K → Sums → K → Sums → Type 0) (sums : L → Sums) (old new : List (Job L K)) (senders senders' : List L) (works works' : List K) → reverse (senders_of old) ≡ senders → reverse (works_of old) ≡ works → senders' ≡ reverse (senders_of new) → works' ≡ reverse (works_of new) → length new ≡ length old → AllDo does sums old new → AllDid does sums senders works senders' works'
+pub all_did : {L K : Type 0} (does : K → Sums → K → Sums → Type 0) (sums : L → Sums) (old new : List (Job L K)) (senders senders' : List L) (works works' : List K) → reverse (senders_of old) ≡ senders → reverse (works_of old) ≡ works → senders' ≡ reverse (senders_of new) → works' ≡ reverse (works_of new) → length new ≡ length old → RunsJobs does sums old new → RunsWorksWith does sums senders works senders' works'
 all_did {L} {K} does sums old new senders senders' works works' s w s' w' long all i d e h =
     let p : Job L K = record { sender = d; work = e } in
     let long_map : length (works_of old) ≡ length old = length-map old (λ q. q.work) in

@@ -4,8 +4,8 @@ use Rattle.std.specs.Prelude.{sum_by}
 use Rattle.std.proofs.lemmas.List.FromFn.{length-map-range_with_len, get_or-map-range_with_len}
 use Rattle.std.proofs.lemmas.List.Sums.{sum_by-cons}
 use Rattle.appender_non_blocking.specs.Account.{Sums, new_sender, new_senders, total_queued}
-use Rattle.appender_non_blocking.specs.Inside.Jobs.{AllDid}
-use Rattle.appender_non_blocking.specs.Work.{Worked}
+use Rattle.appender_non_blocking.specs.Inside.Jobs.{RunsWorksWith}
+use Rattle.appender_non_blocking.specs.Work.{RunsEachWork}
 
 -- there are as many of them as were made
 pub made : (lossy : Bool) (n : ℕ) (old : List Sums) → old ≡ new_senders lossy n → length old ≡ n
@@ -25,7 +25,7 @@ sums_same f g (x ∷ xs) (y ∷ ys) long each =
 -- If each work has counted the lines that its sender queued, all counts together are those of all senders.
 pub total_by : {K : Type 0} (does : K → Sums → K → Sums → Type 0) (count : K → ℕ) (lossy : Bool) (works done : List K) (ended : List Sums)
     → ((place : ℕ) (old new : K) (sums : Sums) → does old (new_sender lossy place) new sums → sums.queued ≡ count new)
-    → Worked does lossy works done ended → total_queued ended ≡ sum_by count done
+    → RunsEachWork does lossy works done ended → total_queued ended ≡ sum_by count done
 total_by does count lossy works done ended counts ran =
     sums_same (λ s. s.queued) count ended done (ran.each_sender ∙ sym ran.each_work)
     (λ i s w h. counts i (slice_index_or works i w) (slice_index_or done i w) (slice_index_or ended i s) (ran.did i w s (omega (arith, h, ran.each_sender))))
@@ -33,7 +33,7 @@ total_by does count lossy works done ended counts ran =
 -- each work was run with one of them
 pub worked : {K : Type 0} (does : K → Sums → K → Sums → Type 0) (lossy : Bool) (n : ℕ) (works done : List K) (old new : List Sums)
     → n ≡ length works → old ≡ new_senders lossy n → length new ≡ length old → length done ≡ length works
-    → AllDid does (λ s. s) old works new done → Worked does lossy works done new
+    → RunsWorksWith does (λ s. s) old works new done → RunsEachWork does lossy works done new
 worked does lossy n works done old new many is long same each =
     let one : (i : ℕ) (d : Sums) → i < n → slice_index_or old i d ≡ new_sender lossy i = λ i d h. subst (λ xs. slice_index_or xs i d ≡ new_sender lossy i) (sym is) (get_or-map-range_with_len (new_sender lossy) 0 n i i d h (omega arith)) in
     record {

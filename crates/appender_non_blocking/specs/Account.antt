@@ -9,7 +9,7 @@ use Rattle.appender_non_blocking.specs.declared.non_blocking.account.Blanks.{Bla
 abbrev pub IsBlankOf : {L : Type 0} → Ghosts L → ℕ → Blank → Type 0
 IsBlankOf ledger parts blank = (blank.name ≡ ledger.name) × (blank.parts ≡ ledger.parts) × (blank.parts ≡ parts)
 
--- The blanks of the four ledgers of so many senders. Of accepted lines there is one part for each sender and one for the guard.
+-- The blanks of the four ledgers of this number of senders. Of accepted lines there is one part for each sender and one for the guard.
 abbrev pub AreBlanksOf : {A H S C : Type 0} → Ghosts A → Ghosts H → Ghosts S → Ghosts C → ℕ → Blanks → Type 0
 AreBlanksOf accepted handed shutdowns closings senders blanks =
     IsBlankOf accepted (senders + 1) blanks.accepted

@@ -2,7 +2,7 @@
 use Rattle.std.specs.Prelude.{ℕ, Bool, List, Option}
 
 -- how many lines may wait, whether the queue is lossy, and the name of the worker's thread, if one was given
-pub record Asked : Type 0 where
+pub record QueueSettings : Type 0 where
   pub limit : ℕ
   pub lossy : Bool
   pub name : Option (List ℕ)

@@ -2,12 +2,13 @@
 //!
 //! Each `write` of a `NonBlocking` is one line: it is copied, and the copy is offered to a bounded
 //! queue. A worker takes line after line, and writes each to the writer that it was given. The lock
-//! is held for one offer or one take alone, and never while a line is copied or written.
+//! is held for just one offer or one take, and never while a line is copied or written.
 
 mod account;
 mod builder;
 mod counted;
 mod guard;
+mod losses;
 mod sender;
 mod shared;
 mod work;
@@ -15,8 +16,10 @@ mod worker;
 
 pub use account::{Account, Blanks, CountedGuard, Settled, Unsettled};
 pub use appender_queue::queue::Shut;
+pub use appender_traits::host::Host;
 pub use builder::{DEFAULT_BUFFERED_LINES_LIMIT, NonBlockingBuilder, non_blocking};
 pub use counted::CountedSender;
 pub use guard::{Closing, WorkerGuard};
+pub use losses::Losses;
 pub use sender::{ErrorCounter, NonBlocking, Sent};
 pub use work::{CountedWork, LineSender, Unstarted};

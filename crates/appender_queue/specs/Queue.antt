@@ -59,8 +59,8 @@ abbrev pub one_less : ℕ → ℕ
 one_less n = if n == 2 ^ 64 - 1 then n else n - 1
 
 -- a new queue: empty, with one sender
-abbrev pub fresh : ℕ → Bool → Queue
-fresh limit lossy = record {
+abbrev pub new_queue : ℕ → Bool → Queue
+new_queue limit lossy = record {
   lines = [];
   accepted = 0;
   handed = 0;
@@ -75,8 +75,8 @@ fresh limit lossy = record {
 }
 
 -- a new queue with this number of senders' places
-abbrev pub fresh_with : ℕ → Bool → ℕ → Queue
-fresh_with limit lossy places = record (fresh limit lossy) { last_tickets = replicate places 0 }
+abbrev pub new_queue_with : ℕ → Bool → ℕ → Queue
+new_queue_with limit lossy places = record (new_queue limit lossy) { last_tickets = replicate places 0 }
 
 -- the last ticket of a place, 0 if the queue has no such place
 abbrev pub last_ticket_of : Queue → ℕ → ℕ
@@ -140,14 +140,14 @@ abbrev pub left_of : Queue → ℕ
 left_of q = if q.closed then q.accepted - q.handed else 0
 
 -- the shutdown is after the handed lines and no later than the accepted ones
-abbrev pub Stands : Option ℕ → ℕ → ℕ → Type 0
-Stands shutdown handed accepted = (place : ℕ) → shutdown ≡ Some place → (handed ≤ place) × (place ≤ accepted)
+abbrev pub IsShutdownBetween : Option ℕ → ℕ → ℕ → Type 0
+IsShutdownBetween shutdown handed accepted = (place : ℕ) → shutdown ≡ Some place → (handed ≤ place) × (place ≤ accepted)
 
 -- what every queue keeps
 pub record IsLawful (q : Queue) : Type 0 where
   -- every accepted line is accounted for
   pub counted : q.accepted ≡ q.handed + queued_of q + left_of q
-  pub shutdown_between : Stands q.shutdown q.handed q.accepted
+  pub shutdown_between : IsShutdownBetween q.shutdown q.handed q.accepted
   -- a queue that closed because no sender was left has handed all its lines
   pub none_left : q.closed ≡ true → q.shutdown ≡ None → left_of q ≡ 0
   -- in waiting mode no line is dropped

@@ -2,7 +2,7 @@
 use Rattle.std.specs.Prelude.{◌≡◌, ◌≢◌, ℕ, ◌<◌, Bool, length, IfOk, Result, Vec}
 use Rattle.std.specs.declared.alloc.Global.{Global}
 use Rattle.appender_queue.specs.Queue.{Queue, IsLawful, after_offer, after_offer_from, last_ticket_of, after_shut, after_take, saturating_next, one_less}
-use Rattle.appender_queue.specs.QueueReplies.{offer_reply, shut_reply, IsTaken, counts_of}
+use Rattle.appender_queue.specs.QueueReplies.{offer_reply, shut_reply, IsTakeReply, queue_counts}
 use Rattle.appender_queue.specs.declared.queue.Counts.{Counts}
 use Rattle.appender_queue.specs.declared.queue.Refused.{Refused}
 use Rattle.appender_queue.specs.declared.queue.Shut.{Shut}
@@ -23,7 +23,7 @@ pub record OffersFrom (old : Queue) (place : ℕ) (line : Vec ℕ Global) (resul
   pub rises : IfOk result (λ ticket. last_ticket_of old place < ticket)
   -- and becomes the last one
   pub sets : IfOk result (λ ticket. place < length old.last_tickets → last_ticket_of new place ≡ ticket)
-  -- of this place alone
+  -- only of this place
   pub others : (other : ℕ) → other ≢ place → last_ticket_of new other ≡ last_ticket_of old other
 
 -- a shutdown
@@ -34,7 +34,7 @@ pub record Shuts (old : Queue) (result : Shut) (new : Queue) : Type 0 where
 
 -- a take, by a worker that waits or not
 pub record Takes (old : Queue) (waits : Bool) (result : Taken) (new : Queue) : Type 0 where
-  pub reply : IsTaken old result
+  pub reply : IsTakeReply old result
   pub after : new ≡ after_take old waits
   pub lawful : IsLawful new
 
@@ -51,6 +51,6 @@ pub record DropsSender (old : Queue) (result : ℕ) (new : Queue) : Type 0 where
   pub lawful : IsLawful new
 
 -- the counts, of a queue that stays as it is
-pub record TellsCounts (q : Queue) (result : Counts) : Type 0 where
-  pub reply : result ≡ counts_of q
+pub record ReadsCounts (q : Queue) (result : Counts) : Type 0 where
+  pub reply : result ≡ queue_counts q
   pub lawful : IsLawful q

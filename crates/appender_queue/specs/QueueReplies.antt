@@ -22,15 +22,15 @@ shut_reply q =
 
 -- to a take: the first line, with the ticket after that of the last one handed, if a line is before the shutdown;
 -- else the shutdown; else `Gone` if no sender is left; else `Empty`
-abbrev pub IsTaken : Queue → Taken → Type 0
-IsTaken q (Line ticket line) =
+abbrev pub IsTakeReply : Queue → Taken → Type 0
+IsTakeReply q (Line ticket line) =
     (q.closed ≡ false) × (has_line q ≡ true) × (ticket ≡ q.handed + 1) × (line.items ≡ slice_index_or q.lines 0 [])
-IsTaken q Shutdown = (q.closed ≡ false) × (has_line q ≡ false) × (is_sent q.shutdown ≡ true)
-IsTaken q Gone =
+IsTakeReply q Shutdown = (q.closed ≡ false) × (has_line q ≡ false) × (is_sent q.shutdown ≡ true)
+IsTakeReply q Gone =
     (q.closed || (not (has_line q) && (not (is_sent q.shutdown) && (q.senders == 0)))) ≡ true
-IsTaken q Empty =
+IsTakeReply q Empty =
     (q.closed ≡ false) × (has_line q ≡ false) × (is_sent q.shutdown ≡ false) × ((q.senders == 0) ≡ false)
 
 -- the counts of a queue
-abbrev pub counts_of : Queue → Counts
-counts_of q = record { accepted = q.accepted; handed = q.handed; queued = queued_of q; left = left_of q; dropped = q.dropped }
+abbrev pub queue_counts : Queue → Counts
+queue_counts q = record { accepted = q.accepted; handed = q.handed; queued = queued_of q; left = left_of q; dropped = q.dropped }

@@ -84,7 +84,7 @@ struct Rules<S: Store> {
 
 impl<S: Store> Model for Rules<S> {
     ghost use Rattle.appender_queue.specs.Queue.{Queue};
-    ghost use Rattle.appender_queue.specs.Inside.Rules.{IsKept, queue_of};
+    ghost use Rattle.appender_queue.specs.Inside.Rules.{AreLawfulFields, queue_of};
 
     ghost Value = { Queue };
 
@@ -103,7 +103,7 @@ impl<S: Store> Model for Rules<S> {
       last_tickets = q.last_tickets.items;
     }) };
 
-    ghost invariant = { λ q. IsKept (record {
+    ghost invariant = { λ q. AreLawfulFields (record {
       stored = S.lines q.store;
       room = S.room q.store;
       accepted = q.accepted;
@@ -121,7 +121,7 @@ impl<S: Store> Model for Rules<S> {
 
 impl<S: Store> Rules<S> {
     ghost use Rattle.std.specs.Prelude.{◌≤◌, max, false, replicate, vec_len};
-    ghost use Rattle.appender_queue.specs.Queue.{fresh_with, has_room, last_ticket_of, IsLawful};
+    ghost use Rattle.appender_queue.specs.Queue.{new_queue_with, has_room, last_ticket_of, IsLawful};
     ghost use Rattle.appender_queue.specs.QueueCalls.{
       Offers,
       OffersFrom,
@@ -129,14 +129,14 @@ impl<S: Store> Rules<S> {
       Takes,
       AddsSender,
       DropsSender,
-      TellsCounts,
+      ReadsCounts,
     };
 
     fn over(store: S, limit: usize, lossy: bool, last_tickets: Vec<u64>) -> Rules<S>
         requires empty { S.lines store ≡ [] }
         requires room { S.room store ≡ max limit 1 }
         requires last_tickets { last_tickets.items ≡ replicate (vec_len last_tickets) 0 }
-        ensures { result ≡ fresh_with limit lossy (vec_len last_tickets) }
+        ensures { result ≡ new_queue_with limit lossy (vec_len last_tickets) }
     {
         Rules {
             store,
@@ -274,7 +274,7 @@ impl<S: Store> Rules<S> {
     }
 
     fn counts(&self) -> Counts
-        ensures { TellsCounts self.now result }
+        ensures { ReadsCounts self.now result }
     {
         let rest = self.accepted - self.handed;
         Counts {
@@ -291,6 +291,21 @@ impl<S: Store> Rules<S> {
 ///
 /// In lossy mode a refused line counts as dropped; else its sender has to try again, as the documentation
 /// of the crate tracing-appender says.
+///
+/// ```
+/// use std::alloc::{AllocError, Global};
+/// use tracing_appender::queue::{Counts, LineQueue};
+///
+/// // Of three lines a queue with room for two accepts 2 and drops 1. One is taken, and one is still queued.
+/// pub fn offer_three(alloc: Global) -> Result<Counts, AllocError> {
+///     let mut queue = LineQueue::new(alloc, 2, true)?;
+///     for line in [b"a\n", b"b\n", b"c\n"] {
+///         let _ = queue.offer(Vec::from_slice(alloc, line)?);
+///     }
+///     let _ = queue.take(false);
+///     Ok(queue.counts())
+/// }
+/// ```
 #[derive(Drop)]
 pub struct LineQueue {
     rules: Rules<Ring>,
@@ -306,7 +321,7 @@ impl Model for LineQueue {
 
 impl LineQueue {
     ghost use Rattle.std.specs.Prelude.{◌≤◌, not, ◌&&◌};
-    ghost use Rattle.appender_queue.specs.Queue.{fresh, fresh_with, has_room, last_ticket_of, IsLawful};
+    ghost use Rattle.appender_queue.specs.Queue.{new_queue, new_queue_with, has_room, last_ticket_of, IsLawful};
     ghost use Rattle.appender_queue.specs.QueueCalls.{
       Offers,
       OffersFrom,
@@ -314,13 +329,13 @@ impl LineQueue {
       Takes,
       AddsSender,
       DropsSender,
-      TellsCounts,
+      ReadsCounts,
     };
 
     /// Returns an empty queue with one sender and no sender's place. All memory that it needs is
     /// allocated here: for `limit` lines, or for one if the limit is 0.
     pub fn new(alloc: Global, limit: usize, lossy: bool) -> Result<LineQueue, AllocError>
-        ensures fresh { IfOk result (λ q. q ≡ fresh limit lossy) }
+        ensures fresh { IfOk result (λ q. q ≡ new_queue limit lossy) }
         ensures lawful { IfOk result (λ q. IsLawful q) }
     {
         LineQueue::with_places(alloc, limit, lossy, 0)
@@ -334,7 +349,7 @@ impl LineQueue {
         lossy: bool,
         places: usize,
     ) -> Result<LineQueue, AllocError>
-        ensures fresh { IfOk result (λ q. q ≡ fresh_with limit lossy places) }
+        ensures fresh { IfOk result (λ q. q ≡ new_queue_with limit lossy places) }
         ensures lawful { IfOk result (λ q. IsLawful q) }
     {
         let ring = Ring::with_capacity(alloc, limit.max(1))?;
@@ -411,7 +426,7 @@ impl LineQueue {
     /// Returns how many lines were accepted, were handed, are queued, are left and were dropped.
     #[inline(always)]
     pub fn counts(&self) -> Counts
-        ensures { TellsCounts self.now result }
+        ensures { ReadsCounts self.now result }
     {
         self.rules.counts()
     }

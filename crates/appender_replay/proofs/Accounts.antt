@@ -12,14 +12,14 @@ use Rattle.appender_queue.specs.QueueReplies.{shut_reply}
 use Rattle.appender_queue.specs.declared.queue.Shut.{Shut as ShutReply}
 use Rattle.appender_queue.specs.declared.queue.Shut.TheVariants.{Sent, Already, Full as ShutFull, Closed as ShutClosed}
 use Rattle.appender_rolling.specs.Config.{Config}
-use Rattle.appender_rolling.specs.Roller.{count_of}
+use Rattle.appender_rolling.specs.Roller.{written_count}
 use Rattle.appender_rolling.specs.declared.rolling.Switch.{Switch}
 use Rattle.appender_rolling.specs.declared.rolling.Switch.TheVariants.{None as Stayed}
 use Rattle.appender_rolling.specs.declared.rolling.setup.Stamp.{Stamp}
-use Rattle.appender_replay.specs.Record.{Answered, Offered, accepted_lines, handed_lines, lines_left, is_closed, shutdown_place, senders_after, waits_in_vain, worker_after, with_ticket, queue_after}
-use Rattle.appender_replay.specs.Answers.{StepAnswers, WorkAnswers, Answers, offer_answer, take_answer, rest_of}
+use Rattle.appender_replay.specs.Record.{StepWithReply, Offered, accepted_lines, handed_lines, lines_left, is_closed, shutdown_place, senders_after, last_take_waits, worker_after, with_ticket, queue_after}
+use Rattle.appender_replay.specs.Answers.{IsStepReply, IsWorkReply, AreRunReplies, run_offer_reply, run_take_reply, rest_of}
 use Rattle.appender_replay.specs.Headline as head
-use Rattle.appender_replay.specs.Headline.{Account, account}
+use Rattle.appender_replay.specs.Headline.{RunAccount, account}
 use Rattle.appender_replay.specs.declared.replay.whole.Step.TheVariants.{Offer, Shut, AddSender, DropSender, Work}
 use Rattle.appender_replay.specs.declared.replay.whole.Reply.{Reply}
 use Rattle.appender_replay.specs.declared.replay.whole.Reply.TheVariants.{Accepted, Full, Closed, Shut as DidShut, Senders, Took, TookShutdown, TookGone, TookEmpty, Wrote, Flushed, Ended}
@@ -32,11 +32,11 @@ CoreIs Flushing rest interrupted whole flushes closed = (rest ≡ []) × (flushe
 CoreIs (Ending n) rest interrupted whole flushes closed = (rest ≡ []) × (flushes ≡ n) × (closed ≡ true) × ((n ≡ 1) ⊎ (n ≡ 2))
 CoreIs Over rest interrupted whole flushes closed = (rest ≡ []) × (flushes ≡ 0) × (closed ≡ true)
 
-abbrev pub CoreOf : Core → Account → Type 0
+abbrev pub CoreOf : Core → RunAccount → Type 0
 CoreOf core a = CoreIs core a.rest a.interrupted a.whole a.flushes a.closed
 
 -- the worker offers the rest of the line in hand
-pub rest_same : (core : Core) (a : Account) → CoreOf core a → rest_of core ≡ a.rest
+pub rest_same : (core : Core) (a : RunAccount) → CoreOf core a → rest_of core ≡ a.rest
 rest_same (Taking waits) a so = sym so.0
 rest_same (Writing left repeats) a so = sym so.0
 rest_same Flushing a so = sym so.0
@@ -44,21 +44,21 @@ rest_same (Ending n) a so = sym so.0
 rest_same Over a so = sym so.0
 
 -- The account has the queue and the worker of these steps.
-pub record Same (past : List Answered) (a : Account) : Type 0 where
+pub record Same (past : List StepWithReply) (a : RunAccount) : Type 0 where
   pub lines : map (λ (o : Offered). o.1) (accepted_lines past) ≡ a.accepted
   pub handed : length (handed_lines past) ≡ a.handed
   pub shutdown : shutdown_place past ≡ a.shutdown
   pub closed : is_closed past ≡ a.closed
   pub senders : senders_after past ≡ a.senders
-  pub idle : waits_in_vain past ≡ a.idle
+  pub idle : last_take_waits past ≡ a.idle
   pub core : CoreOf (worker_after past) a
 
 -- ---- the queue
 
-abbrev accepts : Account → Bool
+abbrev accepts : RunAccount → Bool
 accepts a = not a.closed && nat_lt (length a.accepted) (2 ^ 64 - 1)
 
-abbrev finds_line : Account → Bool
+abbrev finds_line : RunAccount → Bool
 finds_line a = nat_lt a.handed (length a.accepted) && nat_lt a.handed (unwrap_or a.shutdown (length a.accepted))
 
 sent_same : (o : Option ℕ) → is_sent o ≡ is_some o
@@ -92,7 +92,7 @@ same_shut : (x s r u : Bool) → (x ≡ false → r ≡ u) → shut_by x s r ≡
 same_shut true s r u g = refl
 same_shut false s r u g = ap (λ (b : Bool). shut_by false s b) (g refl)
 
-module _ (limit : ℕ) (lossy : Bool) (past : List Answered) (a : Account) (so : Same past a) where
+module _ (limit : ℕ) (lossy : Bool) (past : List StepWithReply) (a : RunAccount) (so : Same past a) where
   abbrev q : Queue
   q = queue_after limit lossy past
 
@@ -105,16 +105,16 @@ module _ (limit : ℕ) (lossy : Bool) (past : List Answered) (a : Account) (so :
   left_same : length (lines_left past) ≡ length a.accepted - a.handed
   left_same = length-drop (length (handed_lines past)) (map (λ (o : Offered). o.1) (accepted_lines past)) ∙ ap (λ (xs : List (List ℕ)). length xs - length (handed_lines past)) so.lines ∙ ap (λ (n : ℕ). length a.accepted - n) so.handed
 
-  taken_same : is_closed past ≡ false → taken_places q ≡ head.taken_places a
+  taken_same : is_closed past ≡ false → taken_places q ≡ head.account_places a
   taken_same e =
       let places : places_of (shutdown_place past) ≡ (if is_some a.shutdown then 1 else 0) = ap places_of so.shutdown ∙ places_same a.shutdown in
       ap (λ (c : Bool). if c then 0 else (length (if c then [] else lines_left past) + places_of (shutdown_place past))) e
       ∙ ap (λ (n : ℕ). n + places_of (shutdown_place past)) left_same ∙ ap (λ (n : ℕ). length a.accepted - a.handed + n) places
 
-  room_same : is_closed past ≡ false → has_room q ≡ head.has_room limit a
+  room_same : is_closed past ≡ false → has_room q ≡ head.account_has_room limit a
   room_same e =
-      ap (λ (n : ℕ). if limit == 0 then ((n == 0) && waits_in_vain past) else nat_lt n limit) (taken_same e)
-      ∙ ap (λ (b : Bool). if limit == 0 then ((head.taken_places a == 0) && b) else nat_lt (head.taken_places a) limit) so.idle
+      ap (λ (n : ℕ). if limit == 0 then ((n == 0) && last_take_waits past) else nat_lt n limit) (taken_same e)
+      ∙ ap (λ (b : Bool). if limit == 0 then ((head.account_places a == 0) && b) else nat_lt (head.account_places a) limit) so.idle
 
   line_same : has_line q ≡ finds_line a
   line_same =
@@ -123,17 +123,17 @@ module _ (limit : ℕ) (lossy : Bool) (past : List Answered) (a : Account) (so :
       ∙ ap (λ (h : ℕ). nat_lt h (length (accepted_lines past)) && nat_lt h (unwrap_or a.shutdown (length (accepted_lines past)))) so.handed
       ∙ ap (λ (n : ℕ). nat_lt a.handed n && nat_lt a.handed (unwrap_or a.shutdown n)) count
 
-  offer_same : offer_answer q ≡ head.offer_answer limit a
+  offer_same : run_offer_reply q ≡ head.account_offer_reply limit a
   offer_same =
-      same_offer (is_open q) (has_room q) (head.has_room limit a) (length (accepted_lines past) + 1) (λ yes. room_same (unclosed_is (is_closed past) (nat_lt (length (accepted_lines past)) (2 ^ 64 - 1)) yes))
-      ∙ ap (λ (x : Bool). if x then (if head.has_room limit a then Accepted (length (accepted_lines past) + 1) else Full) else Closed) open_same
-      ∙ ap (λ (n : ℕ). if accepts a then (if head.has_room limit a then Accepted (n + 1) else Full) else Closed) count
+      same_offer (is_open q) (has_room q) (head.account_has_room limit a) (length (accepted_lines past) + 1) (λ yes. room_same (unclosed_is (is_closed past) (nat_lt (length (accepted_lines past)) (2 ^ 64 - 1)) yes))
+      ∙ ap (λ (x : Bool). if x then (if head.account_has_room limit a then Accepted (length (accepted_lines past) + 1) else Full) else Closed) open_same
+      ∙ ap (λ (n : ℕ). if accepts a then (if head.account_has_room limit a then Accepted (n + 1) else Full) else Closed) count
 
-  shut_same : shut_reply q ≡ shut_by a.closed (is_some a.shutdown) (head.has_room limit a)
+  shut_same : shut_reply q ≡ shut_by a.closed (is_some a.shutdown) (head.account_has_room limit a)
   shut_same =
-      same_shut (is_closed past) (is_sent (shutdown_place past)) (has_room q) (head.has_room limit a) room_same
-      ∙ ap (λ (x : Bool). shut_by x (is_sent (shutdown_place past)) (head.has_room limit a)) so.closed
-      ∙ ap (λ (s : Bool). shut_by a.closed s (head.has_room limit a)) (ap is_sent so.shutdown ∙ sent_same a.shutdown)
+      same_shut (is_closed past) (is_sent (shutdown_place past)) (has_room q) (head.account_has_room limit a) room_same
+      ∙ ap (λ (x : Bool). shut_by x (is_sent (shutdown_place past)) (head.account_has_room limit a)) so.closed
+      ∙ ap (λ (s : Bool). shut_by a.closed s (head.account_has_room limit a)) (ap is_sent so.shutdown ∙ sent_same a.shutdown)
 
   -- the line that is taken next
   next_same : (with_ticket (length (handed_lines past) + 1) (accepted_lines past)).1 ≡ get_or a.accepted a.handed []
@@ -180,13 +180,13 @@ wrote_some left repeats n flushes closed none e = by (n == 0) (nat_le (length le
       e,
     )
 
-abbrev repeated : Account → Account
+abbrev repeated : RunAccount → RunAccount
 repeated a = record a { interrupted = a.interrupted + 1 }
 
-abbrev given_up : Account → Account
+abbrev given_up : RunAccount → RunAccount
 given_up a = record a { rest = []; whole = false }
 
-wrote_none : (left : List ℕ) (repeats : ℕ) (a : Account) → CoreOf (Writing left repeats) a → (interrupts : Bool)
+wrote_none : (left : List ℕ) (repeats : ℕ) (a : RunAccount) → CoreOf (Writing left repeats) a → (interrupts : Bool)
     → CoreOf (after_wrote (Writing left repeats) (if interrupts then Interrupted else Failed)) (if interrupts && nat_lt a.interrupted 100 then repeated a else given_up a)
 wrote_none left repeats a so false = (refl, so.3, so.4, refl)
 wrote_none left repeats a so true = again (nat_lt repeats most_repeats) (nat_lt a.interrupted 100) (ap (λ (n : ℕ). nat_lt n 100) (sym so.2))
@@ -203,16 +203,16 @@ abbrev take_by : Bool → Bool → Bool → Bool → ℕ → Reply
 take_by closed line sent gone k = if closed then Ended else if line then Took k else if sent then TookShutdown else if gone then TookGone else TookEmpty
 
 -- a write replies a switch exactly if a file was due
-abbrev pub SwitchesIfDue : Config → Account → Answered → Type 0
+abbrev pub SwitchesIfDue : Config → RunAccount → StepWithReply → Type 0
 SwitchesIfDue c a (Work m, Wrote switch answer) = (switch ≡ Stayed) ↔ (head.due_file c a.files m (length a.rest) ≡ None)
 SwitchesIfDue c a t = Unit {0}
 
-module _ (limit : ℕ) (lossy : Bool) (c : Config) (past : List Answered) (a : Account) (so : Same past a) where
+module _ (limit : ℕ) (lossy : Bool) (c : Config) (past : List StepWithReply) (a : RunAccount) (so : Same past a) where
   abbrev now : Queue
   now = queue_after limit lossy past
 
-  abbrev On : Answered → Type 0
-  On t = Same (t ∷ past) (head.after c a t)
+  abbrev On : StepWithReply → Type 0
+  On t = Same (t ∷ past) (head.account_after c a t)
 
   taken : (closed line sent gone waits : Bool) (m : ℤ) → is_closed past ≡ closed → worker_after past ≡ Taking waits → CoreOf (Taking waits) a
       → On (Work m, if closed then TookGone else if line then Took (length (handed_lines past) + 1) else if sent then TookShutdown else if gone then TookGone else TookEmpty)
@@ -264,7 +264,7 @@ module _ (limit : ℕ) (lossy : Bool) (c : Config) (past : List Answered) (a : A
   wrote_err m switch kind files true core = record { lines = so.lines; handed = so.handed; shutdown = so.shutdown; closed = so.closed; senders = so.senders; idle = so.idle; core = core }
   wrote_err m switch kind files false core = record { lines = so.lines; handed = so.handed; shutdown = so.shutdown; closed = so.closed; senders = so.senders; idle = so.idle; core = core }
 
-  work_same : (core : Core) (m : ℤ) (reply : Reply) → worker_after past ≡ core → CoreOf core a → WorkAnswers now core reply → On (Work m, reply)
+  work_same : (core : Core) (m : ℤ) (reply : Reply) → worker_after past ≡ core → CoreOf core a → IsWorkReply now core reply → On (Work m, reply)
   work_same (Taking waits) m reply w co ans =
       subst (λ (r : Reply). On (Work m, r)) (sym ans) (taken (is_closed past) (has_line now) (is_sent now.shutdown) (now.senders == 0) waits m refl w co)
   work_same (Writing left repeats) m (Wrote switch (Ok n)) w co ans = record {
@@ -278,7 +278,7 @@ module _ (limit : ℕ) (lossy : Bool) (c : Config) (past : List Answered) (a : A
         (rw (co.0, co.2) (wrote_some left repeats n a.flushes a.closed co.3 co.4));
   }
   work_same (Writing left repeats) m (Wrote switch (Err kind)) w co ans =
-      wrote_err m switch kind (head.after_write a.rest (Err kind) (head.after_look c m (length a.rest) switch a.files)) (is_interruption kind && nat_lt a.interrupted 100)
+      wrote_err m switch kind (head.files_after_write a.rest (Err kind) (head.files_after_check c m (length a.rest) switch a.files)) (is_interruption kind && nat_lt a.interrupted 100)
       (subst (λ (k : Core). CoreOf (after_wrote k (if is_interruption kind then Interrupted else Failed)) (if is_interruption kind && nat_lt a.interrupted 100 then repeated a else given_up a)) (sym w) (wrote_none left repeats a co (is_interruption kind)))
   work_same (Writing left repeats) m _ w co ans = absurd ans
   work_same Flushing m (Flushed answer) w co ans = record {
@@ -304,7 +304,7 @@ module _ (limit : ℕ) (lossy : Bool) (c : Config) (past : List Answered) (a : A
   work_same Over m reply w co ans =
       subst (λ (r : Reply). On (Work m, r)) (sym ans) (record { lines = so.lines; handed = so.handed; shutdown = so.shutdown; closed = so.closed; senders = so.senders; idle = so.idle; core = so.core })
 
-  pub same_step : (t : Answered) → StepAnswers now (worker_after past) t → On t
+  pub same_step : (t : StepWithReply) → IsStepReply now (worker_after past) t → On t
   same_step (Offer label line, Accepted k) ans = record {
     lines = map-append (λ (o : Offered). o.1) (accepted_lines past) ((label, line.items) ∷ []) ∙ ap (λ (xs : List (List ℕ)). xs ++ line.items ∷ []) so.lines;
     handed = so.handed;
@@ -323,10 +323,10 @@ module _ (limit : ℕ) (lossy : Bool) (c : Config) (past : List Answered) (a : A
 
   -- ---- and its reply
 
-  abbrev Gets : Answered → Type 0
+  abbrev Gets : StepWithReply → Type 0
   Gets t = head.Replies limit c a t
 
-  take_gets : (closed line sent gone : Bool) (k : ℕ) (m : ℤ) → a.rest ≡ [] → a.flushes ≡ 0 → take_by closed line sent gone k ≡ head.take_answer a → Gets (Work m, take_by closed line sent gone k)
+  take_gets : (closed line sent gone : Bool) (k : ℕ) (m : ℤ) → a.rest ≡ [] → a.flushes ≡ 0 → take_by closed line sent gone k ≡ head.account_take_reply a → Gets (Work m, take_by closed line sent gone k)
   take_gets true line sent gone k m r f e = (r, f, e)
   take_gets false true sent gone k m r f e = (r, f, e)
   take_gets false false true gone k m r f e = (r, f, e)
@@ -334,7 +334,7 @@ module _ (limit : ℕ) (lossy : Bool) (c : Config) (past : List Answered) (a : A
   take_gets false false false false k m r f e = (r, f, e)
 
   -- the answer to a take, where the queue isn't closed
-  take_same : a.closed ≡ false → take_answer now ≡ head.take_answer a
+  take_same : a.closed ≡ false → run_take_reply now ≡ head.account_take_reply a
   take_same e =
       let unclosed : is_closed past ≡ false = so.closed ∙ e in
       let sent : is_sent (shutdown_place past) ≡ is_some a.shutdown = ap is_sent so.shutdown ∙ sent_same a.shutdown in
@@ -345,12 +345,12 @@ module _ (limit : ℕ) (lossy : Bool) (c : Config) (past : List Answered) (a : A
       ∙ ap (λ (n : ℕ). take_by false (finds_line a) (is_some a.shutdown) (a.senders == 0) (n + 1)) so.handed
       ∙ ap (λ (x : Bool). take_by x (finds_line a) (is_some a.shutdown) (a.senders == 0) (a.handed + 1)) (sym e)
 
-  work_gets : (core : Core) (m : ℤ) (reply : Reply) → CoreOf core a → WorkAnswers now core reply → SwitchesIfDue c a (Work m, reply) → Gets (Work m, reply)
+  work_gets : (core : Core) (m : ℤ) (reply : Reply) → CoreOf core a → IsWorkReply now core reply → SwitchesIfDue c a (Work m, reply) → Gets (Work m, reply)
   work_gets (Taking waits) m reply co ans due =
       subst (λ (r : Reply). Gets (Work m, r)) (sym (ans ∙ take_same co.2)) (take_gets a.closed (finds_line a) (is_some a.shutdown) (a.senders == 0) (a.handed + 1) m co.0 co.1 refl)
   work_gets (Writing left repeats) m (Wrote switch answer) co ans due = (
     (λ none. co.1 (sym co.0 ∙ none)),
-    subst (λ (xs : List ℕ). count_of answer ≤ length xs) (sym co.0) ans,
+    subst (λ (xs : List ℕ). written_count answer ≤ length xs) (sym co.0) ans,
     due,
   )
   work_gets (Writing left repeats) m _ co ans due = absurd ans
@@ -364,13 +364,13 @@ module _ (limit : ℕ) (lossy : Bool) (c : Config) (past : List Answered) (a : A
   work_gets Over m reply co ans due =
       subst (λ (r : Reply). Gets (Work m, r)) (sym ans) (co.0, co.1, sym (ap (λ (x : Bool). take_by x (finds_line a) (is_some a.shutdown) (a.senders == 0) (a.handed + 1)) co.2))
 
-  pub step_gets : (t : Answered) → StepAnswers now (worker_after past) t → SwitchesIfDue c a t → Gets t
+  pub step_gets : (t : StepWithReply) → IsStepReply now (worker_after past) t → SwitchesIfDue c a t → Gets t
   step_gets (Offer label line, reply) ans due = elim ans [ inl none ↦ inl none | inr is ↦ inr (is ∙ offer_same limit lossy past a so) ]
   step_gets (Shut, reply) ans due = ans ∙ ap (λ (s : ShutReply). DidShut s) (shut_same limit lossy past a so)
   step_gets (AddSender, reply) ans due = ans ∙ ap (λ (n : ℕ). Senders (saturating_next n)) so.senders
   step_gets (DropSender, reply) ans due = ans ∙ ap (λ (n : ℕ). Senders (one_less n)) so.senders
   step_gets (Work m, reply) ans due = work_gets (worker_after past) m reply so.core ans due
 
-pub same_all : (limit : ℕ) (lossy : Bool) (c : Config) (start : Stamp) (past : List Answered) → Answers limit lossy past → Same past (account c start past)
+pub same_all : (limit : ℕ) (lossy : Bool) (c : Config) (start : Stamp) (past : List StepWithReply) → AreRunReplies limit lossy past → Same past (account c start past)
 same_all limit lossy c start [] all = record { lines = refl; handed = refl; shutdown = refl; closed = refl; senders = refl; idle = refl; core = (refl, refl, refl, refl) }
 same_all limit lossy c start (t ∷ past) all = same_step limit lossy c past (account c start past) (same_all limit lossy c start past all.0) t all.1

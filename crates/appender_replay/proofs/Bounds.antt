@@ -3,11 +3,11 @@ use Rattle.std.proofs.Common.{◌≡◌, ◌≢◌, ◌⊎◌, inl, inr, ℕ, su
 use Rattle.std.proofs.lemmas.Bool.Decides.{nat_tests}
 use Rattle.std.proofs.lemmas.List.{append-nil}
 use Rattle.appender_rolling.specs.Config.{Config, is_limited, stamp}
-use Rattle.appender_rolling.specs.Roller.{wanted}
+use Rattle.appender_rolling.specs.Roller.{room_needed}
 use Rattle.appender_rolling.specs.declared.rolling.setup.Stamp.{Stamp}
 use Rattle.appender_rolling.specs.declared.rolling.Switch.{Switch}
 use Rattle.appender_rolling.specs.declared.rolling.Switch.TheVariants.{None as Stayed, Opened as Switched, Failed as SwitchFailed}
-use Rattle.appender_replay.specs.Run.{Event, Attempt, Time, time_of, times, with_time, stamp_at, arrives, is_full, latest_moment, last_stamp, last_step, count_since, since, carrier, bytes_of_attempt, is_switch, is_opened, SwitchesAtAttempts, NoneFailed, EachWriteReadsClock, pieces_of_attempt, passes, KeepsToLimit, EachOf}
+use Rattle.appender_replay.specs.Run.{Event, Attempt, AttemptTime, time_of, attempt_times, with_time, stamp_at, arrives, is_full_step, latest_moment, last_stamp, last_step, count_since, pieces_since, carrier, bytes_of_attempt, is_switch, is_opened, SwitchesAtAttempts, NoneFailed, EachWriteReadsClock, pieces_of_attempt, meets_test, IsWithinLimit, EachOf}
 use Rattle.appender_replay.proofs.Clocks.{since_now}
 use Rattle.appender_replay.proofs.Owners.{each_map, pieces_before}
 use Rattle.appender_replay.proofs.Files.{nothing_later}
@@ -19,18 +19,18 @@ PiecesFit (e ∷ earlier) = (length e.piece ≤ e.offered) × PiecesFit earlier
 
 -- ---- lists
 
-abbrev rest_of : List Time → List Time
+abbrev rest_of : List AttemptTime → List AttemptTime
 rest_of [] = []
 rest_of (t ∷ ts) = ts
 
-abbrev first_of : Time → List Time → Time
+abbrev first_of : AttemptTime → List AttemptTime → AttemptTime
 first_of d [] = d
 first_of d (t ∷ ts) = t
 
-same_rest : (t u : Time) (ts us : List Time) → t ∷ ts ≡ u ∷ us → ts ≡ us
+same_rest : (t u : AttemptTime) (ts us : List AttemptTime) → t ∷ ts ≡ u ∷ us → ts ≡ us
 same_rest t u ts us e = ap rest_of e
 
-same_first : (t u : Time) (ts us : List Time) → t ∷ ts ≡ u ∷ us → t ≡ u
+same_first : (t u : AttemptTime) (ts us : List AttemptTime) → t ∷ ts ≡ u ∷ us → t ≡ u
 same_first t u ts us e = ap (first_of t) e
 
 each_of : (P : Attempt → Type 0) → ((a : Attempt) → P a) → (attempts : List Attempt) → EachOf P attempts
@@ -63,7 +63,7 @@ no_pieces : (j : ℕ) (attempts : List Attempt) (h : List Event) → bytes_of_at
 no_pieces j attempts [] none = refl
 no_pieces j attempts (e ∷ h) none =
     let before : bytes_of_attempt j attempts h ≡ [] = left_empty (bytes_of_attempt j attempts h) _ none in
-    by (passes (λ a. a.step == j) (carrier attempts (suc (length h)))) before (no_pieces j attempts h before) none
+    by (meets_test (λ a. a.step == j) (carrier attempts (suc (length h)))) before (no_pieces j attempts h before) none
   where
     by : (carried : Bool) → bytes_of_attempt j attempts h ≡ [] → pieces_of_attempt j attempts h ≡ 0 → bytes_of_attempt j attempts h ++ (if carried then e.piece else []) ≡ [] → pieces_of_attempt j attempts h + (if carried && nat_lt 0 (length e.piece) then 1 else 0) ≡ 0
     by false before so is = rw so refl
@@ -76,24 +76,24 @@ module _ (c : Config) (first : Stamp) (limited : is_limited c ≡ true) where
   -- What is known of the attempts of a history: each keeps to the limit, was made and succeeded, and the last one, a, carries all that
   -- was written since.
   pub record IsBounded (a : Attempt) (rest : List Attempt) (h : List Event) : Type 0 where
-    pub each : EachOf (KeepsToLimit c (a ∷ rest) h) (a ∷ rest)
+    pub each : EachOf (IsWithinLimit c (a ∷ rest) h) (a ∷ rest)
     pub made : a.step ≤ length h
     pub opened : is_some a.body ≡ true
     pub falls : EachOf (λ f. f.step < a.step) rest
-    pub carries : bytes_of_attempt a.step (a ∷ rest) h ≡ since a.step h
-    pub stamp_is : a.stamp ≡ last_stamp first (times c first h)
-    pub step_is : a.step ≡ last_step (times c first h)
+    pub carries : bytes_of_attempt a.step (a ∷ rest) h ≡ pieces_since a.step h
+    pub stamp_is : a.stamp ≡ last_stamp first (attempt_times c first h)
+    pub step_is : a.step ≡ last_step (attempt_times c first h)
 
   -- one piece more of a file that isn't full: it keeps to the limit, or held nothing, and the piece is not empty
   more : (bytes : List ℕ) (e : Event) (max count : ℕ) → max ≡ c.max_bytes → length bytes ≡ count → length e.piece ≤ e.offered
-      → (nat_lt 0 count && nat_lt max (count + wanted e.offered)) ≡ false
+      → (nat_lt 0 count && nat_lt max (count + room_needed e.offered)) ≡ false
       → (length (bytes ++ e.piece) ≤ c.max_bytes) ⊎ ((bytes ≡ []) × (nat_lt 0 (length e.piece) ≡ true))
   more bytes e max count is counted fits room = by (nat_lt 0 count) refl
     where
       by : (b : Bool) → nat_lt 0 count ≡ b → (length (bytes ++ e.piece) ≤ c.max_bytes) ⊎ ((bytes ≡ []) × (nat_lt 0 (length e.piece) ≡ true))
       by true some =
-          let low : count + wanted e.offered ≤ max = (let r = room in grind (arith, nat_tests, r, some)) in
-          let most : e.offered ≤ wanted e.offered = grind (arith, nat_tests) in
+          let low : count + room_needed e.offered ≤ max = (let r = room in grind (arith, nat_tests, r, some)) in
+          let most : e.offered ≤ room_needed e.offered = grind (arith, nat_tests) in
           inl (omega (arith, length-append bytes e.piece, low, most, fits, counted, is))
       by false none =
           let zero : count ≡ 0 = grind (arith, nat_tests, none) in
@@ -107,21 +107,21 @@ module _ (c : Config) (first : Stamp) (limited : is_limited c ≡ true) where
   Known [] h = Unit {0}
   Known (a ∷ rest) h = IsBounded a rest h
 
-  keeps_on : (attempts some : List Attempt) (e : Event) (h : List Event) (f : Attempt) → bytes_of_attempt f.step attempts (e ∷ h) ≡ bytes_of_attempt f.step some h → pieces_of_attempt f.step attempts (e ∷ h) ≡ pieces_of_attempt f.step some h → KeepsToLimit c some h f → KeepsToLimit c attempts (e ∷ h) f
+  keeps_on : (attempts some : List Attempt) (e : Event) (h : List Event) (f : Attempt) → bytes_of_attempt f.step attempts (e ∷ h) ≡ bytes_of_attempt f.step some h → pieces_of_attempt f.step attempts (e ∷ h) ≡ pieces_of_attempt f.step some h → IsWithinLimit c some h f → IsWithinLimit c attempts (e ∷ h) f
   keeps_on attempts some e h f same pieces keeps low = elim (keeps low) [
     | inl small ↦ inl (omega (arith, ap length same, small))
     | inr one ↦ inr (pieces ∙ one)
   ]
 
   -- a step that makes no attempt
-  module _ (a : Attempt) (rest : List Attempt) (e : Event) (h : List Event) (k : IsBounded a rest h) (none : stamp_at c first (times c first h) e h ≡ None) (fits : length e.piece ≤ e.offered) (blind : e.read ≡ None → e.piece ≡ []) where
-    same_times : times c first (e ∷ h) ≡ times c first h
-    same_times = ap (λ o. with_time o (suc (length h)) (is_opened e.switch) (times c first h)) none
+  module _ (a : Attempt) (rest : List Attempt) (e : Event) (h : List Event) (k : IsBounded a rest h) (none : stamp_at c first (attempt_times c first h) e h ≡ None) (fits : length e.piece ≤ e.offered) (blind : e.read ≡ None → e.piece ≡ []) where
+    same_times : attempt_times c first (e ∷ h) ≡ attempt_times c first h
+    same_times = ap (λ o. with_time o (suc (length h)) (is_opened e.switch) (attempt_times c first h)) none
 
     here : carrier (a ∷ rest) (suc (length h)) ≡ Some a
     here = let le = k.made in let t : nat_le a.step (suc (length h)) ≡ true = grind (arith, le) in rw (t, k.opened) refl
 
-    own : bytes_of_attempt a.step (a ∷ rest) (e ∷ h) ≡ since a.step h ++ e.piece
+    own : bytes_of_attempt a.step (a ∷ rest) (e ∷ h) ≡ pieces_since a.step h ++ e.piece
     own = let t : (a.step == a.step) ≡ true = grind arith in rw (here, t) (ap (λ xs. xs ++ e.piece) k.carries)
 
     others : (f : Attempt) → f.step < a.step → bytes_of_attempt f.step (a ∷ rest) (e ∷ h) ≡ bytes_of_attempt f.step (a ∷ rest) h
@@ -133,37 +133,37 @@ module _ (c : Config) (first : Stamp) (limited : is_limited c ≡ true) where
     own_pieces : pieces_of_attempt a.step (a ∷ rest) (e ∷ h) ≡ pieces_of_attempt a.step (a ∷ rest) h + (if nat_lt 0 (length e.piece) then 1 else 0)
     own_pieces = let t : (a.step == a.step) ≡ true = grind arith in rw (here, t) refl
 
-    not_full : e.read ≢ None → a.stamp.number < 999999 → (nat_lt 0 (count_since (times c first h) h) && nat_lt c.max_bytes (count_since (times c first h) h + wanted e.offered)) ≡ false
-    not_full read low = by (arrives c.rotation first.moment e h) (is_full c first (times c first h) e h) refl refl none
+    not_full : e.read ≢ None → a.stamp.number < 999999 → (nat_lt 0 (count_since (attempt_times c first h) h) && nat_lt c.max_bytes (count_since (attempt_times c first h) h + room_needed e.offered)) ≡ false
+    not_full read low = by (arrives c.rotation first.moment e h) (is_full_step c first (attempt_times c first h) e h) refl refl none
       where
         some : (o : Option ℤ) → o ≢ None → is_some o ≡ true
         some None ne = absurd (ne refl)
         some (Some m) ne = refl
 
-        by : (came full : Bool) → arrives c.rotation first.moment e h ≡ came → is_full c first (times c first h) e h ≡ full
-            → (if came then Some (stamp (latest_moment first.moment (e ∷ h)) 0) else if full then Some (stamp (last_stamp first (times c first h)).moment ((last_stamp first (times c first h)).number + 1)) else None) ≡ None
-            → (nat_lt 0 (count_since (times c first h) h) && nat_lt c.max_bytes (count_since (times c first h) h + wanted e.offered)) ≡ false
+        by : (came full : Bool) → arrives c.rotation first.moment e h ≡ came → is_full_step c first (attempt_times c first h) e h ≡ full
+            → (if came then Some (stamp (latest_moment first.moment (e ∷ h)) 0) else if full then Some (stamp (last_stamp first (attempt_times c first h)).moment ((last_stamp first (attempt_times c first h)).number + 1)) else None) ≡ None
+            → (nat_lt 0 (count_since (attempt_times c first h) h) && nat_lt c.max_bytes (count_since (attempt_times c first h) h + room_needed e.offered)) ≡ false
         by true full is f never = absurd (let both : true ≡ false = ap (λ (o : Option Stamp). is_some o) never in cc)
         by false true is f never = absurd (let both : true ≡ false = ap (λ (o : Option Stamp). is_some o) never in cc)
         by false false is f it =
-            let number : (last_stamp first (times c first h)).number < 999999 = subst (λ (s : Stamp). s.number < 999999) k.stamp_is low in
-            let below : nat_lt (last_stamp first (times c first h)).number 999999 ≡ true = grind (arith, nat_tests, number) in
+            let number : (last_stamp first (attempt_times c first h)).number < 999999 = subst (λ (s : Stamp). s.number < 999999) k.stamp_is low in
+            let below : nat_lt (last_stamp first (attempt_times c first h)).number 999999 ≡ true = grind (arith, nat_tests, number) in
             rw (some e.read read, limited, below) at f
 
-    newest : KeepsToLimit c (a ∷ rest) (e ∷ h) a
+    newest : IsWithinLimit c (a ∷ rest) (e ∷ h) a
     newest low = by e.read refl
       where
-        counted : length (since a.step h) ≡ count_since (times c first h) h
-        counted = ap (λ j. length (since j h)) k.step_is
+        counted : length (pieces_since a.step h) ≡ count_since (attempt_times c first h) h
+        counted = ap (λ j. length (pieces_since j h)) k.step_is
 
         by : (read : Option ℤ) → e.read ≡ read → (length (bytes_of_attempt a.step (a ∷ rest) (e ∷ h)) ≤ c.max_bytes) ⊎ (pieces_of_attempt a.step (a ∷ rest) (e ∷ h) ≡ 1)
         by None is =
-            let nothing : bytes_of_attempt a.step (a ∷ rest) (e ∷ h) ≡ bytes_of_attempt a.step (a ∷ rest) h = own ∙ ap (λ xs. since a.step h ++ xs) (blind is) ∙ append-nil (since a.step h) ∙ sym k.carries in
+            let nothing : bytes_of_attempt a.step (a ∷ rest) (e ∷ h) ≡ bytes_of_attempt a.step (a ∷ rest) h = own ∙ ap (λ xs. pieces_since a.step h ++ xs) (blind is) ∙ append-nil (pieces_since a.step h) ∙ sym k.carries in
             let no : nat_lt 0 (length e.piece) ≡ false = let empty : length e.piece ≡ 0 = ap length (blind is) in grind (arith, nat_tests) in
             let none_more : pieces_of_attempt a.step (a ∷ rest) (e ∷ h) ≡ pieces_of_attempt a.step (a ∷ rest) h = own_pieces ∙ rw no (omega arith) in
             keeps_on (a ∷ rest) (a ∷ rest) e h a nothing none_more k.each.0 low
         by (Some m) is =
-            elim (more (since a.step h) e c.max_bytes (count_since (times c first h) h) refl counted fits (not_full (λ never. let both : ◌≡◌ {A = Option ℤ} (Some m) None = sym is ∙ never in cc) low)) [
+            elim (more (pieces_since a.step h) e c.max_bytes (count_since (attempt_times c first h) h) refl counted fits (not_full (λ never. let both : ◌≡◌ {A = Option ℤ} (Some m) None = sym is ∙ never in cc) low)) [
               | inl small ↦ inl (omega (arith, ap length own, small))
               | inr alone ↦
                   let before : pieces_of_attempt a.step (a ∷ rest) h ≡ 0 = no_pieces a.step (a ∷ rest) h (k.carries ∙ alone.0) in
@@ -172,17 +172,17 @@ module _ (c : Config) (first : Stamp) (limited : is_limited c ≡ true) where
 
     pub stays : IsBounded a rest (e ∷ h)
     stays = record {
-      each = (newest, both_map (λ f. f.step < a.step) (KeepsToLimit c (a ∷ rest) h) (KeepsToLimit c (a ∷ rest) (e ∷ h)) rest (λ f lt keeps. keeps_on (a ∷ rest) (a ∷ rest) e h f (others f lt) (other_pieces f lt) keeps) k.falls k.each.1);
+      each = (newest, both_map (λ f. f.step < a.step) (IsWithinLimit c (a ∷ rest) h) (IsWithinLimit c (a ∷ rest) (e ∷ h)) rest (λ f lt keeps. keeps_on (a ∷ rest) (a ∷ rest) e h f (others f lt) (other_pieces f lt) keeps) k.falls k.each.1);
       made = (let le = k.made in omega (arith, le));
       opened = k.opened;
       falls = k.falls;
-      carries = own ∙ (let le = k.made in let t : nat_le a.step (suc (length h)) ≡ true = grind (arith, le) in sym (ap (λ b. since a.step h ++ (if b then e.piece else [])) t));
+      carries = own ∙ (let le = k.made in let t : nat_le a.step (suc (length h)) ≡ true = grind (arith, le) in sym (ap (λ b. pieces_since a.step h ++ (if b then e.piece else [])) t));
       stamp_is = k.stamp_is ∙ ap (last_stamp first) (sym same_times);
       step_is = k.step_is ∙ ap last_step (sym same_times);
     }
 
   -- a step that makes an attempt
-  module _ (a : Attempt) (rest : List Attempt) (e : Event) (h : List Event) (s : Stamp) (k : Known rest h) (some : stamp_at c first (times c first h) e h ≡ Some s)
+  module _ (a : Attempt) (rest : List Attempt) (e : Event) (h : List Event) (s : Stamp) (k : Known rest h) (some : stamp_at c first (attempt_times c first h) e h ≡ Some s)
       (at : a.step ≡ suc (length h)) (stamped : a.stamp ≡ s) (opened : is_some a.body ≡ true) where
     now : carrier (a ∷ rest) (suc (length h)) ≡ Some a
     now = let t : nat_le a.step (suc (length h)) ≡ true = grind (arith, at) in rw (t, opened) refl
@@ -220,12 +220,12 @@ module _ (c : Config) (first : Stamp) (limited : is_limited c ≡ true) where
     steps [] known = tt
     steps (b ∷ more) known = (let made = known.made in omega (arith, made, lt), each_map (λ f. f.step < b.step) (λ f. f.step < a.step) more (λ f less. let made = known.made in omega (arith, made, lt, less)) known.falls)
 
-    keep : (f : Attempt) → f.step < a.step → KeepsToLimit c rest h f → KeepsToLimit c (a ∷ rest) (e ∷ h) f
+    keep : (f : Attempt) → f.step < a.step → IsWithinLimit c rest h f → IsWithinLimit c (a ∷ rest) (e ∷ h) f
     keep f less keeps = keeps_on (a ∷ rest) rest e h f (earlier f less) (earlier_pieces f less) keeps
 
-    all : (attempts : List Attempt) → attempts ≡ rest → Known attempts h → EachOf (KeepsToLimit c rest h) attempts
+    all : (attempts : List Attempt) → attempts ≡ rest → Known attempts h → EachOf (IsWithinLimit c rest h) attempts
     all [] is known = tt
-    all (b ∷ more) is known = subst (λ (l : List Attempt). EachOf (KeepsToLimit c l h) (b ∷ more)) is known.each
+    all (b ∷ more) is known = subst (λ (l : List Attempt). EachOf (IsWithinLimit c l h) (b ∷ more)) is known.each
 
     pub begins : IsBounded a rest (e ∷ h)
     begins = record {
@@ -234,16 +234,16 @@ module _ (c : Config) (first : Stamp) (limited : is_limited c ≡ true) where
           | inl small ↦ inl (omega (arith, ap length alone, small))
           | inr full ↦ inr (alone_pieces full)
         ],
-        both_map (λ f. f.step < a.step) (KeepsToLimit c rest h) (KeepsToLimit c (a ∷ rest) (e ∷ h)) rest keep (steps rest k) (all rest refl k),
+        both_map (λ f. f.step < a.step) (IsWithinLimit c rest h) (IsWithinLimit c (a ∷ rest) (e ∷ h)) rest keep (steps rest k) (all rest refl k),
       );
       made = omega (arith, at);
       opened = opened;
       falls = steps rest k;
       carries = alone ∙ sym (
           let t : nat_le a.step (suc (length h)) ≡ true = grind (arith, at) in
-          ap (λ b. since a.step h ++ (if b then e.piece else [])) t ∙ ap (λ xs. xs ++ e.piece) (since_now h a.step lt));
-      stamp_is = stamped ∙ ap (λ o. last_stamp first (with_time o (suc (length h)) (is_opened e.switch) (times c first h))) (sym some);
-      step_is = at ∙ ap (λ o. last_step (with_time o (suc (length h)) (is_opened e.switch) (times c first h))) (sym some);
+          ap (λ b. pieces_since a.step h ++ (if b then e.piece else [])) t ∙ ap (λ xs. xs ++ e.piece) (since_now h a.step lt));
+      stamp_is = stamped ∙ ap (λ o. last_stamp first (with_time o (suc (length h)) (is_opened e.switch) (attempt_times c first h))) (sym some);
+      step_is = at ∙ ap (λ o. last_step (with_time o (suc (length h)) (is_opened e.switch) (attempt_times c first h))) (sym some);
     }
 
   first_attempt : (attempts : List Attempt) → map time_of attempts ≡ (0, first, true) ∷ [] → Known attempts []
@@ -252,36 +252,36 @@ module _ (c : Config) (first : Stamp) (limited : is_limited c ≡ true) where
       let t : time_of a ≡ (0, first, true) = same_first (time_of a) (0, first, true) [] [] is in
       record {
         each = ((λ low. inl (omega arith)), tt);
-        made = omega (arith, ap (λ (t : Time). t.0) t);
-        opened = ap (λ (t : Time). t.2) t;
+        made = omega (arith, ap (λ (t : AttemptTime). t.0) t);
+        opened = ap (λ (t : AttemptTime). t.2) t;
         falls = tt;
         carries = refl;
-        stamp_is = ap (λ (t : Time). t.1) t;
-        step_is = ap (λ (t : Time). t.0) t;
+        stamp_is = ap (λ (t : AttemptTime). t.1) t;
+        step_is = ap (λ (t : AttemptTime). t.0) t;
       }
-  first_attempt (a ∷ b ∷ rest) is = absurd (let none : ◌≡◌ {A = List Time} (time_of b ∷ map time_of rest) [] = same_rest (time_of a) (0, first, true) (time_of b ∷ map time_of rest) [] is in cc)
+  first_attempt (a ∷ b ∷ rest) is = absurd (let none : ◌≡◌ {A = List AttemptTime} (time_of b ∷ map time_of rest) [] = same_rest (time_of a) (0, first, true) (time_of b ∷ map time_of rest) [] is in cc)
 
-  next : (attempts : List Attempt) (e : Event) (h : List Event) → ((some : List Attempt) → map time_of some ≡ times c first h → Known some h) → map time_of attempts ≡ times c first (e ∷ h)
-      → is_switch e.switch ≡ is_some (stamp_at c first (times c first h) e h) → e.switch ≢ SwitchFailed → length e.piece ≤ e.offered → (e.read ≡ None → e.piece ≡ []) → Known attempts (e ∷ h)
+  next : (attempts : List Attempt) (e : Event) (h : List Event) → ((some : List Attempt) → map time_of some ≡ attempt_times c first h → Known some h) → map time_of attempts ≡ attempt_times c first (e ∷ h)
+      → is_switch e.switch ≡ is_some (stamp_at c first (attempt_times c first h) e h) → e.switch ≢ SwitchFailed → length e.piece ≤ e.offered → (e.read ≡ None → e.piece ≡ []) → Known attempts (e ∷ h)
   next [] e h known is past fine fits blind = tt
-  next (a ∷ rest) e h known is past fine fits blind = by (stamp_at c first (times c first h) e h) refl
+  next (a ∷ rest) e h known is past fine fits blind = by (stamp_at c first (attempt_times c first h) e h) refl
     where
-      by : (o : Option Stamp) → stamp_at c first (times c first h) e h ≡ o → IsBounded a rest (e ∷ h)
-      by None none = stays a rest e h (known (a ∷ rest) (is ∙ ap (λ o. with_time o (suc (length h)) (is_opened e.switch) (times c first h)) none)) none fits blind
+      by : (o : Option Stamp) → stamp_at c first (attempt_times c first h) e h ≡ o → IsBounded a rest (e ∷ h)
+      by None none = stays a rest e h (known (a ∷ rest) (is ∙ ap (λ o. with_time o (suc (length h)) (is_opened e.switch) (attempt_times c first h)) none)) none fits blind
       by (Some s) some =
-          let list : time_of a ∷ map time_of rest ≡ (suc (length h), s, is_opened e.switch) ∷ times c first h = is ∙ ap (λ o. with_time o (suc (length h)) (is_opened e.switch) (times c first h)) some in
-          let t : time_of a ≡ (suc (length h), s, is_opened e.switch) = same_first (time_of a) (suc (length h), s, is_opened e.switch) (map time_of rest) (times c first h) list in
+          let list : time_of a ∷ map time_of rest ≡ (suc (length h), s, is_opened e.switch) ∷ attempt_times c first h = is ∙ ap (λ o. with_time o (suc (length h)) (is_opened e.switch) (attempt_times c first h)) some in
+          let t : time_of a ≡ (suc (length h), s, is_opened e.switch) = same_first (time_of a) (suc (length h), s, is_opened e.switch) (map time_of rest) (attempt_times c first h) list in
           let switched : is_opened e.switch ≡ true = opened_switch e.switch (past ∙ ap is_some some) fine in
-          begins a rest e h s (known rest (same_rest (time_of a) (suc (length h), s, is_opened e.switch) (map time_of rest) (times c first h) list)) some
-          (ap (λ (t : Time). t.0) t) (ap (λ (t : Time). t.1) t) (ap (λ (t : Time). t.2) t ∙ switched)
+          begins a rest e h s (known rest (same_rest (time_of a) (suc (length h), s, is_opened e.switch) (map time_of rest) (attempt_times c first h) list)) some
+          (ap (λ (t : AttemptTime). t.0) t) (ap (λ (t : AttemptTime). t.1) t) (ap (λ (t : AttemptTime). t.2) t ∙ switched)
 
-  known_of : (h : List Event) → SwitchesAtAttempts c first h → PiecesFit h → NoneFailed h → EachWriteReadsClock h → (attempts : List Attempt) → map time_of attempts ≡ times c first h → Known attempts h
+  known_of : (h : List Event) → SwitchesAtAttempts c first h → PiecesFit h → NoneFailed h → EachWriteReadsClock h → (attempts : List Attempt) → map time_of attempts ≡ attempt_times c first h → Known attempts h
   known_of [] past fit fine blind attempts is = first_attempt attempts is
   known_of (e ∷ h) past fit fine blind attempts is =
       next attempts e h (λ some same. known_of h past.1 fit.1 fine.1 blind.1 some same) is past.0 fine.0 fit.0 blind.0
 
 -- what the attempts of a history carry keeps to the limit
-pub keeps_to_limit : (c : Config) (first : Stamp) (h : List Event) (attempts : List Attempt) → map time_of attempts ≡ times c first h → SwitchesAtAttempts c first h → PiecesFit h
-    → is_limited c ≡ true → NoneFailed h → EachWriteReadsClock h → EachOf (KeepsToLimit c attempts h) attempts
+pub keeps_to_limit : (c : Config) (first : Stamp) (h : List Event) (attempts : List Attempt) → map time_of attempts ≡ attempt_times c first h → SwitchesAtAttempts c first h → PiecesFit h
+    → is_limited c ≡ true → NoneFailed h → EachWriteReadsClock h → EachOf (IsWithinLimit c attempts h) attempts
 keeps_to_limit c first h [] is past fit limited fine blind = tt
 keeps_to_limit c first h (a ∷ rest) is past fit limited fine blind = (known_of c first limited h past fit fine blind (a ∷ rest) is).each

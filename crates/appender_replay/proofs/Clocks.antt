@@ -7,11 +7,11 @@ use Rattle.appender_names.specs.Rotation.{IsMoment, is_moment, period_of, next_o
 use Rattle.appender_store.specs.declared.store.Folder.{Ghosts}
 use Rattle.appender_rolling.specs.Config.{Config, IsStamp, stamp, is_limited, last_of}
 use Rattle.appender_rolling.specs.declared.rolling.setup.Stamp.{Stamp}
-use Rattle.appender_rolling.specs.Roller.{Rolling, is_due, is_full as roller_is_full, Looks, next_stamp, wanted}
+use Rattle.appender_rolling.specs.Roller.{Rolling, is_due, is_full as roller_is_full, schedule_of, ChecksClock, next_stamp, room_needed}
 use Rattle.std.specs.Prelude.{unwrap_or}
-use Rattle.appender_names.specs.Name.{last_by}
+use Rattle.appender_names.specs.Name.{greatest_number}
 use Rattle.std.proofs.lemmas.Bool.Decides.{nat_tests}
-use Rattle.appender_replay.specs.Run.{Event, latest_moment, greatest, period_at, arrives, is_switch, is_full, stamp_at, times, last_stamp, last_step, with_time, is_opened, count_since, since, SwitchesAtAttempts}
+use Rattle.appender_replay.specs.Run.{Event, latest_moment, greatest, period_at, arrives, is_switch, is_full_step, stamp_at, attempt_times, last_stamp, last_step, with_time, is_opened, count_since, pieces_since, SwitchesAtAttempts}
 use Rattle.appender_rolling.specs.declared.rolling.Switch.{Switch}
 use Rattle.appender_rolling.specs.declared.rolling.Switch.TheVariants.{None as Stayed, Opened as Switched, Failed as SwitchFailed}
 use Rattle.appender_names.proofs.Periods.{is_same_is}
@@ -148,30 +148,30 @@ pub record ClockSoFar {S F : Type 0} (c : Config) (first : Stamp) (h : List Even
   pub switches : SwitchesAtAttempts c first h
   pub boundary_is : now.boundary ≡ next_of c.rotation (latest_moment first.moment h)
   pub in_range : IsMoment (latest_moment first.moment h)
-  pub last_is : now.last ≡ last_stamp first (times c first h)
+  pub last_is : now.last ≡ last_stamp first (attempt_times c first h)
   pub stamp_in : IsStamp c now.last
   pub period_is : period_of c.rotation now.last.moment ≡ period_at c.rotation first.moment h
-  pub room_is : now.room ≡ c.max_bytes - count_since (times c first h) h
+  pub room_is : now.room ≡ c.max_bytes - count_since (attempt_times c first h) h
 
 -- the room agrees with the count
 full_is : (max count w n room : ℕ) → 0 < w → room ≡ max - count
     → (nat_lt n 999999 && nat_lt room max && nat_lt room w) ≡ (not (max == 0) && nat_lt n 999999 && nat_lt 0 count && nat_lt max (count + w))
 full_is max count w n room some is = grind (arith, nat_tests)
 
-wanted_some : (len : ℕ) → 0 < wanted len
+wanted_some : (len : ℕ) → 0 < room_needed len
 wanted_some len = grind (arith, nat_tests)
 
 module _ {S F : Type 0} (c : Config) (first : Stamp) (laws : Laws c.rotation) where
   -- the roller makes an attempt for the stamp for which the history has one
   stamps_agree : (read : Option ℤ) (offered : ℕ) (switch : Switch) (piece : List ℕ) (h : List Event) (old : Rolling S F) → old.config ≡ c → ClockSoFar c first h old
-      → stamp_by old read offered ≡ stamp_at c first (times c first h) (record { read = read; offered = offered; switch = switch; piece = piece }) h
+      → stamp_by old read offered ≡ stamp_at c first (attempt_times c first h) (record { read = read; offered = offered; switch = switch; piece = piece }) h
   stamps_agree None offered switch piece h old same so = refl
   stamps_agree (Some m) offered switch piece h old same so =
       let e : Event = record { read = Some m; offered = offered; switch = switch; piece = piece } in
       let t = turn c.rotation first.moment e h laws so.in_range in
       let due : is_due old.boundary m ≡ arrives c.rotation first.moment e h = ap (λ b. is_due b m) so.boundary_is ∙ sym t.arrived in
-      let full : roller_is_full old offered ≡ is_full c first (times c first h) e h =
-      rw (same, so.last_is) (full_is c.max_bytes (count_since (times c first h) h) (wanted offered) (last_stamp first (times c first h)).number old.room (wanted_some offered) so.room_is) in
+      let full : roller_is_full (schedule_of old) old.room offered ≡ is_full_step c first (attempt_times c first h) e h =
+      rw (same, so.last_is) (full_is c.max_bytes (count_since (attempt_times c first h) h) (room_needed offered) (last_stamp first (attempt_times c first h)).number old.room (wanted_some offered) so.room_is) in
       by (arrives c.rotation first.moment e h) refl due full (λ came. t.is_it (sym t.arrived ∙ came))
     where
       e : Event
@@ -180,78 +180,78 @@ module _ {S F : Type 0} (c : Config) (first : Stamp) (laws : Laws c.rotation) wh
       it : (a b : ℤ) → ◌≡◌ {A = Option ℤ} (Some a) (Some b) → a ≡ b
       it a b same = cc
 
-      by : (came : Bool) → arrives c.rotation first.moment e h ≡ came → is_due old.boundary m ≡ arrives c.rotation first.moment e h → roller_is_full old offered ≡ is_full c first (times c first h) e h
+      by : (came : Bool) → arrives c.rotation first.moment e h ≡ came → is_due old.boundary m ≡ arrives c.rotation first.moment e h → roller_is_full (schedule_of old) old.room offered ≡ is_full_step c first (attempt_times c first h) e h
           → (arrives c.rotation first.moment e h ≡ true → ◌≡◌ {A = Option ℤ} (Some m) (Some (latest_moment first.moment (e ∷ h))))
-          → next_stamp old m offered ≡ stamp_at c first (times c first h) e h
+          → next_stamp old m offered ≡ stamp_at c first (attempt_times c first h) e h
       by true came due full is = rw (due ∙ came, came) (ap (λ x. Some (stamp x 0)) (it m (latest_moment first.moment (e ∷ h)) (is came)))
       by false came due full is = rw (due ∙ came, came, full, so.last_is) refl
 
 -- ---- one step more
 
-pub since_now : (h : List Event) (n : ℕ) → length h < n → since n h ≡ []
+pub since_now : (h : List Event) (n : ℕ) → length h < n → pieces_since n h ≡ []
 since_now [] n lt = refl
 since_now (e ∷ h) n lt = let no : nat_le n (suc (length h)) ≡ false = grind arith in rw (since_now h n (omega arith), no) refl
 
 module _ (c : Config) (first : Stamp) where
   -- the last attempt was made at a step of these
-  pub step_in : (h : List Event) → last_step (times c first h) ≤ length h
+  pub step_in : (h : List Event) → last_step (attempt_times c first h) ≤ length h
   step_in [] = omega arith
-  step_in (e ∷ h) = by (stamp_at c first (times c first h) e h) (step_in h)
+  step_in (e ∷ h) = by (stamp_at c first (attempt_times c first h) e h) (step_in h)
     where
-      by : (s : Option Stamp) → last_step (times c first h) ≤ length h → last_step (with_time s (suc (length h)) (is_opened e.switch) (times c first h)) ≤ suc (length h)
+      by : (s : Option Stamp) → last_step (attempt_times c first h) ≤ length h → last_step (with_time s (suc (length h)) (is_opened e.switch) (attempt_times c first h)) ≤ suc (length h)
       by None le = omega (arith, le)
       by (Some s) le = omega arith
 
   -- how the count goes on
-  pub count_stays : (e : Event) (h : List Event) → stamp_at c first (times c first h) e h ≡ None → count_since (times c first (e ∷ h)) (e ∷ h) ≡ count_since (times c first h) h + length e.piece
+  pub count_stays : (e : Event) (h : List Event) → stamp_at c first (attempt_times c first h) e h ≡ None → count_since (attempt_times c first (e ∷ h)) (e ∷ h) ≡ count_since (attempt_times c first h) h + length e.piece
   count_stays e h none =
-      let n = last_step (times c first h) in
-      let same : last_step (times c first (e ∷ h)) ≡ n = ap (λ s. last_step (with_time s (suc (length h)) (is_opened e.switch) (times c first h))) none in
+      let n = last_step (attempt_times c first h) in
+      let same : last_step (attempt_times c first (e ∷ h)) ≡ n = ap (λ s. last_step (with_time s (suc (length h)) (is_opened e.switch) (attempt_times c first h))) none in
       let le = step_in h in
       let in_time : nat_le n (suc (length h)) ≡ true = grind (arith, le) in
-      let split : since n (e ∷ h) ≡ since n h ++ e.piece = ap (λ t. since n h ++ (if t then e.piece else [])) in_time in
-      ap (λ j. length (since j (e ∷ h))) same ∙ ap length split ∙ length-append (since n h) e.piece
+      let split : pieces_since n (e ∷ h) ≡ pieces_since n h ++ e.piece = ap (λ t. pieces_since n h ++ (if t then e.piece else [])) in_time in
+      ap (λ j. length (pieces_since j (e ∷ h))) same ∙ ap length split ∙ length-append (pieces_since n h) e.piece
 
-  pub count_begins : (e : Event) (h : List Event) (s : Stamp) → stamp_at c first (times c first h) e h ≡ Some s → count_since (times c first (e ∷ h)) (e ∷ h) ≡ length e.piece
+  pub count_begins : (e : Event) (h : List Event) (s : Stamp) → stamp_at c first (attempt_times c first h) e h ≡ Some s → count_since (attempt_times c first (e ∷ h)) (e ∷ h) ≡ length e.piece
   count_begins e h s some =
       let n = suc (length h) in
-      let same : last_step (times c first (e ∷ h)) ≡ n = ap (λ o. last_step (with_time o (suc (length h)) (is_opened e.switch) (times c first h))) some in
+      let same : last_step (attempt_times c first (e ∷ h)) ≡ n = ap (λ o. last_step (with_time o (suc (length h)) (is_opened e.switch) (attempt_times c first h))) some in
       let in_time : nat_le n (suc (length h)) ≡ true = grind arith in
-      let split : since n (e ∷ h) ≡ since n h ++ e.piece = ap (λ t. since n h ++ (if t then e.piece else [])) in_time in
-      let none : since n h ≡ [] = since_now h n (omega arith) in
-      ap (λ j. length (since j (e ∷ h))) same ∙ ap length (split ∙ ap (λ xs. xs ++ e.piece) none)
+      let split : pieces_since n (e ∷ h) ≡ pieces_since n h ++ e.piece = ap (λ t. pieces_since n h ++ (if t then e.piece else [])) in_time in
+      let none : pieces_since n h ≡ [] = since_now h n (omega arith) in
+      ap (λ j. length (pieces_since j (e ∷ h))) same ∙ ap length (split ∙ ap (λ xs. xs ++ e.piece) none)
 
-  pub full_number : (e : Event) (h : List Event) → is_full c first (times c first h) e h ≡ true → ((last_stamp first (times c first h)).number < 999999) × (is_limited c ≡ true)
+  pub full_number : (e : Event) (h : List Event) → is_full_step c first (attempt_times c first h) e h ≡ true → ((last_stamp first (attempt_times c first h)).number < 999999) × (is_limited c ≡ true)
   full_number e h full = (grind (arith, nat_tests), grind (arith, nat_tests))
 
   pub limited_last : is_limited c ≡ true → last_of c ≡ 999999
-  limited_last is = ap last_by is
+  limited_last is = ap greatest_number is
 
 module _ {S F : Type 0} (c : Config) (first : Stamp) (laws : Laws c.rotation) where
   -- What a step comes to: no attempt, and the key stays; or one for this stamp, and the key is the stamp's, and later.
   pub data Comes (e : Event) (h : List Event) (old : Rolling S F) : Type 0 where
-    Stays : (none : stamp_at c first (times c first h) e h ≡ None) → (agrees : stamp_by old e.read e.offered ≡ None) → (same : period_at c.rotation first.moment (e ∷ h) ≡ period_at c.rotation first.moment h) → Comes e h old
-    Goes : (s : Stamp) → (some : stamp_at c first (times c first h) e h ≡ Some s) → (agrees : stamp_by old e.read e.offered ≡ Some s) → (is_stamp : IsStamp c s)
+    Stays : (none : stamp_at c first (attempt_times c first h) e h ≡ None) → (agrees : stamp_by old e.read e.offered ≡ None) → (same : period_at c.rotation first.moment (e ∷ h) ≡ period_at c.rotation first.moment h) → Comes e h old
+    Goes : (s : Stamp) → (some : stamp_at c first (attempt_times c first h) e h ≡ Some s) → (agrees : stamp_by old e.read e.offered ≡ Some s) → (is_stamp : IsStamp c s)
         → (period : period_of c.rotation s.moment ≡ period_at c.rotation first.moment (e ∷ h))
-        → (later : IsLater (period_at c.rotation first.moment h) (period_at c.rotation first.moment (e ∷ h)) ⊎ ((period_at c.rotation first.moment h ≡ period_at c.rotation first.moment (e ∷ h)) × ((last_stamp first (times c first h)).number < s.number)))
+        → (later : IsLater (period_at c.rotation first.moment h) (period_at c.rotation first.moment (e ∷ h)) ⊎ ((period_at c.rotation first.moment h ≡ period_at c.rotation first.moment (e ∷ h)) × ((last_stamp first (attempt_times c first h)).number < s.number)))
         → Comes e h old
 
   pub comes : (e : Event) (h : List Event) (old : Rolling S F) → old.config ≡ c → ClockSoFar c first h old → Comes e h old
-  comes e h old same so = by (arrives c.rotation first.moment e h) (is_full c first (times c first h) e h) refl refl
+  comes e h old same so = by (arrives c.rotation first.moment e h) (is_full_step c first (attempt_times c first h) e h) refl refl
     where
-      agree : stamp_by old e.read e.offered ≡ stamp_at c first (times c first h) e h
+      agree : stamp_by old e.read e.offered ≡ stamp_at c first (attempt_times c first h) e h
       agree = stamps_agree c first laws e.read e.offered e.switch e.piece h old same so
 
       t : Turn c.rotation (latest_moment first.moment h) e.read (latest_moment first.moment (e ∷ h))
       t = turn c.rotation first.moment e h laws so.in_range
 
-      by : (came full : Bool) → arrives c.rotation first.moment e h ≡ came → is_full c first (times c first h) e h ≡ full → Comes e h old
+      by : (came full : Bool) → arrives c.rotation first.moment e h ≡ came → is_full_step c first (attempt_times c first h) e h ≡ full → Comes e h old
       by true full is f =
-          let some : stamp_at c first (times c first h) e h ≡ Some (stamp (latest_moment first.moment (e ∷ h)) 0) = rw is refl in
+          let some : stamp_at c first (attempt_times c first h) e h ≡ Some (stamp (latest_moment first.moment (e ∷ h)) 0) = rw is refl in
           Goes (stamp (latest_moment first.moment (e ∷ h)) 0) some (agree ∙ some) (record { in_range = t.in_range; number_is = omega arith }) refl (inl (t.goes (sym t.arrived ∙ is)))
       by false true is f =
-          let last = last_stamp first (times c first h) in
-          let some : stamp_at c first (times c first h) e h ≡ Some (stamp last.moment (last.number + 1)) = rw (is, f) refl in
+          let last = last_stamp first (attempt_times c first h) in
+          let some : stamp_at c first (attempt_times c first h) e h ≡ Some (stamp last.moment (last.number + 1)) = rw (is, f) refl in
           let stays = t.stays (sym t.arrived ∙ is) in
           let low = full_number c first e h f in
           let range : IsMoment last.moment = rw (← so.last_is) so.stamp_in.in_range in
@@ -259,21 +259,21 @@ module _ {S F : Type 0} (c : Config) (first : Stamp) (laws : Laws c.rotation) wh
           Goes (stamp last.moment (last.number + 1)) some (agree ∙ some) (record { in_range = range; number_is = omega (arith, limited_last c first low.1, low.0) })
           (period ∙ sym stays) (inr (sym stays, omega arith))
       by false false is f =
-          let none : stamp_at c first (times c first h) e h ≡ None = rw (is, f) refl in
+          let none : stamp_at c first (attempt_times c first h) e h ≡ None = rw (is, f) refl in
           Stays none (agree ∙ none) (t.stays (sym t.arrived ∙ is))
 
   pub clock_goes_on : (e : Event) (h : List Event) (old new : Rolling S F) → old.config ≡ c → ClockSoFar c first h old → Comes e h old → Decides e old new → ClockSoFar c first (e ∷ h) new
   clock_goes_on e h old new same so (Stays none agrees stays) d =
       let t = turn c.rotation first.moment e h laws so.in_range in
       let last : new.last ≡ old.last = d.last ∙ ap (λ s. unwrap_or s old.last) agrees in
-      let past : is_some (stamp_by old e.read e.offered) ≡ is_some (stamp_at c first (times c first h) e h) = ap is_some (agrees ∙ sym none) in
+      let past : is_some (stamp_by old e.read e.offered) ≡ is_some (stamp_at c first (attempt_times c first h) e h) = ap is_some (agrees ∙ sym none) in
       let room : new.room ≡ old.room - length e.piece = d.room ∙ ap (λ s. room_at old.config.max_bytes s old.room - length e.piece) agrees in
       let count = count_stays c first e h none in
       record {
         switches = (d.switches ∙ past, so.switches);
         boundary_is = d.boundary ∙ ap (λ s. boundary_at old.config.rotation s old.boundary) agrees ∙ so.boundary_is ∙ same_next c.rotation (latest_moment first.moment h) (latest_moment first.moment (e ∷ h)) stays;
         in_range = t.in_range;
-        last_is = last ∙ so.last_is ∙ ap (λ s. last_stamp first (with_time s (suc (length h)) (is_opened e.switch) (times c first h))) (sym none);
+        last_is = last ∙ so.last_is ∙ ap (λ s. last_stamp first (with_time s (suc (length h)) (is_opened e.switch) (attempt_times c first h))) (sym none);
         stamp_in = subst (λ (s : Stamp). IsStamp c s) (sym last) so.stamp_in;
         period_is = ap (λ (s : Stamp). period_of c.rotation s.moment) last ∙ so.period_is ∙ sym stays;
         room_is = omega (arith, count, so.room_is, room);
@@ -281,14 +281,14 @@ module _ {S F : Type 0} (c : Config) (first : Stamp) (laws : Laws c.rotation) wh
   clock_goes_on e h old new same so (Goes s some agrees is_stamp period later) d =
       let t = turn c.rotation first.moment e h laws so.in_range in
       let last : new.last ≡ s = d.last ∙ ap (λ s. unwrap_or s old.last) agrees in
-      let past : is_some (stamp_by old e.read e.offered) ≡ is_some (stamp_at c first (times c first h) e h) = ap is_some (agrees ∙ sym some) in
+      let past : is_some (stamp_by old e.read e.offered) ≡ is_some (stamp_at c first (attempt_times c first h) e h) = ap is_some (agrees ∙ sym some) in
       let room : new.room ≡ c.max_bytes - length e.piece = d.room ∙ ap (λ s. room_at old.config.max_bytes s old.room - length e.piece) agrees ∙ ap (λ (k : Config). k.max_bytes - length e.piece) same in
       let count = count_begins c first e h s some in
       record {
         switches = (d.switches ∙ past, so.switches);
         boundary_is = d.boundary ∙ ap (λ s. boundary_at old.config.rotation s old.boundary) agrees ∙ ap (λ (k : Config). next_of k.rotation s.moment) same ∙ sym (same_next c.rotation (latest_moment first.moment (e ∷ h)) s.moment period);
         in_range = t.in_range;
-        last_is = last ∙ ap (λ o. last_stamp first (with_time o (suc (length h)) (is_opened e.switch) (times c first h))) (sym some);
+        last_is = last ∙ ap (λ o. last_stamp first (with_time o (suc (length h)) (is_opened e.switch) (attempt_times c first h))) (sym some);
         stamp_in = subst (λ (s : Stamp). IsStamp c s) (sym last) is_stamp;
         period_is = ap (λ (s : Stamp). period_of c.rotation s.moment) last ∙ period;
         room_is = omega (arith, count, room);
@@ -306,7 +306,7 @@ module _ {S F : Type 0} (c : Config) (first : Stamp) (laws : Laws c.rotation) wh
   }
 
 -- no step changes what the roller was opened with
-looks_keep : {S F : Type 0} (kind : Ghosts S F) (m : ℤ) (len : ℕ) (switch : Switch) (old new : Rolling S F) → Looks kind m len switch old new → new.config ≡ old.config
+looks_keep : {S F : Type 0} (kind : Ghosts S F) (m : ℤ) (len : ℕ) (switch : Switch) (old new : Rolling S F) → ChecksClock kind m len switch old new → new.config ≡ old.config
 looks_keep kind m len Stayed old new s = ap (λ r. r.config) s.1
 looks_keep kind m len Switched old new s = s.config_is
 looks_keep kind m len SwitchFailed old new s = s.config_is

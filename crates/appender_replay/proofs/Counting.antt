@@ -7,14 +7,14 @@ use Rattle.std.specs.declared.io.ErrorKind.{ErrorKind}
 use Rattle.std.specs.declared.io.ErrorKind.TheVariants.{OutOfMemory}
 use Rattle.appender_names.specs.declared.error.InitError.{InitError}
 use Rattle.appender_names.specs.declared.error.InitError.TheVariants.{Directory, File, Symlink, Moment, Name, Memory, Limit}
-use Rattle.appender_store.specs.Folder.{AreCounts, Counts, HasCause, NotedFlush, NotedList, listed_row}
+use Rattle.appender_store.specs.Folder.{AreNotedCounts, NotedCounts, HasCause, NotedFlush, NotedList, listed_row}
 use Rattle.appender_store.specs.Notes.{CountsRise, Notes}
 use Rattle.appender_store.specs.declared.store.Folder.{Ghosts}
 use Rattle.appender_store.specs.declared.store.Listed.{Listed}
 use Rattle.appender_store.proofs.Rising.{same_rises, rises_on}
 use Rattle.appender_rolling.specs.Config.{Config, naming_of, is_limited}
-use Rattle.appender_rolling.specs.Opening.{FindsNumber, ListsNumbers, IsFirstNumber, IsListed, LinksNot, OpensFile, RefusesFile}
-use Rattle.appender_rolling.specs.Roller.{Rolling, Looks, Writes, Puts, Flushes, ClosesLast}
+use Rattle.appender_rolling.specs.Opening.{FindsNumber, ListsNumbers, IsFirstNumber, IsListed, FailsToLink, OpensFile, RefusesFile}
+use Rattle.appender_rolling.specs.Roller.{Rolling, ChecksClock, Writes, Puts, Flushes, ClosesLast}
 use Rattle.appender_rolling.specs.declared.rolling.Switch.{Switch}
 use Rattle.appender_rolling.specs.declared.rolling.Switch.TheVariants.{None as Stayed, Opened as Switched, Failed as SwitchFailed}
 use Rattle.appender_rolling.proofs.Rising.{finds_rise, opens_rise, looks_rise, writes_rise, flushes_rise}
@@ -23,10 +23,10 @@ use Rattle.appender_replay.specs.Headline.{faults_in}
 use Rattle.appender_replay.proofs.FileAccounts.{failed_by}
 
 -- no notice of a failed attempt
-abbrev SameOpens : Counts → Counts → Type 0
+abbrev SameOpens : NotedCounts → NotedCounts → Type 0
 SameOpens old new = new.opens ≡ old.opens
 
-module _ {S F : Type 0} (kind : Ghosts S F) (failures_fit : (s : S) → kind.failures s < 2 ^ 64) (noted_fit : (s : S) → AreCounts (kind.noted s)) where
+module _ {S F : Type 0} (kind : Ghosts S F) (failures_fit : (s : S) → kind.failures s < 2 ^ 64) (noted_fit : (s : S) → AreNotedCounts (kind.noted s)) where
   -- So many attempts failed, each with a notice, and so many writes and flushes, each with a failure. No count fell.
   pub record Counted (failed faults : ℕ) (old new : S) : Type 0 where
     pub opens : (kind.noted new).opens ≡ min ((kind.noted old).opens + failed) (2 ^ 64 - 1)
@@ -55,8 +55,8 @@ module _ {S F : Type 0} (kind : Ghosts S F) (failures_fit : (s : S) → kind.fai
   numbers_note config m old number new l = by l.answer l.number_is
     where
       by : (answer : Result (Vec Listed Global) Error) → MatchResult answer (λ all. IsFirstNumber (naming_of config) m (IsListed (map listed_row all.items)) number × (new ≡ l.listed)) (λ fault. (number ≡ 0) × Notes kind l.listed (NotedList fault) new) → SameOpens (kind.noted old) (kind.noted new)
-      by (Ok all) is = ap (λ (s : S). (kind.noted s).opens) is.1 ∙ ap (λ (n : Counts). n.opens) l.noted
-      by (Err fault) is = ap (λ (n : Counts). n.opens) is.1.noted ∙ ap (λ (n : Counts). n.opens) l.noted
+      by (Ok all) is = ap (λ (s : S). (kind.noted s).opens) is.1 ∙ ap (λ (n : NotedCounts). n.opens) l.noted
+      by (Err fault) is = ap (λ (n : NotedCounts). n.opens) is.1.noted ∙ ap (λ (n : NotedCounts). n.opens) l.noted
 
   pub finds_counted : (config : Config) (m : ℤ) (old : S) (number : ℕ) (new : S) → FindsNumber kind config m old number new → Counted 0 0 old new
   finds_counted config m old number new finds = counted_none old new (by (is_limited config) refl) (finds_rise kind failures_fit noted_fit config m old number new finds)
@@ -66,7 +66,7 @@ module _ {S F : Type 0} (kind : Ghosts S F) (failures_fit : (s : S) → kind.fai
       by true e = numbers_note config m old number new (finds.calls e)
 
   opening_notes : (config : Config) (name : List ℕ) (old : S) (file : F) (new : S) → OpensFile kind config name old file new → SameOpens (kind.noted old) (kind.noted new)
-  opening_notes config name old file new opens = ap (λ (n : Counts). n.opens) opens.noted ∙ opens.prunes.nothing_else.opens
+  opening_notes config name old file new opens = ap (λ (n : NotedCounts). n.opens) opens.noted ∙ opens.prunes.nothing_else.opens
 
   pub opens_counted : (config : Config) (name : List ℕ) (old : S) (file : F) (new : S) → OpensFile kind config name old file new → Counted 0 0 old new
   opens_counted config name old file new opens = counted_none old new (opening_notes config name old file new opens) (opens_rise kind failures_fit noted_fit config name old file new opens)
@@ -74,27 +74,27 @@ module _ {S F : Type 0} (kind : Ghosts S F) (failures_fit : (s : S) → kind.fai
   -- ---- a check of the clock
 
   refusal_notes : (config : Config) (name : List ℕ) (old : S) (error : InitError) (new : S) → RefusesFile kind config name old error new → SameOpens (kind.noted old) (kind.noted new)
-  refusal_notes config name old (Directory fault) new (pruned, prunes, none) = ap (λ (n : Counts). n.opens) none.noted ∙ prunes.nothing_else.opens
-  refusal_notes config name old (File fault) new (pruned, prunes, none) = ap (λ (n : Counts). n.opens) none.noted ∙ prunes.nothing_else.opens
+  refusal_notes config name old (Directory fault) new (pruned, prunes, none) = ap (λ (n : NotedCounts). n.opens) none.noted ∙ prunes.nothing_else.opens
+  refusal_notes config name old (File fault) new (pruned, prunes, none) = ap (λ (n : NotedCounts). n.opens) none.noted ∙ prunes.nothing_else.opens
   refusal_notes config name old (Symlink fault) new (pruned, unlinked, file, prunes, gets, not) =
-      links config.link not ∙ ap (λ (n : Counts). n.opens) gets.noted ∙ prunes.nothing_else.opens
+      links config.link not ∙ ap (λ (n : NotedCounts). n.opens) gets.noted ∙ prunes.nothing_else.opens
     where
-      links : (link : List ℕ) → LinksNot kind link name unlinked fault new → SameOpens (kind.noted unlinked) (kind.noted new)
+      links : (link : List ℕ) → FailsToLink kind link name unlinked fault new → SameOpens (kind.noted unlinked) (kind.noted new)
       links [] never = absurd never
-      links (b ∷ bs) not = ap (λ (n : Counts). n.opens) not.noted
+      links (b ∷ bs) not = ap (λ (n : NotedCounts). n.opens) not.noted
   refusal_notes config name old Memory new same = ap (λ (s : S). (kind.noted s).opens) same
   refusal_notes config name old Moment new (pruned, prunes, never) = absurd never
-  refusal_notes config name old Name new (pruned, prunes, never) = absurd never
+  refusal_notes config name old (Name fault) new (pruned, prunes, never) = absurd never
   refusal_notes config name old Limit new (pruned, prunes, never) = absurd never
 
   closing_notes : (old : S) (file : F) (new : S) → ClosesLast kind old file new → SameOpens (kind.noted old) (kind.noted new)
-  closing_notes old file new closes = by closes.answer closes.notes ∙ ap (λ (n : Counts). n.opens) closes.noted
+  closing_notes old file new closes = by closes.answer closes.notes ∙ ap (λ (n : NotedCounts). n.opens) closes.noted
     where
       by : (answer : Result (Unit {0}) Error) → MatchResult answer (λ _. new ≡ closes.flushed) (λ fault. Notes kind closes.flushed (NotedFlush fault) new) → SameOpens (kind.noted closes.flushed) (kind.noted new)
       by (Ok u) same = ap (λ (s : S). (kind.noted s).opens) same
-      by (Err fault) notes = ap (λ (n : Counts). n.opens) notes.noted
+      by (Err fault) notes = ap (λ (n : NotedCounts). n.opens) notes.noted
 
-  looks_note : (m : ℤ) (len : ℕ) (switch : Switch) (old new : Rolling S F) → Looks kind m len switch old new → (kind.noted new.folder).opens ≡ min ((kind.noted old.folder).opens + failed_by switch) (2 ^ 64 - 1)
+  looks_note : (m : ℤ) (len : ℕ) (switch : Switch) (old new : Rolling S F) → ChecksClock kind m len switch old new → (kind.noted new.folder).opens ≡ min ((kind.noted old.folder).opens + failed_by switch) (2 ^ 64 - 1)
   looks_note m len Stayed old new stays = let same = ap (λ (r : Rolling S F). (kind.noted r.folder).opens) stays.1 in let fit = within old.folder in omega arith
   looks_note m len Switched old new switches =
       let opened = opening_notes old.config _ old.folder new.file switches.ready switches.opens in
@@ -103,10 +103,10 @@ module _ {S F : Type 0} (kind : Ghosts S F) (failures_fit : (s : S) → kind.fai
       omega arith
   looks_note m len SwitchFailed old new keeps =
       let refused = refusal_notes old.config _ old.folder keeps.reason keeps.refused keeps.refuses in
-      let noted = ap (λ (n : Counts). n.opens) keeps.notes.noted in
+      let noted = ap (λ (n : NotedCounts). n.opens) keeps.notes.noted in
       omega arith
 
-  pub looks_counted : (m : ℤ) (len : ℕ) (switch : Switch) (old new : Rolling S F) → Looks kind m len switch old new → Counted (failed_by switch) 0 old.folder new.folder
+  pub looks_counted : (m : ℤ) (len : ℕ) (switch : Switch) (old new : Rolling S F) → ChecksClock kind m len switch old new → Counted (failed_by switch) 0 old.folder new.folder
   looks_counted m len switch old new looks =
       let rise = looks_rise kind failures_fit noted_fit m len switch old new looks in
       record { opens = looks_note m len switch old new looks; failures = omega (arith, rise.failures); rise = rise }
@@ -126,14 +126,14 @@ module _ {S F : Type 0} (kind : Ghosts S F) (failures_fit : (s : S) → kind.fai
 
   pub writes_counted : (bytes : List ℕ) (answer : Result ℕ Error) (old new : Rolling S F) → Writes kind bytes answer old new → Counted 0 (faults_in (by_kind answer)) old.folder new.folder
   writes_counted bytes answer old new writes = record {
-    opens = omega (arith, ap (λ (n : Counts). n.opens) writes.stays.noted, within old.folder);
+    opens = omega (arith, ap (λ (n : NotedCounts). n.opens) writes.stays.noted, within old.folder);
     failures = fault_counted (kind.failures old.folder) (kind.failures new.folder) answer (failures_fit old.folder) writes.cause;
     rise = writes_rise kind failures_fit noted_fit bytes answer old new writes;
   }
 
   pub flushes_counted : (answer : Result (Unit {0}) Error) (old new : Rolling S F) → Flushes kind answer old new → Counted 0 (faults_in (by_kind answer)) old.folder new.folder
   flushes_counted answer old new flushes = record {
-    opens = omega (arith, ap (λ (n : Counts). n.opens) flushes.stays.noted, within old.folder);
+    opens = omega (arith, ap (λ (n : NotedCounts). n.opens) flushes.stays.noted, within old.folder);
     failures = fault_counted (kind.failures old.folder) (kind.failures new.folder) answer (failures_fit old.folder) flushes.cause;
     rise = flushes_rise kind failures_fit noted_fit answer old new flushes;
   }

@@ -4,15 +4,15 @@ use Rattle.std.specs.Prelude.{MatchOption}
 use Rattle.std.proofs.lemmas.List.{append-nil, length-set}
 use Rattle.appender_names.specs.Rotation.{IsMoment}
 use Rattle.appender_store.specs.Content.{Content, IsSound, body_at, after_append, after_make_folder}
-use Rattle.appender_store.specs.Folder.{Counts}
+use Rattle.appender_store.specs.Folder.{NotedCounts}
 use Rattle.appender_store.specs.NameLaws.{NameLaws}
 use Rattle.appender_store.proofs.Appends.{after_append_nothing, after_append_twice, after_append_at}
 use Rattle.appender_rolling.specs.Config.{Config, log_files_of, is_limited, IsStamp}
 use Rattle.appender_rolling.specs.declared.rolling.setup.Stamp.{Stamp}
-use Rattle.appender_rolling.specs.Kept.{Keeps, KeepsFiles, KeepsOtherFiles, PartsKeep}
-use Rattle.appender_rolling.specs.Opening.{file_name_of, LeavesLittle}
+use Rattle.appender_rolling.specs.Kept.{KeepsBodies, AddsNoFile, AddsNoOtherFile, OpeningPartsKeepBodies}
+use Rattle.appender_rolling.specs.Opening.{file_name_of, IsRefusalEffect}
 use Rattle.appender_rolling.specs.declared.rolling.Switch.TheVariants.{Opened as Switched, Failed as SwitchFailed}
-use Rattle.appender_replay.specs.Run.{Event, Attempt, Seen, IsSeenAtItsStep, time_of, times, carrier, passes, bytes_of_attempt, bytes_to_body, is_number, since, up_to, open_body, Carried, Succeeded, Tried, Leads, FileLaw, Key, key_of, key_at, stamp_at, NoneFailed, EachWriteReadsClock, KeepsToLimit, EachOf}
+use Rattle.appender_replay.specs.Run.{Event, Attempt, StepState, MatchesItsStep, time_of, attempt_times, carrier, meets_test, bytes_of_attempt, bytes_to_body, is_number, pieces_since, events_before, open_body, Carried, Succeeded, AttemptDoes, OnlyAttemptsChange, FileLaw, FileKey, file_key, key_at, stamp_at, NoneFailed, EachWriteReadsClock, IsWithinLimit, EachOf}
 use Rattle.appender_replay.proofs.NamesLeft.{leads_to}
 use Rattle.appender_replay.proofs.Periods.{Laws, IsLaterKey}
 use Rattle.appender_replay.proofs.Keys.{none_in_later}
@@ -21,22 +21,22 @@ use Rattle.appender_replay.proofs.Owners.{AreOwners, OtherNames, each_holds, eac
 
 -- ---- steps before and after an attempt
 
-up_to_now : (h : List Event) (n : ℕ) → length h < n → up_to n h ≡ h
+up_to_now : (h : List Event) (n : ℕ) → length h < n → events_before n h ≡ h
 up_to_now [] n lt = refl
 up_to_now (e ∷ h) n lt = let no : nat_le n (suc (length h)) ≡ false = grind arith in rw no refl
 
-since_now : (h : List Event) (n : ℕ) → length h < n → since n h ≡ []
+since_now : (h : List Event) (n : ℕ) → length h < n → pieces_since n h ≡ []
 since_now [] n lt = refl
 since_now (e ∷ h) n lt = let no : nat_le n (suc (length h)) ≡ false = grind arith in rw (since_now h n (omega arith), no) refl
 
 -- no step is carried by an attempt at a later one
-carried_by_later : (attempts : List Attempt) (i j : ℕ) → i < j → passes (λ a. a.step == j) (carrier attempts i) ≡ false
+carried_by_later : (attempts : List Attempt) (i j : ℕ) → i < j → meets_test (λ a. a.step == j) (carrier attempts i) ≡ false
 carried_by_later [] i j lt = refl
 carried_by_later (a ∷ rest) i j lt =
-    let by : (t : Bool) → (nat_le a.step i) ≡ t → passes (λ b. b.step == j) (if t && is_some a.body then Some a else carrier rest i) ≡ false = λ t. elim t as (λ (v : Bool). nat_le a.step i ≡ v → passes (λ b. b.step == j) (if v && is_some a.body then Some a else carrier rest i) ≡ false) [
+    let by : (t : Bool) → (nat_le a.step i) ≡ t → meets_test (λ b. b.step == j) (if t && is_some a.body then Some a else carrier rest i) ≡ false = λ t. elim t as (λ (v : Bool). nat_le a.step i ≡ v → meets_test (λ b. b.step == j) (if v && is_some a.body then Some a else carrier rest i) ≡ false) [
       | true ↦ λ e.
           let other : (a.step == j) ≡ false = grind arith in
-          elim (is_some a.body) as (λ (o : Bool). passes (λ b. b.step == j) (if o then Some a else carrier rest i) ≡ false) [ true ↦ other | false ↦ carried_by_later rest i j lt ]
+          elim (is_some a.body) as (λ (o : Bool). meets_test (λ b. b.step == j) (if o then Some a else carrier rest i) ≡ false) [ true ↦ other | false ↦ carried_by_later rest i j lt ]
       | false ↦ λ e. carried_by_later rest i j lt
     ] in
     by (nat_le a.step i) refl
@@ -60,11 +60,11 @@ newest (a ∷ rest) = a.step
 
 -- What is known after the switches of some events were replied and the pieces of some were written: the two are the same but
 -- within a step, between its attempt and its piece.
-pub record FilesSoFar (c : Config) (start : Stamp) (seen : ℕ → Seen) (past h : List Event) (first now : Content) (noted_first : Counts) (opened : Stamp) (b : ℕ) : Type 0 where
+pub record FilesSoFar (c : Config) (start : Stamp) (seen : ℕ → StepState) (past h : List Event) (first now : Content) (noted_first : NotedCounts) (opened : Stamp) (b : ℕ) : Type 0 where
   pub attempts : List Attempt
-  pub are_times : map time_of attempts ≡ times c start past
-  pub are_seen : EachOf (IsSeenAtItsStep first noted_first seen) attempts
-  pub leads : Leads c attempts h first now
+  pub are_times : map time_of attempts ≡ attempt_times c start past
+  pub are_seen : EachOf (MatchesItsStep first noted_first seen) attempts
+  pub leads : OnlyAttemptsChange c attempts h first now
   pub bodies : (x : ℕ) → body_at now x ≡ body_at first x ++ bytes_to_body x attempts h
   pub file : Attempt
   pub carries : (i : ℕ) → length past ≤ i → carrier attempts i ≡ Some file
@@ -83,18 +83,18 @@ pub record Succeeds (c : Config) (a : Attempt) (b : ℕ) : Type 0 where
   pub unlinked_there : b < length did.unlinked.bodies
   pub there : b < length a.after.bodies
 
-keeps_on : (a b c : Content) → Keeps a b → Keeps b c → Keeps a c
+keeps_on : (a b c : Content) → KeepsBodies a b → KeepsBodies b c → KeepsBodies a c
 keeps_on a b c k l = record {
   bytes = λ x. l.bytes x ∙ k.bytes x;
   more = λ x lt. l.more x (k.more x lt);
   names = λ x lt m t h. k.names x lt m t (l.names x (k.more x lt) m t h);
 }
 
-module _ (c : Config) (start : Stamp) (seen : ℕ → Seen) where
+module _ (c : Config) (start : Stamp) (seen : ℕ → StepState) where
   -- ---- after a whole step
 
-  module _ (h : List Event) (first last : Content) (noted_first : Counts) (opened : Stamp) (b : ℕ) (so : FilesSoFar c start seen h h first last noted_first opened b) where
-    pub law_so_far : IsStamp c start → (is_limited c ≡ true → NoneFailed h → EachWriteReadsClock h → EachOf (KeepsToLimit c so.attempts h) so.attempts) → FileLaw c start h first last noted_first seen opened b
+  module _ (h : List Event) (first last : Content) (noted_first : NotedCounts) (opened : Stamp) (b : ℕ) (so : FilesSoFar c start seen h h first last noted_first opened b) where
+    pub law_so_far : IsStamp c start → (is_limited c ≡ true → NoneFailed h → EachWriteReadsClock h → EachOf (IsWithinLimit c so.attempts h) so.attempts) → FileLaw c start h first last noted_first seen opened b
     law_so_far starts bound =
         let here = so.carries (length h) (omega arith) in
         let stamps = each_stamp c start h h so.attempts last so.file b so.owners in
@@ -112,8 +112,8 @@ module _ (c : Config) (start : Stamp) (seen : ℕ → Seen) where
             stamp_is = so.stamp_is;
             body = so.body;
             holds = so.holds;
-            in_its_period = λ fine. ap (λ (k : Key). k.0) (key fine);
-            in_its_number = λ fine. ap (λ (k : Key). k.1) (key fine);
+            in_its_period = λ fine. ap (λ (k : FileKey). k.0) (key fine);
+            in_its_number = λ fine. ap (λ (k : FileKey). k.1) (key fine);
           };
           apart = so.owners.apart;
           each = each_holds c start h h so.attempts last so.file b so.owners;
@@ -125,7 +125,7 @@ module _ (c : Config) (start : Stamp) (seen : ℕ → Seen) where
         }
 
   -- where the step makes no attempt
-  pub no_attempt : (e : Event) (h : List Event) (first now : Content) (noted_first : Counts) (opened : Stamp) (b : ℕ) → stamp_at c start (times c start h) e h ≡ None → key_at c start (e ∷ h) ≡ key_at c start h → FilesSoFar c start seen h h first now noted_first opened b → FilesSoFar c start seen (e ∷ h) h first now noted_first opened b
+  pub no_attempt : (e : Event) (h : List Event) (first now : Content) (noted_first : NotedCounts) (opened : Stamp) (b : ℕ) → stamp_at c start (attempt_times c start h) e h ≡ None → key_at c start (e ∷ h) ≡ key_at c start h → FilesSoFar c start seen h h first now noted_first opened b → FilesSoFar c start seen (e ∷ h) h first now noted_first opened b
   no_attempt e h first now noted_first opened b none same so = record {
     attempts = so.attempts;
     are_times = so.are_times ∙ rw none refl;
@@ -144,19 +144,19 @@ module _ (c : Config) (start : Stamp) (seen : ℕ → Seen) where
   }
 
   -- the pieces of one step more
-  leads_more : (attempts : List Attempt) (e : Event) (h : List Event) (first now : Content) (b : ℕ) → open_body attempts ≡ Some b → newest attempts ≤ suc (length h) → Leads c attempts h first now → Leads c attempts (e ∷ h) first (after_append now b e.piece)
+  leads_more : (attempts : List Attempt) (e : Event) (h : List Event) (first now : Content) (b : ℕ) → open_body attempts ≡ Some b → newest attempts ≤ suc (length h) → OnlyAttemptsChange c attempts h first now → OnlyAttemptsChange c attempts (e ∷ h) first (after_append now b e.piece)
   leads_more [] e h first now b is le leads = absurd (let both : ◌≡◌ {A = Option ℕ} None (Some b) = is in cc)
   leads_more (a ∷ rest) e h first now b is le leads =
       let from = from_on a.step (suc (length h)) le in
-      let carried : now ≡ after_append a.after b (since a.step h) = subst (λ (o : Option ℕ). Carried o (since a.step h) a.after now) is leads.2 in (
+      let carried : now ≡ after_append a.after b (pieces_since a.step h) = subst (λ (o : Option ℕ). Carried o (pieces_since a.step h) a.after now) is leads.2 in (
         rw from leads.0,
         leads.1,
-        subst (λ (o : Option ℕ). Carried o (since a.step (e ∷ h)) a.after (after_append now b e.piece)) (sym is)
-            (rw (from, carried) (after_append_twice a.after b (since a.step h) e.piece)),
+        subst (λ (o : Option ℕ). Carried o (pieces_since a.step (e ∷ h)) a.after (after_append now b e.piece)) (sym is)
+            (rw (from, carried) (after_append_twice a.after b (pieces_since a.step h) e.piece)),
       )
 
   -- a step's piece
-  pub a_piece : (e : Event) (h : List Event) (first now : Content) (noted_first : Counts) (opened : Stamp) (b : ℕ) → FilesSoFar c start seen (e ∷ h) h first now noted_first opened b → FilesSoFar c start seen (e ∷ h) (e ∷ h) first (after_append now b e.piece) noted_first opened b
+  pub a_piece : (e : Event) (h : List Event) (first now : Content) (noted_first : NotedCounts) (opened : Stamp) (b : ℕ) → FilesSoFar c start seen (e ∷ h) h first now noted_first opened b → FilesSoFar c start seen (e ∷ h) (e ∷ h) first (after_append now b e.piece) noted_first opened b
   a_piece e h first now noted_first opened b so =
       let here = so.carries (suc (length h)) (omega arith) in
       let own : bytes_of_attempt so.file.step so.attempts (e ∷ h) ≡ bytes_of_attempt so.file.step so.attempts h ++ e.piece =
@@ -167,7 +167,7 @@ module _ (c : Config) (start : Stamp) (seen : ℕ → Seen) where
         are_seen = so.are_seen;
         leads = leads_more so.attempts e h first now b so.open_is so.at_step so.leads;
         bodies = λ x.
-            let to : passes (λ f. is_number x f.body) (carrier so.attempts (suc (length h))) ≡ (b == x) = rw (here, so.body) refl in
+            let to : meets_test (λ f. is_number x f.body) (carrier so.attempts (suc (length h))) ≡ (b == x) = rw (here, so.body) refl in
             after_append_at now b x e.piece so.there ∙ ap (λ w. w ++ (if b == x then e.piece else [])) (so.bodies x)
             ∙ append_assoc (body_at first x) (bytes_to_body x so.attempts h) (if b == x then e.piece else [])
             ∙ ap (λ t. body_at first x ++ (bytes_to_body x so.attempts h ++ (if t then e.piece else []))) (sym to);
@@ -184,13 +184,13 @@ module _ (c : Config) (start : Stamp) (seen : ℕ → Seen) where
 
   -- ---- attempts
 
-  module _ (parts : PartsKeep) (maps : NameLaws) where
+  module _ (parts : OpeningPartsKeepBodies) (maps : NameLaws) where
     -- the parts of an attempt that succeeded keep what was there
     record KeepsParts (a : Attempt) (b : ℕ) (did : Succeeded c a b) : Type 0 where
-      ready : Keeps a.before (after_make_folder did.pruned)
-      opened : KeepsOtherFiles (file_name_of c a.stamp) (after_make_folder did.pruned) did.unlinked
-      linked : KeepsFiles did.unlinked a.after
-      all : Keeps a.before a.after
+      ready : KeepsBodies a.before (after_make_folder did.pruned)
+      opened : AddsNoOtherFile (file_name_of c a.stamp) (after_make_folder did.pruned) did.unlinked
+      linked : AddsNoFile did.unlinked a.after
+      all : KeepsBodies a.before a.after
 
     keeps_parts : (a : Attempt) (b : ℕ) (did : Succeeded c a b) → KeepsParts a b did
     keeps_parts a b did =
@@ -204,10 +204,10 @@ module _ (c : Config) (start : Stamp) (seen : ℕ → Seen) where
           all = keeps_on a.before (after_make_folder did.pruned) a.after ready (keeps_on (after_make_folder did.pruned) did.unlinked a.after opened.keeps linked.keeps);
         }
 
-    tried : (a : Attempt) (b : ℕ) → a.body ≡ Some b → Succeeded c a b → Tried c a
-    tried a b body did = subst (λ (o : Option ℕ). MatchOption o (LeavesLittle c (file_name_of c a.stamp) a.before a.after) (Succeeded c a)) (sym body) did
+    tried : (a : Attempt) (b : ℕ) → a.body ≡ Some b → Succeeded c a b → AttemptDoes c a
+    tried a b body did = subst (λ (o : Option ℕ). MatchOption o (IsRefusalEffect c (file_name_of c a.stamp) a.before a.after) (Succeeded c a)) (sym body) did
 
-    pub files_begin : (a : Attempt) (b : ℕ) → a.step ≡ 0 → start ≡ a.stamp → a.body ≡ Some b → IsStamp c a.stamp → Succeeds c a b → IsSeenAtItsStep a.before a.noted_before seen a → FilesSoFar c start seen [] [] a.before a.after a.noted_before a.stamp b
+    pub files_begin : (a : Attempt) (b : ℕ) → a.step ≡ 0 → start ≡ a.stamp → a.body ≡ Some b → IsStamp c a.stamp → Succeeds c a b → MatchesItsStep a.before a.noted_before seen a → FilesSoFar c start seen [] [] a.before a.after a.noted_before a.stamp b
     files_begin a b at starts body g did at_step =
         let keeps = keeps_parts a b did.did in
         let ready = after_make_folder did.did.pruned in
@@ -229,9 +229,9 @@ module _ (c : Config) (start : Stamp) (seen : ℕ → Seen) where
               (owners_begin c start a b ready did.did.unlinked did.sound body keeps.ready.bytes g did.did.opens (leads_to maps (file_name_of c a.stamp) ready did.did.unlinked b did.did.opens) keeps.opened did.unlinked_there starts at);
         }
 
-    module _ (laws : Laws c.rotation) (others : OtherNames c) (starts : IsMoment start.moment) (e : Event) (h : List Event) (first : Content) (noted_first : Counts) (opened : Stamp) (b : ℕ) (s : Stamp) (came : stamp_at c start (times c start h) e h ≡ Some s) (range : IsStamp c s) (key : key_of c s ≡ key_at c start (e ∷ h)) (later : IsLaterKey (key_at c start h) (key_at c start (e ∷ h))) where
+    module _ (laws : Laws c.rotation) (others : OtherNames c) (starts : IsMoment start.moment) (e : Event) (h : List Event) (first : Content) (noted_first : NotedCounts) (opened : Stamp) (b : ℕ) (s : Stamp) (came : stamp_at c start (attempt_times c start h) e h ≡ Some s) (range : IsStamp c s) (key : file_key c s ≡ key_at c start (e ∷ h)) (later : IsLaterKey (key_at c start h) (key_at c start (e ∷ h))) where
       -- one that fails
-      pub a_failure : (old new : Content) (noted_old noted_new : Counts) → e.switch ≡ SwitchFailed → LeavesLittle c (file_name_of c s) old new → IsSeenAtItsStep first noted_first seen (record { step = suc (length h); stamp = s; body = None; before = old; after = new; noted_before = noted_old; noted_after = noted_new }) → FilesSoFar c start seen h h first old noted_first opened b → FilesSoFar c start seen (e ∷ h) h first new noted_first opened b
+      pub a_failure : (old new : Content) (noted_old noted_new : NotedCounts) → e.switch ≡ SwitchFailed → IsRefusalEffect c (file_name_of c s) old new → MatchesItsStep first noted_first seen (record { step = suc (length h); stamp = s; body = None; before = old; after = new; noted_before = noted_old; noted_after = noted_new }) → FilesSoFar c start seen h h first old noted_first opened b → FilesSoFar c start seen (e ∷ h) h first new noted_first opened b
       a_failure old new noted_old noted_new is little at_step so =
           let a : Attempt = record { step = suc (length h); stamp = s; body = None; before = old; after = new; noted_before = noted_old; noted_after = noted_new } in
           let keeps = parts.refusal c (file_name_of c s) old new little in
@@ -256,18 +256,18 @@ module _ (c : Config) (start : Stamp) (seen : ℕ → Seen) where
             owners = owners_with_failure c start so.attempts e h new so.file b a refl refl range key later is
                 (owners_kept c start so.attempts so.file b h h old new keeps.keeps
                 (λ f o. keeps.stay (file_name_of c f.stamp)
-                (λ same. others f.stamp s o.in_range range (subst (λ (k : Key). IsLaterKey (key_of c f.stamp) k) (sym key) (then_later (key_of c f.stamp) (key_at c start h) (key_at c start (e ∷ h)) o.not_after later)) (sym same))) so.owners);
+                (λ same. others f.stamp s o.in_range range (subst (λ (k : FileKey). IsLaterKey (file_key c f.stamp) k) (sym key) (then_later (file_key c f.stamp) (key_at c start h) (key_at c start (e ∷ h)) o.not_after later)) (sym same))) so.owners);
           }
 
       -- one that succeeds
-      pub a_success : (a : Attempt) (x : ℕ) → e.switch ≡ Switched → a.step ≡ suc (length h) → a.stamp ≡ s → a.body ≡ Some x → Succeeds c a x → IsSeenAtItsStep first noted_first seen a → FilesSoFar c start seen h h first a.before noted_first opened b → FilesSoFar c start seen (e ∷ h) h first a.after noted_first a.stamp x
+      pub a_success : (a : Attempt) (x : ℕ) → e.switch ≡ Switched → a.step ≡ suc (length h) → a.stamp ≡ s → a.body ≡ Some x → Succeeds c a x → MatchesItsStep first noted_first seen a → FilesSoFar c start seen h h first a.before noted_first opened b → FilesSoFar c start seen (e ∷ h) h first a.after noted_first a.stamp x
       a_success a x is at moment body did at_step so =
           let rest = so.attempts in
           let keeps = keeps_parts a x did.did in
           let ready = after_make_folder did.did.pruned in
           let lt : length h < a.step = rw at (omega arith) in
           let none = nothing_later (a ∷ rest) h a.step lt in
-          let here : key_of c a.stamp ≡ key_at c start (e ∷ h) = ap (key_of c) moment ∙ key in
+          let here : file_key c a.stamp ≡ key_at c start (e ∷ h) = ap (file_key c) moment ∙ key in
           record {
             attempts = a ∷ rest;
             are_times = rw (came, is, at, moment, body) (ap (λ ts. (suc (length h), s, true) ∷ ts) so.are_times);

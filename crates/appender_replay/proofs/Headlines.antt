@@ -8,16 +8,16 @@ use Rattle.appender_queue.specs.declared.queue.Shut.TheVariants.{Sent}
 use Rattle.appender_worker.specs.Core.{Core, Taking, Writing, Flushing, Ending, Over}
 use Rattle.appender_store.specs.declared.store.Folder.{Ghosts}
 use Rattle.appender_rolling.specs.Config.{Config, stamp}
-use Rattle.appender_rolling.specs.Roller.{Rolling, Writes, count_of}
+use Rattle.appender_rolling.specs.Roller.{Rolling, Writes, written_count}
 use Rattle.appender_rolling.specs.declared.rolling.setup.Stamp.{Stamp}
 use Rattle.appender_rolling.specs.declared.rolling.Switch.{Switch}
 use Rattle.appender_rolling.specs.declared.rolling.Switch.TheVariants.{None as Stayed, Opened as Switched, Failed as SwitchFailed}
-use Rattle.appender_replay.specs.Run.{Event, is_switch, stamp_at, times, SwitchesAtAttempts}
-use Rattle.appender_replay.specs.Replay.{RollAnswered, RollDoes, StepDoes, RollerFollows, RunsFrom, LeadsTo, by_kind, events_by, event_of, roll_event}
-use Rattle.appender_replay.specs.Record.{Answered, worker_after, queue_after}
-use Rattle.appender_replay.specs.Answers.{Answers, StepAnswers, WorkAnswers, RollerDoes, WorkerDoes, rest_of, file_event, worker_event, events}
+use Rattle.appender_replay.specs.Run.{Event, is_switch, stamp_at, attempt_times, SwitchesAtAttempts}
+use Rattle.appender_replay.specs.Replay.{RollStepWithReply, RollDoes, RollStepDoes, RollerFollows, RunsFrom, LeadsTo, by_kind, events_by, event_of, roll_event}
+use Rattle.appender_replay.specs.Record.{StepWithReply, worker_after, queue_after}
+use Rattle.appender_replay.specs.Answers.{AreRunReplies, IsStepReply, IsWorkReply, RollerDoes, WorkerDoes, rest_of, file_event, run_event, events}
 use Rattle.appender_replay.specs.Headline as head
-use Rattle.appender_replay.specs.Headline.{Account, Files, Headline, account, faults_in}
+use Rattle.appender_replay.specs.Headline.{RunAccount, Files, Headline, account, faults_in}
 use Rattle.appender_replay.specs.RollHeadline.{RollHeadline, RollReplies, RollFollows, roll_after, roll_account}
 use Rattle.appender_replay.specs.declared.replay.RollStep.TheVariants.{See, Put, Write, Flush}
 use Rattle.appender_replay.specs.declared.replay.RollReply.TheVariants.{Saw, Put as DidPut, Wrote as RollWrote, Flushed as RollFlushed}
@@ -32,10 +32,10 @@ use Rattle.appender_replay.proofs.Accounts.{Same, CoreOf, SwitchesIfDue, same_al
 use Rattle.appender_replay.proofs.Keeping.{keeps, sum_by}
 
 -- a check of the clock counts no error
-look_faults : (c : Config) (m : ℤ) (len : ℕ) (switch : Switch) (f : Files) → (head.after_look c m len switch f).faults ≡ f.faults
+look_faults : (c : Config) (m : ℤ) (len : ℕ) (switch : Switch) (f : Files) → (head.files_after_check c m len switch f).faults ≡ f.faults
 look_faults c m len switch f = by (head.due_file c f m len) switch
   where
-    by : (due : Option Stamp) (switch : Switch) → (head.after_attempt c due switch (record f { latest = head.later f.latest m })).faults ≡ f.faults
+    by : (due : Option Stamp) (switch : Switch) → (head.files_after_attempt c due switch (record f { latest = head.later_moment f.latest m })).faults ≡ f.faults
     by None switch = refl
     by (Some s) Switched = refl
     by (Some s) Stayed = refl
@@ -43,14 +43,14 @@ look_faults c m len switch f = by (head.due_file c f m len) switch
 
 -- ---- a roller alone
 
-abbrev roll_faults : List RollAnswered → RollAnswered → ℕ
+abbrev roll_faults : List RollStepWithReply → RollStepWithReply → ℕ
 roll_faults past (Put m bytes, DidPut switch answer) = faults_in answer
 roll_faults past (Write bytes, RollWrote answer) = faults_in answer
 roll_faults past (Flush, RollFlushed answer) = faults_in answer
 roll_faults past t = 0
 
 module _ (c : Config) (start : Stamp) where
-  roll_faults_more : (past : List RollAnswered) (f : Files) (t : RollAnswered) → f.faults + roll_faults past t ≡ (roll_after c f t).faults
+  roll_faults_more : (past : List RollStepWithReply) (f : Files) (t : RollStepWithReply) → f.faults + roll_faults past t ≡ (roll_after c f t).faults
   roll_faults_more past f (See m, Saw switch) = let same = look_faults c m 0 switch f in omega arith
   roll_faults_more past f (Put m bytes, DidPut switch answer) = ap (λ (n : ℕ). n + faults_in answer) (sym (look_faults c m (length bytes.items) switch f))
   roll_faults_more past f (Write bytes, RollWrote answer) = refl
@@ -64,11 +64,11 @@ module _ (c : Config) (start : Stamp) where
     abbrev sum : {T : Type 0} → (List T → T → ℕ) → List T → ℕ
     sum = sum_by kind grounds.failures_fit grounds.noted_fit
 
-    roll_faults_are : (past : List RollAnswered) → sum roll_faults past ≡ (roll_account c start past).faults
+    roll_faults_are : (past : List RollStepWithReply) → sum roll_faults past ≡ (roll_account c start past).faults
     roll_faults_are [] = refl
     roll_faults_are (t ∷ past) = ap (λ (n : ℕ). n + roll_faults past t) (roll_faults_are past) ∙ roll_faults_more past (roll_account c start past) t
 
-    roll_step_counts : (past : List RollAnswered) (t : RollAnswered) (old new : Rolling S F) → RollDoes kind past t old new
+    roll_step_counts : (past : List RollStepWithReply) (t : RollStepWithReply) (old new : Rolling S F) → RollDoes kind past t old new
         → Counted kind grounds.failures_fit grounds.noted_fit (failed_by (roll_event past t).switch) (roll_faults past t) old.folder new.folder
     roll_step_counts past (See m, Saw switch) old new does = looks_counted kind grounds.failures_fit grounds.noted_fit m 0 switch old new does
     roll_step_counts past (Put m bytes, DidPut switch shown) old new (answer, is, puts) =
@@ -86,26 +86,26 @@ module _ (c : Config) (start : Stamp) where
     roll_step_counts past (Flush, _) old new does = absurd does
 
     -- what is known of the account after some steps
-    record RollKnown (past : List RollAnswered) : Type 0 where
+    record RollKnown (past : List RollStepWithReply) : Type 0 where
       follows : RollFollows c start past
       files : FilesAre c start (events_by roll_event past) (roll_account c start past)
 
-    bound : (bytes : List ℕ) (shown : Result ℕ ErrorKind) (answer : Result ℕ Error) (old new : Rolling S F) → shown ≡ by_kind answer → Writes kind bytes answer old new → count_of shown ≤ length bytes
+    bound : (bytes : List ℕ) (shown : Result ℕ ErrorKind) (answer : Result ℕ Error) (old new : Rolling S F) → shown ≡ by_kind answer → Writes kind bytes answer old new → written_count shown ≤ length bytes
     bound bytes shown answer old new is writes = subst (λ (n : ℕ). n ≤ length bytes) (sym (count_by_kind answer shown is)) writes.bound
 
     module _ (h : List Event) (f : Files) (so : FilesAre c start h f) where
-      roll_files : (t : RollAnswered) (old new : Rolling S F) → StepDoes kind t old new → is_switch (event_of t).switch ≡ is_some (stamp_at c start (times c start h) (event_of t) h)
+      roll_files : (t : RollStepWithReply) (old new : Rolling S F) → RollStepDoes kind t old new → is_switch (event_of t).switch ≡ is_some (stamp_at c start (attempt_times c start h) (event_of t) h)
           → RollReplies c f t × FilesAre c start (event_of t ∷ h) (roll_after c f t)
       roll_files (See m, Saw switch) old new does is = (switches_if_due c start 0 switch [] h f m so is, files_see c start 0 switch h f m so is)
       roll_files (Put m bytes, DidPut switch shown) old new (answer, same, puts) is =
           let len : ℕ = length bytes.items in
-          let piece : List ℕ = take (count_of shown) bytes.items in (
+          let piece : List ℕ = take (written_count shown) bytes.items in (
             (bound bytes.items shown answer puts.between new same puts.writes, switches_if_due c start len switch piece h f m so is),
             with_faults c start (event_of (Put m bytes, DidPut switch shown) ∷ h) _ _ (files_look c start len switch piece h f m so is),
           )
       roll_files (Write bytes, RollWrote shown) old new (answer, same, writes) is = (
         bound bytes.items shown answer old new same writes,
-        with_faults c start (event_of (Write bytes, RollWrote shown) ∷ h) _ _ (files_write c start (length bytes.items) (take (count_of shown) bytes.items) h f so),
+        with_faults c start (event_of (Write bytes, RollWrote shown) ∷ h) _ _ (files_write c start (length bytes.items) (take (written_count shown) bytes.items) h f so),
       )
       roll_files (Flush, RollFlushed shown) old new does is = (tt, with_faults c start (event_of (Flush, RollFlushed shown) ∷ h) f _ (files_stay c start h f so))
       roll_files (See m, _) old new does is = absurd does
@@ -113,14 +113,14 @@ module _ (c : Config) (start : Stamp) where
       roll_files (Write bytes, _) old new does is = absurd does
       roll_files (Flush, _) old new does is = absurd does
 
-    roll_known : (past : List RollAnswered) (old new : Rolling S F) → LeadsTo (RollDoes kind) past old new → SwitchesAtAttempts c start (events_by roll_event past) → RollKnown past
+    roll_known : (past : List RollStepWithReply) (old new : Rolling S F) → LeadsTo (RollDoes kind) past old new → SwitchesAtAttempts c start (events_by roll_event past) → RollKnown past
     roll_known [] old new same switches = record { follows = tt; files = files_begin c start }
     roll_known (t ∷ past) old new (between, earlier, is) switches =
         let so = roll_known past old between earlier switches.1 in
         let more = roll_files (events_by roll_event past) (roll_account c start past) so.files t between new is switches.0 in
         record { follows = (so.follows, more.0); files = more.1 }
 
-pub roll_headline : {S F : Type 0} (kind : Ghosts S F) (c : Config) (grounds : Grounds kind c) (moment : ℤ) (number : ℕ) (folder : S) (past : List RollAnswered) (last : Rolling S F)
+pub roll_headline : {S F : Type 0} (kind : Ghosts S F) (c : Config) (grounds : Grounds kind c) (moment : ℤ) (number : ℕ) (folder : S) (past : List RollStepWithReply) (last : Rolling S F)
     → RunsFrom kind (RollDoes kind) c moment number folder past last → RollerFollows kind (RollDoes kind) roll_event c moment number folder past last
     → RollHeadline kind c moment number past folder last.folder
 roll_headline kind c grounds moment number folder past last run rolls =
@@ -134,13 +134,13 @@ roll_headline kind c grounds moment number folder past last run rolls =
 
 -- ---- a queue, a worker and a roller
 
-abbrev whole_faults : List Answered → Answered → ℕ
+abbrev whole_faults : List StepWithReply → StepWithReply → ℕ
 whole_faults past (Work m, Wrote switch answer) = faults_in answer
 whole_faults past (Work m, Flushed answer) = faults_in answer
 whole_faults past t = 0
 
 module _ (c : Config) (start : Stamp) where
-  whole_faults_more : (past : List Answered) (a : Account) (t : Answered) → a.files.faults + whole_faults past t ≡ (head.after c a t).files.faults
+  whole_faults_more : (past : List StepWithReply) (a : RunAccount) (t : StepWithReply) → a.files.faults + whole_faults past t ≡ (head.account_after c a t).files.faults
   whole_faults_more past a (Work m, Wrote switch answer) = ap (λ (n : ℕ). n + faults_in answer) (sym (look_faults c m (length a.rest) switch a.files))
   whole_faults_more past a (Work m, Flushed answer) = refl
   whole_faults_more past a (Work m, Took k) = omega arith
@@ -157,10 +157,10 @@ module _ (c : Config) (start : Stamp) where
 
   -- ---- one more step of a run
 
-  abbrev On : Core → List Event → Account → Answered → Type 0
-  On core h a t = FilesAre c start (file_event core t ∷ h) (head.after c a t).files
+  abbrev On : Core → List Event → RunAccount → StepWithReply → Type 0
+  On core h a t = FilesAre c start (file_event core t ∷ h) (head.account_after c a t).files
 
-  module _ (q : Queue) (h : List Event) (a : Account) (so : FilesAre c start h a.files) where
+  module _ (q : Queue) (h : List Event) (a : RunAccount) (so : FilesAre c start h a.files) where
     take_on : (closed line sent gone waits : Bool) (k : ℕ) (m : ℤ) → On (Taking waits) h a (Work m, if closed then TookGone else if line then Took k else if sent then TookShutdown else if gone then TookGone else TookEmpty)
     take_on true line sent gone waits k m = files_stay c start h a.files so
     take_on false true sent gone waits k m = files_stay c start h a.files so
@@ -168,15 +168,15 @@ module _ (c : Config) (start : Stamp) where
     take_on false false false true waits k m = files_stay c start h a.files so
     take_on false false false false waits k m = files_stay c start h a.files so
 
-    abbrev Switches : Core → Answered → Type 0
-    Switches core t = is_switch (file_event core t).switch ≡ is_some (stamp_at c start (times c start h) (file_event core t) h)
+    abbrev Switches : Core → StepWithReply → Type 0
+    Switches core t = is_switch (file_event core t).switch ≡ is_some (stamp_at c start (attempt_times c start h) (file_event core t) h)
 
     write_on : (left : List ℕ) (repeats : ℕ) (m : ℤ) (switch : Switch) (answer : Result ℕ ErrorKind) → a.rest ≡ left → Switches (Writing left repeats) (Work m, Wrote switch answer)
         → On (Writing left repeats) h a (Work m, Wrote switch answer) × SwitchesIfDue c a (Work m, Wrote switch answer)
     write_on left repeats m switch answer rest is =
-        let piece : List ℕ = take (count_of answer) a.rest in
+        let piece : List ℕ = take (written_count answer) a.rest in
         let of_rest : Switches (Writing a.rest repeats) (Work m, Wrote switch answer) = subst (λ (xs : List ℕ). Switches (Writing xs repeats) (Work m, Wrote switch answer)) (sym rest) is in (
-          subst (λ (xs : List ℕ). FilesAre c start (file_event (Writing xs repeats) (Work m, Wrote switch answer) ∷ h) (head.after c a (Work m, Wrote switch answer)).files) rest
+          subst (λ (xs : List ℕ). FilesAre c start (file_event (Writing xs repeats) (Work m, Wrote switch answer) ∷ h) (head.account_after c a (Work m, Wrote switch answer)).files) rest
               (with_faults c start (file_event (Writing a.rest repeats) (Work m, Wrote switch answer) ∷ h) _ _ (files_look c start (length a.rest) switch piece h a.files m so of_rest)),
           switches_if_due c start (length a.rest) switch piece h a.files m so of_rest,
         )
@@ -189,7 +189,7 @@ module _ (c : Config) (start : Stamp) where
     no_write switch answer false false false true k e = let both : ◌≡◌ {A = Reply} (Wrote switch answer) TookGone = e in cc
     no_write switch answer false false false false k e = let both : ◌≡◌ {A = Reply} (Wrote switch answer) TookEmpty = e in cc
 
-    work_on : (core : Core) (m : ℤ) (reply : Reply) → WorkAnswers q core reply → CoreOf core a → Switches core (Work m, reply) → On core h a (Work m, reply)
+    work_on : (core : Core) (m : ℤ) (reply : Reply) → IsWorkReply q core reply → CoreOf core a → Switches core (Work m, reply) → On core h a (Work m, reply)
     work_on (Taking waits) m reply ans co is =
         subst (λ (r : Reply). On (Taking waits) h a (Work m, r)) (sym ans) (take_on q.closed (has_line q) (is_sent q.shutdown) (q.senders == 0) waits (q.handed + 1) m)
     work_on (Writing left repeats) m (Wrote switch answer) ans co is = (write_on left repeats m switch answer co.0 is).0
@@ -200,7 +200,7 @@ module _ (c : Config) (start : Stamp) where
     work_on (Ending n) m _ ans co is = absurd ans
     work_on Over m reply ans co is = subst (λ (r : Reply). On Over h a (Work m, r)) (sym ans) (files_stay c start h a.files so)
 
-    step_on : (core : Core) (t : Answered) → StepAnswers q core t → CoreOf core a → Switches core t → On core h a t
+    step_on : (core : Core) (t : StepWithReply) → IsStepReply q core t → CoreOf core a → Switches core t → On core h a t
     step_on core (Offer label line, Accepted k) ans co is = files_stay c start h a.files so
     step_on core (Offer label line, reply) ans co is = files_stay c start h a.files so
     step_on core (Shut, DidShut Sent) ans co is = files_stay c start h a.files so
@@ -209,29 +209,29 @@ module _ (c : Config) (start : Stamp) where
     step_on core (DropSender, reply) ans co is = files_stay c start h a.files so
     step_on core (Work m, reply) ans co is = work_on core m reply ans co is
 
-    due_work : (core : Core) (m : ℤ) (switch : Switch) (answer : Result ℕ ErrorKind) → WorkAnswers q core (Wrote switch answer) → CoreOf core a → Switches core (Work m, Wrote switch answer) → SwitchesIfDue c a (Work m, Wrote switch answer)
+    due_work : (core : Core) (m : ℤ) (switch : Switch) (answer : Result ℕ ErrorKind) → IsWorkReply q core (Wrote switch answer) → CoreOf core a → Switches core (Work m, Wrote switch answer) → SwitchesIfDue c a (Work m, Wrote switch answer)
     due_work (Taking waits) m switch answer ans co is = absurd (no_write switch answer q.closed (has_line q) (is_sent q.shutdown) (q.senders == 0) (q.handed + 1) ans)
     due_work (Writing left repeats) m switch answer ans co is = (write_on left repeats m switch answer co.0 is).1
     due_work Flushing m switch answer ans co is = absurd ans
     due_work (Ending n) m switch answer ans co is = absurd ans
     due_work Over m switch answer ans co is = absurd (let both : ◌≡◌ {A = Reply} (Wrote switch answer) Ended = ans in cc)
 
-    due_on : (core : Core) (t : Answered) → StepAnswers q core t → CoreOf core a → Switches core t → SwitchesIfDue c a t
+    due_on : (core : Core) (t : StepWithReply) → IsStepReply q core t → CoreOf core a → Switches core t → SwitchesIfDue c a t
     due_on core (Work m, Wrote switch answer) ans co is = due_work core m switch answer ans co is
     due_on core (s, r) ans co is = tt
 
   -- ---- all steps
 
   -- what is known of the account after some steps
-  record Known (limit : ℕ) (past : List Answered) : Type 0 where
+  record Known (limit : ℕ) (past : List StepWithReply) : Type 0 where
     follows : head.Follows limit c start past
     files : FilesAre c start (events past) (account c start past).files
 
-  known : (limit : ℕ) (lossy : Bool) (past : List Answered) → Answers limit lossy past → SwitchesAtAttempts c start (events past) → Known limit past
+  known : (limit : ℕ) (lossy : Bool) (past : List StepWithReply) → AreRunReplies limit lossy past → SwitchesAtAttempts c start (events past) → Known limit past
   known limit lossy [] all switches = record { follows = tt; files = files_begin c start }
   known limit lossy (t ∷ past) all switches =
       let so = known limit lossy past all.0 switches.1 in
-      let a : Account = account c start past in
+      let a : RunAccount = account c start past in
       let same : Same past a = same_all limit lossy c start past all.0 in
       let q : Queue = queue_after limit lossy past in
       let core : Core = worker_after past in
@@ -241,11 +241,11 @@ module _ (c : Config) (start : Stamp) where
       }
 
   module _ {S F : Type 0} (kind : Ghosts S F) (grounds : Grounds kind c) where
-    whole_faults_are : (past : List Answered) → sum_by kind grounds.failures_fit grounds.noted_fit whole_faults past ≡ (account c start past).files.faults
+    whole_faults_are : (past : List StepWithReply) → sum_by kind grounds.failures_fit grounds.noted_fit whole_faults past ≡ (account c start past).files.faults
     whole_faults_are [] = refl
     whole_faults_are (t ∷ past) = ap (λ (n : ℕ). n + whole_faults past t) (whole_faults_are past) ∙ whole_faults_more past (account c start past) t
 
-    rolls_count : (past : List Answered) (core : Core) (t : Answered) (old new : Rolling S F) → RollerDoes kind core t old new
+    rolls_count : (past : List StepWithReply) (core : Core) (t : StepWithReply) (old new : Rolling S F) → RollerDoes kind core t old new
         → Counted kind grounds.failures_fit grounds.noted_fit (failed_by (file_event core t).switch) (whole_faults past t) old.folder new.folder
     rolls_count past core (Work m, Wrote switch shown) old new (answer, is, puts) =
         subst (λ (r : Result ℕ ErrorKind). Counted kind grounds.failures_fit grounds.noted_fit (failed_by switch) (faults_in r) old.folder new.folder) (sym is)
@@ -255,14 +255,14 @@ module _ (c : Config) (start : Stamp) where
         (flushes_counted kind grounds.failures_fit grounds.noted_fit answer old new flushes)
     rolls_count past core (s, r) old new same = counted_same kind grounds.failures_fit grounds.noted_fit old.folder new.folder (ap (λ (x : Rolling S F). x.folder) same)
 
-pub headline : {S F : Type 0} (kind : Ghosts S F) (c : Config) (grounds : Grounds kind c) (limit : ℕ) (lossy : Bool) (moment : ℤ) (number : ℕ) (folder : S) (past : List Answered) (last : Rolling S F)
-    → Answers limit lossy past → RunsFrom kind (WorkerDoes kind) c moment number folder past last → RollerFollows kind (WorkerDoes kind) worker_event c moment number folder past last
+pub headline : {S F : Type 0} (kind : Ghosts S F) (c : Config) (grounds : Grounds kind c) (limit : ℕ) (lossy : Bool) (moment : ℤ) (number : ℕ) (folder : S) (past : List StepWithReply) (last : Rolling S F)
+    → AreRunReplies limit lossy past → RunsFrom kind (WorkerDoes kind) c moment number folder past last → RollerFollows kind (WorkerDoes kind) run_event c moment number folder past last
     → Headline kind limit c moment number past folder last.folder
 headline kind c grounds limit lossy moment number folder past last all run rolls =
     let start : Stamp = stamp moment number in
     let so = known c start limit lossy past all rolls.switches in
     record {
       replies = so.follows;
-      folder = keeps kind grounds.failures_fit grounds.noted_fit (WorkerDoes kind) worker_event whole_faults (λ earlier t. rolls_count c start kind grounds earlier (worker_after earlier) t) grounds.maps grounds.parts grounds.sound
+      folder = keeps kind grounds.failures_fit grounds.noted_fit (WorkerDoes kind) run_event whole_faults (λ earlier t. rolls_count c start kind grounds earlier (worker_after earlier) t) grounds.maps grounds.parts grounds.sound
           c moment number folder past last run rolls (account c start past).files so.files (whole_faults_are c start kind grounds past);
     }

@@ -4,23 +4,23 @@ use Rattle.std.specs.Prelude.{if◌then◌else◌, ◌==◌, OnOk, IsOk}
 use Rattle.std.specs.declared.alloc.Global.{Global}
 use Rattle.std.specs.declared.io.Error.{Error}
 use Rattle.appender_store.specs.Content.{Content, Entry, IsSound, body_at}
-use Rattle.appender_store.specs.Folder.{AreCounts, Counts, NotedList, listed_row, saturating_next}
+use Rattle.appender_store.specs.Folder.{AreNotedCounts, NotedCounts, NotedList, listed_row, next_count}
 use Rattle.appender_store.specs.NameLaws.{NameLaws}
 use Rattle.appender_store.specs.Notes.{Notes}
 use Rattle.appender_store.specs.declared.store.Folder.{Ghosts}
 use Rattle.appender_store.specs.declared.store.Listed.{Listed}
 use Rattle.appender_retain.specs.Pruning.{IsQuiet}
 use Rattle.appender_rolling.specs.Config.{Config, is_limited, naming_of, stamp}
-use Rattle.appender_rolling.specs.Kept.{PartsKeep}
+use Rattle.appender_rolling.specs.Kept.{OpeningPartsKeepBodies}
 use Rattle.appender_rolling.specs.Opening.{IsFirstNumber, IsListed, HasEntry, ListsNumbers}
 use Rattle.appender_rolling.specs.Roller.{Rolling}
 use Rattle.appender_rolling.specs.declared.rolling.setup.Stamp.{Stamp}
 use Rattle.appender_rolling.specs.declared.rolling.Switch.{Switch}
 use Rattle.appender_rolling.specs.declared.rolling.Switch.TheVariants.{None as Stayed, Opened as Switched, Failed as SwitchFailed}
 use Rattle.appender_rolling.proofs.Rising.{finds_rise, opens_rise, absent_finds, absent_opens}
-use Rattle.appender_replay.specs.Run.{Event, Attempt, Time, time_of, content_before, counts_before, IsSeenAtItsStep, times, stamp_at, is_switch, is_opened, with_time, NoneFailed, SwitchesAtAttempts, EachOf}
-use Rattle.appender_replay.specs.Replay.{LeadsTo, RunsFrom, RollerFollows, events_by, seen_of, seen_after, seen_in}
-use Rattle.appender_replay.specs.Headline.{Files, Keeps, LeaveAll, RetentionSucceeded}
+use Rattle.appender_replay.specs.Run.{Event, Attempt, AttemptTime, time_of, content_before, counts_before, MatchesItsStep, attempt_times, stamp_at, is_switch, is_opened, with_time, NoneFailed, SwitchesAtAttempts, EachOf}
+use Rattle.appender_replay.specs.Replay.{LeadsTo, RunsFrom, RollerFollows, events_by, step_state_of, step_states_after, run_states}
+use Rattle.appender_replay.specs.Headline.{Files, FolderFollows, NamesAfterOpenings, RetentionSucceeded}
 use Rattle.appender_replay.proofs.NamesLeft.{none_of}
 use Rattle.appender_replay.proofs.NamesLead.{PrunesAll, LeavesAll, stamps_in, names_lead, others_stay}
 use Rattle.appender_replay.proofs.FileAccounts.{FilesAre, failed_by, failed_in, stamps_of, none_failed, text_same}
@@ -28,20 +28,20 @@ use Rattle.appender_replay.proofs.Counting.{Counted, counted_same, counted_on, f
 
 -- ---- attempts that all succeeded
 
-abbrev AllOpened : List Time → Type 0
+abbrev AllOpened : List AttemptTime → Type 0
 AllOpened [] = Unit {0}
 AllOpened ((step, s, ok) ∷ ts) = (ok ≡ true) × AllOpened ts
 
-all_opened : (c : Config) (start : Stamp) (h : List Event) → SwitchesAtAttempts c start h → NoneFailed h → AllOpened (times c start h)
+all_opened : (c : Config) (start : Stamp) (h : List Event) → SwitchesAtAttempts c start h → NoneFailed h → AllOpened (attempt_times c start h)
 all_opened c start [] switches fine = (refl, tt)
-all_opened c start (e ∷ h) switches fine = by (stamp_at c start (times c start h) e h) switches.0 (all_opened c start h switches.1 fine.1)
+all_opened c start (e ∷ h) switches fine = by (stamp_at c start (attempt_times c start h) e h) switches.0 (all_opened c start h switches.1 fine.1)
   where
     opened : (s : Switch) → is_switch s ≡ true → s ≢ SwitchFailed → is_opened s ≡ true
     opened Stayed is not = absurd (let both : false ≡ true = is in cc)
     opened Switched is not = refl
     opened SwitchFailed is not = absurd (not refl)
 
-    by : (o : Option Stamp) → is_switch e.switch ≡ is_some o → AllOpened (times c start h) → AllOpened (with_time o (suc (length h)) (is_opened e.switch) (times c start h))
+    by : (o : Option Stamp) → is_switch e.switch ≡ is_some o → AllOpened (attempt_times c start h) → AllOpened (with_time o (suc (length h)) (is_opened e.switch) (attempt_times c start h))
     by None is before = before
     by (Some s) is before = (opened e.switch is fine.0, before)
 
@@ -56,11 +56,11 @@ stamps_same (a ∷ rest) = ap (λ (ss : List Stamp). a.stamp ∷ ss) (stamps_sam
 -- ---- counts between the first roller and the last
 
 -- neither count fell
-record Between (old new : Counts) : Type 0 where
+record Between (old new : NotedCounts) : Type 0 where
   lists : old.lists ≤ new.lists
   removes : old.removes ≤ new.removes
 
-module _ {S F : Type 0} (kind : Ghosts S F) (failures_fit : (s : S) → kind.failures s < 2 ^ 64) (noted_fit : (s : S) → AreCounts (kind.noted s)) where
+module _ {S F : Type 0} (kind : Ghosts S F) (failures_fit : (s : S) → kind.failures s < 2 ^ 64) (noted_fit : (s : S) → AreNotedCounts (kind.noted s)) where
   abbrev Steps : S → S → ℕ → ℕ → Type 0
   Steps old new failed faults = Counted kind failures_fit noted_fit failed faults old new
 
@@ -79,7 +79,7 @@ module _ {S F : Type 0} (kind : Ghosts S F) (failures_fit : (s : S) → kind.fai
 
     -- what is seen after a step has counts between the first and the last
     seen_between : (past : List T) (old new : Rolling S F) (runs : LeadsTo does past old new) (n : ℕ)
-        → Between (kind.noted old.folder) (seen_after kind event does past old new runs n).noted × Between (seen_after kind event does past old new runs n).noted (kind.noted new.folder)
+        → Between (kind.noted old.folder) (step_states_after kind event does past old new runs n).noted × Between (step_states_after kind event does past old new runs n).noted (kind.noted new.folder)
     seen_between [] old new same n =
         let lists : (kind.noted new.folder).lists ≡ (kind.noted old.folder).lists = ap (λ (r : Rolling S F). (kind.noted r.folder).lists) same in
         let removes : (kind.noted new.folder).removes ≡ (kind.noted old.folder).removes = ap (λ (r : Rolling S F). (kind.noted r.folder).removes) same in
@@ -92,9 +92,9 @@ module _ {S F : Type 0} (kind : Ghosts S F) (failures_fit : (s : S) → kind.fai
         now : Counted kind failures_fit noted_fit (failed_by (event past t).switch) (faults past t) between.folder new.folder
         now = step past t between new is
 
-        by : (b : Bool) → Between (kind.noted old.folder) (seen_after kind event does past old between earlier n).noted × Between (seen_after kind event does past old between earlier n).noted (kind.noted between.folder)
-            → Between (kind.noted old.folder) (if b then seen_of kind (event past t).piece new else seen_after kind event does past old between earlier n).noted
-            × Between (if b then seen_of kind (event past t).piece new else seen_after kind event does past old between earlier n).noted (kind.noted new.folder)
+        by : (b : Bool) → Between (kind.noted old.folder) (step_states_after kind event does past old between earlier n).noted × Between (step_states_after kind event does past old between earlier n).noted (kind.noted between.folder)
+            → Between (kind.noted old.folder) (if b then step_state_of kind (event past t).piece new else step_states_after kind event does past old between earlier n).noted
+            × Between (if b then step_state_of kind (event past t).piece new else step_states_after kind event does past old between earlier n).noted (kind.noted new.folder)
         by true so = (
           record { lists = omega (arith, before.rise.lists, now.rise.lists); removes = omega (arith, before.rise.removes, now.rise.removes) },
           record { lists = omega arith; removes = omega arith },
@@ -102,7 +102,7 @@ module _ {S F : Type 0} (kind : Ghosts S F) (failures_fit : (s : S) → kind.fai
         by false so =
             (so.0, record { lists = omega (arith, so.1.lists, now.rise.lists); removes = omega (arith, so.1.removes, now.rise.removes) })
 
-    module _ (maps : NameLaws) (parts : PartsKeep) (sound : (folder : S) → IsTrue kind.is_known → IsSound (kind.content folder))
+    module _ (maps : NameLaws) (parts : OpeningPartsKeepBodies) (sound : (folder : S) → IsTrue kind.is_known → IsSound (kind.content folder))
         (c : Config) (moment : ℤ) (number : ℕ) (folder : S) (past : List T) (last : Rolling S F) (run : RunsFrom kind does c moment number folder past last) where
       abbrev start : Stamp
       start = stamp moment number
@@ -139,10 +139,10 @@ module _ {S F : Type 0} (kind : Ghosts S F) (failures_fit : (s : S) → kind.fai
             later : (kind.noted run.first.folder).lists ≤ (kind.noted last.folder).lists
             later = all_steps.rise.lists
 
-            by_finds : is_limited c ≡ true → (kind.noted run.opens.listed).lists ≡ saturating_next (kind.noted folder).lists
+            by_finds : is_limited c ≡ true → (kind.noted run.opens.listed).lists ≡ next_count (kind.noted folder).lists
             by_finds limited = absent_finds kind c moment folder run.opens.number run.opens.listed run.opens.finds limited is_known is
 
-            by_opens : (c.max_files == 0) ≡ false → (kind.noted run.first.folder).lists ≡ saturating_next (kind.noted run.opens.listed).lists
+            by_opens : (c.max_files == 0) ≡ false → (kind.noted run.first.folder).lists ≡ next_count (kind.noted run.opens.listed).lists
             by_opens some = absent_opens kind c _ run.opens.listed run.first.file run.first.folder run.opens.opens (grind arith) is_known (ap (λ (d : Content). d.there) run.opens.finds.content ∙ is)
 
             by : (limited none : Bool) → is_limited c ≡ limited → (c.max_files == 0) ≡ none → (kind.noted last.folder).lists ≡ (kind.noted folder).lists + ((if limited then 1 else 0) + (if none then 0 else 1))
@@ -153,7 +153,7 @@ module _ {S F : Type 0} (kind : Ghosts S F) (failures_fit : (s : S) → kind.fai
             by false false limited none lists = let one = by_opens none in let below = fine.below.0 in omega (arith, found, opened, later)
 
         -- so each step left both counts as the last step did
-        seen_lists : (n : ℕ) → ((seen_in event run n).noted.lists ≡ (kind.noted last.folder).lists) × ((seen_in event run n).noted.removes ≡ (kind.noted last.folder).removes)
+        seen_lists : (n : ℕ) → ((run_states event run n).noted.lists ≡ (kind.noted last.folder).lists) × ((run_states event run n).noted.removes ≡ (kind.noted last.folder).removes)
         seen_lists n =
             let so = seen_between past run.first last run.runs n in
             let most = opened_lists (kind.content folder).there refl fine.lists in
@@ -163,7 +163,7 @@ module _ {S F : Type 0} (kind : Ghosts S F) (failures_fit : (s : S) → kind.fai
 
         -- the opening noted nothing, or the folder was absent
         opening_quiet : (there : Bool) → (kind.content folder).there ≡ there → (kind.noted last.folder).lists ≡ (kind.noted folder).lists + (if there then 0 else (if is_limited c then 1 else 0) + (if c.max_files == 0 then 0 else 1))
-            → (after : Counts) → after.lists ≡ (kind.noted last.folder).lists → after.removes ≡ (kind.noted last.folder).removes
+            → (after : NotedCounts) → after.lists ≡ (kind.noted last.folder).lists → after.removes ≡ (kind.noted last.folder).removes
             → IsQuiet (kind.noted run.opens.listed) after ⊎ (((kind.content folder).there ≡ false) × IsSound (kind.content folder))
         opening_quiet true is lists after same_lists same_removes =
             let found = finds_rise kind failures_fit noted_fit c moment folder run.opens.number run.opens.listed run.opens.finds in
@@ -177,21 +177,21 @@ module _ {S F : Type 0} (kind : Ghosts S F) (failures_fit : (s : S) → kind.fai
             })
         opening_quiet false is lists after same_lists same_removes = inr (is, sound folder is_known)
 
-        prunes_all : (a : Attempt) → IsSeenAtItsStep (kind.content folder) (kind.noted run.opens.listed) (seen_in event run) a → PrunesAll maps c a
+        prunes_all : (a : Attempt) → MatchesItsStep (kind.content folder) (kind.noted run.opens.listed) (run_states event run) a → PrunesAll maps c a
         prunes_all a at = by a.step at.before at.noted_before at.noted_after
           where
-            by : (n : ℕ) → a.before ≡ content_before (kind.content folder) (seen_in event run) n → a.noted_before ≡ counts_before (kind.noted run.opens.listed) (seen_in event run) n → a.noted_after ≡ (seen_in event run n).noted → PrunesAll maps c a
+            by : (n : ℕ) → a.before ≡ content_before (kind.content folder) (run_states event run) n → a.noted_before ≡ counts_before (kind.noted run.opens.listed) (run_states event run) n → a.noted_after ≡ (run_states event run n).noted → PrunesAll maps c a
             by zero before noted_before noted_after =
                 let at_once = seen_lists 0 in
-                rw (before, noted_before) (inr (opening_quiet (kind.content folder).there refl fine.lists a.noted_after (ap (λ (n : Counts). n.lists) noted_after ∙ at_once.0) (ap (λ (n : Counts). n.removes) noted_after ∙ at_once.1)))
+                rw (before, noted_before) (inr (opening_quiet (kind.content folder).there refl fine.lists a.noted_after (ap (λ (n : NotedCounts). n.lists) noted_after ∙ at_once.0) (ap (λ (n : NotedCounts). n.removes) noted_after ∙ at_once.1)))
             by (suc n) before noted_before noted_after =
                 let earlier = seen_lists n in
                 let later = seen_lists (suc n) in
                 let below = fine.below in
                 inr (inl (record {
-                  lists = ap (λ (m : Counts). m.lists) noted_after ∙ later.0 ∙ sym (ap (λ (m : Counts). m.lists) noted_before ∙ earlier.0);
-                  removes = ap (λ (m : Counts). m.removes) noted_after ∙ later.1 ∙ sym (ap (λ (m : Counts). m.removes) noted_before ∙ earlier.1);
-                  below = (rw (ap (λ (m : Counts). m.lists) noted_after ∙ later.0) below.0, rw (ap (λ (m : Counts). m.removes) noted_after ∙ later.1) below.1);
+                  lists = ap (λ (m : NotedCounts). m.lists) noted_after ∙ later.0 ∙ sym (ap (λ (m : NotedCounts). m.lists) noted_before ∙ earlier.0);
+                  removes = ap (λ (m : NotedCounts). m.removes) noted_after ∙ later.1 ∙ sym (ap (λ (m : NotedCounts). m.removes) noted_before ∙ earlier.1);
+                  below = (rw (ap (λ (m : NotedCounts). m.lists) noted_after ∙ later.0) below.0, rw (ap (λ (m : NotedCounts). m.removes) noted_after ∙ later.1) below.1);
                 }))
 
         -- the first number is by what the folder had
@@ -216,7 +216,7 @@ module _ {S F : Type 0} (kind : Ghosts S F) (failures_fit : (s : S) → kind.fai
             by (Ok all) there is on_ok number_is number_in lists = number_in refl is_known
             by (Err fault) false is on_ok number_is number_in lists = rw number_is.0 (none is)
             by (Err fault) true is on_ok number_is number_in lists =
-                let noted : (kind.noted run.opens.listed).lists ≡ saturating_next (kind.noted folder).lists = ap (λ (n : Counts). n.lists) number_is.1.noted ∙ ap (λ (n : Counts). saturating_next n.lists) l.noted in
+                let noted : (kind.noted run.opens.listed).lists ≡ next_count (kind.noted folder).lists = ap (λ (n : NotedCounts). n.lists) number_is.1.noted ∙ ap (λ (n : NotedCounts). next_count n.lists) l.noted in
                 let opened = opens_rise kind failures_fit noted_fit c _ run.opens.listed run.first.file run.first.folder run.opens.opens in
                 let below = fine.below.0 in
                 absurd (omega (arith, opened.lists, all_steps.rise.lists))
@@ -227,12 +227,12 @@ module _ {S F : Type 0} (kind : Ghosts S F) (failures_fit : (s : S) → kind.fai
       each_leaves [] opened all = tt
       each_leaves (a ∷ rest) opened all = ((opened.0, all.0), each_leaves rest opened.1 all.1)
 
-      each_prunes : (attempts : List Attempt) → EachOf (IsSeenAtItsStep (kind.content folder) (kind.noted run.opens.listed) (seen_in event run)) attempts
-          → ((a : Attempt) → IsSeenAtItsStep (kind.content folder) (kind.noted run.opens.listed) (seen_in event run) a → PrunesAll maps c a) → EachOf (PrunesAll maps c) attempts
+      each_prunes : (attempts : List Attempt) → EachOf (MatchesItsStep (kind.content folder) (kind.noted run.opens.listed) (run_states event run)) attempts
+          → ((a : Attempt) → MatchesItsStep (kind.content folder) (kind.noted run.opens.listed) (run_states event run) a → PrunesAll maps c a) → EachOf (PrunesAll maps c) attempts
       each_prunes [] at all = tt
       each_prunes (a ∷ rest) at all = (all a at.0, each_prunes rest at.1 all)
 
-      pub keeps : RollerFollows kind does event c moment number folder past last → (f : Files) → FilesAre c start (events_by event past) f → sum_by faults past ≡ f.faults → Keeps kind c start f folder last.folder
+      pub keeps : RollerFollows kind does event c moment number folder past last → (f : Files) → FilesAre c start (events_by event past) f → sum_by faults past ≡ f.faults → FolderFollows kind c start f folder last.folder
       keeps rolls f so all =
           let counts = run_counts f.failed f.faults so.failed all in
           record {
@@ -252,7 +252,7 @@ module _ {S F : Type 0} (kind : Ghosts S F) (failures_fit : (s : S) → kind.fai
                         | inl unlimited ↦ λ a at. inl unlimited
                         | inr succeeded ↦ prunes_all is_known succeeded
                       ]) in
-                      subst (λ (ss : List Stamp). LeaveAll c (length (kind.content folder).bodies) ss (kind.content folder).names (kind.content last.folder).names) stamps
+                      subst (λ (ss : List Stamp). NamesAfterOpenings c (length (kind.content folder).bodies) ss (kind.content folder).names (kind.content last.folder).names) stamps
                       (names_lead maps c parts law.attempts (events_by event past) (kind.content folder) (kind.content last.folder) law.leads (each_leaves law.attempts (each_opened law.attempts opened) prunes));
                   number = λ limited fine. first_number is_known fine limited;
                 };

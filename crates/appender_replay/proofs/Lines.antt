@@ -8,8 +8,8 @@ use Rattle.std.proofs.Math.Seq.{take-add, length-take-le}
 use Rattle.appender_worker.specs.Core.{Core, Taking, Writing, Flushing, Ending, Over, Wrote as DidWrite, Interrupted, Failed, Line, after_took, after_wrote, is_writing, most_repeats}
 use Rattle.appender_worker.specs.CoreReplies.{is_interruption}
 use Rattle.appender_queue.specs.Queue.{Queue, has_line, is_sent}
-use Rattle.appender_replay.specs.Record.{Answered, Offered, WrittenLine, taken_line, after_write, with_write, written_by, written_lines, text_of_lines, whole_lines, accepted_lines, handed_lines, handed_by, with_ticket, at_end, worker_event, worker_after, after_event, queue_after}
-use Rattle.appender_replay.specs.Answers.{StepAnswers, WorkAnswers, Answers, file_event, events, text_of_events}
+use Rattle.appender_replay.specs.Record.{StepWithReply, Offered, WrittenLine, taken_line, line_after_write, with_write, written_by, written_lines, text_of_lines, whole_lines, accepted_lines, handed_lines, handed_by, with_ticket, at_end, worker_event, worker_after, after_event, queue_after}
+use Rattle.appender_replay.specs.Answers.{IsStepReply, IsWorkReply, AreRunReplies, file_event, events, text_of_events}
 use Rattle.appender_replay.specs.Whole.{IsDone, AreDone, IsBegun, TextLaw}
 use Rattle.appender_replay.specs.declared.replay.whole.Step.TheVariants.{Offer, Shut, AddSender, DropSender, Work}
 use Rattle.appender_replay.specs.declared.replay.whole.Reply.{Reply}
@@ -82,7 +82,7 @@ module _ (rest : List ℕ) (repeats : ℕ) (w : WrittenLine) (h : IsInHand rest 
 
   module _ (earlier : List WrittenLine) (done : All IsDone earlier) (begun : All IsBegun earlier) where
     -- an answer of n bytes
-    wrote : (n : ℕ) → n ≤ length rest → Leaves (after_wrote (Writing rest repeats) (DidWrite n)) (after_write w (Ok n) ∷ earlier)
+    wrote : (n : ℕ) → n ≤ length rest → Leaves (after_wrote (Writing rest repeats) (DidWrite n)) (line_after_write w (Ok n) ∷ earlier)
     wrote n le = by (n == 0) (nat_le (length rest) n) refl refl
       where
         is_begun : (given_up : Bool) → (given_up ≡ true → n ≡ 0) → IsBegun (record w { written = more n; is_given_up = given_up })
@@ -124,7 +124,7 @@ module _ (rest : List ℕ) (repeats : ℕ) (w : WrittenLine) (h : IsInHand rest 
             }
 
     -- a fault
-    failed : (kind : ErrorKind) → Leaves (after_wrote (Writing rest repeats) (if is_interruption kind then Interrupted else Failed)) (after_write w (Err kind) ∷ earlier)
+    failed : (kind : ErrorKind) → Leaves (after_wrote (Writing rest repeats) (if is_interruption kind then Interrupted else Failed)) (line_after_write w (Err kind) ∷ earlier)
     failed kind = by (is_interruption kind)
       where
         again : (t g : Bool) → nat_lt repeats most_repeats ≡ t → nat_le most_repeats w.interruptions ≡ g
@@ -150,7 +150,7 @@ module _ (rest : List ℕ) (repeats : ℕ) (w : WrittenLine) (h : IsInHand rest 
 -- ---- one step
 
 -- What a step does to the lines: what is known of them, and the bytes that it adds.
-record Steps (core : Core) (lines : List Offered) (t : Answered) (earlier : List WrittenLine) : Type 0 where
+record Steps (core : Core) (lines : List Offered) (t : StepWithReply) (earlier : List WrittenLine) : Type 0 where
   leaves : Leaves (after_event core (worker_event lines t)) (written_by lines t earlier)
   text : text_of_lines earlier ++ (file_event core t).piece ≡ text_of_lines (written_by lines t earlier)
 
@@ -159,7 +159,7 @@ same_text earlier = append-nil (text_of_lines earlier)
 
 module _ (lines : List Offered) (earlier : List WrittenLine) (begun : All IsBegun earlier) where
   -- a step that leaves the lines alone
-  stays : (core : Core) (t : Answered) → Leaves (after_event core (worker_event lines t)) earlier → written_by lines t earlier ≡ earlier → (file_event core t).piece ≡ [] → Steps core lines t earlier
+  stays : (core : Core) (t : StepWithReply) → Leaves (after_event core (worker_event lines t)) earlier → written_by lines t earlier ≡ earlier → (file_event core t).piece ≡ [] → Steps core lines t earlier
   stays core t leaves same none = record {
     leaves = subst (λ (ws : List WrittenLine). Leaves (after_event core (worker_event lines t)) ws) (sym same) leaves;
     text = ap (λ p. text_of_lines earlier ++ p) none ∙ same_text earlier ∙ ap text_of_lines (sym same);
@@ -178,14 +178,14 @@ module _ (lines : List Offered) (earlier : List WrittenLine) (begun : All IsBegu
   flush_ends true done = record { done = done; begun = begun }
   flush_ends false done = record { done = done; begun = begun }
 
-same_line_text : (w : WrittenLine) (kind : ErrorKind) → (after_write w (Err kind)).written ≡ w.written
+same_line_text : (w : WrittenLine) (kind : ErrorKind) → (line_after_write w (Err kind)).written ≡ w.written
 same_line_text w kind = by (is_interruption kind)
   where
     by : (b : Bool) → (if b then record w { interruptions = w.interruptions + 1; is_given_up = nat_le most_repeats w.interruptions } else record w { is_given_up = true }).written ≡ w.written
     by true = refl
     by false = refl
 
-work_steps : (q : Queue) (core : Core) (lines : List Offered) (m : ℤ) (reply : Reply) (earlier : List WrittenLine) → WorkAnswers q core reply → DoneBy core earlier → All IsBegun earlier → Steps core lines (Work m, reply) earlier
+work_steps : (q : Queue) (core : Core) (lines : List Offered) (m : ℤ) (reply : Reply) (earlier : List WrittenLine) → IsWorkReply q core reply → DoneBy core earlier → All IsBegun earlier → Steps core lines (Work m, reply) earlier
 work_steps q (Taking waits) lines m reply earlier a done begun =
     subst (λ (r : Reply). Steps (Taking waits) lines (Work m, r) earlier) (sym a) (take_steps lines earlier begun q.closed (has_line q) (is_sent q.shutdown) (q.senders == 0) waits m (q.handed + 1) done)
 work_steps q (Writing rest repeats) lines m reply [] a done begun = absurd done
@@ -205,7 +205,7 @@ work_steps q (Ending n) lines m _ earlier a done begun = absurd a
 work_steps q Over lines m reply earlier a done begun =
     subst (λ (r : Reply). Steps Over lines (Work m, r) earlier) (sym a) (record { leaves = record { done = done; begun = begun }; text = same_text earlier })
 
-line_steps : (q : Queue) (core : Core) (lines : List Offered) (t : Answered) (earlier : List WrittenLine) → StepAnswers q core t → DoneBy core earlier → All IsBegun earlier → Steps core lines t earlier
+line_steps : (q : Queue) (core : Core) (lines : List Offered) (t : StepWithReply) (earlier : List WrittenLine) → IsStepReply q core t → DoneBy core earlier → All IsBegun earlier → Steps core lines t earlier
 line_steps q core lines (Offer label line, reply) earlier a done begun = record { leaves = record { done = done; begun = begun }; text = same_text earlier }
 line_steps q core lines (Shut, reply) earlier a done begun = record { leaves = record { done = done; begun = begun }; text = same_text earlier }
 line_steps q core lines (AddSender, reply) earlier a done begun = record { leaves = record { done = done; begun = begun }; text = same_text earlier }
@@ -214,7 +214,7 @@ line_steps q core lines (Work m, reply) earlier a done begun = work_steps q core
 
 -- ---- the lines themselves
 
-same_line : (w : WrittenLine) (answer : Result ℕ ErrorKind) → (after_write w answer).line ≡ w.line
+same_line : (w : WrittenLine) (answer : Result ℕ ErrorKind) → (line_after_write w answer).line ≡ w.line
 same_line w (Ok n) = refl
 same_line w (Err kind) = by (is_interruption kind)
   where
@@ -227,7 +227,7 @@ same_lines answer [] = refl
 same_lines answer (w ∷ earlier) = ap (λ line. whole_lines earlier ++ line ∷ []) (same_line w answer)
 
 -- a step takes the line that it hands
-lines_handed : (lines handed : List Offered) (t : Answered) (earlier : List WrittenLine) → whole_lines earlier ≡ map (λ (o : Offered). o.1) handed → whole_lines (written_by lines t earlier) ≡ map (λ (o : Offered). o.1) (at_end handed (handed_by lines t))
+lines_handed : (lines handed : List Offered) (t : StepWithReply) (earlier : List WrittenLine) → whole_lines earlier ≡ map (λ (o : Offered). o.1) handed → whole_lines (written_by lines t earlier) ≡ map (λ (o : Offered). o.1) (at_end handed (handed_by lines t))
 lines_handed lines handed (Work m, Took k) earlier so = ap (λ xs. xs ++ (with_ticket k lines).1 ∷ []) so ∙ sym (map-append (λ (o : Offered). o.1) handed (with_ticket k lines ∷ []))
 lines_handed lines handed (Work m, Wrote switch answer) earlier so = same_lines answer earlier ∙ so
 lines_handed lines handed (s, r) earlier so = so
@@ -235,13 +235,13 @@ lines_handed lines handed (s, r) earlier so = so
 -- ---- all steps
 
 -- What is known after these steps.
-pub record LinesSoFar (past : List Answered) : Type 0 where
+pub record LinesSoFar (past : List StepWithReply) : Type 0 where
   pub done : DoneBy (worker_after past) (written_lines past)
   pub begun : All IsBegun (written_lines past)
   pub text : text_of_events (events past) ≡ text_of_lines (written_lines past)
   pub lines : whole_lines (written_lines past) ≡ map (λ (o : Offered). o.1) (handed_lines past)
 
-pub lines_so_far : (limit : ℕ) (lossy : Bool) (past : List Answered) → Answers limit lossy past → LinesSoFar past
+pub lines_so_far : (limit : ℕ) (lossy : Bool) (past : List StepWithReply) → AreRunReplies limit lossy past → LinesSoFar past
 lines_so_far limit lossy [] a = record { done = All-nil IsDone; begun = All-nil IsBegun; text = refl; lines = refl }
 lines_so_far limit lossy (t ∷ past) a =
     let so = lines_so_far limit lossy past a.0 in
@@ -262,7 +262,7 @@ are_done Flushing (w ∷ earlier) done = ((λ yes. All-head IsDone w earlier don
 are_done (Ending n) (w ∷ earlier) done = ((λ yes. All-head IsDone w earlier done), All-tail IsDone w earlier done)
 are_done Over (w ∷ earlier) done = ((λ yes. All-head IsDone w earlier done), All-tail IsDone w earlier done)
 
-pub text_law : (limit : ℕ) (lossy : Bool) (past : List Answered) → Answers limit lossy past → TextLaw past
+pub text_law : (limit : ℕ) (lossy : Bool) (past : List StepWithReply) → AreRunReplies limit lossy past → TextLaw past
 text_law limit lossy past a =
     let so = lines_so_far limit lossy past a in
     record { lines = so.lines; text = so.text; begun = so.begun; done = are_done (worker_after past) (written_lines past) so.done }

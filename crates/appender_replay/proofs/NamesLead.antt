@@ -6,18 +6,18 @@ use Rattle.std.specs.Option.{option_map, option_map_or, option_and_then}
 use Rattle.std.specs.FinMap as fin
 use Rattle.std.proofs.lemmas.List.{length-set}
 use Rattle.std.proofs.lemmas.List.Elements.{All-head, All-tail}
-use Rattle.appender_store.specs.Content.{Content, NameMap, Entry, File, Link, Folder, Opens, IsSound, after_make_folder, body_at}
+use Rattle.appender_store.specs.Content.{Content, NameMap, Entry, File, Link, Folder, OpensBody, IsSound, after_make_folder, body_at}
 use Rattle.appender_store.specs.Folder.{entry_row}
 use Rattle.appender_store.specs.NameLaws.{NameLaws}
 use Rattle.appender_retain.specs.Pruning.{IsQuiet}
-use Rattle.appender_retain.specs.Rank.{LogFiles, Rank, key_by_name, key_of, matching, rank_of}
-use Rattle.appender_retain.specs.Survival.{TakesOnlyOld, name_rank, name_survives}
+use Rattle.appender_retain.specs.Rank.{LogFiles, Rank, key_by_name, candidate_key, log_files_by_parts, rank_of}
+use Rattle.appender_retain.specs.Survival.{RemovesOnlyOld, name_rank, name_survives}
 use Rattle.appender_rolling.specs.Config.{Config, naming_of, log_files_of}
-use Rattle.appender_rolling.specs.Kept.{PartsKeep}
+use Rattle.appender_rolling.specs.Kept.{OpeningPartsKeepBodies}
 use Rattle.appender_rolling.specs.declared.rolling.setup.Stamp.{Stamp}
-use Rattle.appender_rolling.specs.Opening.{file_name_of, LeavesLittle}
-use Rattle.appender_replay.specs.Run.{Event, Attempt, since, up_to, open_body, Carried, Leads, Succeeded, Tried, EachOf}
-use Rattle.appender_replay.specs.Headline.{Leaves, LeaveAll, kept}
+use Rattle.appender_rolling.specs.Opening.{file_name_of, IsRefusalEffect}
+use Rattle.appender_replay.specs.Run.{Event, Attempt, pieces_since, events_before, open_body, Carried, OnlyAttemptsChange, Succeeded, AttemptDoes, EachOf}
+use Rattle.appender_replay.specs.Headline.{NamesAfterOpening, NamesAfterOpenings, kept_entry}
 use Rattle.appender_replay.proofs.NamesLeft.{nothing_survives, leads_to, opened_other, freed_other, linked_other, linked_name, apart_from_link}
 
 abbrev pub stamps_in : List Attempt → List Stamp
@@ -37,21 +37,21 @@ carried_bodies : (o : Option ℕ) (bytes : List ℕ) (old new : Content) → Car
 carried_bodies None bytes old new is x lt = rw is lt
 carried_bodies (Some b) bytes old new is x lt = rw (is, length-set old.bodies b (body_at old b ++ bytes)) lt
 
-module _ (parts : PartsKeep) (c : Config) where
-  tried_bodies : (a : Attempt) → Tried c a → HasAll a.before a.after
+module _ (parts : OpeningPartsKeepBodies) (c : Config) where
+  tried_bodies : (a : Attempt) → AttemptDoes c a → HasAll a.before a.after
   tried_bodies a did = by a.body did
     where
-      by : (o : Option ℕ) → MatchOption o (LeavesLittle c (file_name_of c a.stamp) a.before a.after) (Succeeded c a) → HasAll a.before a.after
+      by : (o : Option ℕ) → MatchOption o (IsRefusalEffect c (file_name_of c a.stamp) a.before a.after) (Succeeded c a) → HasAll a.before a.after
       by None did = (parts.refusal c (file_name_of c a.stamp) a.before a.after did).keeps.more
       by (Some b) did = λ x lt.
           (parts.link c.link (file_name_of c a.stamp) did.unlinked a.after did.links).keeps.more x
           ((parts.opening (file_name_of c a.stamp) (after_make_folder did.pruned) did.unlinked b did.opens).keeps.more x
           ((parts.folder did.pruned).keeps.more x ((parts.retention (log_files_of c (Some (file_name_of c a.stamp))) c.max_files a.before did.pruned did.only_old).keeps.more x lt)))
 
-  pub leads_bodies : (attempts : List Attempt) (h : List Event) (first last : Content) → Leads c attempts h first last → HasAll first last
+  pub leads_bodies : (attempts : List Attempt) (h : List Event) (first last : Content) → OnlyAttemptsChange c attempts h first last → HasAll first last
   leads_bodies [] h first last leads x lt = rw leads lt
   leads_bodies (a ∷ rest) h first last leads x lt =
-      carried_bodies (open_body (a ∷ rest)) (since a.step h) a.after last leads.2 x (tried_bodies a leads.1 x (leads_bodies rest (up_to a.step h) first a.before leads.0 x lt))
+      carried_bodies (open_body (a ∷ rest)) (pieces_since a.step h) a.after last leads.2 x (tried_bodies a leads.1 x (leads_bodies rest (events_before a.step h) first a.before leads.0 x lt))
 
 at_least : (m n : ℕ) → ((x : ℕ) → x < m → x < n) → m ≤ n
 at_least m n more = by (nat_le m n) refl
@@ -70,7 +70,7 @@ module _ (maps : NameLaws) (c : Config) where
   all_survive : c.max_files ≡ 0 → (log : LogFiles) (names : NameMap) (name : List ℕ) → name_survives log c.max_files names name ≡ true
   all_survive none log names name = rw none refl
 
-  pruned_is : (a : Attempt) (b : ℕ) (did : Succeeded c a b) → PrunesAll a → (name : List ℕ) → fin.get did.pruned.names name ≡ kept c a.stamp a.before.names name
+  pruned_is : (a : Attempt) (b : ℕ) (did : Succeeded c a b) → PrunesAll a → (name : List ℕ) → fin.get did.pruned.names name ≡ kept_entry c a.stamp a.before.names name
   pruned_is a b did (inl none) name = elim (did.only_old.names name) [
     | inl same ↦ same ∙ ap (λ (t : Bool). if t then fin.get a.before.names name else None) (sym (all_survive none (log_files_of c (Some (file_name_of c a.stamp))) a.before.names name))
     | inr gone ↦ absurd (let both : true ≡ false = sym (all_survive none (log_files_of c (Some (file_name_of c a.stamp))) a.before.names name) ∙ gone.1 in cc)
@@ -83,12 +83,12 @@ module _ (maps : NameLaws) (c : Config) where
     own = file_name_of c a.stamp
 
     abbrev Own : Type 0
-    Own = (b : ℕ) × (t : Option ℤ) × (fin.get a.after.names own ≡ Some (File b t)) × ((kept c a.stamp a.before.names own ≡ Some (File b t)) ⊎ ((kept c a.stamp a.before.names own ≡ None) × (n ≤ b)))
+    Own = (b : ℕ) × (t : Option ℤ) × (fin.get a.after.names own ≡ Some (File b t)) × ((kept_entry c a.stamp a.before.names own ≡ Some (File b t)) ⊎ ((kept_entry c a.stamp a.before.names own ≡ None) × (n ≤ b)))
 
     stays : (x : ℕ) (t : Option ℤ) → fin.get did.unlinked.names own ≡ Some (File x t) → fin.get a.after.names own ≡ Some (File x t)
     stays x t at = linked_other maps c.link own did.unlinked a.after own did.links (apart_from_link maps c.link own did.unlinked a.after own x t did.links at) ∙ at
 
-    own_name : Opens own (after_make_folder did.pruned) did.unlinked b → Own
+    own_name : OpensBody own (after_make_folder did.pruned) did.unlinked b → Own
     own_name (there, inl (t, at, same)) = (
       b,
       t,
@@ -105,7 +105,7 @@ module _ (maps : NameLaws) (c : Config) where
           inr (sym (pruned_is a b did all own) ∙ free, omega arith),
         )
 
-    leaves : Leaves c n a.stamp a.before.names a.after.names
+    leaves : NamesAfterOpening c n a.stamp a.before.names a.after.names
     leaves = record {
       own = own_name did.opens;
       link = linked_name maps c.link own did.unlinked a.after did.links;
@@ -122,21 +122,21 @@ module _ (maps : NameLaws) (c : Config) where
   some_is None e = absurd (let both : false ≡ true = e in cc)
   some_is (Some b) e = (b, refl)
 
-  all_leave : (parts : PartsKeep) (n : ℕ) (attempts : List Attempt) (h : List Event) (first last : Content) → ((x : ℕ) → x < n → x < length first.bodies)
-      → Leads c attempts h first last → EachOf LeavesAll attempts → LeaveAll c n (stamps_in attempts) first.names last.names
+  all_leave : (parts : OpeningPartsKeepBodies) (n : ℕ) (attempts : List Attempt) (h : List Event) (first last : Content) → ((x : ℕ) → x < n → x < length first.bodies)
+      → OnlyAttemptsChange c attempts h first last → EachOf LeavesAll attempts → NamesAfterOpenings c n (stamps_in attempts) first.names last.names
   all_leave parts n [] h first last more leads all = ap (λ (d : Content). d.names) leads
   all_leave parts n (a ∷ rest) h first last more leads all =
       let some = some_is a.body all.0.0 in
-      let did : Succeeded c a some.0 = subst (λ (o : Option ℕ). MatchOption o (LeavesLittle c (file_name_of c a.stamp) a.before a.after) (Succeeded c a)) some.1 leads.1 in
-      let names : last.names ≡ a.after.names = carried_names (open_body (a ∷ rest)) (since a.step h) a.after last leads.2 in
-      let grown = leads_bodies parts c rest (up_to a.step h) first a.before leads.0 in (
+      let did : Succeeded c a some.0 = subst (λ (o : Option ℕ). MatchOption o (IsRefusalEffect c (file_name_of c a.stamp) a.before a.after) (Succeeded c a)) some.1 leads.1 in
+      let names : last.names ≡ a.after.names = carried_names (open_body (a ∷ rest)) (pieces_since a.step h) a.after last leads.2 in
+      let grown = leads_bodies parts c rest (events_before a.step h) first a.before leads.0 in (
         a.before.names,
-        all_leave parts n rest (up_to a.step h) first a.before more leads.0 all.1,
-        subst (λ (m : NameMap). Leaves c n a.stamp a.before.names m) (sym names) (leaves n a some.0 did all.0.1 (λ x lt. grown x (more x lt))),
+        all_leave parts n rest (events_before a.step h) first a.before more leads.0 all.1,
+        subst (λ (m : NameMap). NamesAfterOpening c n a.stamp a.before.names m) (sym names) (leaves n a some.0 did all.0.1 (λ x lt. grown x (more x lt))),
       )
 
-  pub names_lead : (parts : PartsKeep) (attempts : List Attempt) (h : List Event) (first last : Content) → Leads c attempts h first last → EachOf LeavesAll attempts
-      → LeaveAll c (length first.bodies) (stamps_in attempts) first.names last.names
+  pub names_lead : (parts : OpeningPartsKeepBodies) (attempts : List Attempt) (h : List Event) (first last : Content) → OnlyAttemptsChange c attempts h first last → EachOf LeavesAll attempts
+      → NamesAfterOpenings c (length first.bodies) (stamps_in attempts) first.names last.names
   names_lead parts attempts h first last leads all = all_leave parts (length first.bodies) attempts h first last (λ x lt. lt) leads all
 
   -- ---- other names
@@ -179,11 +179,11 @@ module _ (maps : NameLaws) (c : Config) where
         by : (o : Option Entry) → is_some (option_and_then (λ (e : Entry). rank_of (log_files_of c (Some file)) (0, entry_row (name, e))) o) ≡ true
             → is_some (option_and_then (λ (e : Entry). rank_of (log_files_of c None) (0, entry_row (name, e))) o) ≡ true
         by None none = none
-        by (Some (File b t)) some = key c.by_name (bytes_eq name file) (key_of (matching (naming_of c)) name t) (key_by_name (naming_of c) name) some
+        by (Some (File b t)) some = key c.by_name (bytes_eq name file) (candidate_key (log_files_by_parts (naming_of c)) name t) (key_by_name (naming_of c) name) some
         by (Some (Link target)) none = none
         by (Some Folder) none = none
 
-    pruned_may : (file : List ℕ) (old new : Content) → TakesOnlyOld (log_files_of c (Some file)) c.max_files old new → MayGo old.names new.names
+    pruned_may : (file : List ℕ) (old new : Content) → RemovesOnlyOld (log_files_of c (Some file)) c.max_files old new → MayGo old.names new.names
     pruned_may file old new only = elim (only.names name) [
       | inl same ↦ inl same
       | inr gone ↦
@@ -196,11 +196,11 @@ module _ (maps : NameLaws) (c : Config) where
       abbrev file : List ℕ
       file = file_name_of c s
 
-      opened_may : (old pruned unlinked : Content) (b : ℕ) → TakesOnlyOld (log_files_of c (Some file)) c.max_files old pruned → Opens file (after_make_folder pruned) unlinked b → MayGo old.names unlinked.names
+      opened_may : (old pruned unlinked : Content) (b : ℕ) → RemovesOnlyOld (log_files_of c (Some file)) c.max_files old pruned → OpensBody file (after_make_folder pruned) unlinked b → MayGo old.names unlinked.names
       opened_may old pruned unlinked b only opens =
           then_same old.names pruned.names unlinked.names (pruned_may file old pruned only) (opened_other maps file (after_make_folder pruned) unlinked b name opens not_own)
 
-      little_may : (old new : Content) → LeavesLittle c file old new → MayGo old.names new.names
+      little_may : (old new : Content) → IsRefusalEffect c file old new → MayGo old.names new.names
       little_may old new little = elim little.rest [
         | inl same ↦ then_same old.names little.pruned.names new.names (pruned_may file old little.pruned little.only_old) (ap (λ (d : Content). fin.get d.names name) same)
         | inr (inl same) ↦ then_same old.names little.pruned.names new.names (pruned_may file old little.pruned little.only_old) (ap (λ (d : Content). fin.get d.names name) same)
@@ -211,19 +211,19 @@ module _ (maps : NameLaws) (c : Config) where
       succeeded_may : (a : Attempt) (b : ℕ) → a.stamp ≡ s → Succeeded c a b → MayGo a.before.names a.after.names
       succeeded_may a b is did =
           then_same a.before.names did.unlinked.names a.after.names
-          (opened_may a.before did.pruned did.unlinked b (subst (λ (x : Stamp). TakesOnlyOld (log_files_of c (Some (file_name_of c x))) c.max_files a.before did.pruned) is did.only_old) (subst (λ (x : Stamp). Opens (file_name_of c x) (after_make_folder did.pruned) did.unlinked b) is did.opens))
+          (opened_may a.before did.pruned did.unlinked b (subst (λ (x : Stamp). RemovesOnlyOld (log_files_of c (Some (file_name_of c x))) c.max_files a.before did.pruned) is did.only_old) (subst (λ (x : Stamp). OpensBody (file_name_of c x) (after_make_folder did.pruned) did.unlinked b) is did.opens))
           (linked_other maps c.link (file_name_of c a.stamp) did.unlinked a.after name did.links (λ same. absurd (not_link same)))
 
-    tried_may : (a : Attempt) → Tried c a → name ≢ file_name_of c a.stamp → MayGo a.before.names a.after.names
+    tried_may : (a : Attempt) → AttemptDoes c a → name ≢ file_name_of c a.stamp → MayGo a.before.names a.after.names
     tried_may a did not_own = by a.body did
       where
-        by : (o : Option ℕ) → MatchOption o (LeavesLittle c (file_name_of c a.stamp) a.before a.after) (Succeeded c a) → MayGo a.before.names a.after.names
+        by : (o : Option ℕ) → MatchOption o (IsRefusalEffect c (file_name_of c a.stamp) a.before a.after) (Succeeded c a) → MayGo a.before.names a.after.names
         by None did = little_may a.stamp not_own a.before a.after did
         by (Some b) did = succeeded_may a.stamp not_own a b refl did
 
-    pub others_stay : (attempts : List Attempt) (h : List Event) (first last : Content) → Leads c attempts h first last → All (λ s. name ≢ file_name_of c s) (stamps_in attempts) → MayGo first.names last.names
+    pub others_stay : (attempts : List Attempt) (h : List Event) (first last : Content) → OnlyAttemptsChange c attempts h first last → All (λ s. name ≢ file_name_of c s) (stamps_in attempts) → MayGo first.names last.names
     others_stay [] h first last leads others = inl (ap (λ (d : Content). fin.get d.names name) leads)
     others_stay (a ∷ rest) h first last leads others =
         then_same first.names a.after.names last.names
-        (may_go_on first.names a.before.names a.after.names (others_stay rest (up_to a.step h) first a.before leads.0 (All-tail (λ s. name ≢ file_name_of c s) a.stamp (stamps_in rest) others)) (tried_may a leads.1 (All-head (λ s. name ≢ file_name_of c s) a.stamp (stamps_in rest) others)))
-        (ap (λ (m : NameMap). fin.get m name) (carried_names (open_body (a ∷ rest)) (since a.step h) a.after last leads.2))
+        (may_go_on first.names a.before.names a.after.names (others_stay rest (events_before a.step h) first a.before leads.0 (All-tail (λ s. name ≢ file_name_of c s) a.stamp (stamps_in rest) others)) (tried_may a leads.1 (All-head (λ s. name ≢ file_name_of c s) a.stamp (stamps_in rest) others)))
+        (ap (λ (m : NameMap). fin.get m name) (carried_names (open_body (a ∷ rest)) (pieces_since a.step h) a.after last leads.2))

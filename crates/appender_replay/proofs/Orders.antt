@@ -5,15 +5,15 @@ use Rattle.std.proofs.lemmas.List.{map-append, take-append-le, take-append-drop,
 use Rattle.std.proofs.lemmas.List.Elements.{filter-append}
 use Rattle.appender_worker.specs.Core.{Core, Taking, Writing, Flushing, Ending, Over, is_taking}
 use Rattle.appender_queue.specs.Queue.{Queue, has_line, is_before, is_sent}
-use Rattle.appender_replay.specs.Record.{Answered, Offered, accepted_lines, handed_lines, shutdown_place, with_ticket, worker_after, queue_after}
-use Rattle.appender_replay.specs.Answers.{WorkAnswers, Answers}
-use Rattle.appender_replay.specs.Whole.{HandsLabelInOrder, labelled}
+use Rattle.appender_replay.specs.Record.{StepWithReply, Offered, accepted_lines, handed_lines, shutdown_place, with_ticket, worker_after, queue_after}
+use Rattle.appender_replay.specs.Answers.{IsWorkReply, AreRunReplies}
+use Rattle.appender_replay.specs.Whole.{HandsLabelInOrder, lines_of_label}
 use Rattle.appender_replay.specs.declared.replay.whole.Step.TheVariants.{Offer, Work}
 use Rattle.appender_replay.specs.declared.replay.whole.Reply.{Reply}
 use Rattle.appender_replay.specs.declared.replay.whole.Reply.TheVariants.{Accepted, Took, TookShutdown, TookGone, TookEmpty}
 
 -- the handed lines are the first of the accepted ones
-pub record InOrder (past : List Answered) : Type 0 where
+pub record InOrder (past : List StepWithReply) : Type 0 where
   pub most : length (handed_lines past) ≤ length (accepted_lines past)
   pub first : handed_lines past ≡ take (length (handed_lines past)) (accepted_lines past)
 
@@ -27,7 +27,7 @@ pub record TakesNext (q : Queue) (core : Core) (k : ℕ) : Type 0 where
 same_ticket : (j k : ℕ) → ◌≡◌ {A = Reply} (Took j) (Took k) → j ≡ k
 same_ticket j k e = cc
 
-pub takes_next : (q : Queue) (core : Core) (k : ℕ) → WorkAnswers q core (Took k) → TakesNext q core k
+pub takes_next : (q : Queue) (core : Core) (k : ℕ) → IsWorkReply q core (Took k) → TakesNext q core k
 takes_next q (Taking waits) k a = by q.closed (has_line q) (is_sent q.shutdown) (q.senders == 0) refl refl a
   where
     by : (c l s g : Bool) → q.closed ≡ c → has_line q ≡ l → Took k ≡ (if c then TookGone else if l then Took (q.handed + 1) else if s then TookShutdown else if g then TookGone else TookEmpty) → TakesNext q (Taking waits) k
@@ -44,7 +44,7 @@ takes_next q Over k a = absurd (let no = a in cc)
 is_less : (a b : ℕ) (c : Bool) → (nat_lt a b && c) ≡ true → a < b
 is_less a b c e = grind arith
 
-pub in_order : (limit : ℕ) (lossy : Bool) (past : List Answered) → Answers limit lossy past → InOrder past
+pub in_order : (limit : ℕ) (lossy : Bool) (past : List StepWithReply) → AreRunReplies limit lossy past → InOrder past
 in_order limit lossy [] a = record { most = omega arith; first = refl }
 in_order limit lossy ((Offer label line, Accepted k) ∷ past) a =
     let so = in_order limit lossy past a.0 in
@@ -70,13 +70,13 @@ in_order limit lossy ((Work m, Took k) ∷ past) a =
     }
 in_order limit lossy ((s, r) ∷ past) a = let so = in_order limit lossy past a.0 in record { most = so.most; first = so.first }
 
-pub labels : (limit : ℕ) (lossy : Bool) (past : List Answered) (label : ℕ) → InOrder past → HandsLabelInOrder past label
+pub labels : (limit : ℕ) (lossy : Bool) (past : List StepWithReply) (label : ℕ) → InOrder past → HandsLabelInOrder past label
 labels limit lossy past label so =
     let rest : List Offered = drop (length (handed_lines past)) (accepted_lines past) in
     let first : accepted_lines past ≡ handed_lines past ++ rest = sym (take-append-drop (length (handed_lines past)) (accepted_lines past)) ∙ ap (λ xs. xs ++ rest) (sym so.first) in
     record {
-      rest = labelled label rest;
-      first = ap (labelled label) first
+      rest = lines_of_label label rest;
+      first = ap (lines_of_label label) first
           ∙ ap (map (λ (o : Offered). o.1)) (filter-append (λ (o : Offered). o.0 == label) (handed_lines past) rest)
           ∙ map-append (λ (o : Offered). o.1) (filter (λ (o : Offered). o.0 == label) (handed_lines past)) (filter (λ (o : Offered). o.0 == label) rest);
     }

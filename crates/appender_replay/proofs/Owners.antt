@@ -2,14 +2,14 @@
 use Rattle.std.proofs.Common.{◌≡◌, ◌≢◌, ◌⊎◌, ◌&&◌, is_some, ℕ, suc, ◌<◌, ◌≤◌, ◌==◌, ℤ, Bool, true, false, nat_le, if◌then◌else◌, List, [], ◌∷◌, ◌++◌, length, Option, None, Some, arith, inl, inr, refl, ap, sym, ◌∙◌, subst, append_assoc}
 use Rattle.std.proofs.lemmas.List.{append-nil, length-set}
 use Rattle.std.specs.FinMap as fin
-use Rattle.appender_store.specs.Content.{Content, Entry, File, IsSound, body_at, after_append, Opens}
+use Rattle.appender_store.specs.Content.{Content, Entry, File, IsSound, body_at, after_append, OpensBody}
 use Rattle.appender_store.proofs.Appends.{after_append_at}
 use Rattle.appender_rolling.specs.Config.{Config, IsStamp}
 use Rattle.appender_rolling.specs.declared.rolling.setup.Stamp.{Stamp}
-use Rattle.appender_rolling.specs.Kept.{Keeps, KeepsOtherFiles, FileStays}
+use Rattle.appender_rolling.specs.Kept.{KeepsBodies, AddsNoOtherFile, HadFile}
 use Rattle.appender_rolling.specs.Opening.{file_name_of}
 use Rattle.appender_rolling.specs.declared.rolling.Switch.TheVariants.{Failed as SwitchFailed}
-use Rattle.appender_replay.specs.Run.{Event, Attempt, Key, is_same_key, key_of, key_at, carrier, passes, bytes_where, bytes_of_attempt, bytes_under, NoneFailed, OpensNoneOf, AreApart, HoldsItsOwn, HasItsName, NamesItsBody, CarriesItsNumber, EachOf}
+use Rattle.appender_replay.specs.Run.{Event, Attempt, FileKey, is_same_key, file_key, key_at, carrier, meets_test, bytes_where, bytes_of_attempt, bytes_under, NoneFailed, OpensNoneOf, OpenDistinctBodies, ContainsItsPieces, HasItsName, NamesItsBody, CarriesItsNumber, EachOf}
 use Rattle.appender_names.specs.Rotation.{is_same_start}
 use Rattle.appender_names.proofs.Periods.{is_same_to}
 use Rattle.appender_replay.proofs.Periods.{IsLaterKey, same_key_is_same, later_key_differs, later_key_still}
@@ -29,17 +29,17 @@ equal x y e = grind arith
 -- ---- periods
 
 -- one period and number aren't after others
-abbrev pub IsNotAfter : Key → Key → Type 0
+abbrev pub IsNotAfter : FileKey → FileKey → Type 0
 IsNotAfter a b = (a ≡ b) ⊎ IsLaterKey a b
 
-pub then_later : (a b c : Key) → IsNotAfter a b → IsLaterKey b c → IsLaterKey a c
+pub then_later : (a b c : FileKey) → IsNotAfter a b → IsLaterKey b c → IsLaterKey a c
 then_later a b c (inl e) later = rw e later
 then_later a b c (inr k) later = later_key_still a b c k later
 
-same_pair : (a b : Key) → a.0 ≡ b.0 → a.1 ≡ b.1 → a ≡ b
+same_pair : (a b : FileKey) → a.0 ≡ b.0 → a.1 ≡ b.1 → a ≡ b
 same_pair a b e f = rw (e, f) refl
 
-same_by_is_same_key : (a b : Key) → is_same_key a b ≡ true → b ≡ a
+same_by_is_same_key : (a b : FileKey) → is_same_key a b ≡ true → b ≡ a
 same_by_is_same_key a b e = by (is_same_start a.0 b.0) refl e
   where
     by : (t : Bool) → is_same_start a.0 b.0 ≡ t → (t && (a.1 == b.1)) ≡ true → b ≡ a
@@ -80,7 +80,7 @@ opens_nothing a (e ∷ rest) none = ((λ b is other. nothing_opened a b none is)
 
 -- names of later periods are others, and in one period those of greater numbers
 abbrev pub OtherNames : Config → Type 0
-OtherNames c = (s t : Stamp) → IsStamp c s → IsStamp c t → IsLaterKey (key_of c s) (key_of c t) → file_name_of c t ≢ file_name_of c s
+OtherNames c = (s t : Stamp) → IsStamp c s → IsStamp c t → IsLaterKey (file_key c s) (file_key c t) → file_name_of c t ≢ file_name_of c s
 
 module _ (c : Config) (start : Stamp) where
   -- Of an attempt, after the switches of some events were replied and the pieces of some were written: when it was made, and that
@@ -89,19 +89,19 @@ module _ (c : Config) (start : Stamp) where
   -- in its period.
   pub record IsOwner (past h : List Event) (attempts : List Attempt) (now : Content) (file : Attempt) (b : ℕ) (a : Attempt) : Type 0 where
     pub in_range : IsStamp c a.stamp
-    pub not_after : IsNotAfter (key_of c a.stamp) (key_at c start past)
+    pub not_after : IsNotAfter (file_key c a.stamp) (key_at c start past)
     pub at_step : a.step ≤ length past
     pub there : (x : ℕ) → a.body ≡ Some x → x < length now.bodies
     pub own : HasItsName c now a
     pub stands : NamesItsBody c now a
     pub mine : (x : ℕ) → a.body ≡ Some x → (file.step == a.step) ≡ (b == x)
-    pub holds : HoldsItsOwn attempts h now a
-    pub in_time : NoneFailed past → (x : ℕ) → a.body ≡ Some x → (file.step == a.step) ≡ is_same_key (key_at c start past) (key_of c a.stamp)
+    pub holds : ContainsItsPieces attempts h now a
+    pub in_time : NoneFailed past → (x : ℕ) → a.body ≡ Some x → (file.step == a.step) ≡ is_same_key (key_at c start past) (file_key c a.stamp)
     pub in_its_number : NoneFailed past → CarriesItsNumber c start attempts h a
 
   -- What is known of all attempts.
   pub record AreOwners (past h : List Event) (attempts : List Attempt) (now : Content) (file : Attempt) (b : ℕ) : Type 0 where
-    pub apart : AreApart attempts
+    pub apart : OpenDistinctBodies attempts
     pub owners : EachOf (IsOwner past h attempts now file b) attempts
 
   -- ---- what follows for each
@@ -110,8 +110,8 @@ module _ (c : Config) (start : Stamp) where
     abbrev Owner : Attempt → Type 0
     Owner = IsOwner past h attempts now file b
 
-    pub each_holds : EachOf (HoldsItsOwn attempts h now) attempts
-    each_holds = each_map Owner (HoldsItsOwn attempts h now) attempts (λ a o. o.holds) so.owners
+    pub each_holds : EachOf (ContainsItsPieces attempts h now) attempts
+    each_holds = each_map Owner (ContainsItsPieces attempts h now) attempts (λ a o. o.holds) so.owners
 
     pub each_stamp : EachOf (λ a. IsStamp c a.stamp) attempts
     each_stamp = each_map Owner (λ a. IsStamp c a.stamp) attempts (λ a o. o.in_range) so.owners
@@ -126,10 +126,10 @@ module _ (c : Config) (start : Stamp) where
     each_in_its_number fine = each_map Owner (CarriesItsNumber c start attempts h) attempts (λ a o. o.in_its_number fine) so.owners
 
     -- unless a switch failed, the open file is that of the latest moment's period
-    pub open_in_its_number : (i : ℕ) → carrier attempts i ≡ Some file → file.body ≡ Some b → NoneFailed past → key_of c file.stamp ≡ key_at c start past
+    pub open_in_its_number : (i : ℕ) → carrier attempts i ≡ Some file → file.body ≡ Some b → NoneFailed past → file_key c file.stamp ≡ key_at c start past
     open_in_its_number i here is fine =
         let o = each_carrier Owner attempts i file so.owners here in
-        same_by_is_same_key (key_at c start past) (key_of c file.stamp) (sym (o.in_time fine b is) ∙ equal file.step file.step refl)
+        same_by_is_same_key (key_at c start past) (file_key c file.stamp) (sym (o.in_time fine b is) ∙ equal file.step file.step refl)
 
   -- ---- no attempt more
 
@@ -141,20 +141,20 @@ module _ (c : Config) (start : Stamp) where
       owners = each_map (IsOwner h h attempts now file b) (IsOwner (e ∷ h) h attempts now file b) attempts
           (λ a o. record {
             in_range = o.in_range;
-            not_after = subst (λ (s : Key). IsNotAfter (key_of c a.stamp) s) (sym same) o.not_after;
+            not_after = subst (λ (s : FileKey). IsNotAfter (file_key c a.stamp) s) (sym same) o.not_after;
             at_step = let le = o.at_step in omega arith;
             there = o.there;
             own = o.own;
             stands = o.stands;
             mine = o.mine;
             holds = o.holds;
-            in_time = λ fine x is. o.in_time fine.1 x is ∙ ap (λ (s : Key). is_same_key s (key_of c a.stamp)) (sym same);
+            in_time = λ fine x is. o.in_time fine.1 x is ∙ ap (λ (s : FileKey). is_same_key s (file_key c a.stamp)) (sym same);
             in_its_number = λ fine. o.in_its_number fine.1;
           }) so.owners;
     }
 
     -- a change that keeps every body and its name
-    pub owners_kept : (past h : List Event) (old new : Content) → Keeps old new → ((a : Attempt) → IsOwner past h attempts old file b a → FileStays (file_name_of c a.stamp) old new) → AreOwners past h attempts old file b → AreOwners past h attempts new file b
+    pub owners_kept : (past h : List Event) (old new : Content) → KeepsBodies old new → ((a : Attempt) → IsOwner past h attempts old file b a → HadFile (file_name_of c a.stamp) old new) → AreOwners past h attempts old file b → AreOwners past h attempts new file b
     owners_kept past h old new keeps stay so = record {
       apart = so.apart;
       owners = each_map (IsOwner past h attempts old file b) (IsOwner past h attempts new file b) attempts
@@ -178,7 +178,7 @@ module _ (c : Config) (start : Stamp) where
       apart = so.apart;
       owners = each_map (IsOwner (e ∷ h) h attempts now file b) (IsOwner (e ∷ h) (e ∷ h) attempts (after_append now b e.piece) file b) attempts
           (λ a o.
-          let carried : passes (λ f. f.step == a.step) (carrier attempts (suc (length h))) ≡ (file.step == a.step) = rw here refl in
+          let carried : meets_test (λ f. f.step == a.step) (carrier attempts (suc (length h))) ≡ (file.step == a.step) = rw here refl in
           record {
             in_range = o.in_range;
             not_after = o.not_after;
@@ -193,15 +193,15 @@ module _ (c : Config) (start : Stamp) where
                 ∙ ap (λ t. body_at a.before x ++ (bytes_of_attempt a.step attempts h ++ (if t then e.piece else []))) (sym (carried ∙ o.mine x is));
             in_time = o.in_time;
             in_its_number = λ fine x is.
-                ap (λ w. w ++ (if passes (λ f. f.step == a.step) (carrier attempts (suc (length h))) then e.piece else [])) (o.in_its_number fine x is)
-                ∙ ap (λ t. bytes_under c start (key_of c a.stamp) h ++ (if t then e.piece else [])) (carried ∙ o.in_time fine x is);
+                ap (λ w. w ++ (if meets_test (λ f. f.step == a.step) (carrier attempts (suc (length h))) then e.piece else [])) (o.in_its_number fine x is)
+                ∙ ap (λ t. bytes_under c start (file_key c a.stamp) h ++ (if t then e.piece else [])) (carried ∙ o.in_time fine x is);
           }) so.owners;
     }
 
   -- ---- one attempt more
 
   -- one that fails
-  pub owners_with_failure : (rest : List Attempt) (e : Event) (h : List Event) (now : Content) (file : Attempt) (b : ℕ) (a : Attempt) → a.step ≡ suc (length h) → a.body ≡ None → IsStamp c a.stamp → key_of c a.stamp ≡ key_at c start (e ∷ h) → IsLaterKey (key_at c start h) (key_at c start (e ∷ h)) → e.switch ≡ SwitchFailed → AreOwners h h rest now file b → AreOwners (e ∷ h) h (a ∷ rest) now file b
+  pub owners_with_failure : (rest : List Attempt) (e : Event) (h : List Event) (now : Content) (file : Attempt) (b : ℕ) (a : Attempt) → a.step ≡ suc (length h) → a.body ≡ None → IsStamp c a.stamp → file_key c a.stamp ≡ key_at c start (e ∷ h) → IsLaterKey (key_at c start h) (key_at c start (e ∷ h)) → e.switch ≡ SwitchFailed → AreOwners h h rest now file b → AreOwners (e ∷ h) h (a ∷ rest) now file b
   owners_with_failure rest e h now file b a at none g here later failed so =
       let lt : length h < a.step = rw at (omega arith) in
       record {
@@ -222,7 +222,7 @@ module _ (c : Config) (start : Stamp) where
           each_map (IsOwner h h rest now file b) (IsOwner (e ∷ h) h (a ∷ rest) now file b) rest
               (λ f o. record {
                 in_range = o.in_range;
-                not_after = inr (then_later (key_of c f.stamp) (key_at c start h) (key_at c start (e ∷ h)) o.not_after later);
+                not_after = inr (then_later (file_key c f.stamp) (key_at c start h) (key_at c start (e ∷ h)) o.not_after later);
                 at_step = let le = o.at_step in omega arith;
                 there = o.there;
                 own = o.own;
@@ -236,7 +236,7 @@ module _ (c : Config) (start : Stamp) where
       }
 
   -- one that opens the body x under its name, where what it changes keeps all other files
-  module _ (a : Attempt) (x : ℕ) (old new : Content) (sound : IsSound new) (is : a.body ≡ Some x) (was : (y : ℕ) → body_at old y ≡ body_at a.before y) (in_range : IsStamp c a.stamp) (opens : Opens (file_name_of c a.stamp) old new x) (to : (t : Option ℤ) × (fin.get new.names (file_name_of c a.stamp) ≡ Some (File x t))) (keeps : KeepsOtherFiles (file_name_of c a.stamp) old new) (there : x < length new.bodies) where
+  module _ (a : Attempt) (x : ℕ) (old new : Content) (sound : IsSound new) (is : a.body ≡ Some x) (was : (y : ℕ) → body_at old y ≡ body_at a.before y) (in_range : IsStamp c a.stamp) (opens : OpensBody (file_name_of c a.stamp) old new x) (to : (t : Option ℤ) × (fin.get new.names (file_name_of c a.stamp) ≡ Some (File x t))) (keeps : AddsNoOtherFile (file_name_of c a.stamp) old new) (there : x < length new.bodies) where
     it : (y : ℕ) → a.body ≡ Some y → x ≡ y
     it y ay = same_body x y (sym is ∙ ay)
 
@@ -247,7 +247,7 @@ module _ (c : Config) (start : Stamp) where
     names_its_body y ay z t k = same_file z x t to.0 (sym k ∙ to.1) ∙ it y ay
 
     -- it owns what it opened
-    owner : (past h : List Event) (attempts : List Attempt) → key_of c a.stamp ≡ key_at c start past → a.step ≤ length past → bytes_of_attempt a.step attempts h ≡ [] → bytes_under c start (key_at c start past) h ≡ [] → IsOwner past h attempts new a x a
+    owner : (past h : List Event) (attempts : List Attempt) → file_key c a.stamp ≡ key_at c start past → a.step ≤ length past → bytes_of_attempt a.step attempts h ≡ [] → bytes_under c start (key_at c start past) h ≡ [] → IsOwner past h attempts new a x a
     owner past h attempts here at none none_in = record {
       in_range = in_range;
       not_after = inl here;
@@ -257,23 +257,23 @@ module _ (c : Config) (start : Stamp) where
       stands = names_its_body;
       mine = λ y ay. equal a.step a.step refl ∙ sym (equal x y (it y ay));
       holds = λ y ay. rw none (keeps.keeps.bytes y ∙ was y ∙ sym (append-nil (body_at a.before y)));
-      in_time = λ fine y ay. equal a.step a.step refl ∙ sym (ap (λ (k : Key). is_same_key (key_at c start past) k) here ∙ same_key_is_same (key_at c start past));
-      in_its_number = λ fine y ay. none ∙ sym (ap (λ (k : Key). bytes_under c start k h) here ∙ none_in);
+      in_time = λ fine y ay. equal a.step a.step refl ∙ sym (ap (λ (k : FileKey). is_same_key (key_at c start past) k) here ∙ same_key_is_same (key_at c start past));
+      in_its_number = λ fine y ay. none ∙ sym (ap (λ (k : FileKey). bytes_under c start k h) here ∙ none_in);
     }
 
     -- the opening
     pub owners_begin : start ≡ a.stamp → a.step ≡ 0 → AreOwners [] [] (a ∷ []) new a x
     owners_begin same at = record {
       apart = (tt, tt);
-      owners = (owner [] [] (a ∷ []) (ap (key_of c) (sym same)) (rw at (omega arith)) refl refl, tt);
+      owners = (owner [] [] (a ∷ []) (ap (file_key c) (sym same)) (rw at (omega arith)) refl refl, tt);
     }
 
-    module _ (rest : List Attempt) (e : Event) (h : List Event) (file : Attempt) (b : ℕ) (others : OtherNames c) (at : a.step ≡ suc (length h)) (here : key_of c a.stamp ≡ key_at c start (e ∷ h)) (later : IsLaterKey (key_at c start h) (key_at c start (e ∷ h))) where
+    module _ (rest : List Attempt) (e : Event) (h : List Event) (file : Attempt) (b : ℕ) (others : OtherNames c) (at : a.step ≡ suc (length h)) (here : file_key c a.stamp ≡ key_at c start (e ∷ h)) (later : IsLaterKey (key_at c start h) (key_at c start (e ∷ h))) where
       abbrev Earlier : Attempt → Type 0
       Earlier = IsOwner h h rest old file b
 
       earlier_name : (f : Attempt) → Earlier f → file_name_of c a.stamp ≢ file_name_of c f.stamp
-      earlier_name f o = others f.stamp a.stamp o.in_range in_range (subst (λ (k : Key). IsLaterKey (key_of c f.stamp) k) (sym here) (then_later (key_of c f.stamp) (key_at c start h) (key_at c start (e ∷ h)) o.not_after later))
+      earlier_name f o = others f.stamp a.stamp o.in_range in_range (subst (λ (k : FileKey). IsLaterKey (file_key c f.stamp) k) (sym here) (then_later (file_key c f.stamp) (key_at c start h) (key_at c start (e ∷ h)) o.not_after later))
 
       -- what is opened for another name is another body
       other_body : (f : Attempt) (y : ℕ) → Earlier f → f.body ≡ Some y → x ≢ y
@@ -297,7 +297,7 @@ module _ (c : Config) (start : Stamp) where
               owner (e ∷ h) h (a ∷ rest) here (rw at (omega arith)) none none_in,
               each_map Earlier (IsOwner (e ∷ h) h (a ∷ rest) new a x) rest
                   (λ f o.
-                  let after = then_later (key_of c f.stamp) (key_at c start h) (key_at c start (e ∷ h)) o.not_after later in
+                  let after = then_later (file_key c f.stamp) (key_at c start h) (key_at c start (e ∷ h)) o.not_after later in
                   let apart : (a.step == f.step) ≡ false = not_equal a.step f.step (let le = o.at_step in omega arith) in
                   record {
                     in_range = o.in_range;
@@ -308,7 +308,7 @@ module _ (c : Config) (start : Stamp) where
                     stands = λ y fy z t k. o.stands y fy z t (keeps.stay (file_name_of c f.stamp) (λ same. earlier_name f o (sym same)) z t k);
                     mine = λ y fy. apart ∙ sym (not_equal x y (other_body f y o fy));
                     holds = λ y fy. rw (pieces_before (λ g. g.step == f.step) a rest h lt) (keeps.keeps.bytes y ∙ o.holds y fy);
-                    in_time = λ fine y fy. apart ∙ sym (later_key_differs (key_of c f.stamp) (key_at c start (e ∷ h)) after).0;
+                    in_time = λ fine y fy. apart ∙ sym (later_key_differs (file_key c f.stamp) (key_at c start (e ∷ h)) after).0;
                     in_its_number = λ fine y fy. rw (pieces_before (λ g. g.step == f.step) a rest h lt) (o.in_its_number fine.1 y fy);
                   }) so.owners,
             );

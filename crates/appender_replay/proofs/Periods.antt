@@ -9,7 +9,7 @@ use Rattle.appender_names.specs.declared.rotation.Rotation.{Rotation}
 use Rattle.appender_names.specs.Rotation.{IsMoment, is_moment, is_same_start, period_of, period_of_kind, next_of, step_of, IsGreatestBoundary, IsNextBoundary, PeriodsBeginAtBoundaries, PeriodsEndAtBoundaries}
 use Rattle.appender_rolling.specs.Roller.{is_due}
 use Rattle.appender_names.proofs.Periods.{is_same_is}
-use Rattle.appender_replay.specs.Run.{Key, is_same_key}
+use Rattle.appender_replay.specs.Run.{FileKey, is_same_key}
 
 pub record Laws (r : Rotation) : Type 0 where
   pub begins : PeriodsBeginAtBoundaries r
@@ -119,24 +119,24 @@ later_still (Some p) (Some q) (Some s) h k = omega (arith, ints)
 -- ---- a period and a number in it
 
 -- a later period, or in one period a greater number
-abbrev pub IsLaterKey : Key → Key → Type 0
+abbrev pub IsLaterKey : FileKey → FileKey → Type 0
 IsLaterKey a b = IsLater a.0 b.0 ⊎ ((a.0 ≡ b.0) × (a.1 < b.1))
 
-pub same_key_is_same : (a : Key) → is_same_key a a ≡ true
+pub same_key_is_same : (a : FileKey) → is_same_key a a ≡ true
 same_key_is_same a = let number : (a.1 == a.1) ≡ true = grind arith in rw (is_same_is a.0, number) refl
 
 neither : (t : Bool) → (t && false) ≡ false
 neither true = refl
 neither false = refl
 
-pub later_key_differs : (a b : Key) → IsLaterKey a b → (is_same_key b a ≡ false) × (is_same_key a b ≡ false)
+pub later_key_differs : (a b : FileKey) → IsLaterKey a b → (is_same_key b a ≡ false) × (is_same_key a b ≡ false)
 later_key_differs a b (inl later) = let other = later_differs a.0 b.0 later in (rw other.0 refl, rw other.1 refl)
 later_key_differs a b (inr (same, lt)) =
     let back : (b.1 == a.1) ≡ false = grind arith in
     let front : (a.1 == b.1) ≡ false = grind arith in
     (rw back (neither (is_same_start b.0 a.0)), rw front (neither (is_same_start a.0 b.0)))
 
-pub later_key_still : (a b c : Key) → IsLaterKey a b → IsLaterKey b c → IsLaterKey a c
+pub later_key_still : (a b c : FileKey) → IsLaterKey a b → IsLaterKey b c → IsLaterKey a c
 later_key_still a b c (inl k) (inl l) = inl (later_still a.0 b.0 c.0 k l)
 later_key_still a b c (inl k) (inr (same, lt)) = inl (subst (λ (q : Option ℤ). IsLater a.0 q) same k)
 later_key_still a b c (inr (same, lt)) (inl l) = inl (subst (λ (q : Option ℤ). IsLater q c.0) (sym same) l)

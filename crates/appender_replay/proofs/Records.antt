@@ -9,15 +9,15 @@ use Rattle.appender_queue.specs.Queue.{Queue, is_open, has_room, is_sent, has_li
 use Rattle.appender_queue.specs.QueueReplies.{shut_reply}
 use Rattle.appender_queue.specs.declared.queue.Shut.TheVariants.{Sent, Already, Full as ShutFull, Closed as ShutClosed}
 use Rattle.appender_store.specs.declared.store.Folder.{Ghosts}
-use Rattle.appender_replay.specs.Record.{Answered, Offered, accepted_lines, handed_lines, lines_left, is_closed, shutdown_place, worker_after, with_ticket, queue_after}
-use Rattle.appender_replay.specs.Answers.{take_answer}
-use Rattle.appender_replay.specs.Inside.Steps.{Parts, OffersCopy, WorkDoes, StepDoes, take_finds}
+use Rattle.appender_replay.specs.Record.{StepWithReply, Offered, accepted_lines, handed_lines, lines_left, is_closed, shutdown_place, worker_after, with_ticket, queue_after}
+use Rattle.appender_replay.specs.Answers.{run_take_reply}
+use Rattle.appender_replay.specs.Inside.Steps.{Parts, OffersCopy, WorkDoes, RunStepDoes, take_finds}
 use Rattle.appender_replay.specs.declared.replay.whole.Step.TheVariants.{Offer, Shut, AddSender, DropSender, Work}
 use Rattle.appender_replay.specs.declared.replay.whole.Reply.{Reply}
 use Rattle.appender_replay.specs.declared.replay.whole.Reply.TheVariants.{Accepted, Full, Closed, Shut as DidShut, Took, TookShutdown, TookGone, TookEmpty, Wrote, Flushed}
 
 -- queue and worker are what the told steps come to
-pub record Stands (limit : ℕ) (lossy : Bool) (past : List Answered) (q : Queue) (core : Core) : Type 0 where
+pub record Stands (limit : ℕ) (lossy : Bool) (past : List StepWithReply) (q : Queue) (core : Core) : Type 0 where
   pub queue : q ≡ queue_after limit lossy past
   pub worker : core ≡ worker_after past
 
@@ -39,7 +39,7 @@ drop_more n xs = drop-drop 1 n xs
 abbrev with_place : ℕ → List Offered → Offered
 with_place n lines = get_or lines n (0, [])
 
-module _ (limit : ℕ) (lossy : Bool) (past : List Answered) where
+module _ (limit : ℕ) (lossy : Bool) (past : List StepWithReply) where
   -- an accepted line
   accepts : (label k : ℕ) (line : Vec ℕ Global) → is_closed past ≡ false → length (handed_lines past) ≤ length (accepted_lines past)
       → after_acceptance (queue_after limit lossy past) line.items ≡ queue_after limit lossy ((Offer label line, Accepted k) ∷ past)
@@ -118,7 +118,7 @@ module _ (limit : ℕ) (lossy : Bool) (past : List Answered) where
   worked kind (Taking waits) m reply old new w q does =
       let now : Queue = queue_after limit lossy past in
       took (is_closed past) (has_line now) (is_sent now.shutdown) (now.senders == 0) waits m reply new.queue new.worker refl w
-      (does.0 ∙ ap take_answer q) (does.1 ∙ ap (λ x. after_take x waits) q) (does.2 ∙ ap (λ x. after_took (Taking waits) (take_finds x)) q)
+      (does.0 ∙ ap run_take_reply q) (does.1 ∙ ap (λ x. after_take x waits) q) (does.2 ∙ ap (λ x. after_took (Taking waits) (take_finds x)) q)
   worked kind (Writing rest repeats) m (Wrote switch answer) old new w q does = record { queue = does.1 ∙ q; worker = rw w does.0.3 }
   worked kind (Writing rest repeats) m _ old new w q does = absurd does.0
   worked kind Over m reply old new w q does = record { queue = rw does.0 (does.1 ∙ q); worker = rw (does.0, w) does.2 }
@@ -128,8 +128,8 @@ module _ (limit : ℕ) (lossy : Bool) (past : List Answered) where
   worked kind (Ending n) m _ old new w q does = absurd does.0
 
   -- one more step
-  pub stands_on : {S F : Type 0} (kind : Ghosts S F) (t : Answered) (old new : Parts S F) → length (handed_lines past) ≤ length (accepted_lines past)
-      → Stands limit lossy past old.queue old.worker → StepDoes kind t old new → Stands limit lossy (t ∷ past) new.queue new.worker
+  pub stands_on : {S F : Type 0} (kind : Ghosts S F) (t : StepWithReply) (old new : Parts S F) → length (handed_lines past) ≤ length (accepted_lines past)
+      → Stands limit lossy past old.queue old.worker → RunStepDoes kind t old new → Stands limit lossy (t ∷ past) new.queue new.worker
   stands_on kind (Offer label line, reply) old new most so does = record {
     queue = offered label line reply new.queue most (subst (λ (q : Queue). OffersCopy q line.items reply new.queue) so.queue does.0);
     worker = does.1 ∙ so.worker;

@@ -6,23 +6,23 @@ use Rattle.appender_names.specs.Rotation.{IsMoment, period_of}
 use Rattle.appender_store.specs.declared.store.Folder.{Ghosts}
 use Rattle.appender_store.specs.Content.{IsSound, after_append}
 use Rattle.appender_store.proofs.Appends.{after_append_nothing}
-use Rattle.appender_store.specs.Folder.{AreCounts, Counts}
+use Rattle.appender_store.specs.Folder.{AreNotedCounts, NotedCounts}
 use Rattle.appender_store.specs.NameLaws.{NameLaws}
 use Rattle.appender_retain.specs.Pruning.{IsQuiet}
 use Rattle.appender_rolling.specs.Config.{Config, naming_of, log_files_of, IsStamp, MayLimit, is_limited, last_of, stamp}
-use Rattle.appender_names.specs.Name.{last_by}
+use Rattle.appender_names.specs.Name.{greatest_number}
 use Rattle.appender_names.specs.Rotation.{period_of_kind}
 use Rattle.appender_names.specs.declared.rotation.RotationKind.{RotationKind}
 use Rattle.appender_names.specs.declared.rotation.RotationKind.TheVariants.{Minutely, Hourly, Daily, Weekly, Never}
 use Rattle.appender_rolling.specs.declared.rolling.setup.Stamp.{Stamp}
 use Rattle.std.specs.Prelude.{unwrap_or}
-use Rattle.appender_rolling.specs.Kept.{PartsKeep}
-use Rattle.appender_rolling.specs.Opening.{file_name_of, OpensFile, LeavesLittle}
+use Rattle.appender_rolling.specs.Kept.{OpeningPartsKeepBodies}
+use Rattle.appender_rolling.specs.Opening.{file_name_of, OpensFile, IsRefusalEffect}
 use Rattle.appender_rolling.specs.Roller.{Rolling, OpensRoller}
 use Rattle.appender_rolling.specs.declared.rolling.Switch.{Switch}
 use Rattle.appender_rolling.specs.declared.rolling.Switch.TheVariants.{None as Stayed, Opened as Switched, Failed as SwitchFailed}
-use Rattle.appender_replay.specs.Run.{Event, Attempt, period_at, stamp_at, last_stamp, last_opened, times, key_of, key_at, Seen, NotedAtAttempts}
-use Rattle.appender_replay.specs.Replay.{RollAnswered, RollerFollows, LeadsTo, RunsFrom, RollDoes, roll_event, events_by, with_replies_onto, seen_of, seen_after, seen_in}
+use Rattle.appender_replay.specs.Run.{Event, Attempt, period_at, stamp_at, last_stamp, last_opened, attempt_times, file_key, key_at, StepState, NotedAtAttempts}
+use Rattle.appender_replay.specs.Replay.{RollStepWithReply, RollerFollows, LeadsTo, RunsFrom, RollDoes, roll_event, events_by, with_replies_onto, step_state_of, step_states_after, run_states}
 use Rattle.appender_replay.proofs.Periods.{Laws, IsLater, IsLaterKey}
 use Rattle.appender_replay.proofs.Turns.{LooksBy, Turns, step_turns}
 use Rattle.appender_replay.proofs.Clocks.{ClockSoFar, Comes, Stays, Goes, comes, stamp_by, clock_begins, clock_goes_on, turn_decides, turn_keeps}
@@ -40,10 +40,10 @@ pub record Grounds {S F : Type 0} (kind : Ghosts S F) (config : Config) : Type 0
   pub laws : Laws config.rotation
   pub others : OtherNames config
   pub maps : NameLaws
-  pub parts : PartsKeep
+  pub parts : OpeningPartsKeepBodies
   pub sound : (folder : S) → IsTrue kind.is_known → IsSound (kind.content folder)
   pub failures_fit : (folder : S) → kind.failures folder < 2 ^ 64
-  pub noted_fit : (folder : S) → AreCounts (kind.noted folder)
+  pub noted_fit : (folder : S) → AreNotedCounts (kind.noted folder)
 
 -- the events of any kind of step, one after another
 abbrev pub TurnsFrom : {S F : Type 0} → Ghosts S F → List Event → Rolling S F → Rolling S F → Type 0
@@ -56,9 +56,9 @@ turns_from kind does event turn [] old new runs = runs
 turns_from kind does event turn (t ∷ past) old new (between, earlier, is) = (between, turns_from kind does event turn past old between earlier, turn past t between new is)
 
 -- what is seen after each step of a run of turns
-abbrev IsSeen : {S F : Type 0} → (kind : Ghosts S F) → (ℕ → Seen) → (h : List Event) (old new : Rolling S F) → TurnsFrom kind h old new → Type 0
-IsSeen kind seen [] old new runs = seen 0 ≡ seen_of kind [] old
-IsSeen kind seen (e ∷ h) old new (between, runs, is) = (seen (suc (length h)) ≡ seen_of kind e.piece new) × IsSeen kind seen h old between runs
+abbrev IsSeen : {S F : Type 0} → (kind : Ghosts S F) → (ℕ → StepState) → (h : List Event) (old new : Rolling S F) → TurnsFrom kind h old new → Type 0
+IsSeen kind seen [] old new runs = seen 0 ≡ step_state_of kind [] old
+IsSeen kind seen (e ∷ h) old new (between, runs, is) = (seen (suc (length h)) ≡ step_state_of kind e.piece new) × IsSeen kind seen h old between runs
 
 length-events : {T : Type 0} (event : List T → T → Event) (past : List T) → length (events_by event past) ≡ length past
 length-events event [] = refl
@@ -66,7 +66,7 @@ length-events event (t ∷ past) = ap suc (length-events event past)
 
 -- so it is of what was seen of the steps
 is_seen : {S F T : Type 0} (kind : Ghosts S F) (does : List T → T → Rolling S F → Rolling S F → Type 0) (event : List T → T → Event) (turn : (earlier : List T) (t : T) (old new : Rolling S F) → does earlier t old new → Turns kind (event earlier t) old new)
-    → (seen : ℕ → Seen) (past : List T) (old new : Rolling S F) (runs : LeadsTo does past old new) → ((n : ℕ) → n ≤ length past → seen n ≡ seen_after kind event does past old new runs n)
+    → (seen : ℕ → StepState) (past : List T) (old new : Rolling S F) (runs : LeadsTo does past old new) → ((n : ℕ) → n ≤ length past → seen n ≡ step_states_after kind event does past old new runs n)
     → IsSeen kind seen (events_by event past) old new (turns_from kind does event turn past old new runs)
 is_seen kind does event turn seen [] old new runs agree = agree 0 (omega arith)
 is_seen kind does event turn seen (t ∷ past) old new (between, runs, is) agree =
@@ -75,7 +75,7 @@ is_seen kind does event turn seen (t ∷ past) old new (between, runs, is) agree
       is_seen kind does event turn seen past old between runs (λ n le. agree n (omega arith) ∙ (let no : nat_le (suc (length past)) n ≡ false = grind arith in rw no refl)),
     )
 
-module _ {S F : Type 0} (kind : Ghosts S F) (config : Config) (start : Stamp) (first : S) (begin : Counts) (seen : ℕ → Seen) where
+module _ {S F : Type 0} (kind : Ghosts S F) (config : Config) (start : Stamp) (first : S) (begin : NotedCounts) (seen : ℕ → StepState) where
   -- the law of the files for a roller
   abbrev pub Holds : List Event → List Event → Rolling S F → Type 0
   Holds past h now =
@@ -87,7 +87,7 @@ module _ {S F : Type 0} (kind : Ghosts S F) (config : Config) (start : Stamp) (f
     pub is_stamp : IsStamp config start
     pub clock : ClockSoFar config start h now
     pub files : IsTrue kind.is_known → Holds h h now
-    pub opened_is : now.opened ≡ last_opened start (times config start h)
+    pub opened_is : now.opened ≡ last_opened start (attempt_times config start h)
     pub noted : NotedAtAttempts config start seen h
     pub seen_content : (seen (length h)).content ≡ kind.content now.folder
     pub seen_noted : (seen (length h)).noted ≡ kind.noted now.folder
@@ -110,7 +110,7 @@ module _ {S F : Type 0} (kind : Ghosts S F) (config : Config) (start : Stamp) (f
     succeeds : (step : ℕ) (m : Stamp) (old ready new : S) (file : F) → IsTrue kind.is_known → OpensFile kind config (file_name_of config m) old file ready → kind.content new ≡ kind.content ready → (IsQuiet (kind.noted old) (kind.noted new) → IsQuiet (kind.noted old) (kind.noted ready)) → Succeeds config (attempted step m old new file) (kind.body file)
     succeeds step m old ready new file is_known o same quieter =
         let only_old = o.prunes.only_old is_known in
-        let survivors = λ (quiet : IsQuiet (kind.noted old) (kind.noted new)). o.prunes.survivors (subst (λ (n : Counts). IsQuiet (kind.noted old) n) o.noted (quieter quiet)) is_known in
+        let survivors = λ (quiet : IsQuiet (kind.noted old) (kind.noted new)). o.prunes.survivors (subst (λ (n : NotedCounts). IsQuiet (kind.noted old) n) o.noted (quieter quiet)) is_known in
         record {
           did = record {
             pruned = kind.content o.pruned;
@@ -131,10 +131,10 @@ module _ {S F : Type 0} (kind : Ghosts S F) (config : Config) (start : Stamp) (f
           there = rw same (o.body_is_there is_known);
         }
 
-    run_begins : (now : Rolling S F) → (o : OpensRoller kind config start.moment first now) → o.number ≡ start.number → kind.noted o.listed ≡ begin → seen 0 ≡ seen_of kind [] now → RunSoFar [] now
+    run_begins : (now : Rolling S F) → (o : OpensRoller kind config start.moment first now) → o.number ≡ start.number → kind.noted o.listed ≡ begin → seen 0 ≡ step_state_of kind [] now → RunSoFar [] now
     run_begins now o number counts is_seen_now =
         let same : stamp start.moment o.number ≡ start = rw number refl in
-        let is_stamp : IsStamp config start = record { in_range = o.in_range; number_is = rw (← number) o.finds.number_is } in
+        let is_stamp : IsStamp config start = record { in_range = o.may_open.in_range; number_is = rw (← number) o.finds.number_is } in
         let opens : OpensFile kind config (file_name_of config start) o.listed now.file now.folder = rw (← number) o.opens in
         record {
           config_is = o.config_is;
@@ -142,23 +142,23 @@ module _ {S F : Type 0} (kind : Ghosts S F) (config : Config) (start : Stamp) (f
           clock = clock_begins config start grounds.laws now is_stamp (o.last ∙ same) o.boundary o.room;
           files = λ is_known. subst (λ (x : Stamp). FilesSoFar config start seen [] [] (kind.content first) (kind.content now.folder) begin x (kind.body now.file)) (sym (o.opened ∙ same))
               (rw (← o.finds.content, ← counts) (files_begin config start seen grounds.parts grounds.maps (attempted 0 start o.listed now.folder now.file) (kind.body now.file) refl refl refl is_stamp (succeeds 0 start o.listed now.folder now.folder now.file is_known opens refl (λ quiet. quiet))
-              (record { before = refl; noted_before = refl; after = rw is_seen_now (sym (after_append_nothing (kind.content now.folder) (kind.body now.file))); noted_after = sym (ap (λ (s : Seen). s.noted) is_seen_now) })));
+              (record { before = refl; noted_before = refl; after = rw is_seen_now (sym (after_append_nothing (kind.content now.folder) (kind.body now.file))); noted_after = sym (ap (λ (s : StepState). s.noted) is_seen_now) })));
           opened_is = o.opened ∙ same;
           noted = tt;
-          seen_content = ap (λ (s : Seen). s.content) is_seen_now;
-          seen_noted = ap (λ (s : Seen). s.noted) is_seen_now;
+          seen_content = ap (λ (s : StepState). s.content) is_seen_now;
+          seen_noted = ap (λ (s : StepState). s.noted) is_seen_now;
           fit = tt;
         }
 
     module _ (starts : IsMoment start.moment) where
-      key : (s : Stamp) (e : Event) (h : List Event) → stamp_at config start (times config start h) e h ≡ Some s → period_of config.rotation s.moment ≡ period_at config.rotation start.moment (e ∷ h) → key_of config s ≡ key_at config start (e ∷ h)
+      key : (s : Stamp) (e : Event) (h : List Event) → stamp_at config start (attempt_times config start h) e h ≡ Some s → period_of config.rotation s.moment ≡ period_at config.rotation start.moment (e ∷ h) → file_key config s ≡ key_at config start (e ∷ h)
       key s e h some period = rw some (ap (λ (p : Option ℤ). (p, s.number)) period)
 
-      same_key : (e : Event) (h : List Event) → stamp_at config start (times config start h) e h ≡ None → period_at config.rotation start.moment (e ∷ h) ≡ period_at config.rotation start.moment h → key_at config start (e ∷ h) ≡ key_at config start h
-      same_key e h none same = rw none (ap (λ (p : Option ℤ). (p, (last_stamp start (times config start h)).number)) same)
+      same_key : (e : Event) (h : List Event) → stamp_at config start (attempt_times config start h) e h ≡ None → period_at config.rotation start.moment (e ∷ h) ≡ period_at config.rotation start.moment h → key_at config start (e ∷ h) ≡ key_at config start h
+      same_key e h none same = rw none (ap (λ (p : Option ℤ). (p, (last_stamp start (attempt_times config start h)).number)) same)
 
-      later_key : (s : Stamp) (e : Event) (h : List Event) → stamp_at config start (times config start h) e h ≡ Some s
-          → IsLater (period_at config.rotation start.moment h) (period_at config.rotation start.moment (e ∷ h)) ⊎ ((period_at config.rotation start.moment h ≡ period_at config.rotation start.moment (e ∷ h)) × ((last_stamp start (times config start h)).number < s.number))
+      later_key : (s : Stamp) (e : Event) (h : List Event) → stamp_at config start (attempt_times config start h) e h ≡ Some s
+          → IsLater (period_at config.rotation start.moment h) (period_at config.rotation start.moment (e ∷ h)) ⊎ ((period_at config.rotation start.moment h ≡ period_at config.rotation start.moment (e ∷ h)) × ((last_stamp start (attempt_times config start h)).number < s.number))
           → IsLaterKey (key_at config start h) (key_at config start (e ∷ h))
       later_key s e h some later = rw some later
 
@@ -194,7 +194,7 @@ module _ {S F : Type 0} (kind : Ghosts S F) (config : Config) (start : Stamp) (f
           by (Some m) read SwitchFailed is (Stays none agrees stays) looks = absurd (let both : ◌≡◌ {A = Option Stamp} None (Some looks.at_stamp) = sym (rw read at agrees) ∙ looks.cause in cc)
           by (Some m) read SwitchFailed is (Goes s some agrees is_stamp period later) looks =
               let it : looks.at_stamp ≡ s = same_stamp looks.at_stamp s (sym looks.cause ∙ (rw read at agrees)) in
-              let little : LeavesLittle config (file_name_of config s) (kind.content old.folder) (kind.content now.folder) = rw (← it, ← same) (looks.content is_known) in
+              let little : IsRefusalEffect config (file_name_of config s) (kind.content old.folder) (kind.content now.folder) = rw (← it, ← same) (looks.content is_known) in
               rw (looks.opened, looks.file)
               (a_failure config start seen grounds.parts grounds.maps grounds.laws grounds.others starts e h (kind.content first) begin old.opened (kind.body old.file) s some is_stamp (key s e h some period) (later_key s e h some later)
               (kind.content old.folder) (kind.content now.folder) (kind.noted old.folder) (kind.noted now.folder) is little (record { before = at_step.before; noted_before = at_step.noted_before; after = at_step.after; noted_after = at_step.noted_after }) so)
@@ -207,7 +207,7 @@ module _ {S F : Type 0} (kind : Ghosts S F) (config : Config) (start : Stamp) (f
           (a_piece config start seen e h (kind.content first) (kind.content t.between.folder) begin t.between.opened (kind.body t.between.file) between)
 
       opened_by : (e : Event) (h : List Event) (old now : Rolling S F) (read : Option ℤ) → e.read ≡ read → (switch : Switch) → e.switch ≡ switch → Comes config start grounds.laws e h old → LooksBy kind read e.offered switch old now
-          → old.opened ≡ last_opened start (times config start h) → now.opened ≡ last_opened start (times config start (e ∷ h))
+          → old.opened ≡ last_opened start (attempt_times config start h) → now.opened ≡ last_opened start (attempt_times config start (e ∷ h))
       opened_by e h old now None read switch is (Stays none agrees stays) looks so = rw (looks.1, none) so
       opened_by e h old now None read switch is (Goes s some agrees is_stamp period later) looks so = absurd (let none : ◌≡◌ {A = Option Stamp} None (Some s) = rw read at agrees in cc)
       opened_by e h old now (Some m) read Stayed is (Stays none agrees stays) looks so = rw (looks.1, none) so
@@ -225,11 +225,11 @@ module _ {S F : Type 0} (kind : Ghosts S F) (config : Config) (start : Stamp) (f
       noted_same e h old now (Some m) read SwitchFailed agrees looks = absurd (let both : ◌≡◌ {A = Option Stamp} None (Some looks.at_stamp) = sym (rw read at agrees) ∙ looks.cause in cc)
 
       noted_by : (e : Event) (h : List Event) (old now : Rolling S F) → Comes config start grounds.laws e h old → LooksBy kind e.read e.offered e.switch old now
-          → stamp_at config start (times config start h) e h ≡ None → kind.noted now.folder ≡ kind.noted old.folder
+          → stamp_at config start (attempt_times config start h) e h ≡ None → kind.noted now.folder ≡ kind.noted old.folder
       noted_by e h old now (Stays none agrees stays) looks never = noted_same e h old now e.read refl e.switch agrees looks
       noted_by e h old now (Goes s some agrees is_stamp period later) looks never = absurd (let both : ◌≡◌ {A = Option Stamp} None (Some s) = sym never ∙ some in cc)
 
-      turn_goes_on : (e : Event) (h : List Event) (old new : Rolling S F) → RunSoFar h old → Turns kind e old new → seen (suc (length h)) ≡ seen_of kind e.piece new → RunSoFar (e ∷ h) new
+      turn_goes_on : (e : Event) (h : List Event) (old new : Rolling S F) → RunSoFar h old → Turns kind e old new → seen (suc (length h)) ≡ step_state_of kind e.piece new → RunSoFar (e ∷ h) new
       turn_goes_on e h old new so turns is_seen_now =
           let come = comes config start grounds.laws e h old so.config_is so.clock in
           record {
@@ -240,12 +240,12 @@ module _ {S F : Type 0} (kind : Ghosts S F) (config : Config) (start : Stamp) (f
               before = sym so.seen_content;
               noted_before = sym so.seen_noted;
               after = rw (is_seen_now, turns.stays.file) (turns.content is_known);
-              noted_after = sym (ap (λ (s : Seen). s.noted) is_seen_now ∙ turns.stays.noted);
+              noted_after = sym (ap (λ (s : StepState). s.noted) is_seen_now ∙ turns.stays.noted);
             });
-            seen_content = ap (λ (s : Seen). s.content) is_seen_now;
-            seen_noted = ap (λ (s : Seen). s.noted) is_seen_now;
+            seen_content = ap (λ (s : StepState). s.content) is_seen_now;
+            seen_noted = ap (λ (s : StepState). s.noted) is_seen_now;
             noted = (
-              λ none. ap (λ (s : Seen). s.noted) is_seen_now ∙ turns.stays.noted ∙ noted_by e h old turns.between come turns.looks none ∙ sym so.seen_noted,
+              λ none. ap (λ (s : StepState). s.noted) is_seen_now ∙ turns.stays.noted ∙ noted_by e h old turns.between come turns.looks none ∙ sym so.seen_noted,
               so.noted,
             );
             fit = (turns.fits, so.fit);
@@ -255,21 +255,21 @@ module _ {S F : Type 0} (kind : Ghosts S F) (config : Config) (start : Stamp) (f
     -- any run keeps to the laws
     pub turns_law : (h : List Event) (opened now : Rolling S F) → (o : OpensRoller kind config start.moment first opened) → o.number ≡ start.number → kind.noted o.listed ≡ begin → (runs : TurnsFrom kind h opened now) → IsSeen kind seen h opened now runs → RunSoFar h now
     turns_law [] opened now o number counts runs is = rw runs (run_begins opened o number counts is)
-    turns_law (e ∷ h) opened now o number counts (between, earlier, turns) is = turn_goes_on o.in_range e h between now (turns_law h opened between o number counts earlier is.1) turns is.0
+    turns_law (e ∷ h) opened now o number counts (between, earlier, turns) is = turn_goes_on o.may_open.in_range e h between now (turns_law h opened between o number counts earlier is.1) turns is.0
 
 -- any run whose steps are turns of a roller does
-pub run_law : {S F T : Type 0} (kind : Ghosts S F) (does : List T → T → Rolling S F → Rolling S F → Type 0) (event : List T → T → Event) (config : Config) (start : ℤ) (number : ℕ) (folder : S) (past : List T) (last : Rolling S F) → ((earlier : List T) (t : T) (old new : Rolling S F) → does earlier t old new → Turns kind (event earlier t) old new) → Grounds kind config → (run : RunsFrom kind does config start number folder past last) → RunSoFar kind config (stamp start number) folder (kind.noted run.opens.listed) (seen_in event run) (events_by event past) last
+pub run_law : {S F T : Type 0} (kind : Ghosts S F) (does : List T → T → Rolling S F → Rolling S F → Type 0) (event : List T → T → Event) (config : Config) (start : ℤ) (number : ℕ) (folder : S) (past : List T) (last : Rolling S F) → ((earlier : List T) (t : T) (old new : Rolling S F) → does earlier t old new → Turns kind (event earlier t) old new) → Grounds kind config → (run : RunsFrom kind does config start number folder past last) → RunSoFar kind config (stamp start number) folder (kind.noted run.opens.listed) (run_states event run) (events_by event past) last
 run_law kind does event config start number folder past last turn grounds run =
-    turns_law kind config (stamp start number) folder (kind.noted run.opens.listed) (seen_in event run) grounds (events_by event past) run.first last run.opens run.number_is refl (turns_from kind does event turn past run.first last run.runs)
-    (is_seen kind does event turn (seen_in event run) past run.first last run.runs (λ n le. refl))
+    turns_law kind config (stamp start number) folder (kind.noted run.opens.listed) (run_states event run) grounds (events_by event past) run.first last run.opens run.number_is refl (turns_from kind does event turn past run.first last run.runs)
+    (is_seen kind does event turn (run_states event run) past run.first last run.runs (λ n le. refl))
 
 -- and so does a run of a roller's own steps
-pub roll_law : {S F : Type 0} (kind : Ghosts S F) (config : Config) (start : ℤ) (number : ℕ) (folder : S) (past : List RollAnswered) (last : Rolling S F) → Grounds kind config → (run : RunsFrom kind (RollDoes kind) config start number folder past last) → RunSoFar kind config (stamp start number) folder (kind.noted run.opens.listed) (seen_in roll_event run) (events_by roll_event past) last
+pub roll_law : {S F : Type 0} (kind : Ghosts S F) (config : Config) (start : ℤ) (number : ℕ) (folder : S) (past : List RollStepWithReply) (last : Rolling S F) → Grounds kind config → (run : RunsFrom kind (RollDoes kind) config start number folder past last) → RunSoFar kind config (stamp start number) folder (kind.noted run.opens.listed) (run_states roll_event run) (events_by roll_event past) last
 roll_law kind config start number folder past last = run_law kind (RollDoes kind) roll_event config start number folder past last (λ earlier. step_turns kind)
 
 -- what a run that keeps to the laws says of its roller
 pub follows : {S F T : Type 0} (kind : Ghosts S F) (does : List T → T → Rolling S F → Rolling S F → Type 0) (event : List T → T → Event) (config : Config) (start : ℤ) (number : ℕ) (folder : S) (past : List T) (last : Rolling S F)
-    → ((run : RunsFrom kind does config start number folder past last) → RunSoFar kind config (stamp start number) folder (kind.noted run.opens.listed) (seen_in event run) (events_by event past) last)
+    → ((run : RunsFrom kind does config start number folder past last) → RunSoFar kind config (stamp start number) folder (kind.noted run.opens.listed) (run_states event run) (events_by event past) last)
     → RunsFrom kind does config start number folder past last → RollerFollows kind does event config start number folder past last
 follows kind does event config start number folder past last law run =
     let so = law run in
@@ -302,7 +302,7 @@ never_is Never m e = refl
 no_greater : (config : Config) (s t : Stamp) → MayLimit config → t.number ≤ last_of config → s.number < t.number → period_of config.rotation s.moment ≡ None → ⊥
 no_greater config s t may le lt none = by (is_limited config) refl le
   where
-    by : (b : Bool) → is_limited config ≡ b → t.number ≤ last_by b → ⊥
+    by : (b : Bool) → is_limited config ≡ b → t.number ≤ greatest_number b → ⊥
     by false is low = absurd (omega (arith, low, lt))
     by true is low = may is (never_is config.rotation.kind s.moment none)
 

@@ -2,17 +2,17 @@
 use Rattle.std.proofs.Common.{◌≡◌, ℕ, ℤ, ◌+◌, ◌≤◌, Bool, true, false, if◌then◌else◌, List, [], ◌∷◌, length, None, inl, inr, refl, ap, sym, ◌∙◌, subst, arith}
 use Rattle.std.specs.Prelude.{◌==◌}
 use Rattle.appender_worker.specs.Core.{Core, Taking, Writing, Flushing, Ending, Over}
-use Rattle.appender_queue.specs.Queue.{Queue, has_line, is_sent, fresh}
+use Rattle.appender_queue.specs.Queue.{Queue, has_line, is_sent, new_queue}
 use Rattle.appender_store.specs.declared.store.Folder.{Ghosts}
 use Rattle.appender_store.proofs.Appends.{after_append_nothing}
 use Rattle.appender_rolling.specs.Config.{Config}
-use Rattle.appender_rolling.specs.Roller.{Rolling, OpensRoller, StaysOpen}
+use Rattle.appender_rolling.specs.Roller.{Rolling, OpensRoller, KeepsOpenFile}
 use Rattle.appender_rolling.specs.declared.rolling.Switch.TheVariants.{None as Stayed}
 use Rattle.appender_replay.specs.Run.{Event}
-use Rattle.appender_replay.specs.Replay.{RunsFrom, seen_in}
-use Rattle.appender_replay.specs.Record.{Answered, worker_after, queue_after}
-use Rattle.appender_replay.specs.Answers.{StepAnswers, WorkAnswers, Answers, RollerDoes, WorkerDoes, rest_of, file_event, worker_event, events}
-use Rattle.appender_replay.specs.Inside.Steps.{Parts, StepDoes, WorkDoes}
+use Rattle.appender_replay.specs.Replay.{RunsFrom, run_states}
+use Rattle.appender_replay.specs.Record.{StepWithReply, worker_after, queue_after}
+use Rattle.appender_replay.specs.Answers.{IsStepReply, IsWorkReply, AreRunReplies, RollerDoes, WorkerDoes, rest_of, file_event, run_event, events}
+use Rattle.appender_replay.specs.Inside.Steps.{Parts, RunStepDoes, WorkDoes}
 use Rattle.appender_replay.specs.declared.replay.whole.Step.TheVariants.{Offer, Shut, AddSender, DropSender, Work}
 use Rattle.appender_replay.specs.declared.replay.whole.Reply.{Reply}
 use Rattle.appender_replay.specs.declared.replay.whole.Reply.TheVariants.{Took, TookShutdown, TookGone, TookEmpty, Wrote, Flushed}
@@ -24,9 +24,9 @@ use Rattle.appender_replay.proofs.Records.{Stands, stands_on}
 use Rattle.appender_replay.proofs.Orders.{in_order}
 
 -- What is known after these steps.
-pub record GoesFrom {S F : Type 0} (kind : Ghosts S F) (config : Config) (limit : ℕ) (lossy : Bool) (start : ℤ) (number : ℕ) (folder : S) (past : List Answered) (q : Queue) (core : Core) (roller : Rolling S F) : Type 0 where
+pub record GoesFrom {S F : Type 0} (kind : Ghosts S F) (config : Config) (limit : ℕ) (lossy : Bool) (start : ℤ) (number : ℕ) (folder : S) (past : List StepWithReply) (q : Queue) (core : Core) (roller : Rolling S F) : Type 0 where
   pub stands : Stands limit lossy past q core
-  pub answers : Answers limit lossy past
+  pub answers : AreRunReplies limit lossy past
   pub runs : RunsFrom kind (WorkerDoes kind) config start number folder past roller
 
 -- ---- as a run of files
@@ -41,13 +41,13 @@ quiet_turn kind old new same = record {
   between = old;
   looks = (refl, refl);
   content = λ is_known. ap (λ (r : Rolling _ _). kind.content r.folder) same ∙ sym (after_append_nothing (kind.content old.folder) (kind.body old.file));
-  stays = subst (λ (r : Rolling _ _). StaysOpen kind old r) (sym same) (stays_same kind old);
+  stays = subst (λ (r : Rolling _ _). KeepsOpenFile kind old r) (sym same) (stays_same kind old);
   room = omega (arith, ap (λ (r : Rolling _ _). r.room) same);
   fits = omega arith;
 }
 
 -- each step is a check of the clock, or none, and a piece
-roller_turns : {S F : Type 0} (kind : Ghosts S F) (core : Core) (t : Answered) (old new : Rolling S F) → RollerDoes kind core t old new → Turns kind (file_event core t) old new
+roller_turns : {S F : Type 0} (kind : Ghosts S F) (core : Core) (t : StepWithReply) (old new : Rolling S F) → RollerDoes kind core t old new → Turns kind (file_event core t) old new
 unfolding quiet
 roller_turns kind core (Work m, Wrote switch shown) old new does = record {
   between = does.2.between;
@@ -68,9 +68,9 @@ roller_turns kind core (Work m, Flushed shown) old new does = record {
 roller_turns kind core (s, r) old new does = quiet_turn kind old new does
 
 -- a run keeps to the laws of the clock and of the files
-pub whole_law : {S F : Type 0} (kind : Ghosts S F) (config : Config) (start : ℤ) (number : ℕ) (folder : S) (past : List Answered) (last : Rolling S F) → Grounds kind config → (run : RunsFrom kind (WorkerDoes kind) config start number folder past last) → RunSoFar kind config (stamp start number) folder (kind.noted run.opens.listed) (seen_in worker_event run) (events past) last
+pub whole_law : {S F : Type 0} (kind : Ghosts S F) (config : Config) (start : ℤ) (number : ℕ) (folder : S) (past : List StepWithReply) (last : Rolling S F) → Grounds kind config → (run : RunsFrom kind (WorkerDoes kind) config start number folder past last) → RunSoFar kind config (stamp start number) folder (kind.noted run.opens.listed) (run_states run_event run) (events past) last
 whole_law kind config start number folder past last =
-    run_law kind (WorkerDoes kind) worker_event config start number folder past last (λ earlier. roller_turns kind (worker_after earlier))
+    run_law kind (WorkerDoes kind) run_event config start number folder past last (λ earlier. roller_turns kind (worker_after earlier))
 
 -- ---- what a step does to the roller
 
@@ -96,7 +96,7 @@ work_rolls kind Flushing m _ old new does = absurd does.0
 work_rolls kind (Ending n) m (Flushed shown) old new does = does.0
 work_rolls kind (Ending n) m _ old new does = absurd does.0
 
-step_rolls : {S F : Type 0} (kind : Ghosts S F) (t : Answered) (old new : Parts S F) → StepDoes kind t old new → RollerDoes kind old.worker t old.roller new.roller
+step_rolls : {S F : Type 0} (kind : Ghosts S F) (t : StepWithReply) (old new : Parts S F) → RunStepDoes kind t old new → RollerDoes kind old.worker t old.roller new.roller
 step_rolls kind (Offer label line, reply) old new does = does.2
 step_rolls kind (Shut, reply) old new does = does.3
 step_rolls kind (AddSender, reply) old new does = does.3
@@ -105,7 +105,7 @@ step_rolls kind (Work m, reply) old new does = work_rolls kind old.worker m repl
 
 -- ---- what it answers
 
-work_answers : {S F : Type 0} (kind : Ghosts S F) (core : Core) (m : ℤ) (reply : Reply) (old new : Parts S F) → WorkDoes kind core m reply old new → WorkAnswers old.queue core reply
+work_answers : {S F : Type 0} (kind : Ghosts S F) (core : Core) (m : ℤ) (reply : Reply) (old new : Parts S F) → WorkDoes kind core m reply old new → IsWorkReply old.queue core reply
 work_answers kind (Taking waits) m reply old new does = does.0
 work_answers kind (Writing rest repeats) m (Wrote switch shown) old new does =
     subst (λ (n : ℕ). n ≤ length rest) (sym (count_by_kind does.0.0 shown does.0.1)) does.0.2.writes.bound
@@ -116,7 +116,7 @@ work_answers kind Flushing m _ old new does = absurd does.0
 work_answers kind (Ending n) m (Flushed shown) old new does = tt
 work_answers kind (Ending n) m _ old new does = absurd does.0
 
-step_answers : {S F : Type 0} (kind : Ghosts S F) (t : Answered) (old new : Parts S F) → StepDoes kind t old new → StepAnswers old.queue old.worker t
+step_answers : {S F : Type 0} (kind : Ghosts S F) (t : StepWithReply) (old new : Parts S F) → RunStepDoes kind t old new → IsStepReply old.queue old.worker t
 step_answers kind (Offer label line, reply) old new does = elim does.0 [ inl none ↦ inl (none.0, none.1) | inr is ↦ inr is.0 ]
 step_answers kind (Shut, reply) old new does = does.0
 step_answers kind (AddSender, reply) old new does = does.0
@@ -126,28 +126,28 @@ step_answers kind (Work m, reply) old new does = work_answers kind old.worker m 
 -- ---- one step after another
 
 pub goes_begins : {S F : Type 0} (kind : Ghosts S F) (config : Config) (limit : ℕ) (lossy : Bool) (start : ℤ) (number : ℕ) (folder : S) (q : Queue) (core : Core) (roller : Rolling S F)
-    → q ≡ fresh limit lossy → core ≡ Taking true → OpensRoller kind config start folder roller → number ≡ roller.opened.number → GoesFrom kind config limit lossy start number folder [] q core roller
+    → q ≡ new_queue limit lossy → core ≡ Taking true → OpensRoller kind config start folder roller → number ≡ roller.opened.number → GoesFrom kind config limit lossy start number folder [] q core roller
 goes_begins kind config limit lossy start number folder q core roller empty begins opens is = record {
   stands = record { queue = empty ∙ fresh_is lossy; worker = begins };
   answers = tt;
   runs = record { first = roller; opens = opens; number_is = sym (is ∙ ap (λ (s : Stamp). s.number) opens.opened); runs = refl };
 }
   where
-    fresh_is : (b : Bool) → fresh limit b ≡ queue_after limit b []
+    fresh_is : (b : Bool) → new_queue limit b ≡ queue_after limit b []
     fresh_is true = refl
     fresh_is false = refl
 
-pub goes_on : {S F : Type 0} (kind : Ghosts S F) (config : Config) (limit : ℕ) (lossy : Bool) (start : ℤ) (number : ℕ) (folder : S) (past : List Answered) (t : Answered) (old new : Parts S F)
-    → GoesFrom kind config limit lossy start number folder past old.queue old.worker old.roller → StepDoes kind t old new
+pub goes_on : {S F : Type 0} (kind : Ghosts S F) (config : Config) (limit : ℕ) (lossy : Bool) (start : ℤ) (number : ℕ) (folder : S) (past : List StepWithReply) (t : StepWithReply) (old new : Parts S F)
+    → GoesFrom kind config limit lossy start number folder past old.queue old.worker old.roller → RunStepDoes kind t old new
     → GoesFrom kind config limit lossy start number folder (t ∷ past) new.queue new.worker new.roller
 goes_on kind config limit lossy start number folder past t old new so does =
     let order = in_order limit lossy past so.answers in
     let does_roll : RollerDoes kind (worker_after past) t old.roller new.roller =
     subst (λ (c : Core). RollerDoes kind c t old.roller new.roller) so.stands.worker (step_rolls kind t old new does) in
-    let by_queue : StepAnswers (queue_after limit lossy past) old.worker t =
-    subst (λ (q : Queue). StepAnswers q old.worker t) so.stands.queue (step_answers kind t old new does) in
+    let by_queue : IsStepReply (queue_after limit lossy past) old.worker t =
+    subst (λ (q : Queue). IsStepReply q old.worker t) so.stands.queue (step_answers kind t old new does) in
     record {
       stands = stands_on limit lossy past kind t old new order.most so.stands does;
-      answers = (so.answers, subst (λ (c : Core). StepAnswers (queue_after limit lossy past) c t) so.stands.worker by_queue);
+      answers = (so.answers, subst (λ (c : Core). IsStepReply (queue_after limit lossy past) c t) so.stands.worker by_queue);
       runs = record { first = so.runs.first; opens = so.runs.opens; number_is = so.runs.number_is; runs = (old.roller, so.runs.runs, does_roll) };
     }

@@ -7,9 +7,9 @@ use Rattle.appender_worker.specs.Core.{Core, Taking, Writing, Flushing, Ending, 
 use Rattle.appender_queue.specs.Queue.{Queue, is_open, has_room, is_sent, has_line, saturating_next, one_less}
 use Rattle.appender_queue.specs.QueueReplies.{shut_reply}
 use Rattle.appender_store.specs.declared.store.Folder.{Ghosts}
-use Rattle.appender_replay.specs.Record.{Answered, queue_after, worker_after}
+use Rattle.appender_replay.specs.Record.{StepWithReply, queue_after, worker_after}
 use Rattle.appender_replay.specs.Replay.{by_kind, events_by}
-use Rattle.appender_rolling.specs.Roller.{Rolling, Puts, Flushes, count_of}
+use Rattle.appender_rolling.specs.Roller.{Rolling, Puts, Flushes, written_count}
 use Rattle.appender_replay.specs.Run.{Event}
 use Rattle.appender_rolling.specs.declared.rolling.Switch.{Switch}
 use Rattle.appender_rolling.specs.declared.rolling.Switch.TheVariants.{None as Stayed}
@@ -19,22 +19,22 @@ use Rattle.appender_replay.specs.declared.replay.whole.Reply.TheVariants.{Accept
 
 -- ---- replies
 
-abbrev pub IsWrote : Reply → (Switch → Result ℕ ErrorKind → Type 0) → Type 0
-IsWrote (Wrote switch answer) P = P switch answer
-IsWrote reply P = ⊥
+abbrev pub IsWorkerWrite : Reply → (Switch → Result ℕ ErrorKind → Type 0) → Type 0
+IsWorkerWrite (Wrote switch answer) P = P switch answer
+IsWorkerWrite reply P = ⊥
 
-abbrev pub IsFlushed : Reply → (Result (Unit {0}) ErrorKind → Type 0) → Type 0
-IsFlushed (Flushed answer) P = P answer
-IsFlushed reply P = ⊥
+abbrev pub IsWorkerFlush : Reply → (Result (Unit {0}) ErrorKind → Type 0) → Type 0
+IsWorkerFlush (Flushed answer) P = P answer
+IsWorkerFlush reply P = ⊥
 
 -- The reply to an offer for whose copy there was memory: the next ticket exactly if the queue is open and has room.
-abbrev pub offer_answer : Queue → Reply
-offer_answer q = if is_open q then (if has_room q then Accepted (q.accepted + 1) else Full) else Closed
+abbrev pub run_offer_reply : Queue → Reply
+run_offer_reply q = if is_open q then (if has_room q then Accepted (q.accepted + 1) else Full) else Closed
 
 -- The reply to a take: the first accepted line that was not handed, if it is before the shutdown; else the shutdown; else, with no
 -- sender left, that; else that nothing is there.
-abbrev pub take_answer : Queue → Reply
-take_answer q =
+abbrev pub run_take_reply : Queue → Reply
+run_take_reply q =
     if q.closed then TookGone
     else if has_line q then Took (q.handed + 1)
     else if is_sent q.shutdown then TookShutdown
@@ -42,26 +42,26 @@ take_answer q =
     else TookEmpty
 
 -- The reply to the worker's step: it does the one thing that it wants next.
-abbrev pub WorkAnswers : Queue → Core → Reply → Type 0
-WorkAnswers q (Taking waits) reply = reply ≡ take_answer q
-WorkAnswers q (Writing rest repeats) reply = IsWrote reply (λ switch answer. count_of answer ≤ length rest)
-WorkAnswers q Flushing reply = IsFlushed reply (λ answer. Unit {0})
-WorkAnswers q (Ending flushes) reply = IsFlushed reply (λ answer. Unit {0})
-WorkAnswers q Over reply = reply ≡ Ended
+abbrev pub IsWorkReply : Queue → Core → Reply → Type 0
+IsWorkReply q (Taking waits) reply = reply ≡ run_take_reply q
+IsWorkReply q (Writing rest repeats) reply = IsWorkerWrite reply (λ switch answer. written_count answer ≤ length rest)
+IsWorkReply q Flushing reply = IsWorkerFlush reply (λ answer. Unit {0})
+IsWorkReply q (Ending flushes) reply = IsWorkerFlush reply (λ answer. Unit {0})
+IsWorkReply q Over reply = reply ≡ Ended
 
 -- The reply to a step, with this queue and this worker before it. Memory is needed only for the copy of a line that isn't empty.
-abbrev pub StepAnswers : Queue → Core → Answered → Type 0
-StepAnswers q core (Offer label line, reply) = ((reply ≡ NoMemory) × (line.items ≢ [])) ⊎ (reply ≡ offer_answer q)
-StepAnswers q core (Shut, reply) = reply ≡ DidShut (shut_reply q)
-StepAnswers q core (AddSender, reply) = reply ≡ Senders (saturating_next q.senders)
-StepAnswers q core (DropSender, reply) = reply ≡ Senders (one_less q.senders)
-StepAnswers q core (Work m, reply) = WorkAnswers q core reply
+abbrev pub IsStepReply : Queue → Core → StepWithReply → Type 0
+IsStepReply q core (Offer label line, reply) = ((reply ≡ NoMemory) × (line.items ≢ [])) ⊎ (reply ≡ run_offer_reply q)
+IsStepReply q core (Shut, reply) = reply ≡ DidShut (shut_reply q)
+IsStepReply q core (AddSender, reply) = reply ≡ Senders (saturating_next q.senders)
+IsStepReply q core (DropSender, reply) = reply ≡ Senders (one_less q.senders)
+IsStepReply q core (Work m, reply) = IsWorkReply q core reply
 
 -- Each reply is the one that the steps before it demand.
-abbrev pub Answers : ℕ → Bool → List Answered → Type 0
-Answers limit lossy [] = Unit {0}
-Answers limit lossy (t ∷ earlier) =
-    Answers limit lossy earlier × StepAnswers (queue_after limit lossy earlier) (worker_after earlier) t
+abbrev pub AreRunReplies : ℕ → Bool → List StepWithReply → Type 0
+AreRunReplies limit lossy [] = Unit {0}
+AreRunReplies limit lossy (t ∷ earlier) =
+    AreRunReplies limit lossy earlier × IsStepReply (queue_after limit lossy earlier) (worker_after earlier) t
 
 -- ---- the roller
 
@@ -71,8 +71,8 @@ rest_of (Writing rest repeats) = rest
 rest_of core = []
 
 -- What a step does to the roller: a write of the worker checks the clock and puts the rest of the line in hand, a flush of
--- it flushes, and no other step touches the roller. Replies show the kinds of faults alone.
-abbrev pub RollerDoes : {S F : Type 0} → Ghosts S F → Core → Answered → Rolling S F → Rolling S F → Type 0
+-- it flushes, and no other step touches the roller. Replies show only the kinds of faults.
+abbrev pub RollerDoes : {S F : Type 0} → Ghosts S F → Core → StepWithReply → Rolling S F → Rolling S F → Type 0
 RollerDoes kind core (Work m, Wrote switch shown) old new =
     (answer : Result ℕ Error) × (shown ≡ by_kind answer) × Puts kind m (rest_of core) switch answer old new
 RollerDoes kind core (Work m, Flushed shown) old new =
@@ -80,23 +80,23 @@ RollerDoes kind core (Work m, Flushed shown) old new =
 RollerDoes kind core past old new = new ≡ old
 
 -- what a step after these does to the roller
-abbrev pub WorkerDoes : {S F : Type 0} → Ghosts S F → List Answered → Answered → Rolling S F → Rolling S F → Type 0
+abbrev pub WorkerDoes : {S F : Type 0} → Ghosts S F → List StepWithReply → StepWithReply → Rolling S F → Rolling S F → Type 0
 WorkerDoes kind earlier = RollerDoes kind (worker_after earlier)
 
 -- ---- read as a run of files
 
 -- A step of the worker that wrote reads the clock, and its piece is what was taken of the rest. No other step reads the
 -- clock, switches or writes.
-abbrev pub file_event : Core → Answered → Event
-file_event core (Work m, Wrote switch answer) = record { read = Some m; offered = length (rest_of core); switch = switch; piece = take (count_of answer) (rest_of core) }
+abbrev pub file_event : Core → StepWithReply → Event
+file_event core (Work m, Wrote switch answer) = record { read = Some m; offered = length (rest_of core); switch = switch; piece = take (written_count answer) (rest_of core) }
 file_event core past = record { read = None; offered = 0; switch = Stayed; piece = [] }
 
-abbrev pub worker_event : List Answered → Answered → Event
-worker_event earlier = file_event (worker_after earlier)
+abbrev pub run_event : List StepWithReply → StepWithReply → Event
+run_event earlier = file_event (worker_after earlier)
 
 -- the run's history, the newest step first
-abbrev pub events : List Answered → List Event
-events = events_by worker_event
+abbrev pub events : List StepWithReply → List Event
+events = events_by run_event
 
 -- all pieces of a history strung together, the oldest first
 abbrev pub text_of_events : List Event → List ℕ

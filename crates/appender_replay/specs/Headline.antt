@@ -1,4 +1,4 @@
--- The headline of a run. An account follows from the steps and replies alone: which reply each step gets, which files are begun, and what is
+-- The headline of a run. An account follows from only the steps and replies: which reply each step gets, which files are begun, and what is
 -- written to each. The folder then contains what it contained before, and exactly that.
 use Rattle.std.specs.Prelude.{◌≡◌, ◌≢◌, ◌⊎◌, ◌↔◌, IsTrue, ℕ, ◌+◌, ◌-◌, ◌^◌, ◌<◌, ◌≤◌, nat_lt, min, ◌==◌, ℤ, Bool, true, false, not, ◌&&◌, if◌then◌else◌, List, [], ◌∷◌, ◌++◌, length, take, drop, get_or, All, Option, None, Some, is_some, unwrap_or, Result, Ok, Err}
 use Rattle.std.specs.Int.{int_max}
@@ -9,11 +9,11 @@ use Rattle.std.specs.declared.io.ErrorKind.TheVariants.{OutOfMemory}
 use Rattle.appender_names.specs.Rotation.{is_moment, period_of, is_same_start}
 use Rattle.appender_store.specs.Content.{Content, NameMap, Entry, File, Link, body_at}
 use Rattle.appender_store.specs.declared.store.Folder.{Ghosts}
-use Rattle.appender_store.specs.Folder.{Counts}
+use Rattle.appender_store.specs.Folder.{NotedCounts}
 use Rattle.appender_retain.specs.Survival.{name_rank, name_survives}
 use Rattle.appender_rolling.specs.Config.{Config, is_limited, naming_of, log_files_of}
 use Rattle.appender_rolling.specs.Opening.{file_name_of, IsFirstNumber}
-use Rattle.appender_rolling.specs.Roller.{count_of, wanted}
+use Rattle.appender_rolling.specs.Roller.{written_count}
 use Rattle.appender_rolling.specs.declared.rolling.setup.Stamp.{Stamp}
 use Rattle.appender_worker.specs.CoreReplies.{is_interruption}
 use Rattle.appender_queue.specs.Queue.{saturating_next, one_less}
@@ -41,7 +41,7 @@ pub record Files : Type 0 where
 -- shutdown was sent, if it was; whether the worker found the end; the senders; whether the last take was one that waits, and found nothing.
 -- The worker: the rest of the line in hand, and how often a write of it was interrupted; whether that line was written whole, with no flush
 -- since; how many flushes it makes next.
-pub record Account : Type 0 where
+pub record RunAccount : Type 0 where
   pub accepted : List (List ℕ)
   pub handed : ℕ
   pub shutdown : Option ℕ
@@ -55,65 +55,65 @@ pub record Account : Type 0 where
   pub files : Files
 
 -- after the opening of the first file
-abbrev pub opened : Config → Stamp → Files
-opened c s = record { latest = s.moment; newest = s; earlier = []; failed = 0; since = 0; file = file_name_of c s; writes = []; faults = 0 }
+abbrev pub files_at_opening : Config → Stamp → Files
+files_at_opening c s = record { latest = s.moment; newest = s; earlier = []; failed = 0; since = 0; file = file_name_of c s; writes = []; faults = 0 }
 
 -- ---- the reply to a step
 
 -- the shutdown takes a place too
-abbrev pub taken_places : Account → ℕ
-taken_places a = length a.accepted - a.handed + (if is_some a.shutdown then 1 else 0)
+abbrev pub account_places : RunAccount → ℕ
+account_places a = length a.accepted - a.handed + (if is_some a.shutdown then 1 else 0)
 
 -- with the limit 0 there is room for one line, while the worker waits
-abbrev pub has_room : ℕ → Account → Bool
-has_room limit a = if limit == 0 then ((taken_places a == 0) && a.idle) else nat_lt (taken_places a) limit
+abbrev pub account_has_room : ℕ → RunAccount → Bool
+account_has_room limit a = if limit == 0 then ((account_places a == 0) && a.idle) else nat_lt (account_places a) limit
 
 -- tickets have 64 bits
-abbrev pub offer_answer : ℕ → Account → Reply
-offer_answer limit a = if not a.closed && nat_lt (length a.accepted) (2 ^ 64 - 1) then (if has_room limit a then Accepted (length a.accepted + 1) else Full) else Closed
+abbrev pub account_offer_reply : ℕ → RunAccount → Reply
+account_offer_reply limit a = if not a.closed && nat_lt (length a.accepted) (2 ^ 64 - 1) then (if account_has_room limit a then Accepted (length a.accepted + 1) else Full) else Closed
 
 -- the first line that was not handed, if it was accepted before the shutdown
-abbrev pub take_answer : Account → Reply
-take_answer a =
+abbrev pub account_take_reply : RunAccount → Reply
+account_take_reply a =
     if a.closed then Ended
     else if nat_lt a.handed (length a.accepted) && nat_lt a.handed (unwrap_or a.shutdown (length a.accepted)) then Took (a.handed + 1)
     else if is_some a.shutdown then TookShutdown
     else if a.senders == 0 then TookGone else TookEmpty
 
 -- moments outside the years 1 to 9998 count as not read
-abbrev pub later : ℤ → ℤ → ℤ
-later latest m = if is_moment m then int_max m latest else latest
+abbrev pub later_moment : ℤ → ℤ → ℤ
+later_moment latest m = if is_moment m then int_max m latest else latest
 
 -- The file that is due at m, if one is: the first of another period, if the latest moment is in one with m; under a limit of bytes the next of the
 -- same period, if what was written since the newest attempt and the bytes to write, at least one, are more than the limit.
 abbrev pub due_file : Config → Files → ℤ → ℕ → Option Stamp
 due_file c f m len =
-    if not (is_same_start (period_of c.rotation (later f.latest m)) (period_of c.rotation f.latest)) then Some (record { moment = later f.latest m; number = 0 })
-    else if is_limited c && nat_lt f.newest.number 999999 && nat_lt 0 f.since && nat_lt c.max_bytes (f.since + wanted len)
+    if not (is_same_start (period_of c.rotation (later_moment f.latest m)) (period_of c.rotation f.latest)) then Some (record { moment = later_moment f.latest m; number = 0 })
+    else if is_limited c && nat_lt f.newest.number 999999 && nat_lt 0 f.since && nat_lt c.max_bytes (f.since + (if len == 0 then 1 else len))
     then Some (record { moment = f.newest.moment; number = f.newest.number + 1 }) else None
 
 -- A line is accepted exactly if the queue is open and has room, and memory was there for its copy; an empty one needs none. The worker writes
 -- on if a line is in hand, makes the flushes that are due, or else takes the first line that was not handed.
-abbrev pub Replies : ℕ → Config → Account → Step × Reply → Type 0
-Replies limit c a (Offer label line, reply) = ((reply ≡ NoMemory) × (line.items ≢ [])) ⊎ (reply ≡ offer_answer limit a)
-Replies limit c a (Shut, reply) = reply ≡ DidShut (if a.closed then ShutClosed else if is_some a.shutdown then Already else if has_room limit a then Sent else ShutFull)
+abbrev pub Replies : ℕ → Config → RunAccount → Step × Reply → Type 0
+Replies limit c a (Offer label line, reply) = ((reply ≡ NoMemory) × (line.items ≢ [])) ⊎ (reply ≡ account_offer_reply limit a)
+Replies limit c a (Shut, reply) = reply ≡ DidShut (if a.closed then ShutClosed else if is_some a.shutdown then Already else if account_has_room limit a then Sent else ShutFull)
 Replies limit c a (AddSender, reply) = reply ≡ Senders (saturating_next a.senders)
 Replies limit c a (DropSender, reply) = reply ≡ Senders (one_less a.senders)
-Replies limit c a (Work m, Wrote switch answer) = (a.rest ≢ []) × (count_of answer ≤ length a.rest) × ((switch ≡ Stayed) ↔ (due_file c a.files m (length a.rest) ≡ None))
+Replies limit c a (Work m, Wrote switch answer) = (a.rest ≢ []) × (written_count answer ≤ length a.rest) × ((switch ≡ Stayed) ↔ (due_file c a.files m (length a.rest) ≡ None))
 Replies limit c a (Work m, Flushed answer) = (a.rest ≡ []) × (0 < a.flushes)
-Replies limit c a (Work m, reply) = (a.rest ≡ []) × (a.flushes ≡ 0) × (reply ≡ take_answer a)
+Replies limit c a (Work m, reply) = (a.rest ≡ []) × (a.flushes ≡ 0) × (reply ≡ account_take_reply a)
 
 -- ---- what follows from a step and its reply
 
 -- a file that could not be opened leaves the last one open
-abbrev pub after_attempt : Config → Option Stamp → Switch → Files → Files
-after_attempt c None switch f = f
-after_attempt c (Some s) Switched f = record f { newest = s; earlier = f.newest ∷ f.earlier; since = 0; file = file_name_of c s }
-after_attempt c (Some s) switch f = record f { newest = s; earlier = f.newest ∷ f.earlier; since = 0; failed = f.failed + 1 }
+abbrev pub files_after_attempt : Config → Option Stamp → Switch → Files → Files
+files_after_attempt c None switch f = f
+files_after_attempt c (Some s) Switched f = record f { newest = s; earlier = f.newest ∷ f.earlier; since = 0; file = file_name_of c s }
+files_after_attempt c (Some s) switch f = record f { newest = s; earlier = f.newest ∷ f.earlier; since = 0; failed = f.failed + 1 }
 
--- a check of the clock at m, with so many bytes to write
-abbrev pub after_look : Config → ℤ → ℕ → Switch → Files → Files
-after_look c m len switch f = after_attempt c (due_file c f m len) switch (record f { latest = later f.latest m })
+-- a check of the clock at m, with this number of bytes to write
+abbrev pub files_after_check : Config → ℤ → ℕ → Switch → Files → Files
+files_after_check c m len switch f = files_after_attempt c (due_file c f m len) switch (record f { latest = later_moment f.latest m })
 
 abbrev pub faults_in : {T : Type 0} → Result T ErrorKind → ℕ
 faults_in (Ok x) = 0
@@ -121,31 +121,31 @@ faults_in (Err OutOfMemory) = 0
 faults_in (Err kind) = 1
 
 -- a write of these bytes to the open file
-abbrev pub after_write : List ℕ → Result ℕ ErrorKind → Files → Files
-after_write bytes answer f = record f { since = f.since + length (take (count_of answer) bytes); writes = (f.file, take (count_of answer) bytes) ∷ f.writes; faults = f.faults + faults_in answer }
+abbrev pub files_after_write : List ℕ → Result ℕ ErrorKind → Files → Files
+files_after_write bytes answer f = record f { since = f.since + length (take (written_count answer) bytes); writes = (f.file, take (written_count answer) bytes) ∷ f.writes; faults = f.faults + faults_in answer }
 
 -- a line is given up at a write of no byte, at the 101st interruption and at any other error
-abbrev pub after_answer : Result ℕ ErrorKind → Account → Account
-after_answer (Ok n) a = record a { rest = if n == 0 then [] else drop n a.rest; whole = not (n == 0) }
-after_answer (Err kind) a = if is_interruption kind && nat_lt a.interrupted 100 then record a { interrupted = a.interrupted + 1 } else record a { rest = []; whole = false }
+abbrev pub account_after_write : Result ℕ ErrorKind → RunAccount → RunAccount
+account_after_write (Ok n) a = record a { rest = if n == 0 then [] else drop n a.rest; whole = not (n == 0) }
+account_after_write (Err kind) a = if is_interruption kind && nat_lt a.interrupted 100 then record a { interrupted = a.interrupted + 1 } else record a { rest = []; whole = false }
 
-abbrev pub after : Config → Account → Step × Reply → Account
-after c a (Offer label line, Accepted ticket) = record a { accepted = a.accepted ++ line.items ∷ [] }
-after c a (Shut, DidShut Sent) = record a { shutdown = Some (length a.accepted) }
-after c a (AddSender, reply) = record a { senders = saturating_next a.senders }
-after c a (DropSender, reply) = record a { senders = one_less a.senders }
-after c a (Work m, Took ticket) = record a { handed = a.handed + 1; rest = get_or a.accepted a.handed []; interrupted = 0; whole = true; idle = false }
-after c a (Work m, TookShutdown) = record a { closed = true; idle = false; flushes = 2 }
-after c a (Work m, TookGone) = record a { closed = true; idle = false; flushes = 2 }
-after c a (Work m, TookEmpty) = record a { idle = not a.whole; flushes = if a.whole then 1 else 0 }
-after c a (Work m, Flushed answer) = record a { whole = false; flushes = a.flushes - 1; files = record a.files { faults = a.files.faults + faults_in answer } }
-after c a (Work m, Wrote switch answer) = record (after_answer answer a) { files = after_write a.rest answer (after_look c m (length a.rest) switch a.files) }
-after c a t = a
+abbrev pub account_after : Config → RunAccount → Step × Reply → RunAccount
+account_after c a (Offer label line, Accepted ticket) = record a { accepted = a.accepted ++ line.items ∷ [] }
+account_after c a (Shut, DidShut Sent) = record a { shutdown = Some (length a.accepted) }
+account_after c a (AddSender, reply) = record a { senders = saturating_next a.senders }
+account_after c a (DropSender, reply) = record a { senders = one_less a.senders }
+account_after c a (Work m, Took ticket) = record a { handed = a.handed + 1; rest = get_or a.accepted a.handed []; interrupted = 0; whole = true; idle = false }
+account_after c a (Work m, TookShutdown) = record a { closed = true; idle = false; flushes = 2 }
+account_after c a (Work m, TookGone) = record a { closed = true; idle = false; flushes = 2 }
+account_after c a (Work m, TookEmpty) = record a { idle = not a.whole; flushes = if a.whole then 1 else 0 }
+account_after c a (Work m, Flushed answer) = record a { whole = false; flushes = a.flushes - 1; files = record a.files { faults = a.files.faults + faults_in answer } }
+account_after c a (Work m, Wrote switch answer) = record (account_after_write answer a) { files = files_after_write a.rest answer (files_after_check c m (length a.rest) switch a.files) }
+account_after c a t = a
 
 -- a run: its steps with their replies, the newest first
-abbrev pub account : Config → Stamp → List (Step × Reply) → Account
-account c start [] = record { accepted = []; handed = 0; shutdown = None; closed = false; senders = 1; idle = false; rest = []; interrupted = 0; whole = false; flushes = 0; files = opened c start }
-account c start (t ∷ past) = after c (account c start past) t
+abbrev pub account : Config → Stamp → List (Step × Reply) → RunAccount
+account c start [] = record { accepted = []; handed = 0; shutdown = None; closed = false; senders = 1; idle = false; rest = []; interrupted = 0; whole = false; flushes = 0; files = files_at_opening c start }
+account c start (t ∷ past) = account_after c (account c start past) t
 
 abbrev pub Follows : ℕ → Config → Stamp → List (Step × Reply) → Type 0
 Follows limit c start [] = Unit {0}
@@ -154,48 +154,48 @@ Follows limit c start (t ∷ past) = Follows limit c start past × Replies limit
 -- ---- the folder
 
 -- what was written to the file of this name
-abbrev pub written : List ℕ → List (List ℕ × List ℕ) → List ℕ
-written name [] = []
-written name ((file, bytes) ∷ earlier) = written name earlier ++ (if bytes_eq file name then bytes else [])
+abbrev pub written_to_name : List ℕ → List (List ℕ × List ℕ) → List ℕ
+written_to_name name [] = []
+written_to_name name ((file, bytes) ∷ earlier) = written_to_name name earlier ++ (if bytes_eq file name then bytes else [])
 
 -- what retention leaves under a name before a file is opened
-abbrev pub kept : Config → Stamp → NameMap → List ℕ → Option Entry
-kept c s names name = if name_survives (log_files_of c (Some (file_name_of c s))) c.max_files names name then fin.get names name else None
+abbrev pub kept_entry : Config → Stamp → NameMap → List ℕ → Option Entry
+kept_entry c s names name = if name_survives (log_files_of c (Some (file_name_of c s))) c.max_files names name then fin.get names name else None
 
 -- The names after the opening of a file: what retention leaves of those before, the file's own, and the link. The file is the one that had
 -- the name, or a new one, whose body is none of those that the folder had at first.
-pub record Leaves (c : Config) (bodies : ℕ) (s : Stamp) (old new : NameMap) : Type 0 where
+pub record NamesAfterOpening (c : Config) (bodies : ℕ) (s : Stamp) (old new : NameMap) : Type 0 where
   pub own : (b : ℕ) × (t : Option ℤ) × (fin.get new (file_name_of c s) ≡ Some (File b t))
-      × ((kept c s old (file_name_of c s) ≡ Some (File b t)) ⊎ ((kept c s old (file_name_of c s) ≡ None) × (bodies ≤ b)))
+      × ((kept_entry c s old (file_name_of c s) ≡ Some (File b t)) ⊎ ((kept_entry c s old (file_name_of c s) ≡ None) × (bodies ≤ b)))
   pub link : c.link ≢ [] → fin.get new c.link ≡ Some (Link (file_name_of c s))
-  pub others : (name : List ℕ) → name ≢ file_name_of c s → name ≢ c.link → fin.get new name ≡ kept c s old name
+  pub others : (name : List ℕ) → name ≢ file_name_of c s → name ≢ c.link → fin.get new name ≡ kept_entry c s old name
 
--- the same of one file after another, the newest first
-abbrev pub LeaveAll : Config → ℕ → List Stamp → NameMap → NameMap → Type 0
-LeaveAll c bodies [] first last = last ≡ first
-LeaveAll c bodies (s ∷ earlier) first last = (between : NameMap) × LeaveAll c bodies earlier first between × Leaves c bodies s between last
+-- the same of one file after another, the newest first. The creation moment of a new file follows from no map before it.
+abbrev pub NamesAfterOpenings : Config → ℕ → List Stamp → NameMap → NameMap → Type 0
+NamesAfterOpenings c bodies [] first last = last ≡ first
+NamesAfterOpenings c bodies (s ∷ earlier) first last = (between : NameMap) × NamesAfterOpenings c bodies earlier first between × NamesAfterOpening c bodies s between last
 
 -- Every listing and every removal succeeded, except the listings of an absent folder at the opening. Counts at their greatest don't show it.
-pub record RetentionSucceeded (c : Config) (there : Bool) (old new : Counts) : Type 0 where
+pub record RetentionSucceeded (c : Config) (there : Bool) (old new : NotedCounts) : Type 0 where
   pub lists : new.lists ≡ old.lists + (if there then 0 else (if is_limited c then 1 else 0) + (if c.max_files == 0 then 0 else 1))
   pub removes : new.removes ≡ old.removes
   pub below : (new.lists < 2 ^ 64 - 1) × (new.removes < 2 ^ 64 - 1)
 
 -- What a folder with known content contains after a run whose first file was this.
-pub record Contains (c : Config) (start : Stamp) (f : Files) (first last : Content) (noted_first noted_last : Counts) : Type 0 where
+pub record Contains (c : Config) (start : Stamp) (f : Files) (first last : Content) (noted_first noted_last : NotedCounts) : Type 0 where
   -- A file holds what it held at first, which is nothing if it is new, and then exactly what was written while it was the open one.
-  pub bytes : (name : List ℕ) (b : ℕ) (t : Option ℤ) → fin.get last.names name ≡ Some (File b t) → body_at last b ≡ body_at first b ++ written name f.writes
+  pub bytes : (name : List ℕ) (b : ℕ) (t : Option ℤ) → fin.get last.names name ≡ Some (File b t) → body_at last b ≡ body_at first b ++ written_to_name name f.writes
   -- Whatever fails, no other name changes, except that log files may be removed if there is a maximum of them.
   pub others : (name : List ℕ) → All (λ s. name ≢ file_name_of c s) (f.newest ∷ f.earlier) → name ≢ c.link
       → (fin.get last.names name ≡ fin.get first.names name) ⊎ ((fin.get last.names name ≡ None) × (c.max_files ≢ 0) × (is_some (name_rank (log_files_of c None) first.names name) ≡ true))
   -- If each attempt succeeded, and each listing and removal, the names are exactly these. Without a maximum nothing is listed for retention.
   pub names : f.failed ≡ 0 → ((c.max_files ≡ 0) ⊎ RetentionSucceeded c first.there noted_first noted_last)
-      → LeaveAll c (length first.bodies) (f.newest ∷ f.earlier) first.names last.names
+      → NamesAfterOpenings c (length first.bodies) (f.newest ∷ f.earlier) first.names last.names
   -- With a limit of bytes the first number is the next after those that the folder had in that period.
   pub number : is_limited c ≡ true → RetentionSucceeded c first.there noted_first noted_last → IsFirstNumber (naming_of c) start.moment (λ name. (e : Entry) × (fin.get first.names name ≡ Some e)) start.number
 
 -- The folder after a run: it noted each attempt that failed, and counted each write and each flush that failed.
-pub record Keeps {S F : Type 0} (kind : Ghosts S F) (c : Config) (start : Stamp) (f : Files) (first last : S) : Type 0 where
+pub record FolderFollows {S F : Type 0} (kind : Ghosts S F) (c : Config) (start : Stamp) (f : Files) (first last : S) : Type 0 where
   pub failed : (kind.noted last).opens ≡ min ((kind.noted first).opens + f.failed) (2 ^ 64 - 1)
   pub faults : min (kind.failures first + f.faults) (2 ^ 64 - 1) ≤ kind.failures last
   pub unnumbered : is_limited c ≡ false → start.number ≡ 0
@@ -203,4 +203,4 @@ pub record Keeps {S F : Type 0} (kind : Ghosts S F) (c : Config) (start : Stamp)
 
 pub record Headline {S F : Type 0} (kind : Ghosts S F) (limit : ℕ) (c : Config) (moment : ℤ) (number : ℕ) (past : List (Step × Reply)) (first last : S) : Type 0 where
   pub replies : Follows limit c (record { moment = moment; number = number }) past
-  pub folder : Keeps kind c (record { moment = moment; number = number }) (account c (record { moment = moment; number = number }) past).files first last
+  pub folder : FolderFollows kind c (record { moment = moment; number = number }) (account c (record { moment = moment; number = number }) past).files first last

@@ -6,8 +6,8 @@ use Rattle.std.specs.declared.io.ErrorKind.{ErrorKind}
 use Rattle.appender_store.specs.declared.store.Folder.{Ghosts}
 use Rattle.appender_names.specs.Rotation.{next_of}
 use Rattle.appender_rolling.specs.Config.{Config, stamp, is_limited}
-use Rattle.appender_rolling.specs.Roller.{Rolling, OpensRoller, OpensNoRoller, Sees, Writes, Puts, Flushes, count_of}
-use Rattle.appender_replay.specs.Run.{Event, Seen, FileLaw, NotedAtAttempts, SwitchesAtAttempts, SwitchesAtArrivals, latest_moment, last_opened, times}
+use Rattle.appender_rolling.specs.Roller.{Rolling, OpensRoller, OpensNoRoller, ChecksClockOnly, Writes, Puts, Flushes, written_count}
+use Rattle.appender_replay.specs.Run.{Event, StepState, FileLaw, NotedAtAttempts, SwitchesAtAttempts, SwitchesAtArrivals, latest_moment, last_opened, attempt_times}
 use Rattle.appender_rolling.specs.declared.rolling.Switch.{Switch}
 use Rattle.appender_rolling.specs.declared.rolling.Switch.TheVariants.{None as Stayed}
 use Rattle.appender_replay.specs.declared.replay.RollStep.{RollStep}
@@ -17,42 +17,42 @@ use Rattle.appender_replay.specs.declared.replay.ReplayError.{ReplayError}
 use Rattle.appender_replay.specs.declared.replay.ReplayError.TheVariants.{Memory as OutOfMemory, Init}
 use Rattle.appender_replay.specs.declared.replay.RollReply.TheVariants.{Saw, Put as DidPut, Wrote, Flushed}
 
--- an answer with its error by its kind alone
+-- an answer, of an error only its kind
 abbrev pub by_kind : {T : Type 0} → Result T Error → Result T ErrorKind
 by_kind (Ok x) = Ok x
 by_kind (Err fault) = Err (error_kind fault)
 
 -- ---- replies
 
-abbrev pub IsSaw : RollReply → (Switch → Type 0) → Type 0
-IsSaw (Saw switch) P = P switch
-IsSaw _ P = ⊥
+abbrev pub IsCheckReply : RollReply → (Switch → Type 0) → Type 0
+IsCheckReply (Saw switch) P = P switch
+IsCheckReply _ P = ⊥
 
-abbrev pub IsPut : RollReply → (Switch → Result ℕ ErrorKind → Type 0) → Type 0
-IsPut (DidPut switch answer) P = P switch answer
-IsPut _ P = ⊥
+abbrev pub IsPutReply : RollReply → (Switch → Result ℕ ErrorKind → Type 0) → Type 0
+IsPutReply (DidPut switch answer) P = P switch answer
+IsPutReply _ P = ⊥
 
-abbrev pub IsWrote : RollReply → (Result ℕ ErrorKind → Type 0) → Type 0
-IsWrote (Wrote answer) P = P answer
-IsWrote _ P = ⊥
+abbrev pub IsWriteReply : RollReply → (Result ℕ ErrorKind → Type 0) → Type 0
+IsWriteReply (Wrote answer) P = P answer
+IsWriteReply _ P = ⊥
 
-abbrev pub IsFlushed : RollReply → (Result (Unit {0}) ErrorKind → Type 0) → Type 0
-IsFlushed (Flushed answer) P = P answer
-IsFlushed _ P = ⊥
+abbrev pub IsFlushReply : RollReply → (Result (Unit {0}) ErrorKind → Type 0) → Type 0
+IsFlushReply (Flushed answer) P = P answer
+IsFlushReply _ P = ⊥
 
 -- a step with its reply
-abbrev pub RollAnswered : Type 0
-RollAnswered = RollStep × RollReply
+abbrev pub RollStepWithReply : Type 0
+RollStepWithReply = RollStep × RollReply
 
--- What one step does to a roller, and its reply, whose faults show their kinds alone.
-abbrev pub StepDoes : {S F : Type 0} → Ghosts S F → RollAnswered → Rolling S F → Rolling S F → Type 0
-StepDoes kind (See m, reply) old new = IsSaw reply (λ switch. Sees kind m switch old new)
-StepDoes kind (Put m bytes, reply) old new =
-    IsPut reply (λ switch shown. (answer : Result ℕ Error) × (shown ≡ by_kind answer) × Puts kind m bytes.items switch answer old new)
-StepDoes kind (Write bytes, reply) old new =
-    IsWrote reply (λ shown. (answer : Result ℕ Error) × (shown ≡ by_kind answer) × Writes kind bytes.items answer old new)
-StepDoes kind (Flush, reply) old new =
-    IsFlushed reply (λ shown. (answer : Result (Unit {0}) Error) × (shown ≡ by_kind answer) × Flushes kind answer old new)
+-- What one step does to a roller, and its reply, whose faults show only their kinds.
+abbrev pub RollStepDoes : {S F : Type 0} → Ghosts S F → RollStepWithReply → Rolling S F → Rolling S F → Type 0
+RollStepDoes kind (See m, reply) old new = IsCheckReply reply (λ switch. ChecksClockOnly kind m switch old new)
+RollStepDoes kind (Put m bytes, reply) old new =
+    IsPutReply reply (λ switch shown. (answer : Result ℕ Error) × (shown ≡ by_kind answer) × Puts kind m bytes.items switch answer old new)
+RollStepDoes kind (Write bytes, reply) old new =
+    IsWriteReply reply (λ shown. (answer : Result ℕ Error) × (shown ≡ by_kind answer) × Writes kind bytes.items answer old new)
+RollStepDoes kind (Flush, reply) old new =
+    IsFlushReply reply (λ shown. (answer : Result (Unit {0}) Error) × (shown ≡ by_kind answer) × Flushes kind answer old new)
 
 -- the steps of a run with their replies, the newest first
 abbrev pub with_replies_onto : {S R : Type 0} → List (S × R) → List S → List R → List (S × R)
@@ -81,29 +81,29 @@ pub record RunsFrom {S F T : Type 0} (kind : Ghosts S F) (does : List T → T �
   pub runs : LeadsTo does past first last
 
 -- what is seen of a roller after a step with this piece
-abbrev pub seen_of : {S F : Type 0} → Ghosts S F → List ℕ → Rolling S F → Seen
-seen_of kind piece r = record { content = kind.content r.folder; noted = kind.noted r.folder; body = kind.body r.file; piece = piece }
+abbrev pub step_state_of : {S F : Type 0} → Ghosts S F → List ℕ → Rolling S F → StepState
+step_state_of kind piece r = record { content = kind.content r.folder; noted = kind.noted r.folder; body = kind.body r.file; piece = piece }
 
 -- and of the rollers between the steps that lead from the old to the new: what was seen after step n, and at 0 of the old
-abbrev pub seen_after : {S F T : Type 0} → Ghosts S F → (List T → T → Event) → (does : List T → T → Rolling S F → Rolling S F → Type 0) → (past : List T) (old new : Rolling S F) → LeadsTo does past old new → ℕ → Seen
-seen_after kind event does [] old new runs n = seen_of kind [] old
-seen_after kind event does (t ∷ past) old new (between, runs, is) n =
-    if nat_le (suc (length past)) n then seen_of kind (event past t).piece new else seen_after kind event does past old between runs n
+abbrev pub step_states_after : {S F T : Type 0} → Ghosts S F → (List T → T → Event) → (does : List T → T → Rolling S F → Rolling S F → Type 0) → (past : List T) (old new : Rolling S F) → LeadsTo does past old new → ℕ → StepState
+step_states_after kind event does [] old new runs n = step_state_of kind [] old
+step_states_after kind event does (t ∷ past) old new (between, runs, is) n =
+    if nat_le (suc (length past)) n then step_state_of kind (event past t).piece new else step_states_after kind event does past old between runs n
 
 -- what was seen of a run
-abbrev pub seen_in : {S F T : Type 0} {kind : Ghosts S F} {does : List T → T → Rolling S F → Rolling S F → Type 0} {config : Config} {start : ℤ} {number : ℕ} {folder : S} {past : List T} {last : Rolling S F} → (List T → T → Event) → RunsFrom kind does config start number folder past last → ℕ → Seen
-seen_in {S} {F} {T} {kind} {does} {config} {start} {number} {folder} {past} {last} event run = seen_after kind event does past run.first last run.runs
+abbrev pub run_states : {S F T : Type 0} {kind : Ghosts S F} {does : List T → T → Rolling S F → Rolling S F → Type 0} {config : Config} {start : ℤ} {number : ℕ} {folder : S} {past : List T} {last : Rolling S F} → (List T → T → Event) → RunsFrom kind does config start number folder past last → ℕ → StepState
+run_states {S} {F} {T} {kind} {does} {config} {start} {number} {folder} {past} {last} event run = step_states_after kind event does past run.first last run.runs
 
 -- The laws of a run, of whatever rollers its steps lead through. Notices are counted from the listing that finds the first number.
 module _ {S F T : Type 0} (kind : Ghosts S F) (does : List T → T → Rolling S F → Rolling S F → Type 0) (event : List T → T → Event) (config : Config) (start : ℤ) (number : ℕ) (folder : S) (past : List T) (last : Rolling S F) where
   abbrev pub FilesFollow : Type 0
   FilesFollow = (run : RunsFrom kind does config start number folder past last)
       → FileLaw config (stamp start number) (events_by event past) (kind.content folder) (kind.content last.folder) (kind.noted run.opens.listed)
-      (seen_in event run) last.opened (kind.body last.file)
+      (run_states event run) last.opened (kind.body last.file)
 
   abbrev pub NoticesFollow : Type 0
   NoticesFollow = (run : RunsFrom kind does config start number folder past last)
-      → NotedAtAttempts config (stamp start number) (seen_in event run) (events_by event past)
+      → NotedAtAttempts config (stamp start number) (run_states event run) (events_by event past)
 
   -- What the events of a run say of its roller: its configuration, when it switched, its boundary, the file that is open, and the
   -- laws of files and notices. Files follow if the folder's content is known.
@@ -112,13 +112,13 @@ module _ {S F T : Type 0} (kind : Ghosts S F) (does : List T → T → Rolling S
     pub switches : SwitchesAtAttempts config (stamp start number) (events_by event past)
     pub arrivals : is_limited config ≡ false → SwitchesAtArrivals config.rotation start (events_by event past)
     pub boundary_is : last.boundary ≡ next_of config.rotation (latest_moment start (events_by event past))
-    pub opened_is : last.opened ≡ last_opened (stamp start number) (times config (stamp start number) (events_by event past))
+    pub opened_is : last.opened ≡ last_opened (stamp start number) (attempt_times config (stamp start number) (events_by event past))
     pub files : IsTrue kind.is_known → FilesFollow
     pub notices : NoticesFollow
 
--- what a step of a roller alone does, whatever came before it
-abbrev pub RollDoes : {S F : Type 0} → Ghosts S F → List RollAnswered → RollAnswered → Rolling S F → Rolling S F → Type 0
-RollDoes kind earlier t old new = StepDoes kind t old new
+-- what a step of a roller without a queue does, whatever came before it
+abbrev pub RollDoes : {S F : Type 0} → Ghosts S F → List RollStepWithReply → RollStepWithReply → Rolling S F → Rolling S F → Type 0
+RollDoes kind earlier t old new = RollStepDoes kind t old new
 
 -- No step was run: without memory for the replies the folder was not touched, else no roller was opened over it.
 abbrev pub IsNotRun : {S F : Type 0} → Ghosts S F → Config → ℤ → S → ReplayError S → Type 0
@@ -155,12 +155,12 @@ switch_in (Flushed answer) = Stayed
 -- how many of them were taken
 abbrev pub count_in : RollReply → ℕ
 count_in (Saw switch) = 0
-count_in (DidPut switch answer) = count_of answer
-count_in (Wrote answer) = count_of answer
+count_in (DidPut switch answer) = written_count answer
+count_in (Wrote answer) = written_count answer
 count_in (Flushed answer) = 0
 
-abbrev pub event_of : RollAnswered → Event
+abbrev pub event_of : RollStepWithReply → Event
 event_of (step, reply) = record { read = read_by step; offered = length (offered_by step); switch = switch_in reply; piece = take (count_in reply) (offered_by step) }
 
-abbrev pub roll_event : List RollAnswered → RollAnswered → Event
+abbrev pub roll_event : List RollStepWithReply → RollStepWithReply → Event
 roll_event earlier = event_of

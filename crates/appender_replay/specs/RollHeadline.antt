@@ -1,11 +1,11 @@
--- The headline of a run of a roller alone, over the same account of the files.
+-- The headline of a run of a roller without a queue, over the same account of the files.
 use Rattle.std.specs.Prelude.{◌≡◌, ◌↔◌, ℕ, ◌+◌, ◌≤◌, ℤ, List, [], ◌∷◌, length, None}
 use Rattle.appender_store.specs.declared.store.Folder.{Ghosts}
 use Rattle.appender_rolling.specs.Config.{Config}
-use Rattle.appender_rolling.specs.Roller.{count_of}
+use Rattle.appender_rolling.specs.Roller.{written_count}
 use Rattle.appender_rolling.specs.declared.rolling.setup.Stamp.{Stamp}
 use Rattle.appender_rolling.specs.declared.rolling.Switch.TheVariants.{None as Stayed}
-use Rattle.appender_replay.specs.Headline.{Files, Keeps, opened, due_file, after_look, after_write, faults_in}
+use Rattle.appender_replay.specs.Headline.{Files, FolderFollows, files_at_opening, due_file, files_after_check, files_after_write, faults_in}
 use Rattle.appender_replay.specs.declared.replay.RollStep.{RollStep}
 use Rattle.appender_replay.specs.declared.replay.RollStep.TheVariants.{See, Put, Write, Flush}
 use Rattle.appender_replay.specs.declared.replay.RollReply.{RollReply}
@@ -15,20 +15,20 @@ use Rattle.appender_replay.specs.declared.replay.RollReply.TheVariants.{Saw, Put
 abbrev pub RollReplies : Config → Files → RollStep × RollReply → Type 0
 RollReplies c f (See m, Saw switch) = (switch ≡ Stayed) ↔ (due_file c f m 0 ≡ None)
 RollReplies c f (Put m bytes, DidPut switch answer) =
-    (count_of answer ≤ length bytes.items) × ((switch ≡ Stayed) ↔ (due_file c f m (length bytes.items) ≡ None))
-RollReplies c f (Write bytes, Wrote answer) = count_of answer ≤ length bytes.items
+    (written_count answer ≤ length bytes.items) × ((switch ≡ Stayed) ↔ (due_file c f m (length bytes.items) ≡ None))
+RollReplies c f (Write bytes, Wrote answer) = written_count answer ≤ length bytes.items
 RollReplies c f (Flush, Flushed answer) = Unit {0}
 RollReplies c f t = ⊥
 
 abbrev pub roll_after : Config → Files → RollStep × RollReply → Files
-roll_after c f (See m, Saw switch) = after_look c m 0 switch f
-roll_after c f (Put m bytes, DidPut switch answer) = after_write bytes.items answer (after_look c m (length bytes.items) switch f)
-roll_after c f (Write bytes, Wrote answer) = after_write bytes.items answer f
+roll_after c f (See m, Saw switch) = files_after_check c m 0 switch f
+roll_after c f (Put m bytes, DidPut switch answer) = files_after_write bytes.items answer (files_after_check c m (length bytes.items) switch f)
+roll_after c f (Write bytes, Wrote answer) = files_after_write bytes.items answer f
 roll_after c f (Flush, Flushed answer) = record f { faults = f.faults + faults_in answer }
 roll_after c f t = f
 
 abbrev pub roll_account : Config → Stamp → List (RollStep × RollReply) → Files
-roll_account c start [] = opened c start
+roll_account c start [] = files_at_opening c start
 roll_account c start (t ∷ past) = roll_after c (roll_account c start past) t
 
 abbrev pub RollFollows : Config → Stamp → List (RollStep × RollReply) → Type 0
@@ -37,4 +37,4 @@ RollFollows c start (t ∷ past) = RollFollows c start past × RollReplies c (ro
 
 pub record RollHeadline {S F : Type 0} (kind : Ghosts S F) (c : Config) (moment : ℤ) (number : ℕ) (past : List (RollStep × RollReply)) (first last : S) : Type 0 where
   pub replies : RollFollows c (record { moment = moment; number = number }) past
-  pub folder : Keeps kind c (record { moment = moment; number = number }) (roll_account c (record { moment = moment; number = number }) past) first last
+  pub folder : FolderFollows kind c (record { moment = moment; number = number }) (roll_account c (record { moment = moment; number = number }) past) first last

@@ -6,14 +6,14 @@ use Rattle.std.specs.Int.{int_max}
 use Rattle.appender_names.specs.declared.rotation.Rotation.{Rotation}
 use Rattle.appender_names.specs.Rotation.{is_moment, period_of, is_same_start}
 use Rattle.std.specs.FinMap as fin
-use Rattle.appender_store.specs.Content.{Content, File, Link, Opens, after_append, after_make_folder, body_at}
-use Rattle.appender_store.specs.Folder.{Counts}
-use Rattle.appender_retain.specs.Survival.{TakesOnlyOld, LeavesSurvivors, name_survives, candidates_in}
+use Rattle.appender_store.specs.Content.{Content, File, Link, OpensBody, after_append, after_make_folder, body_at}
+use Rattle.appender_store.specs.Folder.{NotedCounts}
+use Rattle.appender_retain.specs.Survival.{RemovesOnlyOld, KeepsSurvivors, name_survives, candidates_in}
 use Rattle.appender_retain.specs.Pruning.{IsQuiet}
 use Rattle.appender_rolling.specs.Config.{Config, log_files_of, is_limited, IsStamp, stamp}
-use Rattle.appender_rolling.specs.Roller.{wanted}
+use Rattle.appender_rolling.specs.Roller.{room_needed}
 use Rattle.appender_rolling.specs.declared.rolling.setup.Stamp.{Stamp}
-use Rattle.appender_rolling.specs.Opening.{file_name_of, Linked, LeavesLittle}
+use Rattle.appender_rolling.specs.Opening.{file_name_of, ChangesLink, IsRefusalEffect}
 use Rattle.appender_rolling.specs.declared.rolling.Switch.{Switch}
 use Rattle.appender_rolling.specs.declared.rolling.Switch.TheVariants.{None as Stayed, Opened as Switched, Failed as SwitchFailed}
 
@@ -55,9 +55,9 @@ is_opened Switched = true
 is_opened SwitchFailed = false
 
 -- the pieces of the steps from number n on
-abbrev pub since : ℕ → List Event → List ℕ
-since n [] = []
-since n (e ∷ earlier) = since n earlier ++ (if nat_le n (suc (length earlier)) then e.piece else [])
+abbrev pub pieces_since : ℕ → List Event → List ℕ
+pieces_since n [] = []
+pieces_since n (e ∷ earlier) = pieces_since n earlier ++ (if nat_le n (suc (length earlier)) then e.piece else [])
 
 -- ---- attempts
 
@@ -69,87 +69,87 @@ pub record Attempt : Type 0 where
   pub body : Option ℕ
   pub before : Content
   pub after : Content
-  pub noted_before : Counts
-  pub noted_after : Counts
+  pub noted_before : NotedCounts
+  pub noted_after : NotedCounts
 
 -- What is seen of a run after one of its steps, or after the opening: the folder's content, the counts of notices, the number of
 -- the open body, and the step's piece.
-pub record Seen : Type 0 where
+pub record StepState : Type 0 where
   pub content : Content
-  pub noted : Counts
+  pub noted : NotedCounts
   pub body : ℕ
   pub piece : List ℕ
 
 -- the content and the counts before a step, by what is seen after each: those after the step before it, and before the opening these
-abbrev pub content_before : Content → (ℕ → Seen) → ℕ → Content
+abbrev pub content_before : Content → (ℕ → StepState) → ℕ → Content
 content_before first seen zero = first
 content_before first seen (suc n) = (seen n).content
 
-abbrev pub counts_before : Counts → (ℕ → Seen) → ℕ → Counts
+abbrev pub counts_before : NotedCounts → (ℕ → StepState) → ℕ → NotedCounts
 counts_before first seen zero = first
 counts_before first seen (suc n) = (seen n).noted
 
 -- The attempt is what was seen of the run at its step: the content and the counts before it are those that the step before left, the
 -- counts after it those that its own step left, and so is the content after it, with the step's piece after what the open body
 -- held.
-pub record IsSeenAtItsStep (first : Content) (noted_first : Counts) (seen : ℕ → Seen) (a : Attempt) : Type 0 where
+pub record MatchesItsStep (first : Content) (noted_first : NotedCounts) (seen : ℕ → StepState) (a : Attempt) : Type 0 where
   pub before : a.before ≡ content_before first seen a.step
   pub noted_before : a.noted_before ≡ counts_before noted_first seen a.step
   pub after : (seen a.step).content ≡ after_append a.after (seen a.step).body (seen a.step).piece
   pub noted_after : a.noted_after ≡ (seen a.step).noted
 
 -- an attempt's step, stamp and success
-abbrev pub Time : Type 0
-Time = ℕ × Stamp × Bool
+abbrev pub AttemptTime : Type 0
+AttemptTime = ℕ × Stamp × Bool
 
-abbrev pub time_of : Attempt → Time
+abbrev pub time_of : Attempt → AttemptTime
 time_of a = (a.step, a.stamp, is_some a.body)
 
 -- the step and the stamp of the last of these attempts; the opening is one
-abbrev pub last_step : List Time → ℕ
+abbrev pub last_step : List AttemptTime → ℕ
 last_step [] = 0
 last_step ((step, s, succeeded) ∷ before) = step
 
-abbrev pub last_stamp : Stamp → List Time → Stamp
+abbrev pub last_stamp : Stamp → List AttemptTime → Stamp
 last_stamp first [] = first
 last_stamp first ((step, s, succeeded) ∷ before) = s
 
 -- how many bytes were written since the last attempt, whether it succeeded or not, with those of its own step
-abbrev pub count_since : List Time → List Event → ℕ
-count_since before h = length (since (last_step before) h)
+abbrev pub count_since : List AttemptTime → List Event → ℕ
+count_since before h = length (pieces_since (last_step before) h)
 
 -- A step is full, under a limit of bytes, where it reads the clock, something was written since the last attempt, what it offers, or
 -- one byte, would be more than the limit with that, and the last attempt's number isn't the greatest.
-abbrev pub is_full : Config → Stamp → List Time → Event → List Event → Bool
-is_full c first before e earlier =
+abbrev pub is_full_step : Config → Stamp → List AttemptTime → Event → List Event → Bool
+is_full_step c first before e earlier =
     is_some e.read && is_limited c && nat_lt (last_stamp first before).number 999999
     && nat_lt 0 (count_since before earlier)
-    && nat_lt c.max_bytes (count_since before earlier + wanted e.offered)
+    && nat_lt c.max_bytes (count_since before earlier + room_needed e.offered)
 
 -- The stamp for which a step makes an attempt, if it makes one: an arrival for the latest moment with the number 0; else a full step
 -- for the last attempt's moment, in whose period the latest moment lies, with the number after its own.
-abbrev pub stamp_at : Config → Stamp → List Time → Event → List Event → Option Stamp
+abbrev pub stamp_at : Config → Stamp → List AttemptTime → Event → List Event → Option Stamp
 stamp_at c first before e earlier =
     if arrives c.rotation first.moment e earlier then Some (stamp (latest_moment first.moment (e ∷ earlier)) 0)
-    else if is_full c first before e earlier then Some (stamp (last_stamp first before).moment ((last_stamp first before).number + 1))
+    else if is_full_step c first before e earlier then Some (stamp (last_stamp first before).moment ((last_stamp first before).number + 1))
     else None
 
-abbrev pub with_time : Option Stamp → ℕ → Bool → List Time → List Time
+abbrev pub with_time : Option Stamp → ℕ → Bool → List AttemptTime → List AttemptTime
 with_time None step succeeded before = before
 with_time (Some s) step succeeded before = (step, s, succeeded) ∷ before
 
 -- When attempts are made, and which succeed, the newest first: the opening, whose stamp is the first, one at each arrival and one at
 -- each full step.
-abbrev pub times : Config → Stamp → List Event → List Time
-times c first [] = (0, first, true) ∷ []
-times c first (e ∷ earlier) =
-    with_time (stamp_at c first (times c first earlier) e earlier) (suc (length earlier)) (is_opened e.switch) (times c first earlier)
+abbrev pub attempt_times : Config → Stamp → List Event → List AttemptTime
+attempt_times c first [] = (0, first, true) ∷ []
+attempt_times c first (e ∷ earlier) =
+    with_time (stamp_at c first (attempt_times c first earlier) e earlier) (suc (length earlier)) (is_opened e.switch) (attempt_times c first earlier)
 
 -- a switch is replied exactly if a step makes an attempt
 abbrev pub SwitchesAtAttempts : Config → Stamp → List Event → Type 0
 SwitchesAtAttempts c first [] = Unit {0}
 SwitchesAtAttempts c first (e ∷ earlier) =
-    (is_switch e.switch ≡ is_some (stamp_at c first (times c first earlier) e earlier)) × SwitchesAtAttempts c first earlier
+    (is_switch e.switch ≡ is_some (stamp_at c first (attempt_times c first earlier) e earlier)) × SwitchesAtAttempts c first earlier
 
 -- Without a limit of bytes it is replied exactly at the arrivals.
 abbrev pub SwitchesAtArrivals : Rotation → ℤ → List Event → Type 0
@@ -157,26 +157,26 @@ SwitchesAtArrivals r start [] = Unit {0}
 SwitchesAtArrivals r start (e ∷ earlier) = (is_switch e.switch ≡ arrives r start e earlier) × SwitchesAtArrivals r start earlier
 
 -- the stamp of the last attempt that succeeded
-abbrev pub last_opened : Stamp → List Time → Stamp
+abbrev pub last_opened : Stamp → List AttemptTime → Stamp
 last_opened first [] = first
 last_opened first ((step, s, succeeded) ∷ earlier) = if succeeded then s else last_opened first earlier
 
 -- what distinguishes the files of a run: a period, and a number in it
-abbrev pub Key : Type 0
-Key = Option ℤ × ℕ
+abbrev pub FileKey : Type 0
+FileKey = Option ℤ × ℕ
 
-abbrev pub key_of : Config → Stamp → Key
-key_of c s = (period_of c.rotation s.moment, s.number)
+abbrev pub file_key : Config → Stamp → FileKey
+file_key c s = (period_of c.rotation s.moment, s.number)
 
-abbrev pub is_same_key : Key → Key → Bool
+abbrev pub is_same_key : FileKey → FileKey → Bool
 is_same_key a b = is_same_start a.0 b.0 && (a.1 == b.1)
 
 -- the period of the latest moment, and the number that was the last begun there
-abbrev pub key_at : Config → Stamp → List Event → Key
-key_at c first h = (period_at c.rotation first.moment h, (last_stamp first (times c first h)).number)
+abbrev pub key_at : Config → Stamp → List Event → FileKey
+key_at c first h = (period_at c.rotation first.moment h, (last_stamp first (attempt_times c first h)).number)
 
 -- neither the name of the attempt for this stamp nor that of the link, if one is set
-pub record IsOther (c : Config) (s : Stamp) (name : List ℕ) : Type 0 where
+pub record IsOtherName (c : Config) (s : Stamp) (name : List ℕ) : Type 0 where
   pub not_own : name ≢ file_name_of c s
   pub not_link : name ≡ c.link → c.link ≡ []
 
@@ -185,11 +185,11 @@ pub record IsOther (c : Config) (s : Stamp) (name : List ℕ) : Type 0 where
 pub record NamesAfter (c : Config) (a : Attempt) (b : ℕ) : Type 0 where
   pub own : (t : Option ℤ) × (fin.get a.after.names (file_name_of c a.stamp) ≡ Some (File b t))
   pub link : c.link ≢ [] → fin.get a.after.names c.link ≡ Some (Link (file_name_of c a.stamp))
-  pub others : (name : List ℕ) → IsOther c a.stamp name
+  pub others : (name : List ℕ) → IsOtherName c a.stamp name
       → (fin.get a.after.names name ≡ fin.get a.before.names name)
       ⊎ ((fin.get a.after.names name ≡ None) × (name_survives (log_files_of c (Some (file_name_of c a.stamp))) c.max_files a.before.names name ≡ false))
   pub survivors : (IsQuiet a.noted_before a.noted_after ⊎ (a.before.there ≡ false))
-      → (name : List ℕ) → IsOther c a.stamp name
+      → (name : List ℕ) → IsOtherName c a.stamp name
       → fin.get a.after.names name ≡ (if name_survives (log_files_of c (Some (file_name_of c a.stamp))) c.max_files a.before.names name then fin.get a.before.names name else None)
 
 -- What an attempt that opened a body did. It removed only log files that don't survive, and, if it noted neither List nor
@@ -197,16 +197,16 @@ pub record NamesAfter (c : Config) (a : Attempt) (b : ℕ) : Type 0 where
 pub record Succeeded (c : Config) (a : Attempt) (b : ℕ) : Type 0 where
   pub pruned : Content
   pub unlinked : Content
-  pub only_old : TakesOnlyOld (log_files_of c (Some (file_name_of c a.stamp))) c.max_files a.before pruned
-  pub survivors : IsQuiet a.noted_before a.noted_after → LeavesSurvivors (log_files_of c (Some (file_name_of c a.stamp))) c.max_files a.before pruned
-  pub opens : Opens (file_name_of c a.stamp) (after_make_folder pruned) unlinked b
-  pub links : Linked c.link (file_name_of c a.stamp) unlinked a.after
+  pub only_old : RemovesOnlyOld (log_files_of c (Some (file_name_of c a.stamp))) c.max_files a.before pruned
+  pub survivors : IsQuiet a.noted_before a.noted_after → KeepsSurvivors (log_files_of c (Some (file_name_of c a.stamp))) c.max_files a.before pruned
+  pub opens : OpensBody (file_name_of c a.stamp) (after_make_folder pruned) unlinked b
+  pub links : ChangesLink c.link (file_name_of c a.stamp) unlinked a.after
   pub names : NamesAfter c a b
   pub at_most : IsQuiet a.noted_before a.noted_after → 0 < c.max_files → candidates_in (log_files_of c None) a.after ≤ c.max_files
 
 -- what an attempt did
-abbrev pub Tried : Config → Attempt → Type 0
-Tried c a = MatchOption a.body (LeavesLittle c (file_name_of c a.stamp) a.before a.after) (Succeeded c a)
+abbrev pub AttemptDoes : Config → Attempt → Type 0
+AttemptDoes c a = MatchOption a.body (IsRefusalEffect c (file_name_of c a.stamp) a.before a.after) (Succeeded c a)
 
 -- the carrier of a step: the last attempt up to it that succeeded
 abbrev pub carrier : List Attempt → ℕ → Option Attempt
@@ -215,15 +215,15 @@ carrier (a ∷ rest) i = if nat_le a.step i && is_some a.body then Some a else c
 
 -- ---- what is written
 
-abbrev pub passes : (Attempt → Bool) → Option Attempt → Bool
-passes test None = false
-passes test (Some a) = test a
+abbrev pub meets_test : (Attempt → Bool) → Option Attempt → Bool
+meets_test test None = false
+meets_test test (Some a) = test a
 
 -- the pieces of all steps whose carrier passes the test, in order
 abbrev pub bytes_where : (Attempt → Bool) → List Attempt → List Event → List ℕ
 bytes_where test attempts [] = []
 bytes_where test attempts (e ∷ earlier) =
-    bytes_where test attempts earlier ++ (if passes test (carrier attempts (suc (length earlier))) then e.piece else [])
+    bytes_where test attempts earlier ++ (if meets_test test (carrier attempts (suc (length earlier))) then e.piece else [])
 
 -- those that attempt j carries, by its step
 abbrev pub bytes_of_attempt : ℕ → List Attempt → List Event → List ℕ
@@ -244,15 +244,15 @@ bytes_in_period r start period (e ∷ earlier) =
     bytes_in_period r start period earlier ++ (if is_same_start (period_at r start (e ∷ earlier)) period then e.piece else [])
 
 -- those at which it also was the last number that was begun there
-abbrev pub bytes_under : Config → Stamp → Key → List Event → List ℕ
+abbrev pub bytes_under : Config → Stamp → FileKey → List Event → List ℕ
 bytes_under c first key [] = []
 bytes_under c first key (e ∷ earlier) =
     bytes_under c first key earlier ++ (if is_same_key (key_at c first (e ∷ earlier)) key then e.piece else [])
 
 -- the steps before number n
-abbrev pub up_to : ℕ → List Event → List Event
-up_to n [] = []
-up_to n (e ∷ earlier) = if nat_le n (suc (length earlier)) then up_to n earlier else e ∷ earlier
+abbrev pub events_before : ℕ → List Event → List Event
+events_before n [] = []
+events_before n (e ∷ earlier) = if nat_le n (suc (length earlier)) then events_before n earlier else e ∷ earlier
 
 -- ---- the law of the files
 
@@ -268,18 +268,18 @@ Carried (Some b) bytes old new = new ≡ after_append old b bytes
 
 -- The attempts lead from the first content to the last: nothing changed the folder but they, and between two of them the
 -- pieces of the steps.
-abbrev pub Leads : Config → List Attempt → List Event → Content → Content → Type 0
-Leads c [] h first last = last ≡ first
-Leads c (a ∷ rest) h first last =
-    Leads c rest (up_to a.step h) first a.before
-    × Tried c a
-    × Carried (open_body (a ∷ rest)) (since a.step h) a.after last
+abbrev pub OnlyAttemptsChange : Config → List Attempt → List Event → Content → Content → Type 0
+OnlyAttemptsChange c [] h first last = last ≡ first
+OnlyAttemptsChange c (a ∷ rest) h first last =
+    OnlyAttemptsChange c rest (events_before a.step h) first a.before
+    × AttemptDoes c a
+    × Carried (open_body (a ∷ rest)) (pieces_since a.step h) a.after last
 
--- Notices are noted at attempts alone, for any kind of folder: a step that makes none leaves the counts as the step before it did.
-abbrev pub NotedAtAttempts : Config → Stamp → (ℕ → Seen) → List Event → Type 0
+-- Notices are noted only at attempts, for any kind of folder: a step that makes none leaves the counts as the step before it did.
+abbrev pub NotedAtAttempts : Config → Stamp → (ℕ → StepState) → List Event → Type 0
 NotedAtAttempts c start seen [] = Unit {0}
 NotedAtAttempts c start seen (e ∷ earlier) =
-    (stamp_at c start (times c start earlier) e earlier ≡ None → (seen (suc (length earlier))).noted ≡ (seen (length earlier)).noted)
+    (stamp_at c start (attempt_times c start earlier) e earlier ≡ None → (seen (suc (length earlier))).noted ≡ (seen (length earlier)).noted)
     × NotedAtAttempts c start seen earlier
 
 -- no switch failed
@@ -296,7 +296,7 @@ pub record OpenFileLaw (c : Config) (first : Stamp) (h : List Event) (attempts :
   pub body : file.body ≡ Some b
   pub holds : body_at last b ≡ body_at file.before b ++ bytes_of_attempt file.step attempts h
   pub in_its_period : NoneFailed h → period_of c.rotation file.stamp.moment ≡ period_at c.rotation first.moment h
-  pub in_its_number : NoneFailed h → file.stamp.number ≡ (last_stamp first (times c first h)).number
+  pub in_its_number : NoneFailed h → file.stamp.number ≡ (last_stamp first (attempt_times c first h)).number
 
 -- no attempt of these opened the body that this one opened
 abbrev pub OpensNoneOf : Attempt → List Attempt → Type 0
@@ -304,13 +304,13 @@ OpensNoneOf a [] = Unit {0}
 OpensNoneOf a (e ∷ rest) = ((b : ℕ) → a.body ≡ Some b → e.body ≡ Some b → ⊥) × OpensNoneOf a rest
 
 -- no two attempts opened one body
-abbrev pub AreApart : List Attempt → Type 0
-AreApart [] = Unit {0}
-AreApart (a ∷ rest) = OpensNoneOf a rest × AreApart rest
+abbrev pub OpenDistinctBodies : List Attempt → Type 0
+OpenDistinctBodies [] = Unit {0}
+OpenDistinctBodies (a ∷ rest) = OpensNoneOf a rest × OpenDistinctBodies rest
 
 -- what the attempt opened holds what it held then, followed by exactly what the attempt carries
-abbrev pub HoldsItsOwn : List Attempt → List Event → Content → Attempt → Type 0
-HoldsItsOwn attempts h last a =
+abbrev pub ContainsItsPieces : List Attempt → List Event → Content → Attempt → Type 0
+ContainsItsPieces attempts h last a =
     (b : ℕ) → a.body ≡ Some b → body_at last b ≡ body_at a.before b ++ bytes_of_attempt a.step attempts h
 
 -- what the attempt carries are the pieces of the steps at which the latest moment was in its period
@@ -321,7 +321,7 @@ CarriesItsPeriod r start attempts h a =
 -- they are those at which its number also was the last begun there
 abbrev pub CarriesItsNumber : Config → Stamp → List Attempt → List Event → Attempt → Type 0
 CarriesItsNumber c first attempts h a =
-    (b : ℕ) → a.body ≡ Some b → bytes_of_attempt a.step attempts h ≡ bytes_under c first (key_of c a.stamp) h
+    (b : ℕ) → a.body ≡ Some b → bytes_of_attempt a.step attempts h ≡ bytes_under c first (file_key c a.stamp) h
 
 -- no name but the attempt's leads to what it opened
 abbrev pub HasItsName : Config → Content → Attempt → Type 0
@@ -349,29 +349,29 @@ EachWriteReadsClock (e ∷ earlier) = (e.read ≡ None → e.piece ≡ []) × Ea
 abbrev pub pieces_of_attempt : ℕ → List Attempt → List Event → ℕ
 pieces_of_attempt j attempts [] = 0
 pieces_of_attempt j attempts (e ∷ earlier) =
-    pieces_of_attempt j attempts earlier + (if passes (λ a. a.step == j) (carrier attempts (suc (length earlier))) && nat_lt 0 (length e.piece) then 1 else 0)
+    pieces_of_attempt j attempts earlier + (if meets_test (λ a. a.step == j) (carrier attempts (suc (length earlier))) && nat_lt 0 (length e.piece) then 1 else 0)
 
 -- what the attempt carries is no more than the limit, or it is one piece, which isn't empty
-abbrev pub KeepsToLimit : Config → List Attempt → List Event → Attempt → Type 0
-KeepsToLimit c attempts h a =
+abbrev pub IsWithinLimit : Config → List Attempt → List Event → Attempt → Type 0
+IsWithinLimit c attempts h a =
     a.stamp.number < 999999 → (length (bytes_of_attempt a.step attempts h) ≤ c.max_bytes) ⊎ (pieces_of_attempt a.step attempts h ≡ 1)
 
 -- The law of the files of a run: every body, whether or not a name leads to it, holds what it held at first, followed by
 -- exactly what was written to it. What each attempt opened holds what it held then, followed by what the attempt carries,
 -- which is, unless a switch failed, exactly what was written while the latest moment was in its period; with a limit of bytes, while
 -- its number also was the last begun there. Contents and counts of the attempts are those that were seen at their steps.
-pub record FileLaw (c : Config) (start : Stamp) (h : List Event) (first last : Content) (noted_first : Counts) (seen : ℕ → Seen) (opened : Stamp) (b : ℕ) : Type 0 where
+pub record FileLaw (c : Config) (start : Stamp) (h : List Event) (first last : Content) (noted_first : NotedCounts) (seen : ℕ → StepState) (opened : Stamp) (b : ℕ) : Type 0 where
   pub attempts : List Attempt
-  pub are_times : map time_of attempts ≡ times c start h
-  pub are_seen : EachOf (IsSeenAtItsStep first noted_first seen) attempts
-  pub leads : Leads c attempts h first last
+  pub are_times : map time_of attempts ≡ attempt_times c start h
+  pub are_seen : EachOf (MatchesItsStep first noted_first seen) attempts
+  pub leads : OnlyAttemptsChange c attempts h first last
   pub bodies : (x : ℕ) → body_at last x ≡ body_at first x ++ bytes_to_body x attempts h
   pub open_file : OpenFileLaw c start h attempts last opened b
-  pub apart : AreApart attempts
-  pub each : EachOf (HoldsItsOwn attempts h last) attempts
+  pub apart : OpenDistinctBodies attempts
+  pub each : EachOf (ContainsItsPieces attempts h last) attempts
   pub under_its_name : EachOf (HasItsName c last) attempts
   pub names_its_body : EachOf (NamesItsBody c last) attempts
   pub in_its_period : is_limited c ≡ false → NoneFailed h → EachOf (CarriesItsPeriod c.rotation start.moment attempts h) attempts
   pub in_its_number : NoneFailed h → EachOf (CarriesItsNumber c start attempts h) attempts
   pub stamps : EachOf (λ a. IsStamp c a.stamp) attempts
-  pub keeps_to_limit : is_limited c ≡ true → NoneFailed h → EachWriteReadsClock h → EachOf (KeepsToLimit c attempts h) attempts
+  pub keeps_to_limit : is_limited c ≡ true → NoneFailed h → EachWriteReadsClock h → EachOf (IsWithinLimit c attempts h) attempts

@@ -1,7 +1,7 @@
 //! Runs of an appender that are given as lists of steps, for tests and scripts.
 ghost use Rattle.std.specs.Prelude.{◌≡◌, [], length, IfOk, IfErr};
 ghost use Rattle.appender_replay.specs.RollHeadline.{RollHeadline};
-ghost use Rattle.appender_replay.specs.Replay.{by_kind, with_replies, with_replies_onto, roll_event, StepDoes, RollDoes, RunsFrom, RollerFollows, IsNotRun, HasSteps};
+ghost use Rattle.appender_replay.specs.Replay.{by_kind, with_replies, with_replies_onto, roll_event, RollStepDoes, RollDoes, RunsFrom, RollerFollows, IsNotRun, HasSteps};
 
 mod refused;
 mod whole;
@@ -28,7 +28,7 @@ pub enum RollStep {
     Flush,
 }
 
-/// The reply to a step. It has a fault by its kind alone.
+/// The reply to a step. Of an error it has only the kind.
 #[derive(Clone, Copy, Debug, PartialEq, Eq)]
 pub enum RollReply {
     /// To `See`.
@@ -41,25 +41,27 @@ pub enum RollReply {
     Flushed(Result<(), io::ErrorKind>),
 }
 
-/// A roller's run that was opened: one reply a step, the roller as the last step left it, and the number of
-/// the first file, which is 0 without a limit of bytes.
+/// The result of `replay_rolling`, after the last step.
 #[derive(Drop)]
 pub struct RollRun<S: Folder> {
+    /// The replies, one for each step, in the order of the steps.
     pub replies: Vec<RollReply>,
+    /// The roller, whose folder has the files that were written.
     pub roller: Roller<S>,
+    /// The number in the name of the file that was opened first. 0 if no limit of bytes is set.
     pub number: u32,
 }
 
-/// Why no step was run; the folder is handed back.
+/// Why a run failed before its first step. Each case returns the folder.
 #[derive(Drop)]
 pub enum ReplayError<S: Drop> {
-    /// Memory for the replies or for the queue was refused, and the folder not touched.
+    /// Memory for the replies or for the queue was refused. The folder was not called.
     Memory(S),
-    /// The roller wasn't opened.
+    /// The roller could not be opened. The error is that of `Roller::open`, which may have changed the folder.
     Init(InitError, S),
 }
 
-// Returns the answer, an error by its kind alone.
+// Returns the answer, of an error only its kind.
 fn by_kind<T: Copy>(answer: &io::Result<T>) -> Result<T, io::ErrorKind>
     ensures { result ≡ by_kind answer.now }
 {
@@ -71,7 +73,7 @@ fn by_kind<T: Copy>(answer: &io::Result<T>) -> Result<T, io::ErrorKind>
 
 // Does one step.
 fn run_step<S: Folder>(roller: &mut Roller<S>, step: &RollStep) -> RollReply
-    ensures { StepDoes S.Folder (step.now, result) roller.old roller.new }
+    ensures { RollStepDoes S.Folder (step.now, result) roller.old roller.new }
 {
     match step {
         RollStep::See(moment) => RollReply::Saw(roller.see(*moment)),
@@ -84,8 +86,9 @@ fn run_step<S: Folder>(roller: &mut Roller<S>, step: &RollStep) -> RollReply
     }
 }
 
-/// Opens a roller over the folder at `start`, in seconds of UTC since the epoch, and runs the steps
-/// in order. Room for all replies is taken before the opening.
+/// Opens a roller over the folder at the moment `start`, in seconds of UTC since the epoch, and runs the steps in
+/// order. Memory for all replies is allocated before the opening: `Memory` if it is refused. `Init` if the opening
+/// fails.
 pub fn replay_rolling<S: Folder>(
     alloc: Global,
     builder: &Builder,

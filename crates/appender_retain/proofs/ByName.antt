@@ -6,13 +6,13 @@ use Rattle.std.specs.Option.{option_map, option_map_or, option_and_then}
 use Rattle.std.specs.FinMap as fin
 use Rattle.std.proofs.lemmas.Int.{ints}
 use Rattle.std.proofs.lemmas.Slice.Eq.{bytes_eq-Decides}
-use Rattle.appender_names.specs.Name.{Naming, IsLaterName, last_by, reading, reading_at}
+use Rattle.appender_names.specs.Name.{Naming, IsLaterName, greatest_number, reading, reading_at}
 use Rattle.appender_names.specs.Rotation.{is_moment, is_same_start, period_of}
 use Rattle.appender_names.proofs.Reading.{reading_reads}
 use Rattle.appender_store.specs.Content.{Entry, NameMap, File, Link, Folder}
 use Rattle.appender_store.specs.Folder.{entry_row}
-use Rattle.appender_retain.specs.Rank.{LogFiles, Rank, key_by_name, key_of, rank_of}
-use Rattle.appender_retain.specs.Survival.{NamesAreSpared, KeysRise, name_rank, name_survives}
+use Rattle.appender_retain.specs.Rank.{LogFiles, Rank, key_by_name, candidate_key, rank_of}
+use Rattle.appender_retain.specs.Survival.{NamesAreKept, KeysRise, name_rank, name_survives}
 
 -- what is read without numbers has the number 0
 pub read_unnumbered : (n : Naming) (name : List ℕ) (s : ℤ) → n.numbered ≡ false → reading n name ≡ Some s → reading_at n name ≡ Some (s, 0)
@@ -22,13 +22,13 @@ read_unnumbered n name s plain h = by (reading_at n name) refl h
     by None e none = absurd (let nothing : None ≡ Some s = none in cc)
     by (Some key) e is =
         let second : Some key.0 ≡ Some s = is in
-        let bound : key.1 ≤ 0 = subst (λ (b : Bool). key.1 ≤ last_by b) plain (reading_reads n name key e).number_is in
+        let bound : key.1 ≤ 0 = subst (λ (b : Bool). key.1 ≤ greatest_number b) plain (reading_reads n name key e).number_is in
         let number : key.1 ≡ 0 = omega arith in
         let same : key.0 ≡ s = (cc) in
         rw (← same, ← number) refl
 
 -- what has no key survives
-keyless_survives : (log : LogFiles) (name : List ℕ) → ((created : Option ℤ) → key_of log name created ≡ None) → (max : ℕ) (names : NameMap) → name_survives log max names name ≡ true
+keyless_survives : (log : LogFiles) (name : List ℕ) → ((created : Option ℤ) → candidate_key log name created ≡ None) → (max : ℕ) (names : NameMap) → name_survives log max names name ≡ true
 keyless_survives log name keyless max names = rw (no_rank (fin.get names name)) (either (max == 0))
   where
     either : (b : Bool) → (b || true) ≡ true
@@ -41,7 +41,7 @@ keyless_survives log name keyless max names = rw (no_rank (fin.get names name)) 
     no_rank (Some (Link target)) = refl
     no_rank (Some Folder) = refl
 
-pub spared : (log : LogFiles) → log.by_name ≡ true → NamesAreSpared log
+pub spared : (log : LogFiles) → log.by_name ≡ true → NamesAreKept log
 spared log by_name = record {
   opened = λ name is. keyless_survives log name (λ created.
       let own : option_map_or (bytes_eq name) log.opened false ≡ true = ap (λ (o : Option (List ℕ)). option_map_or (bytes_eq name) o false) is ∙ (bytes_eq-Decides name name).1 refl in
@@ -61,7 +61,7 @@ key_is n name p k x read key = (by (is_moment p && is_same_start (period_of n.ro
     by true is = let some : Some ((p *ℤ pos 1000000) +ℤ pos k) ≡ Some x = is in cc
     by false none = absurd (let nothing : None ≡ Some x = none in cc)
 
-    bound : (b : Bool) → k ≤ last_by b → k ≤ 999999
+    bound : (b : Bool) → k ≤ greatest_number b → k ≤ 999999
     bound true h = h
     bound false h = omega arith
 

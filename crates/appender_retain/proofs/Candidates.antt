@@ -6,7 +6,7 @@ use Rattle.std.proofs.lemmas.List.{length-map, get_or-map, take-map}
 use Rattle.std.proofs.lemmas.List.Sorted.{IsPermutation-map}
 use Rattle.appender_store.specs.Folder.{Row}
 use Rattle.appender_retain.specs.Rank.{LogFiles, Rank, rank_cmp, ranks}
-use Rattle.appender_retain.specs.Inside.Candidate.{rank_in, how_many_go}
+use Rattle.appender_retain.specs.Inside.Candidate.{rank_in, removal_count}
 use Rattle.appender_retain.specs.declared.retain.Candidate.{Candidate}
 use Rattle.appender_retain.proofs.Ranks.{InOrder, in_order, places_to_go}
 
@@ -31,6 +31,6 @@ places_map [] = refl
 places_map (c ∷ cs) = ap (λ ns. c.place ∷ ns) (places_map cs)
 
 -- the first of them have the places that go
-pub places_gone : (max count : ℕ) (ds : List Candidate) → count ≡ how_many_go max (length ds) → map (λ (c : Candidate). c.place) (take count ds) ≡ places_to_go max (map rank_in ds)
+pub places_gone : (max count : ℕ) (ds : List Candidate) → count ≡ removal_count max (length ds) → map (λ (c : Candidate). c.place) (take count ds) ≡ places_to_go max (map rank_in ds)
 places_gone max count ds e =
-    places_map (take count ds) ∙ ap (map (λ (r : Rank). r.2)) (sym (take-map rank_in count ds) ∙ ap (λ (m : ℕ). take m (map rank_in ds)) (e ∙ ap (how_many_go max) (sym (length-map ds rank_in))))
+    places_map (take count ds) ∙ ap (map (λ (r : Rank). r.2)) (sym (take-map rank_in count ds) ∙ ap (λ (m : ℕ). take m (map rank_in ds)) (e ∙ ap (removal_count max) (sym (length-map ds rank_in))))

@@ -20,9 +20,9 @@ use Rattle.std.proofs.lemmas.Option.{slice_get_within, get_or_from_slice_get}
 use Rattle.appender_store.specs.Content.{NameMap, Entry, File, Link, Folder}
 use Rattle.appender_store.specs.Folder.{Row, entry_row}
 use Rattle.appender_store.specs.declared.store.Kind.TheVariants.{File as PlainFile, Folder as PlainFolder, Link as PlainLink, Other}
-use Rattle.appender_retain.specs.Rank.{LogFiles, Rank, rank_cmp, rank_of, key_of, count_above, survives}
+use Rattle.appender_retain.specs.Rank.{LogFiles, Rank, rank_cmp, rank_of, candidate_key, survives, ranks}
 use Rattle.appender_retain.specs.Survival.{name_ranks, name_survives}
-use Rattle.appender_retain.specs.Pruning.{name_at}
+use Rattle.appender_retain.specs.Pruning.{listed_name_at}
 use Rattle.appender_retain.proofs.Elements.{Contains_found, found_Contains, Contains_map, map_Contains, count_filter_map, count_map, count_agree}
 use Rattle.appender_retain.proofs.Entries.{entries_rise, entry_there, there_entry}
 
@@ -55,7 +55,7 @@ rows_apart names =
     (sym (is_eq-slice_cmp (get_or all i no_entry).0 (get_or all j no_entry).0) ∙ ap is_eq less))
 
 -- the row of a name at a place
-pub named_row : (rows : List Row) (place : ℕ) (name : List ℕ) → name_at rows place ≡ Some name → (l : Row) × (slice_get rows place ≡ Some l) × (l.0 ≡ Some name)
+pub named_row : (rows : List Row) (place : ℕ) (name : List ℕ) → listed_name_at rows place ≡ Some name → (l : Row) × (slice_get rows place ≡ Some l) × (l.0 ≡ Some name)
 named_row rows place name h = by (slice_get rows place) refl h
   where
     by : (o : Option Row) → slice_get rows place ≡ o → option_and_then (λ (l : Row). l.0) o ≡ Some name → (l : Row) × (slice_get rows place ≡ Some l) × (l.0 ≡ Some name)
@@ -64,7 +64,7 @@ named_row rows place name h = by (slice_get rows place) refl h
 
 module _ (names : NameMap) (rows : List Row) (all : IsListing names rows) where
   -- no two rows have one name
-  not_before : (name : List ℕ) (j k : ℕ) → name_at rows j ≡ Some name → name_at rows k ≡ Some name → ¬ (j < k)
+  not_before : (name : List ℕ) (j k : ℕ) → listed_name_at rows j ≡ Some name → listed_name_at rows k ≡ Some name → ¬ (j < k)
   not_before name j k at_j at_k before =
       let l = named_row rows j name at_j in
       let m = named_row rows k name at_k in
@@ -76,7 +76,7 @@ module _ (names : NameMap) (rows : List Row) (all : IsListing names rows) where
       cc
 
   -- so a name has one place
-  pub one_place : (name : List ℕ) (j k : ℕ) → name_at rows j ≡ Some name → name_at rows k ≡ Some name → j ≡ k
+  pub one_place : (name : List ℕ) (j k : ℕ) → listed_name_at rows j ≡ Some name → listed_name_at rows k ≡ Some name → j ≡ k
   one_place name j k at_j at_k =
       let first : ¬ (j < k) = not_before name j k at_j at_k in
       let second : ¬ (k < j) = not_before name k j at_k at_j in
@@ -98,7 +98,7 @@ module _ (names : NameMap) (rows : List Row) (all : IsListing names rows) where
 
 -- a place decides only between rows of one name
 agree : (log : LogFiles) (key : ℤ) (name : List ℕ) (k j : ℕ) (l : Row) → (l.0 ≡ Some name → j ≡ k) → option_map_or (λ (b : Rank). is_lt (rank_cmp (key, name, k) b)) (rank_of log (j, l)) false ≡ option_map_or (λ (b : Rank). is_lt (rank_cmp (key, name, 0) b)) (rank_of log (0, l)) false
-agree log key name k j (Some other, PlainFile, created) same = by (key_of log other created)
+agree log key name k j (Some other, PlainFile, created) same = by (candidate_key log other created)
   where
     tie : (keys names : Ordering) → slice_cmp nat_cmp name other ≡ names → is_lt (ordering_then keys (ordering_then names (nat_cmp k j))) ≡ is_lt (ordering_then keys (ordering_then names (nat_cmp 0 0)))
     tie Less names e = refl
@@ -120,7 +120,7 @@ agree log key name k j (None, kind, created) same = refl
 
 module _ (log : LogFiles) (names : NameMap) (rows : List Row) (all : IsListing names rows) (k : ℕ) (name : List ℕ) where
   -- as many candidates stand above in the listing as among the names
-  same_above : name_at rows k ≡ Some name → (key : ℤ) → count_above log rows (key, name, k) ≡ count_by (λ (b : Rank). is_lt (rank_cmp (key, name, 0) b)) (name_ranks log names)
+  same_above : listed_name_at rows k ≡ Some name → (key : ℤ) → count_by (λ (b : Rank). is_lt (rank_cmp (key, name, k) b)) (ranks log rows) ≡ count_by (λ (b : Rank). is_lt (rank_cmp (key, name, 0) b)) (name_ranks log names)
   same_above at key =
       count_filter_map by_place (rank_of log) (enumerate_from 0 rows)
       ∙ count_agree (λ (e : ℕ × Row). option_map_or by_place (rank_of log e) false) passes 0 rows
@@ -146,19 +146,19 @@ module _ (log : LogFiles) (names : NameMap) (rows : List Row) (all : IsListing n
       ∙ ap (λ (o : Option Entry). (max == 0) || option_map_or name_stays (option_and_then (λ (e : Entry). rank_of log (0, entry_row (name, e))) o) true) (sym here)
     where
       stays : Rank → Bool
-      stays a = leb (count_above log rows a + 2) max
+      stays a = leb (count_by (λ (b : Rank). is_lt (rank_cmp a b)) (ranks log rows) + 2) max
 
       name_stays : Rank → Bool
       name_stays a = leb (count_by (λ (b : Rank). is_lt (rank_cmp a b)) (name_ranks log names) + 2) max
 
       Same : Type 0
-      Same = (key : ℤ) → count_above log rows (key, name, k) ≡ count_by (λ (b : Rank). is_lt (rank_cmp (key, name, 0) b)) (name_ranks log names)
+      Same = (key : ℤ) → count_by (λ (b : Rank). is_lt (rank_cmp (key, name, k) b)) (ranks log rows) ≡ count_by (λ (b : Rank). is_lt (rank_cmp (key, name, 0) b)) (name_ranks log names)
 
       by_key : (o : Option ℤ) → Same → ((max == 0) || option_map_or stays (option_map (λ (key : ℤ). (key, name, k)) o) true) ≡ ((max == 0) || option_map_or name_stays (option_map (λ (key : ℤ). (key, name, 0)) o) true)
       by_key None count = refl
       by_key (Some key) count = ap (λ (c : ℕ). (max == 0) || leb (c + 2) max) (count key)
 
       by : (e : Entry) → Same → ((max == 0) || option_map_or stays (rank_of log (k, entry_row (name, e))) true) ≡ ((max == 0) || option_map_or name_stays (rank_of log (0, entry_row (name, e))) true)
-      by (File b t) count = by_key (key_of log name t) count
+      by (File b t) count = by_key (candidate_key log name t) count
       by (Link target) count = refl
       by Folder count = refl

@@ -2,7 +2,7 @@
 use Rattle.std.proofs.Common.{◌≡◌, ◌≢◌, ◌∙◌, ℕ, ◌+◌, ◌-◌, ◌<◌, ◌≤◌, ℤ, pos, Bool, true, false, cond, eqb, leb, ◌||◌, List, [], length, get_or, take, map, Option, None, Some, refl, sym, ap, arith, Ordering}
 use Rattle.std.specs.Prelude.{◌==◌}
 use Rattle.std.specs.Option.{option_map, option_map_or, option_and_then}
-use Rattle.std.specs.List.{Contains, AllPairs, IsDistinct, enumerate_from, slice_get}
+use Rattle.std.specs.List.{Contains, AllPairs, IsDistinct, enumerate_from, slice_get, count_by}
 use Rattle.std.specs.List.Sorted.{IsPermutation, IsSorted, IsStrictlySortedBy}
 use Rattle.std.specs.Cmp.{IsTotalOrder}
 use Rattle.std.specs.Cmp.Lexicographic.{slice_cmp, nat_list_cmp_total}
@@ -18,8 +18,8 @@ use Rattle.std.proofs.lemmas.Map.Keys.{IsDistinct-IsPermutation, IsDistinct-from
 use Rattle.std.proofs.lemmas.Map.Lookups.{CmpEqualImpliesEq, exact_bytes, exact_signed, exact_unsigned}
 use Rattle.appender_store.specs.Folder.{Row}
 use Rattle.appender_store.specs.declared.store.Kind.TheVariants.{File, Folder, Link, Other}
-use Rattle.appender_retain.specs.Rank.{LogFiles, Rank, rank_cmp, rank_of, rank_at, ranks, key_of, count_above, survives, IsRankedBelow, IsPlan}
-use Rattle.appender_retain.specs.Inside.Candidate.{how_many_go}
+use Rattle.appender_retain.specs.Rank.{LogFiles, Rank, rank_cmp, rank_of, rank_at, ranks, candidate_key, survives, IsRankedBelow, IsPlan}
+use Rattle.appender_retain.specs.Inside.Candidate.{removal_count}
 use Rattle.appender_retain.proofs.Elements.{Contains_map, map_Contains, Contains_filter_map, filter_map_Contains, all_pairs_filter_map, Contains_enumerated, enumerated_Contains, numbers_rise}
 use Rattle.appender_retain.proofs.Order.{how_many_above, lowest_go, go_lowest, strict_from_sorted}
 
@@ -33,7 +33,7 @@ pub record IsCandidate (at : ℕ) (row : Row) (r : Rank) : Type 0 where
 
 -- it is so wherever there is a rank
 pub candidate : (log : LogFiles) (e : ℕ × Row) (r : Rank) → rank_of log e ≡ Some r → IsCandidate e.0 e.1 r
-candidate log (place, (Some name, File, created)) r h = by (key_of log name created) h
+candidate log (place, (Some name, File, created)) r h = by (candidate_key log name created) h
   where
     by : (o : Option ℤ) → option_map (λ (key : ℤ). (key, name, place)) o ≡ Some r → IsCandidate place (Some name, File, created) r
     by None never = absurd (let nothing : None ≡ Some r = never in cc)
@@ -113,7 +113,7 @@ pub record InOrder (log : LogFiles) (rows : List Row) (ordered : List Rank) : Ty
 
 -- the places of those that go
 abbrev pub places_to_go : ℕ → List Rank → List ℕ
-places_to_go max ordered = map (λ (r : Rank). r.2) (take (how_many_go max (length ordered)) ordered)
+places_to_go max ordered = map (λ (r : Rank). r.2) (take (removal_count max (length ordered)) ordered)
 
 module _ (log : LogFiles) (rows : List Row) (ordered : List Rank) where
   -- candidates that are sorted are strictly so
@@ -135,7 +135,7 @@ module _ (log : LogFiles) (rows : List Row) (ordered : List Rank) where
 
   module _ (max : ℕ) (o : InOrder log rows ordered) where
     -- as many stand above in order as in the listing
-    same_count : (r : Rank) → how_many_above rank_cmp r ordered ≡ count_above log rows r
+    same_count : (r : Rank) → how_many_above rank_cmp r ordered ≡ count_by (λ (b : Rank). is_lt (rank_cmp r b)) (ranks log rows)
     same_count r = sum_by-IsPermutation (λ b. cond (is_lt (rank_cmp r b)) 1 0) (ranks log rows) ordered o.moved
 
     -- what is in order is listed at its place
@@ -146,7 +146,7 @@ module _ (log : LogFiles) (rows : List Row) (ordered : List Rank) where
     gone_falls : (place : ℕ) → Contains (places_to_go max ordered) place → survives log max rows place ≡ false
     gone_falls place there = by (max == 0) refl there
       where
-        by : (b : Bool) → (max == 0) ≡ b → Contains (map (λ (r : Rank). r.2) (take (cond b 0 (length ordered - (max - 1))) ordered)) place → (b || option_map_or (λ (a : Rank). leb (count_above log rows a + 2) max) (rank_at log rows place) true) ≡ false
+        by : (b : Bool) → (max == 0) ≡ b → Contains (map (λ (r : Rank). r.2) (take (cond b 0 (length ordered - (max - 1))) ordered)) place → (b || option_map_or (λ (a : Rank). leb (count_by (λ (b : Rank). is_lt (rank_cmp a b)) (ranks log rows) + 2) max) (rank_at log rows place) true) ≡ false
         by true e (k, l, is) = absurd (omega arith)
         by false e c =
             let positive : 0 < max = grind (arith, nat_tests) in
@@ -159,7 +159,7 @@ module _ (log : LogFiles) (rows : List Row) (ordered : List Rank) where
     fallen_goes : (place : ℕ) → survives log max rows place ≡ false → Contains (places_to_go max ordered) place
     fallen_goes place falls = by (max == 0) refl (rank_at log rows place) refl falls
       where
-        by : (b : Bool) → (max == 0) ≡ b → (r : Option Rank) → rank_at log rows place ≡ r → (b || option_map_or (λ (a : Rank). leb (count_above log rows a + 2) max) r true) ≡ false → Contains (map (λ (r : Rank). r.2) (take (cond b 0 (length ordered - (max - 1))) ordered)) place
+        by : (b : Bool) → (max == 0) ≡ b → (r : Option Rank) → rank_at log rows place ≡ r → (b || option_map_or (λ (a : Rank). leb (count_by (λ (b : Rank). is_lt (rank_cmp a b)) (ranks log rows) + 2) max) r true) ≡ false → Contains (map (λ (r : Rank). r.2) (take (cond b 0 (length ordered - (max - 1))) ordered)) place
         by true e r f no_way = absurd (let both : true ≡ false = no_way in cc)
         by false e None f no_way = absurd (let both : true ≡ false = no_way in cc)
         by false e (Some a) f many =
@@ -172,7 +172,7 @@ module _ (log : LogFiles) (rows : List Row) (ordered : List Rank) where
     -- the places that go are in rank order
     gone_rises : AllPairs (IsRankedBelow log rows) (places_to_go max ordered)
     gone_rises i j d less short =
-        let many = how_many_go max (length ordered) in
+        let many = removal_count max (length ordered) in
         let few : (j < many) × (j < length ordered) = (omega (arith, length-map (take many ordered) (λ (r : Rank). r.2), length-take many ordered), omega (arith, length-map (take many ordered) (λ (r : Rank). r.2), length-take many ordered)) in
         let at : (k : ℕ) → k ≤ j → rank_at log rows (get_or (places_to_go max ordered) k d) ≡ Some (get_or ordered k no_rank) =
         λ k h.

@@ -6,7 +6,7 @@ use Rattle.std.specs.declared.io.Error.{Error}
 use Rattle.std.specs.Prelude.{Result, Ok, Err}
 use Rattle.std.proofs.lemmas.List.Elements.{Contains-append_left}
 use Rattle.appender_store.specs.Content.{Content, IsFile, Removes}
-use Rattle.appender_store.specs.Folder.{AreCounts, Counts, NotedRemove, after_note, saturating_next}
+use Rattle.appender_store.specs.Folder.{AreNotedCounts, NotedCounts, NotedRemove, after_note, next_count}
 use Rattle.appender_store.specs.NameLaws.{NameLaws}
 use Rattle.appender_store.specs.Notes.{Notes}
 use Rattle.appender_store.specs.declared.store.Folder.{Ghosts}
@@ -105,13 +105,13 @@ pub record Progress {S F : Type 0} (kind : Ghosts S F) (names : ℕ → Option (
   pub rest : IsTrue kind.is_known → AreFiles (kind.content now).names (filter_map names (drop i places))
 
 -- so many failed removals noted; the greatest count stays
-abbrev pub with_faults : ℕ → Counts → Counts
+abbrev pub with_faults : ℕ → NotedCounts → NotedCounts
 with_faults k c = record c { removes = min (c.removes + k) (2 ^ 64 - 1) }
 
 -- one fault more
-one_fault_more : (k : ℕ) (c : Counts) → with_faults k (after_note OfRemove c) ≡ with_faults (suc k) c
+one_fault_more : (k : ℕ) (c : NotedCounts) → with_faults k (after_note OfRemove c) ≡ with_faults (suc k) c
 one_fault_more k c =
-    let same : min (saturating_next c.removes + k) (2 ^ 64 - 1) ≡ min (c.removes + suc k) (2 ^ 64 - 1) = omega arith in
+    let same : min (next_count c.removes + k) (2 ^ 64 - 1) ≡ min (c.removes + suc k) (2 ^ 64 - 1) = omega arith in
     ap (λ (n : ℕ). record c { removes = n }) same
 
 -- What many removals leave: each that failed was noted once, so where none was noted all succeeded.
@@ -153,7 +153,7 @@ module _ (maps : NameLaws) {S F : Type 0} (kind : Ghosts S F) where
     }
 
   -- removals leave just that
-  pub removed : ((s : S) → AreCounts (kind.noted s)) → (gone : List (List ℕ)) (old new : S) → RemovesEach kind gone old new → Removed kind gone old new
+  pub removed : ((s : S) → AreNotedCounts (kind.noted s)) → (gone : List (List ℕ)) (old new : S) → RemovesEach kind gone old new → Removed kind gone old new
   removed fit [] old new same =
       let none : (kind.noted old).removes ≡ min ((kind.noted old).removes + 0) (2 ^ 64 - 1) = omega (arith, (fit old).removes) in
       record {

@@ -3,15 +3,15 @@ use Rattle.std.proofs.Common.{ℕ, ◌^◌, ◌<◌, zero, suc, List, [], ◌∷
 use Rattle.std.specs.declared.alloc.Global.{Global}
 use Rattle.std.specs.declared.io.Error.{Error}
 use Rattle.appender_store.specs.Content.{ForbidsList}
-use Rattle.appender_store.specs.Folder.{AreCounts, Row, NotedList, NotedRemove, listed_row}
+use Rattle.appender_store.specs.Folder.{AreNotedCounts, Row, NotedList, NotedRemove, listed_row}
 use Rattle.appender_store.specs.Notes.{CountsRise, Notes}
 use Rattle.appender_store.specs.declared.store.Folder.{Ghosts}
 use Rattle.appender_store.specs.declared.store.Listed.{Listed}
 use Rattle.appender_store.proofs.Rising.{same_rises, rises_on, call_rises, note_rises, fault_rises}
 use Rattle.appender_retain.specs.Rank.{LogFiles}
-use Rattle.appender_retain.specs.Pruning.{Prunes, PrunesListed, RemovesEach, RemovesFile, RemovesPlanned, name_at}
+use Rattle.appender_retain.specs.Pruning.{Prunes, PrunesListed, RemovesEach, RemovesFile, RemovesPlanned, listed_name_at}
 
-module _ {S F : Type 0} (kind : Ghosts S F) (failures_fit : (s : S) → kind.failures s < 2 ^ 64) (noted_fit : (s : S) → AreCounts (kind.noted s)) where
+module _ {S F : Type 0} (kind : Ghosts S F) (failures_fit : (s : S) → kind.failures s < 2 ^ 64) (noted_fit : (s : S) → AreNotedCounts (kind.noted s)) where
   file_rises : (name : List ℕ) (old new : S) → RemovesFile kind name old new → CountsRise kind old new
   file_rises name old new r =
       rises_on kind old r.after new (call_rises kind ⊥ r.answer old r.after (failures_fit old) r.cause r.noted)
@@ -22,7 +22,7 @@ module _ {S F : Type 0} (kind : Ghosts S F) (failures_fit : (s : S) → kind.fai
   each_rises (name ∷ names) old new (between, file, each) = rises_on kind old between new (file_rises name old between file) (each_rises names between new each)
 
   planned_rises : (log : LogFiles) (max : ℕ) (rows : List Row) (old new : S) → RemovesPlanned kind log max rows old new → CountsRise kind old new
-  planned_rises log max rows old new (inl (gone, plan, each)) = each_rises (filter_map (name_at rows) gone) old new each
+  planned_rises log max rows old new (inl (gone, plan, each)) = each_rises (filter_map (listed_name_at rows) gone) old new each
   planned_rises log max rows old new (inr (fault, memory, notes)) = note_rises kind noted_fit old (NotedList fault) new notes
 
   listed_rises : (log : LogFiles) (max : ℕ) (old new : S) → PrunesListed kind log max old new → CountsRise kind old new

@@ -16,11 +16,11 @@ use Rattle.std.proofs.lemmas.Map.Made.{length-le_from_is_member}
 use Rattle.std.proofs.lemmas.Map.Views.{Contains-from_any, list_any-from_Contains, tells_apart}
 use Rattle.std.proofs.lemmas.Slice.Eq.{bytes_eq-Decides}
 use Rattle.std.proofs.lemmas.Map.Lookups.{exact_bytes}
-use Rattle.appender_store.specs.Content.{Content, NameMap, Entry, File, Link, Folder, MakesLink, Opens, RemovesLink}
+use Rattle.appender_store.specs.Content.{Content, NameMap, Entry, File, Link, Folder, MakesLink, OpensBody, RemovesLink}
 use Rattle.appender_store.specs.Folder.{entry_row}
 use Rattle.appender_store.specs.NameLaws.{NameLaws}
-use Rattle.appender_retain.specs.Rank.{LogFiles, Rank, key_of, rank_cmp, rank_of}
-use Rattle.appender_retain.specs.Survival.{LeavesSurvivors, LinksAddNone, OpeningsAddOne, name_survives, name_ranks, candidates_in}
+use Rattle.appender_retain.specs.Rank.{LogFiles, Rank, candidate_key, rank_cmp, rank_of}
+use Rattle.appender_retain.specs.Survival.{KeepsSurvivors, LinksAddNone, OpeningsAddOne, name_survives, name_ranks, candidates_in}
 use Rattle.appender_retain.proofs.Elements.{filter_map_Contains, Contains_filter_map, all_pairs_filter_map}
 use Rattle.appender_retain.proofs.Entries.{entries_rise, entry_there, there_entry}
 use Rattle.appender_retain.proofs.Order.{few}
@@ -55,7 +55,7 @@ module _ (log : LogFiles) where
 
   module _ (old new : Content) where
     -- where exactly the survivors are left, fewer candidates than the maximum are left
-    pub fewer_stand : (max : ℕ) → 0 < max → LeavesSurvivors log max old new → candidates_in log new < max
+    pub fewer_stand : (max : ℕ) → 0 < max → KeepsSurvivors log max old new → candidates_in log new < max
     fewer_stand max positive left =
         few rank_cmp_total exact_rank (name_ranks log new.names) (name_ranks log old.names) max positive (ranks_apart new.names) fit
       where
@@ -138,7 +138,7 @@ module _ (maps : NameLaws) (log : LogFiles) where
           test true e = absurd (differs ((bytes_eq-Decides other name).0 e))
           test false e = refl
 
-      same_key : (t : Option ℤ) → key_of log other t ≡ key_of (all_of log) other t
+      same_key : (t : Option ℤ) → candidate_key log other t ≡ candidate_key (all_of log) other t
       same_key t = rw spared refl
 
       by : (v : Entry) → entry_rank log (other, v) ≡ entry_rank (all_of log) (other, v)
@@ -172,7 +172,7 @@ module _ (maps : NameLaws) (log : LogFiles) where
           let entry : File x t ≡ v = (cc) in
           only (all (name, File x t)) r (ap (λ (m : List ℕ). all (m, File x t)) (sym same) ∙ ap (λ (e : Entry). all (other, e)) entry ∙ is)
 
-      by : Opens name old new b → candidates_in (all_of log) new ≤ candidates_in log old + 1
+      by : OpensBody name old new b → candidates_in (all_of log) new ≤ candidates_in log old + 1
       by (there, inl (t, at, unchanged)) = one b t stood
         where
           stood : Stood b t

@@ -5,16 +5,16 @@ use Rattle.std.specs.declared.alloc.Global.{Global}
 use Rattle.std.specs.declared.io.Error.{Error}
 use Rattle.std.specs.declared.io.ErrorKind.TheVariants.{OutOfMemory}
 use Rattle.appender_store.specs.Content.{Removes, ForbidsList}
-use Rattle.appender_store.specs.Folder.{Counts, HasCause, Lists, Row, NotedList, NotedRemove, listed_row, saturating_next}
+use Rattle.appender_store.specs.Folder.{NotedCounts, HasCause, Lists, Row, NotedList, NotedRemove, listed_row, next_count}
 use Rattle.appender_store.specs.Notes.{Notes}
 use Rattle.appender_store.specs.declared.store.Folder.{Ghosts}
 use Rattle.appender_store.specs.declared.store.Listed.{Listed}
 use Rattle.appender_retain.specs.Rank.{IsPlan, LogFiles}
-use Rattle.appender_retain.specs.Survival.{TakesOnlyOld, LeavesSurvivors, candidates_in}
+use Rattle.appender_retain.specs.Survival.{RemovesOnlyOld, KeepsSurvivors, candidates_in}
 
 -- the name listed at a place, if it can be read
-abbrev pub name_at : List Row → ℕ → Option (List ℕ)
-name_at rows place = option_and_then (λ row. row.0) (slice_get rows place)
+abbrev pub listed_name_at : List Row → ℕ → Option (List ℕ)
+listed_name_at rows place = option_and_then (λ row. row.0) (slice_get rows place)
 
 -- The folder removed the file of this name, or noted the fault: it failed by itself, or had no memory for it.
 pub record RemovesFile {S F : Type 0} (kind : Ghosts S F) (name : List ℕ) (old new : S) : Type 0 where
@@ -35,7 +35,7 @@ RemovesEach kind (name ∷ names) old new = (between : _) × RemovesFile kind na
 -- it removes what doesn't survive of these rows; without memory for the plan it notes that instead
 abbrev pub RemovesPlanned : {S F : Type 0} → Ghosts S F → LogFiles → ℕ → List Row → S → S → Type 0
 RemovesPlanned kind log max rows old new =
-    ((gone : List ℕ) × IsPlan log max rows gone × RemovesEach kind (filter_map (name_at rows) gone) old new)
+    ((gone : List ℕ) × IsPlan log max rows gone × RemovesEach kind (filter_map (listed_name_at rows) gone) old new)
     ⊎ ((fault : Error) × (error_kind fault ≡ OutOfMemory) × Notes kind old (NotedList fault) new)
 
 -- The folder was listed, and what doesn't survive removed; of a listing that was refused it noted that, and nothing was removed.
@@ -53,13 +53,13 @@ pub record PrunesListed {S F : Type 0} (kind : Ghosts S F) (log : LogFiles) (max
 
 -- Neither List nor Remove was noted. At the greatest count one notice more changes nothing, so equal counts show this only
 -- below it.
-pub record IsQuiet (old new : Counts) : Type 0 where
+pub record IsQuiet (old new : NotedCounts) : Type 0 where
   pub lists : new.lists ≡ old.lists
   pub removes : new.removes ≡ old.removes
   pub below : (new.lists < 2 ^ 64 - 1) × (new.removes < 2 ^ 64 - 1)
 
 -- nor anything else
-pub record NotesNothingElse (old new : Counts) : Type 0 where
+pub record NotesNothingElse (old new : NotedCounts) : Type 0 where
   pub flushes : new.flushes ≡ old.flushes
   pub opens : new.opens ≡ old.opens
 
@@ -69,8 +69,8 @@ pub record NotesNothingElse (old new : Counts) : Type 0 where
 pub record Prunes {S F : Type 0} (kind : Ghosts S F) (log : LogFiles) (max : ℕ) (old new : S) : Type 0 where
   pub none : max ≡ 0 → new ≡ old
   pub calls : max ≢ 0 → PrunesListed kind log max old new
-  pub only_old : IsTrue kind.is_known → TakesOnlyOld log max (kind.content old) (kind.content new)
-  pub survivors : IsQuiet (kind.noted old) (kind.noted new) → IsTrue kind.is_known → LeavesSurvivors log max (kind.content old) (kind.content new)
+  pub only_old : IsTrue kind.is_known → RemovesOnlyOld log max (kind.content old) (kind.content new)
+  pub survivors : IsQuiet (kind.noted old) (kind.noted new) → IsTrue kind.is_known → KeepsSurvivors log max (kind.content old) (kind.content new)
   pub fewer : IsQuiet (kind.noted old) (kind.noted new) → IsTrue kind.is_known → 0 < max → candidates_in log (kind.content new) < max
-  pub absent : 0 < max → IsTrue kind.is_known → (kind.content old).there ≡ false → (kind.noted new).lists ≡ saturating_next (kind.noted old).lists
+  pub absent : 0 < max → IsTrue kind.is_known → (kind.content old).there ≡ false → (kind.noted new).lists ≡ next_count (kind.noted old).lists
   pub nothing_else : NotesNothingElse (kind.noted old) (kind.noted new)

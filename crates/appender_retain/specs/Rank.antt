@@ -19,8 +19,8 @@ pub record LogFiles : Type 0 where
   pub by_name : Bool
   pub opened : Option (List ℕ)
 
-abbrev pub matching : Naming → LogFiles
-matching n = record { naming = n; by_name = false; opened = None }
+abbrev pub log_files_by_parts : Naming → LogFiles
+log_files_by_parts n = record { naming = n; by_name = false; opened = None }
 
 -- The name begins with the prefix and ends with the suffix, and these may overlap in it. With neither set it has to read as a date.
 abbrev pub has_parts : Naming → List ℕ → Bool
@@ -34,8 +34,8 @@ key_by_name n name = option_and_then (λ (read : ℤ × ℕ).
     if is_moment read.0 && is_same_start (period_of n.rotation read.0) (Some read.0) then Some ((read.0 *ℤ pos 1000000) +ℤ pos read.1) else None) (reading_at n name)
 
 -- A log file's key: by name its period and number; else the nanosecond of its creation, or if that is unknown, of the second that its name reads as.
-abbrev pub key_of : LogFiles → List ℕ → Option ℤ → Option ℤ
-key_of log name created =
+abbrev pub candidate_key : LogFiles → List ℕ → Option ℤ → Option ℤ
+candidate_key log name created =
     if log.by_name then (if option_map_or (bytes_eq name) log.opened false then None else key_by_name log.naming name)
     else if has_parts log.naming name then option_map_or Some created (option_map (λ second. second *ℤ pos 1000000000) (reading log.naming name)) else None
 
@@ -49,7 +49,7 @@ rank_cmp a b = ordering_then (int_cmp a.0 b.0) (ordering_then (slice_cmp nat_cmp
 
 -- the rank of an entry at a place, if it is a candidate: a plain file whose name can be read and has a key
 abbrev pub rank_of : LogFiles → ℕ × Row → Option Rank
-rank_of log (place, (Some name, File, created)) = option_map (λ key. (key, name, place)) (key_of log name created)
+rank_of log (place, (Some name, File, created)) = option_map (λ key. (key, name, place)) (candidate_key log name created)
 rank_of log (place, row) = None
 
 abbrev pub rank_at : LogFiles → List Row → ℕ → Option Rank
@@ -59,14 +59,14 @@ rank_at log rows place = option_and_then (λ row. rank_of log (place, row)) (sli
 abbrev pub ranks : LogFiles → List Row → List Rank
 ranks log rows = filter_map (rank_of log) (enumerate_from 0 rows)
 
--- how many candidates rank above this one
-abbrev pub count_above : LogFiles → List Row → Rank → ℕ
-count_above log rows a = count_by (λ b. is_lt (rank_cmp a b)) (ranks log rows)
-
--- With a maximum, a candidate survives exactly if no more than max - 2 others rank above it. What is no candidate
+-- With a maximum, a candidate survives exactly if no more than max - 2 of all candidates rank above it. What is no candidate
 -- survives, and without a maximum, which is 0, all do.
+abbrev pub rank_survives : ℕ → List Rank → Option Rank → Bool
+rank_survives max all own = (max == 0) || option_map_or (λ a. nat_le (count_by (λ b. is_lt (rank_cmp a b)) all + 2) max) own true
+
+-- the same of a place in a listing
 abbrev pub survives : LogFiles → ℕ → List Row → ℕ → Bool
-survives log max rows place = (max == 0) || option_map_or (λ a. nat_le (count_above log rows a + 2) max) (rank_at log rows place) true
+survives log max rows place = rank_survives max (ranks log rows) (rank_at log rows place)
 
 -- both places have candidates, and the first has the lower rank
 pub record IsRankedBelow (log : LogFiles) (rows : List Row) (low high : ℕ) : Type 0 where

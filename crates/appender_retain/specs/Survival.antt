@@ -1,12 +1,10 @@
 -- Which names of a folder survive retention.
-use Rattle.std.specs.Prelude.{◌≡◌, ◌⊎◌, ℕ, ℤ, ◌<ℤ◌, ◌+◌, ◌≤◌, Bool, true, false, ◌||◌, ◌==◌, nat_le, if◌then◌else◌, List, length, filter_map, count_by, Option, None, Some, option_and_then}
-use Rattle.std.specs.Option.{option_map_or}
-use Rattle.std.specs.Ordering.{is_lt}
+use Rattle.std.specs.Prelude.{◌≡◌, ◌⊎◌, ℕ, ℤ, ◌<ℤ◌, ◌+◌, ◌≤◌, Bool, true, false, if◌then◌else◌, List, length, filter_map, Option, None, Some, option_and_then}
 use Rattle.std.specs.FinMap as fin
 use Rattle.appender_names.specs.Name.{Naming, IsLaterName, reading_at}
-use Rattle.appender_store.specs.Content.{Content, NameMap, Opens, RemovesLink, MakesLink}
+use Rattle.appender_store.specs.Content.{Content, NameMap, OpensBody, RemovesLink, MakesLink}
 use Rattle.appender_store.specs.Folder.{entry_row}
-use Rattle.appender_retain.specs.Rank.{LogFiles, key_by_name, Rank, rank_cmp, rank_of}
+use Rattle.appender_retain.specs.Rank.{LogFiles, key_by_name, Rank, rank_of, rank_survives}
 
 -- the rank of a name, if it is a candidate's; the names of one folder differ, so no place decides
 abbrev pub name_rank : LogFiles → NameMap → List ℕ → Option Rank
@@ -20,25 +18,24 @@ name_ranks log names = filter_map (λ e. rank_of log (0, entry_row e)) (fin.entr
 abbrev pub candidates_in : LogFiles → Content → ℕ
 candidates_in log c = length (name_ranks log c.names)
 
--- With a maximum, which 0 is not, a candidate survives exactly if no more than max - 2 others rank above it. All else survives.
+-- what has a name survives, by its rank among all candidates
 abbrev pub name_survives : LogFiles → ℕ → NameMap → List ℕ → Bool
-name_survives log max names name =
-    (max == 0) || option_map_or (λ a. nat_le (count_by (λ b. is_lt (rank_cmp a b)) (name_ranks log names) + 2) max) (name_rank log names name) true
+name_survives log max names name = rank_survives max (name_ranks log names) (name_rank log names name)
 
 -- only names that don't survive were removed, and nothing else changed
-pub record TakesOnlyOld (log : LogFiles) (max : ℕ) (old new : Content) : Type 0 where
+pub record RemovesOnlyOld (log : LogFiles) (max : ℕ) (old new : Content) : Type 0 where
   pub there : new.there ≡ old.there
   pub bodies : new.bodies ≡ old.bodies
   pub names : (name : List ℕ) → (fin.get new.names name ≡ fin.get old.names name) ⊎ ((fin.get new.names name ≡ None) × (name_survives log max old.names name ≡ false))
 
 -- exactly the survivors are left
-abbrev pub LeavesSurvivors : LogFiles → ℕ → Content → Content → Type 0
-LeavesSurvivors log max old new =
+abbrev pub KeepsSurvivors : LogFiles → ℕ → Content → Content → Type 0
+KeepsSurvivors log max old new =
     (name : List ℕ) → fin.get new.names name ≡ (if name_survives log max old.names name then fin.get old.names name else None)
 
 -- A file that is opened is at most one candidate more. By name it was none before, even if it was there.
 abbrev pub OpeningsAddOne : LogFiles → Type 0
-OpeningsAddOne log = (name : List ℕ) (old new : Content) (b : ℕ) → log.opened ≡ Some name → Opens name old new b → candidates_in (record log { opened = None }) new ≤ candidates_in log old + 1
+OpeningsAddOne log = (name : List ℕ) (old new : Content) (b : ℕ) → log.opened ≡ Some name → OpensBody name old new b → candidates_in (record log { opened = None }) new ≤ candidates_in log old + 1
 
 -- neither a link that is made nor one that is removed is a candidate more
 pub record LinksAddNone (log : LogFiles) : Type 0 where
@@ -46,7 +43,7 @@ pub record LinksAddNone (log : LogFiles) : Type 0 where
   pub removed : (link : List ℕ) (old new : Content) → RemovesLink link old new → candidates_in log new ≤ candidates_in log old
 
 -- retention removes neither the file that is opened next, nor a file whose name is not that of a log file
-pub record NamesAreSpared (log : LogFiles) : Type 0 where
+pub record NamesAreKept (log : LogFiles) : Type 0 where
   pub opened : (name : List ℕ) → log.opened ≡ Some name → (max : ℕ) (names : NameMap) → name_survives log max names name ≡ true
   pub others : (name : List ℕ) → key_by_name log.naming name ≡ None → (max : ℕ) (names : NameMap) → name_survives log max names name ≡ true
 

@@ -3,7 +3,7 @@
 ghost use Rattle.std.specs.Prelude.{◌≡◌, true};
 ghost use Rattle.appender_names.specs.Name.{Naming};
 ghost use Rattle.appender_retain.specs.Rank.{LogFiles};
-ghost use Rattle.appender_retain.specs.Survival.{OpeningsAddOne, LinksAddNone, NamesAreSpared, KeysRise};
+ghost use Rattle.appender_retain.specs.Survival.{OpeningsAddOne, LinksAddNone, NamesAreKept, KeysRise};
 
 use appender_store::laws::names_change_one_at_a_time;
 
@@ -23,7 +23,7 @@ pub fn links_add_none()
 
 /// By name, the file that is opened next is not removed, nor is one whose name is not that of a log file.
 pub fn names_are_spared()
-    ensures { (log : LogFiles) → log.by_name ≡ true → NamesAreSpared log }
+    ensures { (log : LogFiles) → log.by_name ≡ true → NamesAreKept log }
 {}
 
 /// By name, log files rank by period, and in one period by number.

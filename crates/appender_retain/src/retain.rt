@@ -7,9 +7,9 @@ ghost use Rattle.std.specs.Str.{bytes_eq};
 ghost use Rattle.appender_names.specs.Name.{reading_at};
 ghost use Rattle.appender_names.specs.Rotation.{is_moment, is_same_start, period_of};
 ghost use Rattle.appender_store.specs.Folder.{listed_row};
-ghost use Rattle.appender_retain.specs.Inside.Candidate.{rank_in, how_many_go};
+ghost use Rattle.appender_retain.specs.Inside.Candidate.{rank_in, removal_count};
 ghost use Rattle.appender_retain.specs.Rank as rank;
-ghost use Rattle.appender_retain.specs.Rank.{IsPlan, matching, key_of, rank_of, ranks};
+ghost use Rattle.appender_retain.specs.Rank.{IsPlan, log_files_by_parts, candidate_key, rank_of, ranks};
 
 mod prune;
 
@@ -22,7 +22,7 @@ use std::marker::Model;
 
 const NANOS_PER_SECOND: i128 = 1_000_000_000;
 
-// One period has so many numbers at most.
+// The greatest count of numbered files in one period.
 const NUMBERS: i128 = 1_000_000;
 
 /// The log files that retention counts, and how they rank.
@@ -47,9 +47,11 @@ impl<'a> Model for LogFiles<'a> {
 }
 
 impl<'a> LogFiles<'a> {
-    /// Returns the log files of these names, of which the one of the name `opened` is opened next. By name they are the
-    /// plain files whose names read as the start of a period, but not the one that is opened; they rank by period and
-    /// number, and `NEVER` has none. Else they are those of `matching`.
+    /// Returns the log files that are there before the file of the name `opened` is opened.
+    ///
+    /// If `by_name` is set, they are the plain files whose names read as the start of a period, without that file.
+    /// They rank by period, and then by number. Under `NEVER` there are none. If it is not set, they are those of
+    /// `matching`.
     pub fn new(names: &'a Names, by_name: bool, opened: &'a str) -> LogFiles<'a>
         ensures { result ≡ record { naming = names.now; by_name = by_name; opened = Some opened.now } }
     {
@@ -60,10 +62,11 @@ impl<'a> LogFiles<'a> {
         }
     }
 
-    /// Returns the plain files whose names begin with the prefix and end with the suffix; with neither set the name must
-    /// read as a date. They rank by creation time, or if it is unknown by the second of the name, and then by name.
+    /// Returns the plain files whose names begin with the prefix and end with the suffix. If neither is set, a name
+    /// must read as a date. The files rank by creation time. If that is unknown, the second of the name is used. Files
+    /// of the same time rank by name.
     pub fn matching(names: &'a Names) -> LogFiles<'a>
-        ensures { result ≡ matching names.now }
+        ensures { result ≡ log_files_by_parts names.now }
     {
         LogFiles {
             names,
@@ -81,23 +84,23 @@ struct Candidate<'a> {
     place: usize,
 }
 
-/// Returns the places of the entries to remove so that at most `max` log files remain when one more is made,
-/// lowest rank first; none if `max` is 0. A log file is a plain file whose name begins with the
-/// prefix and ends with the suffix; with neither set the name must read as a date. They are ranked
-/// by creation time, or if it is unknown by the second of the name, and then by name.
+/// Returns the places in a listing of the log files to remove, lowest rank first. Once they are removed and one file is
+/// made, there are at most `max` log files. No file is removed if `max` is 0.
+///
+/// Log files and their ranks are those of `LogFiles::matching`. `AllocError` if there is no memory for the places.
 pub fn plan(
     alloc: Global,
     names: &Names,
     max: usize,
     listed: &[Listed],
 ) -> Result<Vec<usize>, AllocError>
-    ensures { IfOk result (λ gone. IsPlan (matching names.now) max (map listed_row listed.now) gone.items) }
+    ensures { IfOk result (λ gone. IsPlan (log_files_by_parts names.now) max (map listed_row listed.now) gone.items) }
 {
     plan_log_files(alloc, &LogFiles::matching(names), max, listed)
 }
 
-/// Returns the places of the entries to remove so that at most `max` of these log files remain when one more is
-/// made, lowest rank first; none if `max` is 0.
+/// Returns the places in a listing of the log files of `log` to remove, lowest rank first. `max` and the error are as for
+/// `plan`.
 pub fn plan_log_files(
     alloc: Global,
     log: &LogFiles<'_>,
@@ -144,7 +147,7 @@ fn as_candidate<'a>(log: &LogFiles<'_>, place: usize, entry: &'a Listed) -> Opti
 
 // Returns the key of a file, if it is a log file.
 fn key(log: &LogFiles<'_>, name: &str, created: Option<i128>) -> Option<i128>
-    ensures { result ≡ key_of log.now name.now created }
+    ensures { result ≡ candidate_key log.now name.now created }
 {
     if !log.by_name {
         return key_by_creation(log.names, name, created);
@@ -155,7 +158,8 @@ fn key(log: &LogFiles<'_>, name: &str, created: Option<i128>) -> Option<i128>
     key_by_name(log.names, name)
 }
 
-// Returns whether this is the name of the file that is opened next.
+// Returns whether this is the name of the file that is opened next. By name it is no candidate: at the greatest rank it
+// would be removed with a maximum of 1, or take the place of another file.
 fn is_opened(log: &LogFiles<'_>, name: &str) -> bool
     ensures { result ≡ option_map_or (bytes_eq name.now) log.now.opened false }
 {
@@ -195,7 +199,7 @@ fn begins_period(rotation: Rotation, second: i64) -> bool
 
 // Returns the nanosecond that ranks a file: that of its creation, else that of its name.
 fn key_by_creation(names: &Names, name: &str, created: Option<i128>) -> Option<i128>
-    ensures { result ≡ key_of (matching names.now) name.now created }
+    ensures { result ≡ candidate_key (log_files_by_parts names.now) name.now created }
 {
     if !has_parts(names, name) {
         return None;
@@ -216,9 +220,9 @@ fn has_parts(names: &Names, name: &str) -> bool
         && (!(prefix.is_empty() && suffix.is_empty()) || names.read(name).is_some())
 }
 
-// Returns how many of so many candidates are removed.
+// Returns how many of `count` candidates are removed.
 fn how_many(max: usize, count: usize) -> usize
-    ensures { result ≡ how_many_go max count }
+    ensures { result ≡ removal_count max count }
 {
     if max == 0 {
         0

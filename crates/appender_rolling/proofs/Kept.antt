@@ -2,12 +2,12 @@
 use Rattle.std.proofs.Common.{◌≡◌, ◌⊎◌, ℕ, ℤ, List, [], ◌∷◌, ◌++◌, length-append, get_or, Option, None, Some, arith, inl, inr, refl, ap, sym, ◌∙◌, zero, suc}
 use Rattle.std.specs.FinMap as fin
 use Rattle.appender_retain.specs.Rank.{LogFiles}
-use Rattle.appender_store.specs.Content.{Content, NameMap, Entry, File, Link, after_make_folder, Opens, MakesLink}
+use Rattle.appender_store.specs.Content.{Content, NameMap, Entry, File, Link, after_make_folder, OpensBody, MakesLink}
 use Rattle.appender_store.specs.NameLaws.{NameLaws, RemovalsTakeOneName, AdditionsAddOneName}
-use Rattle.appender_retain.specs.Survival.{TakesOnlyOld}
+use Rattle.appender_retain.specs.Survival.{RemovesOnlyOld}
 use Rattle.appender_rolling.specs.Config.{Config, log_files_of}
-use Rattle.appender_rolling.specs.Opening.{MayRemoveLink, Linked, LeavesLittle}
-use Rattle.appender_rolling.specs.Kept.{Keeps, FileStays, KeepsFiles, KeepsOtherFiles, PartsKeep}
+use Rattle.appender_rolling.specs.Opening.{MayRemoveLink, ChangesLink, IsRefusalEffect}
+use Rattle.appender_rolling.specs.Kept.{KeepsBodies, HadFile, AddsNoFile, AddsNoOtherFile, OpeningPartsKeepBodies}
 
 same_file : (a b : ℕ) (t u : Option ℤ) → File a t ≡ File b u → a ≡ b
 same_file a b t u e = cc
@@ -23,27 +23,27 @@ nothing_new (b ∷ bodies) (suc x) = nothing_new bodies x
 
 -- ---- one after another
 
-keeps_all : (c : Content) → KeepsFiles c c
+keeps_all : (c : Content) → AddsNoFile c c
 keeps_all c = record { keeps = record { bytes = λ x. refl; more = λ x lt. lt; names = λ x lt m t h. h }; stay = λ m x t h. h }
 
-keeps_on : (a b c : Content) → Keeps a b → Keeps b c → Keeps a c
+keeps_on : (a b c : Content) → KeepsBodies a b → KeepsBodies b c → KeepsBodies a c
 keeps_on a b c k l = record {
   bytes = λ x. l.bytes x ∙ k.bytes x;
   more = λ x lt. l.more x (k.more x lt);
   names = λ x lt m t h. k.names x lt m t (l.names x (k.more x lt) m t h);
 }
 
-files_on : (a b c : Content) → KeepsFiles a b → KeepsFiles b c → KeepsFiles a c
+files_on : (a b c : Content) → AddsNoFile a b → AddsNoFile b c → AddsNoFile a c
 files_on a b c k l = record { keeps = keeps_on a b c k.keeps l.keeps; stay = λ m x t h. k.stay m x t (l.stay m x t h) }
 
-others_on : (name : List ℕ) (a b c : Content) → KeepsOtherFiles name a b → KeepsOtherFiles name b c → KeepsOtherFiles name a c
+others_on : (name : List ℕ) (a b c : Content) → AddsNoOtherFile name a b → AddsNoOtherFile name b c → AddsNoOtherFile name a c
 others_on name a b c k l = record { keeps = keeps_on a b c k.keeps l.keeps; stay = λ m ne x t h. k.stay m ne x t (l.stay m ne x t h) }
 
-and_others : (name : List ℕ) (a b : Content) → KeepsFiles a b → KeepsOtherFiles name a b
+and_others : (name : List ℕ) (a b : Content) → AddsNoFile a b → AddsNoOtherFile name a b
 and_others name a b k = record { keeps = k.keeps; stay = λ m ne. k.stay m }
 
 -- names changed alone, and no file got one
-names_alone : (old new : Content) → new.bodies ≡ old.bodies → ((m : List ℕ) → FileStays m old new) → KeepsFiles old new
+names_alone : (old new : Content) → new.bodies ≡ old.bodies → ((m : List ℕ) → HadFile m old new) → AddsNoFile old new
 names_alone old new same stay = record {
   keeps = record {
     bytes = λ x. ap (λ (bodies : List (List ℕ)). get_or bodies x []) same;
@@ -55,13 +55,13 @@ names_alone old new same stay = record {
 
 -- ---- each part
 
-keeps_pruned : (log : LogFiles) (max : ℕ) (old new : Content) → TakesOnlyOld log max old new → KeepsFiles old new
+keeps_pruned : (log : LogFiles) (max : ℕ) (old new : Content) → RemovesOnlyOld log max old new → AddsNoFile old new
 keeps_pruned log max old new took = names_alone old new took.bodies (λ m x t h. elim (took.names m) [
   | inl same ↦ sym same ∙ h
   | inr gone ↦ absurd (let both : ◌≡◌ {A = Option Entry} None (Some (File x t)) = sym gone.0 ∙ h in cc)
 ])
 
-keeps_made : (c : Content) → KeepsFiles c (after_make_folder c)
+keeps_made : (c : Content) → AddsNoFile c (after_make_folder c)
 keeps_made c = names_alone c (after_make_folder c) refl (λ m x t h. h)
 
 -- the laws of the store, as they are told by a call
@@ -86,7 +86,7 @@ module _ (maps : NameLaws) where
     | inr other ↦ inr (sym other.1 ∙ h)
   ]
 
-  keeps_opened : (name : List ℕ) (old new : Content) (b : ℕ) → Opens name old new b → KeepsOtherFiles name old new
+  keeps_opened : (name : List ℕ) (old new : Content) (b : ℕ) → OpensBody name old new b → AddsNoOtherFile name old new
   keeps_opened name old new b (there, inl (t, at, same)) = rw same (and_others name old old (keeps_all old))
   keeps_opened name old new b (there, inr (u, free, number, after)) = rw after (record {
     keeps = record {
@@ -103,23 +103,23 @@ module _ (maps : NameLaws) where
     ];
   })
 
-  keeps_freed : (link : List ℕ) (old new : Content) → MayRemoveLink link old new → KeepsFiles old new
+  keeps_freed : (link : List ℕ) (old new : Content) → MayRemoveLink link old new → AddsNoFile old new
   keeps_freed link old new (inl same) = rw same (keeps_all old)
   keeps_freed link old new (inr removes) =
       rw removes.after (names_alone old (record old { names = fin.remove old.names link }) refl (λ m x t h. was_there old.names link m (File x t) h))
 
-  keeps_link : (link target : List ℕ) (old new : Content) → MakesLink link target old new → KeepsFiles old new
+  keeps_link : (link target : List ℕ) (old new : Content) → MakesLink link target old new → AddsNoFile old new
   keeps_link link target old new makes =
       rw makes.after (names_alone old (record old { names = fin.insert old.names link (Link target) }) refl (λ m x t h. elim (there_or_added old.names link (Link target) m (File x t) h) [
         | inl added ↦ absurd (no_file target x t added.1)
         | inr before ↦ before
       ]))
 
-  pub keeps_linked : (link name : List ℕ) (old new : Content) → Linked link name old new → KeepsFiles old new
+  pub keeps_linked : (link name : List ℕ) (old new : Content) → ChangesLink link name old new → AddsNoFile old new
   keeps_linked [] name old new same = rw same (keeps_all old)
   keeps_linked (b ∷ bs) name old new (freed, frees, makes) = files_on old freed new (keeps_freed (b ∷ bs) old freed frees) (keeps_link (b ∷ bs) name freed new makes)
 
-  pub keeps_little : (config : Config) (name : List ℕ) (old new : Content) → LeavesLittle config name old new → KeepsOtherFiles name old new
+  pub keeps_little : (config : Config) (name : List ℕ) (old new : Content) → IsRefusalEffect config name old new → AddsNoOtherFile name old new
   keeps_little config name old new little =
       let pruned = keeps_pruned (log_files_of config (Some name)) config.max_files old little.pruned little.only_old in
       let made = files_on old little.pruned (after_make_folder little.pruned) pruned (keeps_made little.pruned) in
@@ -130,7 +130,7 @@ module _ (maps : NameLaws) where
             (others_on name (after_make_folder little.pruned) w.0 new (keeps_opened name (after_make_folder little.pruned) w.0 w.1 w.2) (and_others name w.0 new (keeps_freed config.link w.0 new w.3)))
       ]
 
-  pub parts_keep : PartsKeep
+  pub parts_keep : OpeningPartsKeepBodies
   parts_keep = record {
     retention = keeps_pruned;
     folder = keeps_made;

@@ -10,3 +10,4 @@ pub mod Numbered
 pub mod Fullness
 pub mod Numbers
 pub mod Rising
+pub mod Callers

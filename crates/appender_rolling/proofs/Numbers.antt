@@ -7,7 +7,7 @@ use Rattle.std.proofs.lemmas.Bool.Decides.{nat_tests}
 use Rattle.std.proofs.lemmas.List.Sorted.{Contains-permutation, IsPermutation-sym}
 use Rattle.std.proofs.lemmas.Map.Lookups.{exact_bytes}
 use Rattle.appender_names.specs.Rotation.{period_of, is_same_start, is_in_period}
-use Rattle.appender_names.specs.Name.{Naming, ReadsAt, reading_at, last_by}
+use Rattle.appender_names.specs.Name.{Naming, ReadsAt, reading_at, greatest_number}
 use Rattle.appender_names.proofs.Periods.{is_same_is, is_same_to}
 use Rattle.appender_names.proofs.Reading.{reading_reads, reads_reading}
 use Rattle.appender_store.specs.Content.{Content}
@@ -17,12 +17,12 @@ use Rattle.appender_retain.proofs.Elements.{Contains_later, Contains_map, map_Co
 use Rattle.appender_retain.proofs.Entries.{entry_there, there_entry}
 use Rattle.appender_retain.proofs.Listing.{row_name}
 use Rattle.appender_rolling.specs.Opening.{IsFirstNumber, IsListed, HasEntry}
-use Rattle.appender_rolling.specs.Inside.Numbers.{number_behind, greater_of, first_number}
+use Rattle.appender_rolling.specs.Inside.Numbers.{number_after_row, greater_of, first_number}
 
 some_is : {X : Type 0} (x y : X) → ◌≡◌ {A = Option X} (Some x) (Some y) → x ≡ y
 some_is x y e = ap (λ (o : Option _). unwrap_or o x) e
 
-last_low : (b : Bool) → last_by b ≤ 999999
+last_low : (b : Bool) → greatest_number b ≤ 999999
 last_low false = lit≤ tt
 last_low true = lit≤ tt
 
@@ -39,7 +39,7 @@ module _ (n : Naming) (m : ℤ) where
   }
 
   -- of one listed name
-  of_row : (row : Row) → IsFirstNumber n m (λ name. row.0 ≡ Some name) (number_behind n m row)
+  of_row : (row : Row) → IsFirstNumber n m (λ name. row.0 ≡ Some name) (number_after_row n m row)
   of_row (None, kind, created) = record {
     at_most = lit≤ tt;
     above = λ name k there. absurd (let both : ◌≡◌ {A = Option (List ℕ)} None (Some name) = there in cc);
@@ -78,7 +78,7 @@ module _ (n : Naming) (m : ℤ) where
             least = inr (name, key.1, refl, (key.0, reads, is_same_to (period_of n.rotation key.0) (period_of n.rotation m) in_period), inr (omega (arith, high, reads.number_is, last_low n.numbered), refl));
           }
 
-      by : (o : Option (ℤ × ℕ)) → reading_at n name ≡ o → IsFirstNumber n m (λ other. ◌≡◌ {A = Option (List ℕ)} (Some name) (Some other)) (number_behind n m (Some name, kind, created))
+      by : (o : Option (ℤ × ℕ)) → reading_at n name ≡ o → IsFirstNumber n m (λ other. ◌≡◌ {A = Option (List ℕ)} (Some name) (Some other)) (number_after_row n m (Some name, kind, created))
       by None e = rw e (record {
         at_most = lit≤ tt;
         above = λ other k there has.
@@ -135,7 +135,7 @@ module _ (n : Naming) (m : ℤ) where
   }
   of_listing (row ∷ rows) =
       moved (λ name. (row.0 ≡ Some name) ⊎ IsListed rows name) (IsListed (row ∷ rows)) (first_number n m (row ∷ rows)) to from
-      (joined (λ name. row.0 ≡ Some name) (IsListed rows) (number_behind n m row) (first_number n m rows) (of_row row) (of_listing rows))
+      (joined (λ name. row.0 ≡ Some name) (IsListed rows) (number_after_row n m row) (first_number n m rows) (of_row row) (of_listing rows))
     where
       to : (name : List ℕ) → (row.0 ≡ Some name) ⊎ IsListed rows name → IsListed (row ∷ rows) name
       to name (inl is) = (row, (0, omega arith, refl), is)

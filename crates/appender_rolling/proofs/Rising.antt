@@ -7,19 +7,19 @@ use Rattle.appender_names.specs.declared.error.InitError.{InitError}
 use Rattle.appender_names.specs.declared.error.InitError.TheVariants.{Directory, File, Symlink, Moment, Name, Memory, Limit}
 use Rattle.appender_names.specs.Name.{Naming}
 use Rattle.appender_store.specs.Content.{ForbidsList, ForbidsOpen, ForbidsRemoveLink}
-use Rattle.appender_store.specs.Folder.{AreCounts, Counts, NotedList, NotedFlush, NotedOpen, listed_row, saturating_next}
+use Rattle.appender_store.specs.Folder.{AreNotedCounts, NotedCounts, NotedList, NotedFlush, NotedOpen, listed_row, next_count}
 use Rattle.appender_store.specs.Notes.{CountsRise, Notes}
 use Rattle.appender_store.specs.declared.store.Folder.{Ghosts}
 use Rattle.appender_store.specs.declared.store.Listed.{Listed}
 use Rattle.appender_store.proofs.Rising.{cause_rises, equal_notes_rise, same_rises, rises_on, call_rises, note_rises, fault_rises}
 use Rattle.appender_retain.proofs.Rising.{prunes_rise}
 use Rattle.appender_rolling.specs.Config.{Config, naming_of, log_files_of, is_limited}
-use Rattle.appender_rolling.specs.Opening.{IsFirstNumber, IsListed, ListsNumbers, FindsNumber, OpensAtOnce, RefusesAtOnce, MakesFolder, OpensInMade, GetsFile, GetsNo, TriesRemoveLink, LeavesNoPlace, LinksTo, LinksNot, OpensFile, RefusesFile}
-use Rattle.appender_rolling.specs.Roller.{Rolling, ClosesLast, Looks, Writes, Puts, Flushes}
+use Rattle.appender_rolling.specs.Opening.{IsFirstNumber, IsListed, ListsNumbers, FindsNumber, OpensDirectly, RefusesDirectly, MakesFolder, OpensInNewFolder, OpensNamedFile, FailsToOpen, TriesRemoveLink, BlocksLink, LinksTo, FailsToLink, OpensFile, RefusesFile}
+use Rattle.appender_rolling.specs.Roller.{Rolling, ClosesLast, ChecksClock, Writes, Puts, Flushes}
 use Rattle.appender_rolling.specs.declared.rolling.Switch.{Switch}
 use Rattle.appender_rolling.specs.declared.rolling.Switch.TheVariants.{None as Stayed, Opened as Switched, Failed as SwitchFailed}
 
-module _ {S F : Type 0} (kind : Ghosts S F) (failures_fit : (s : S) → kind.failures s < 2 ^ 64) (noted_fit : (s : S) → AreCounts (kind.noted s)) where
+module _ {S F : Type 0} (kind : Ghosts S F) (failures_fit : (s : S) → kind.failures s < 2 ^ 64) (noted_fit : (s : S) → AreNotedCounts (kind.noted s)) where
   -- ---- the number of the first file
 
   numbers_rise : (n : Naming) (m : ℤ) (old : S) (number : ℕ) (new : S) → ListsNumbers kind n m old number new → CountsRise kind old new
@@ -39,25 +39,25 @@ module _ {S F : Type 0} (kind : Ghosts S F) (failures_fit : (s : S) → kind.fai
 
   -- ---- the file
 
-  at_once_rises : (name : List ℕ) (old : S) (file : F) (new : S) → OpensAtOnce kind name old file new → CountsRise kind old new
+  at_once_rises : (name : List ℕ) (old : S) (file : F) (new : S) → OpensDirectly kind name old file new → CountsRise kind old new
   at_once_rises name old file new opens = equal_notes_rise kind old new (omega (arith, opens.failures)) opens.noted
 
   made_rises : (old new : S) → MakesFolder kind old new → CountsRise kind old new
   made_rises old new makes = equal_notes_rise kind old new (omega (arith, makes.failures)) makes.noted
 
-  refused_rises : (name : List ℕ) (old : S) (fault : Error) (new : S) → RefusesAtOnce kind name old fault new → CountsRise kind old new
+  refused_rises : (name : List ℕ) (old : S) (fault : Error) (new : S) → RefusesDirectly kind name old fault new → CountsRise kind old new
   refused_rises name old fault new refuses = call_rises kind {T = F} (ForbidsOpen name (kind.content old)) (Err fault) old new (failures_fit old) refuses.cause refuses.noted
 
-  gets_rise : (name : List ℕ) (old : S) (file : F) (new : S) → GetsFile kind name old file new → CountsRise kind old new
+  gets_rise : (name : List ℕ) (old : S) (file : F) (new : S) → OpensNamedFile kind name old file new → CountsRise kind old new
   gets_rise name old file new gets = by gets.calls
     where
-      by : OpensAtOnce kind name old file new ⊎ OpensInMade kind name old file new → CountsRise kind old new
+      by : OpensDirectly kind name old file new ⊎ OpensInNewFolder kind name old file new → CountsRise kind old new
       by (inl opens) = at_once_rises name old file new opens
       by (inr made) =
           rises_on kind old made.refused new (refused_rises name old made.fault made.refused made.first)
           (rises_on kind made.refused made.ready new (made_rises made.refused made.ready made.makes) (at_once_rises name made.ready file new made.second))
 
-  gets_no_rise : (name : List ℕ) (old : S) (error : InitError) (new : S) → GetsNo kind name old error new → CountsRise kind old new
+  gets_no_rise : (name : List ℕ) (old : S) (error : InitError) (new : S) → FailsToOpen kind name old error new → CountsRise kind old new
   gets_no_rise name old (Directory fault) new none =
       let first = refused_rises name old none.first_fault none.refused none.first in
       let second = cause_rises {T = Unit {0}} kind.is_known ⊥ (kind.failures none.refused) (kind.failures new) (Err fault) (failures_fit none.refused) none.cause in
@@ -67,7 +67,7 @@ module _ {S F : Type 0} (kind : Ghosts S F) (failures_fit : (s : S) → kind.fai
       (rises_on kind none.refused none.ready new (made_rises none.refused none.ready none.makes) (refused_rises name none.ready fault new none.second))
   gets_no_rise name old (Symlink fault) new never = absurd never
   gets_no_rise name old Moment new never = absurd never
-  gets_no_rise name old Name new never = absurd never
+  gets_no_rise name old (Name fault) new never = absurd never
   gets_no_rise name old Memory new never = absurd never
   gets_no_rise name old Limit new never = absurd never
 
@@ -82,11 +82,11 @@ module _ {S F : Type 0} (kind : Ghosts S F) (failures_fit : (s : S) → kind.fai
       let removal = removal_rises (b ∷ bs) old relinks.freed relinks.removes in
       equal_notes_rise kind old new (omega (arith, removal.failures, relinks.failures)) relinks.noted
 
-  links_not_rise : (link name : List ℕ) (old : S) (fault : Error) (new : S) → LinksNot kind link name old fault new → CountsRise kind old new
+  links_not_rise : (link name : List ℕ) (old : S) (fault : Error) (new : S) → FailsToLink kind link name old fault new → CountsRise kind old new
   links_not_rise [] name old fault new never = absurd never
   links_not_rise (b ∷ bs) name old fault new relinks_not =
       let removal = removal_rises (b ∷ bs) old relinks_not.freed relinks_not.removes in
-      let making = cause_rises {T = Unit {0}} kind.is_known (LeavesNoPlace kind (b ∷ bs) old relinks_not.freed) (kind.failures relinks_not.freed) (kind.failures new) (Err fault) (failures_fit relinks_not.freed) relinks_not.cause in
+      let making = cause_rises {T = Unit {0}} kind.is_known (BlocksLink kind (b ∷ bs) old relinks_not.freed) (kind.failures relinks_not.freed) (kind.failures new) (Err fault) (failures_fit relinks_not.freed) relinks_not.cause in
       equal_notes_rise kind old new (omega (arith, removal.failures, making)) relinks_not.noted
 
   -- ---- an opening, and a refused one
@@ -106,7 +106,7 @@ module _ {S F : Type 0} (kind : Ghosts S F) (failures_fit : (s : S) → kind.fai
       (rises_on kind pruned unlinked new (gets_rise name pruned file unlinked gets) (links_not_rise config.link name unlinked fault new links_not))
   refuses_rise config name old Memory new same = same_rises kind old new same
   refuses_rise config name old Moment new (pruned, prunes, never) = absurd never
-  refuses_rise config name old Name new (pruned, prunes, never) = absurd never
+  refuses_rise config name old (Name fault) new (pruned, prunes, never) = absurd never
   refuses_rise config name old Limit new (pruned, prunes, never) = absurd never
 
   -- ---- a check of the clock
@@ -116,7 +116,7 @@ module _ {S F : Type 0} (kind : Ghosts S F) (failures_fit : (s : S) → kind.fai
       rises_on kind old closes.flushed new (call_rises kind ⊥ closes.answer old closes.flushed (failures_fit old) closes.cause closes.noted)
       (fault_rises kind noted_fit NotedFlush closes.answer closes.flushed new closes.notes)
 
-  pub looks_rise : (m : ℤ) (len : ℕ) (switch : Switch) (old new : Rolling S F) → Looks kind m len switch old new → CountsRise kind old.folder new.folder
+  pub looks_rise : (m : ℤ) (len : ℕ) (switch : Switch) (old new : Rolling S F) → ChecksClock kind m len switch old new → CountsRise kind old.folder new.folder
   looks_rise m len Stayed old new stays = same_rises kind old.folder new.folder (ap (λ (r : Rolling S F). r.folder) stays.1)
   looks_rise m len Switched old new switches =
       rises_on kind old.folder switches.ready new.folder (opens_rise old.config _ old.folder new.file switches.ready switches.opens) (closes_rise switches.ready old.file new.folder switches.closes)
@@ -137,16 +137,16 @@ module _ {S F : Type 0} (kind : Ghosts S F) (failures_fit : (s : S) → kind.fai
 
 module _ {S F : Type 0} (kind : Ghosts S F) where
   -- the listing of an absent folder is noted
-  pub absent_finds : (config : Config) (m : ℤ) (old : S) (number : ℕ) (new : S) → FindsNumber kind config m old number new → is_limited config ≡ true → IsTrue kind.is_known → (kind.content old).there ≡ false → (kind.noted new).lists ≡ saturating_next (kind.noted old).lists
+  pub absent_finds : (config : Config) (m : ℤ) (old : S) (number : ℕ) (new : S) → FindsNumber kind config m old number new → is_limited config ≡ true → IsTrue kind.is_known → (kind.content old).there ≡ false → (kind.noted new).lists ≡ next_count (kind.noted old).lists
   absent_finds config m old number new finds limited is_known absent = by l.answer l.there l.number_is
     where
       l : ListsNumbers kind (naming_of config) m old number new
       l = finds.calls limited
 
-      by : (answer : Result (Vec Listed Global) Error) → OnOk answer (IsTrue kind.is_known → (kind.content old).there ≡ true) → MatchResult answer (λ all. IsFirstNumber (naming_of config) m (IsListed (map listed_row all.items)) number × (new ≡ l.listed)) (λ fault. (number ≡ 0) × Notes kind l.listed (NotedList fault) new) → (kind.noted new).lists ≡ saturating_next (kind.noted old).lists
+      by : (answer : Result (Vec Listed Global) Error) → OnOk answer (IsTrue kind.is_known → (kind.content old).there ≡ true) → MatchResult answer (λ all. IsFirstNumber (naming_of config) m (IsListed (map listed_row all.items)) number × (new ≡ l.listed)) (λ fault. (number ≡ 0) × Notes kind l.listed (NotedList fault) new) → (kind.noted new).lists ≡ next_count (kind.noted old).lists
       by (Ok all) there is = absurd (let both : true ≡ false = sym (there is_known) ∙ absent in cc)
-      by (Err fault) there is = ap (λ (n : Counts). n.lists) is.1.noted ∙ ap (λ (n : Counts). saturating_next n.lists) l.noted
+      by (Err fault) there is = ap (λ (n : NotedCounts). n.lists) is.1.noted ∙ ap (λ (n : NotedCounts). next_count n.lists) l.noted
 
   -- so is that of retention, if a maximum is set
-  pub absent_opens : (config : Config) (name : List ℕ) (old : S) (file : F) (new : S) → OpensFile kind config name old file new → 0 < config.max_files → IsTrue kind.is_known → (kind.content old).there ≡ false → (kind.noted new).lists ≡ saturating_next (kind.noted old).lists
-  absent_opens config name old file new opens some is_known absent = ap (λ (n : Counts). n.lists) opens.noted ∙ opens.prunes.absent some is_known absent
+  pub absent_opens : (config : Config) (name : List ℕ) (old : S) (file : F) (new : S) → OpensFile kind config name old file new → 0 < config.max_files → IsTrue kind.is_known → (kind.content old).there ≡ false → (kind.noted new).lists ≡ next_count (kind.noted old).lists
+  absent_opens config name old file new opens some is_known absent = ap (λ (n : NotedCounts). n.lists) opens.noted ∙ opens.prunes.absent some is_known absent

@@ -5,10 +5,10 @@ use Rattle.appender_names.specs.declared.error.InitError.{InitError}
 use Rattle.appender_names.specs.declared.error.InitError.TheVariants.{Memory}
 use Rattle.appender_names.specs.declared.rotation.Rotation.{Rotation}
 use Rattle.appender_store.specs.declared.store.Folder.{Ghosts}
-use Rattle.appender_rolling.specs.declared.rolling.clock.Clock.{Ghosts as Readings}
+use Rattle.appender_clock.specs.declared.Clock.{Ghosts as Readings}
 use Rattle.appender_rolling.specs.declared.rolling.Switch.{Switch}
 use Rattle.appender_rolling.specs.Config.{Config, defaults, is_limited}
-use Rattle.appender_rolling.specs.Roller.{Rolling, Scheduled, Held, rolling_of, OpensRoller, OpensNoRoller, Sees, Writes, WritesAll, Puts, Flushes, is_due, next_stamp}
+use Rattle.appender_rolling.specs.Roller.{Rolling, Scheduled, OpenFile, rolling_of, OpensRoller, OpensNoRoller, ChecksClockOnly, Writes, WritesAll, Puts, Flushes, is_due, next_stamp}
 
 -- only these are set
 abbrev pub plain_config : Rotation → List ℕ → Config
@@ -31,13 +31,6 @@ pub record PutsNow {S F C : Type 0} (kind : Ghosts S F) (time : Readings C) (byt
 abbrev pub WritesNow : {S F C : Type 0} → Ghosts S F → Readings C → List ℕ → Result ℕ Error → Appending S F C → Appending S F C → Type 0
 WritesNow kind time bytes answer old new = (switch : Switch) × PutsNow kind time bytes switch answer old new
 
--- the clock was read, and it was checked whether a file is due at the moment that it returned
-pub record SeesNow {S F C : Type 0} (kind : Ghosts S F) (time : Readings C) (switch : Switch) (old new : Appending S F C) : Type 0 where
-  pub moment : ℤ
-  pub reading : time.now_gives old.clock moment
-  pub sees : Sees kind moment switch old.roller new.roller
-  pub clock : new.clock ≡ old.clock
-
 -- the bytes were added to the open file by one append, and the clock not read
 pub record AppendsNow {S F C : Type 0} (kind : Ghosts S F) (bytes : List ℕ) (answer : Result ℕ Error) (old new : Appending S F C) : Type 0 where
   pub writes : Writes kind bytes answer old.roller new.roller
@@ -56,8 +49,8 @@ pub record OpensNow {S F C : Type 0} (kind : Ghosts S F) (time : Readings C) (co
   pub clock_is : new.clock ≡ clock
 
 -- the same in some folder, by some clock
-abbrev pub OpensSome : {S F C : Type 0} → Ghosts S F → Readings C → Config → Appending S F C → Type 0
-OpensSome {S} {F} {C} kind time config new = (folder : S) × (clock : C) × OpensNow kind time config folder clock new
+abbrev pub OpensInSomeFolder : {S F C : Type 0} → Ghosts S F → Readings C → Config → Appending S F C → Type 0
+OpensInSomeFolder {S} {F} {C} kind time config new = (folder : S) × (clock : C) × OpensNow kind time config folder clock new
 
 -- it was read, and none was opened, for this reason
 pub record OpensNone {S F C : Type 0} (kind : Ghosts S F) (time : Readings C) (config : Config) (folder : S) (clock : C) (error : InitError) (left : S) (same : C) : Type 0 where
@@ -67,67 +60,67 @@ pub record OpensNone {S F C : Type 0} (kind : Ghosts S F) (time : Readings C) (c
   pub clock_is : same ≡ clock
 
 -- the same in some folder, by some clock, or memory was refused before
-abbrev pub OpensNoneOfSome : {S F C : Type 0} → Ghosts S F → Readings C → Config → InitError → Type 0
-OpensNoneOfSome {S} {F} {C} kind time config error =
+abbrev pub OpensNoneInSomeFolder : {S F C : Type 0} → Ghosts S F → Readings C → Config → InitError → Type 0
+OpensNoneInSomeFolder {S} {F} {C} kind time config error =
     (error ≡ Memory) ⊎ ((folder : S) × (clock : C) × (left : S) × (same : C) × OpensNone kind time config folder clock error left same)
 
 -- ---- for many threads
 
 -- What is seen of an appender that threads share: its clock. The roller has a lock, so of each call it is known what
 -- it did to the roller that it found there, and not which one that was.
-pub record Sharing (C : Type 0) : Type 0 where
+pub record SharedLog (C : Type 0) : Type 0 where
   pub clock : C
 
 -- a log was opened with this in a folder, at the moment that the clock returned, and is shared
-pub record SharesNow {S F C : Type 0} (kind : Ghosts S F) (time : Readings C) (config : Config) (folder : S) (clock : C) (new : Sharing C) : Type 0 where
+pub record SharesNow {S F C : Type 0} (kind : Ghosts S F) (time : Readings C) (config : Config) (folder : S) (clock : C) (new : SharedLog C) : Type 0 where
   pub file : Appending S F C
   pub opens : OpensNow kind time config folder clock file
   pub clock_is : new.clock ≡ clock
 
 -- the same in some folder, by some clock
-abbrev pub SharesSome : {S F C : Type 0} → Ghosts S F → Readings C → Config → Sharing C → Type 0
-SharesSome {S} {F} {C} kind time config new = (folder : S) × (clock : C) × SharesNow kind time config folder clock new
+abbrev pub SharesInSomeFolder : {S F C : Type 0} → Ghosts S F → Readings C → Config → SharedLog C → Type 0
+SharesInSomeFolder {S} {F} {C} kind time config new = (folder : S) × (clock : C) × SharesNow kind time config folder clock new
 
 -- What is seen of a writer: when the next file begins. None does before the writer is dropped.
-abbrev pub Holding : Type 0
-Holding = Scheduled
+abbrev pub WriterSchedule : Type 0
+WriterSchedule = Scheduled
 
 -- Whether a check of the clock would begin the next file was asked. With a limit of bytes, the answer is for the room that the open
 -- file was found with.
-pub record AsksSome {S F : Type 0} (kind : Ghosts S F) (s : Scheduled) (m : ℤ) (answer : Bool) : Type 0 where
+pub record SomeRollerIsDue {S F : Type 0} (kind : Ghosts S F) (s : Scheduled) (m : ℤ) (answer : Bool) : Type 0 where
   pub plain : is_limited s.config ≡ false → answer ≡ is_due s.boundary m
-  pub limited : is_limited s.config ≡ true → (found : Held S F) × (answer ≡ is_some (next_stamp (rolling_of s found) m 0))
+  pub limited : is_limited s.config ≡ true → (found : OpenFile S F) × (answer ≡ is_some (next_stamp (rolling_of s found) m 0))
 
 -- a roller with this schedule checked the clock, which left that one
-pub record SeesSome {S F : Type 0} (kind : Ghosts S F) (m : ℤ) (old new : Scheduled) : Type 0 where
+pub record SomeRollerChecksClock {S F : Type 0} (kind : Ghosts S F) (m : ℤ) (old new : Scheduled) : Type 0 where
   pub switch : Switch
-  pub found : Held S F
-  pub left : Held S F
-  pub sees : Sees kind m switch (rolling_of old found) (rolling_of new left)
+  pub found : OpenFile S F
+  pub left : OpenFile S F
+  pub sees : ChecksClockOnly kind m switch (rolling_of old found) (rolling_of new left)
 
 -- bytes were put at this moment into a roller with this schedule, which left that one
-pub record PutsSome {S F : Type 0} (kind : Ghosts S F) (m : ℤ) (bytes : List ℕ) (answer : Result ℕ Error) (old new : Scheduled) : Type 0 where
+pub record SomeRollerPuts {S F : Type 0} (kind : Ghosts S F) (m : ℤ) (bytes : List ℕ) (answer : Result ℕ Error) (old new : Scheduled) : Type 0 where
   pub switch : Switch
-  pub found : Held S F
-  pub left : Held S F
+  pub found : OpenFile S F
+  pub left : OpenFile S F
   pub puts : Puts kind m bytes switch answer (rolling_of old found) (rolling_of new left)
 
 -- The clock was read, and at the moment that it returned no boundary was reached.
-pub record LooksNow {S F C : Type 0} (kind : Ghosts S F) (time : Readings C) (clock : C) (s : Holding) : Type 0 where
+pub record NoFileIsDueNow {S F C : Type 0} (kind : Ghosts S F) (time : Readings C) (clock : C) (s : WriterSchedule) : Type 0 where
   pub moment : ℤ
   pub reading : time.now_gives clock moment
   pub in_its_period : is_due s.boundary moment ≡ false
 
 -- the bytes were written to the open file of a roller with this schedule
-pub record WritesSome {S F : Type 0} (kind : Ghosts S F) (s : Scheduled) (bytes : List ℕ) (answer : Result ℕ Error) : Type 0 where
-  pub found : Held S F
-  pub left : Held S F
+pub record SomeRollerWrites {S F : Type 0} (kind : Ghosts S F) (s : Scheduled) (bytes : List ℕ) (answer : Result ℕ Error) : Type 0 where
+  pub found : OpenFile S F
+  pub left : OpenFile S F
   pub writes : Writes kind bytes answer (rolling_of s found) (rolling_of s left)
 
 -- they were written to it in pieces, all of them if the answer is `Ok`
-pub record WritesAllSome {S F : Type 0} (kind : Ghosts S F) (s : Scheduled) (bytes : List ℕ) (answer : Result (Unit {0}) Error) : Type 0 where
-  pub found : Held S F
-  pub left : Held S F
+pub record SomeRollerWritesAll {S F : Type 0} (kind : Ghosts S F) (s : Scheduled) (bytes : List ℕ) (answer : Result (Unit {0}) Error) : Type 0 where
+  pub found : OpenFile S F
+  pub left : OpenFile S F
   pub writes : WritesAll kind bytes answer (rolling_of s found) (rolling_of s left)
 
 -- the clock was read, and the bytes were put into a roller at the moment that it returned
@@ -136,10 +129,10 @@ pub record PutsAtClock {S F C : Type 0} (kind : Ghosts S F) (time : Readings C) 
   pub reading : time.now_gives clock moment
   pub old : Scheduled
   pub new : Scheduled
-  pub puts : PutsSome kind moment bytes answer old new
+  pub puts : SomeRollerPuts kind moment bytes answer old new
 
 -- the open file of a roller with this schedule was flushed
-pub record FlushesSome {S F : Type 0} (kind : Ghosts S F) (s : Scheduled) (answer : Result (Unit {0}) Error) : Type 0 where
-  pub found : Held S F
-  pub left : Held S F
+pub record SomeRollerFlushes {S F : Type 0} (kind : Ghosts S F) (s : Scheduled) (answer : Result (Unit {0}) Error) : Type 0 where
+  pub found : OpenFile S F
+  pub left : OpenFile S F
   pub flushes : Flushes kind answer (rolling_of s found) (rolling_of s left)

@@ -9,7 +9,7 @@ use Rattle.appender_retain.specs.Rank.{LogFiles}
 use Rattle.appender_rolling.specs.declared.rolling.setup.Stamp.{Stamp}
 
 -- What a builder has set. An empty text is none, and so is a maximum of 0 files or 0 bytes. `by_name` says that log files are known by
--- their names alone.
+-- just their names.
 pub record Config : Type 0 where
   pub rotation : Rotation
   pub prefix : List ℕ
@@ -23,7 +23,7 @@ pub record Config : Type 0 where
 abbrev pub defaults : Config
 defaults = record { rotation = rotation_of Never; prefix = []; suffix = []; link = []; max_files = 0; by_name = false; max_bytes = 0 }
 
--- a file may have so many bytes at most; its name then has a number
+-- a file has a limit of bytes; its name then has a number
 abbrev pub is_limited : Config → Bool
 is_limited c = not (c.max_bytes == 0)
 
@@ -55,6 +55,6 @@ abbrev pub IsLaterStamp : Stamp → Stamp → Type 0
 IsLaterStamp a b = IsLaterName a.moment a.number b.moment b.number
 
 -- the bytes of a text, if one is set
-abbrev pub text_of : Option (String Global) → List ℕ
-text_of None = []
-text_of (Some text) = string_bytes text
+abbrev pub text_or_empty : Option (String Global) → List ℕ
+text_or_empty None = []
+text_or_empty (Some text) = string_bytes text

@@ -8,16 +8,16 @@ use Rattle.appender_names.specs.declared.error.InitError.{InitError}
 use Rattle.appender_names.specs.declared.error.InitError.TheVariants.{Directory, File as NoFile, Symlink, Memory}
 use Rattle.appender_store.specs.declared.store.Folder.{Ghosts}
 use Rattle.appender_store.specs.Content.{Content, Entry, IsLink, IsLinkOrFolder}
-use Rattle.appender_store.specs.Folder.{HasRisen}
+use Rattle.appender_store.specs.Folder.{IsOneMore}
 use Rattle.appender_retain.specs.Survival.{name_survives}
 use Rattle.appender_rolling.specs.Config.{Config, log_files_of}
 use Rattle.appender_retain.specs.Pruning.{Prunes}
-use Rattle.appender_rolling.specs.Opening.{RefusesAtOnce, MakesFolder, GetsFile, TriesRemoveLink, IsFileOrFolder}
+use Rattle.appender_rolling.specs.Opening.{RefusesDirectly, MakesFolder, OpensNamedFile, TriesRemoveLink, IsFileOrFolder}
 
 -- Every name leads to what it led to, but those that don't survive retention before this file is opened, and a link under the name of
 -- the link that is set.
-abbrev pub TakesLittle : Config → List ℕ → Content → Content → Type 0
-TakesLittle c file old new =
+abbrev pub RemovesOnlyOldNames : Config → List ℕ → Content → Content → Type 0
+RemovesOnlyOldNames c file old new =
     (name : List ℕ) (e : Entry) → fin.get old.names name ≡ Some e
     → (fin.get new.names name ≡ Some e)
     ⊎ (name_survives (log_files_of c (Some file)) c.max_files old.names name ≡ false)
@@ -25,29 +25,29 @@ TakesLittle c file old new =
 
 -- the call counted a failure, or memory was refused
 abbrev pub FailsByItself : ℕ → Error → ℕ → Type 0
-FailsByItself old fault new = HasRisen old new ⊎ (error_kind fault ≡ OutOfMemory)
+FailsByItself old fault new = IsOneMore old new ⊎ (error_kind fault ≡ OutOfMemory)
 
 -- retention, and a first opening that was refused, led to this folder
-abbrev pub FirstRefused : {S F : Type 0} → Ghosts S F → Config → List ℕ → S → S → Type 0
-FirstRefused kind c name old refused =
-    (pruned : _) × (fault : Error) × Prunes kind (log_files_of c (Some name)) c.max_files old pruned × RefusesAtOnce kind name pruned fault refused
+abbrev pub RefusesFirstOpening : {S F : Type 0} → Ghosts S F → Config → List ℕ → S → S → Type 0
+RefusesFirstOpening kind c name old refused =
+    (pruned : _) × (fault : Error) × Prunes kind (log_files_of c (Some name)) c.max_files old pruned × RefusesDirectly kind name pruned fault refused
 
 -- Why an opening is refused, by the calls that led from the folder before it to the one after: the call whose fault is returned failed by
 -- itself or was refused memory; or what had the name before leaves no place for the file, or for the link; or there was no memory
 -- for the name, and no call.
 abbrev pub HasReason : {S F : Type 0} → Ghosts S F → Config → List ℕ → S → InitError → S → Type 0
 HasReason kind c name old (Directory fault) new =
-    (refused : _) × FirstRefused kind c name old refused × kind.make_folder_gives refused (Err fault) new
+    (refused : _) × RefusesFirstOpening kind c name old refused × kind.make_folder_gives refused (Err fault) new
     × FailsByItself (kind.failures refused) fault (kind.failures new)
 HasReason kind c name old (NoFile fault) new =
-    (refused : _) × (ready : _) × FirstRefused kind c name old refused × MakesFolder kind refused ready × kind.open_gives ready name (Err fault) new
+    (refused : _) × (ready : _) × RefusesFirstOpening kind c name old refused × MakesFolder kind refused ready × kind.open_gives ready name (Err fault) new
     × (FailsByItself (kind.failures ready) fault (kind.failures new) ⊎ (IsTrue kind.is_known × IsLinkOrFolder (fin.get (kind.content old).names name)))
 HasReason {S} {F} kind c name old (Symlink fault) new =
     (pruned : S) × (file : F) × (unlinked : S) × (freed : S)
-    × Prunes kind (log_files_of c (Some name)) c.max_files old pruned × GetsFile kind name pruned file unlinked × TriesRemoveLink kind c.link unlinked freed
+    × Prunes kind (log_files_of c (Some name)) c.max_files old pruned × OpensNamedFile kind name pruned file unlinked × TriesRemoveLink kind c.link unlinked freed
     × kind.make_link_gives freed c.link name (Err fault) new
     × (FailsByItself (kind.failures freed) fault (kind.failures new)
     ⊎ (IsTrue kind.is_known × ((c.link ≡ name) ⊎ IsFileOrFolder (fin.get (kind.content old).names c.link)
-    ⊎ (IsLink (fin.get (kind.content old).names c.link) × HasRisen (kind.failures unlinked) (kind.failures freed)))))
+    ⊎ (IsLink (fin.get (kind.content old).names c.link) × IsOneMore (kind.failures unlinked) (kind.failures freed)))))
 HasReason kind c name old Memory new = new ≡ old
 HasReason kind c name old error new = ⊥

@@ -5,17 +5,19 @@ use Rattle.std.specs.declared.io.Error.{Error}
 use Rattle.std.specs.FinMap as fin
 use Rattle.appender_names.specs.declared.error.InitError.{InitError}
 use Rattle.appender_names.specs.declared.error.InitError.TheVariants.{Directory, File, Symlink, Moment, Name, Memory, Limit}
+use Rattle.appender_names.specs.declared.error.NameFault.{NameFault}
+use Rattle.appender_names.specs.declared.error.NameFault.TheVariants.{Link as LinkName, Clash}
 use Rattle.appender_names.specs.Rotation.{IsMoment, IsNever}
-use Rattle.appender_names.specs.Name.{Naming, IsAllowed, IsEntry, IsNumberIn, Reads, name_at}
+use Rattle.appender_names.specs.Name.{Naming, IsAllowed, IsPartFault, IsEntry, IsNumberIn, Reads, name_at}
 use Rattle.appender_store.specs.declared.store.Folder.{Ghosts}
-use Rattle.appender_store.specs.Content.{Content, Entry, File as PlainFile, Link, Folder, Opens, RemovesLink, MakesLink, after_make_folder, IsLink, IsLinkOrFolder, ForbidsOpen, ForbidsRemoveLink, ForbidsList}
-use Rattle.appender_store.specs.Folder.{HasCause, HasRisen, Row, NotedList, listed_row}
+use Rattle.appender_store.specs.Content.{Content, Entry, File as PlainFile, Link, Folder, OpensBody, RemovesLink, MakesLink, after_make_folder, IsLink, IsLinkOrFolder, ForbidsOpen, ForbidsRemoveLink, ForbidsList}
+use Rattle.appender_store.specs.Folder.{HasCause, IsOneMore, Row, NotedList, listed_row}
 use Rattle.appender_store.specs.Notes.{Notes}
 use Rattle.appender_store.specs.declared.store.Listed.{Listed}
 use Rattle.std.specs.declared.alloc.Global.{Global}
 use Rattle.std.specs.List.{Contains}
 use Rattle.appender_rolling.specs.declared.rolling.setup.Stamp.{Stamp}
-use Rattle.appender_retain.specs.Survival.{TakesOnlyOld, candidates_in}
+use Rattle.appender_retain.specs.Survival.{RemovesOnlyOld, candidates_in}
 use Rattle.appender_retain.specs.Pruning.{Prunes, IsQuiet}
 use Rattle.appender_rolling.specs.Config.{Config, naming_of, log_files_of, is_limited, MayLimit, stamp, last_of}
 
@@ -40,18 +42,28 @@ pub record LinkClashes (c : Config) (m : ℤ) : Type 0 where
   pub is_set : c.link ≢ []
   pub clashes : (c.link ≡ file_name_of c (stamp m 0)) ⊎ ((¬ IsNever c.rotation) × ReadsAsDate c c.link)
 
--- Before any call: what every opening needs was made of the configuration, and the first file's name.
-pub record IsReady (config : Config) (m : ℤ) (setup : Config) (name : List ℕ) : Type 0 where
+-- a log with this configuration can be opened at this moment
+pub record MayOpen (config : Config) (m : ℤ) : Type 0 where
   pub allowed : NamesEntries config
   pub may_limit : MayLimit config
   pub in_range : IsMoment m
   pub apart : ¬ LinkClashes config m
+
+-- Before any call: what every opening needs was made of the configuration, and the first file's name.
+pub record IsReady (config : Config) (m : ℤ) (setup : Config) (name : List ℕ) : Type 0 where
+  pub may_open : MayOpen config m
   pub setup_is : setup ≡ config
   pub name_is : name ≡ file_name_of config (stamp m 0)
 
+-- a name that is not allowed, and why
+abbrev pub IsNameFault : Config → ℤ → NameFault → Type 0
+IsNameFault c m LinkName = ¬ LinksEntry c
+IsNameFault c m Clash = NamesEntries c × MayLimit c × IsMoment m × LinkClashes c m
+IsNameFault c m fault = IsPartFault c.rotation c.prefix c.suffix fault
+
 -- It was not, for this reason. The checks come in this order: names, limit, moment, memory, the name of the link.
 abbrev pub IsNotReady : Config → ℤ → InitError → Type 0
-IsNotReady config m Name = (¬ NamesEntries config) ⊎ (NamesEntries config × MayLimit config × IsMoment m × LinkClashes config m)
+IsNotReady config m (Name fault) = IsNameFault config m fault
 IsNotReady config m Limit = NamesEntries config × (is_limited config ≡ true) × IsNever config.rotation
 IsNotReady config m Moment = NamesEntries config × MayLimit config × (¬ IsMoment m)
 IsNotReady config m Memory = NamesEntries config × MayLimit config × IsMoment m
@@ -97,15 +109,15 @@ pub record FindsNumber {S F : Type 0} (kind : Ghosts S F) (config : Config) (m :
 -- ---- the file
 
 -- one call opened the file of this name
-pub record OpensAtOnce {S F : Type 0} (kind : Ghosts S F) (name : List ℕ) (old : S) (file : F) (new : S) : Type 0 where
+pub record OpensDirectly {S F : Type 0} (kind : Ghosts S F) (name : List ℕ) (old : S) (file : F) (new : S) : Type 0 where
   pub call : kind.open_gives old name (Ok file) new
-  pub opens : IsTrue kind.is_known → Opens name (kind.content old) (kind.content new) (kind.body file)
+  pub opens : IsTrue kind.is_known → OpensBody name (kind.content old) (kind.content new) (kind.body file)
   pub body_is_there : IsTrue kind.is_known → kind.body file < length (kind.content new).bodies
   pub failures : kind.failures new ≡ kind.failures old
   pub noted : kind.noted new ≡ kind.noted old
 
 -- one call refused it, and nothing changed
-pub record RefusesAtOnce {S F : Type 0} (kind : Ghosts S F) (name : List ℕ) (old : S) (fault : Error) (new : S) : Type 0 where
+pub record RefusesDirectly {S F : Type 0} (kind : Ghosts S F) (name : List ℕ) (old : S) (fault : Error) (new : S) : Type 0 where
   pub call : kind.open_gives old name (Err fault) new
   pub content : kind.content new ≡ kind.content old
   pub cause : HasCause {T = F} kind.is_known (ForbidsOpen name (kind.content old)) (kind.failures old) (kind.failures new) (Err fault)
@@ -119,26 +131,26 @@ pub record MakesFolder {S F : Type 0} (kind : Ghosts S F) (old new : S) : Type 0
   pub noted : kind.noted new ≡ kind.noted old
 
 -- a first call was refused, the folder made, and a second call opened the file
-pub record OpensInMade {S F : Type 0} (kind : Ghosts S F) (name : List ℕ) (old : S) (file : F) (new : S) : Type 0 where
+pub record OpensInNewFolder {S F : Type 0} (kind : Ghosts S F) (name : List ℕ) (old : S) (file : F) (new : S) : Type 0 where
   pub fault : Error
   pub refused : S
   pub ready : S
-  pub first : RefusesAtOnce kind name old fault refused
+  pub first : RefusesDirectly kind name old fault refused
   pub makes : MakesFolder kind refused ready
-  pub second : OpensAtOnce kind name ready file new
+  pub second : OpensDirectly kind name ready file new
 
 -- The file of this name was opened: in the folder as it was, or in the folder made, which is the same if it existed.
-pub record GetsFile {S F : Type 0} (kind : Ghosts S F) (name : List ℕ) (old : S) (file : F) (new : S) : Type 0 where
-  pub calls : OpensAtOnce kind name old file new ⊎ OpensInMade kind name old file new
-  pub opens : IsTrue kind.is_known → Opens name (after_make_folder (kind.content old)) (kind.content new) (kind.body file)
+pub record OpensNamedFile {S F : Type 0} (kind : Ghosts S F) (name : List ℕ) (old : S) (file : F) (new : S) : Type 0 where
+  pub calls : OpensDirectly kind name old file new ⊎ OpensInNewFolder kind name old file new
+  pub opens : IsTrue kind.is_known → OpensBody name (after_make_folder (kind.content old)) (kind.content new) (kind.body file)
   pub body_is_there : IsTrue kind.is_known → kind.body file < length (kind.content new).bodies
   pub noted : kind.noted new ≡ kind.noted old
 
 -- The folder could not be made, and nothing changed: the call failed by itself, or memory was refused.
-pub record GetsNoFolder {S F : Type 0} (kind : Ghosts S F) (name : List ℕ) (old : S) (fault : Error) (new : S) : Type 0 where
+pub record FailsToMakeFolder {S F : Type 0} (kind : Ghosts S F) (name : List ℕ) (old : S) (fault : Error) (new : S) : Type 0 where
   pub first_fault : Error
   pub refused : S
-  pub first : RefusesAtOnce kind name old first_fault refused
+  pub first : RefusesDirectly kind name old first_fault refused
   pub call : kind.make_folder_gives refused (Err fault) new
   pub cause : HasCause {T = Unit {0}} kind.is_known ⊥ (kind.failures refused) (kind.failures new) (Err fault)
   pub content : kind.content new ≡ kind.content old
@@ -146,22 +158,22 @@ pub record GetsNoFolder {S F : Type 0} (kind : Ghosts S F) (name : List ℕ) (ol
 
 -- The file could not be opened though the folder was made: the second call failed by itself, memory was refused, or what has
 -- the name is a link or a folder.
-pub record GetsNoFile {S F : Type 0} (kind : Ghosts S F) (name : List ℕ) (old : S) (fault : Error) (new : S) : Type 0 where
+pub record FailsToOpenFile {S F : Type 0} (kind : Ghosts S F) (name : List ℕ) (old : S) (fault : Error) (new : S) : Type 0 where
   pub first_fault : Error
   pub refused : S
   pub ready : S
-  pub first : RefusesAtOnce kind name old first_fault refused
+  pub first : RefusesDirectly kind name old first_fault refused
   pub makes : MakesFolder kind refused ready
-  pub second : RefusesAtOnce kind name ready fault new
+  pub second : RefusesDirectly kind name ready fault new
   pub cause : HasCause {T = F} kind.is_known (IsLinkOrFolder (fin.get (kind.content old).names name)) (kind.failures ready) (kind.failures new) (Err fault)
   pub content : IsTrue kind.is_known → kind.content new ≡ after_make_folder (kind.content old)
   pub noted : kind.noted new ≡ kind.noted old
 
 -- the file of this name was not opened, for this reason
-abbrev pub GetsNo : {S F : Type 0} → Ghosts S F → List ℕ → S → InitError → S → Type 0
-GetsNo kind name old (Directory fault) new = GetsNoFolder kind name old fault new
-GetsNo kind name old (File fault) new = GetsNoFile kind name old fault new
-GetsNo kind name old _ new = ⊥
+abbrev pub FailsToOpen : {S F : Type 0} → Ghosts S F → List ℕ → S → InitError → S → Type 0
+FailsToOpen kind name old (Directory fault) new = FailsToMakeFolder kind name old fault new
+FailsToOpen kind name old (File fault) new = FailsToOpenFile kind name old fault new
+FailsToOpen kind name old _ new = ⊥
 
 -- ---- the link
 
@@ -176,7 +188,7 @@ pub record TriesRemoveLink {S F : Type 0} (kind : Ghosts S F) (link : List ℕ) 
   pub ok : OnOk answer (IsTrue kind.is_known → RemovesLink link (kind.content old) (kind.content new))
   pub err : OnErr answer (kind.content new ≡ kind.content old)
   pub cause : HasCause kind.is_known (ForbidsRemoveLink link (kind.content old)) (kind.failures old) (kind.failures new) answer
-  pub memory : OnErr answer (HasRisen (kind.failures old) (kind.failures new) ⊎ (IsTrue kind.is_known × ForbidsRemoveLink link (kind.content old)))
+  pub memory : OnErr answer (IsOneMore (kind.failures old) (kind.failures new) ⊎ (IsTrue kind.is_known × ForbidsRemoveLink link (kind.content old)))
   pub noted : kind.noted new ≡ kind.noted old
 
 -- the name leads to a plain file or to a folder
@@ -187,7 +199,7 @@ IsFileOrFolder (Some (Link target)) = ⊥
 IsFileOrFolder (Some Folder) = Unit {0}
 
 -- The link leads to this name now, in place of what link stood there.
-pub record Relinks {S F : Type 0} (kind : Ghosts S F) (link name : List ℕ) (old new : S) : Type 0 where
+pub record ReplacesLink {S F : Type 0} (kind : Ghosts S F) (link name : List ℕ) (old new : S) : Type 0 where
   pub freed : S
   pub removes : TriesRemoveLink kind link old freed
   pub call : kind.make_link_gives freed link name (Ok tt) new
@@ -196,54 +208,54 @@ pub record Relinks {S F : Type 0} (kind : Ghosts S F) (link name : List ℕ) (ol
   pub noted : kind.noted new ≡ kind.noted old
 
 -- what has the link's name leaves no place for it: a plain file or a folder, or the old link, whose removal failed by itself
-abbrev pub LeavesNoPlace : {S F : Type 0} → Ghosts S F → List ℕ → S → S → Type 0
-LeavesNoPlace kind link old freed =
+abbrev pub BlocksLink : {S F : Type 0} → Ghosts S F → List ℕ → S → S → Type 0
+BlocksLink kind link old freed =
     IsFileOrFolder (fin.get (kind.content old).names link)
-    ⊎ (IsLink (fin.get (kind.content old).names link) × HasRisen (kind.failures old) (kind.failures freed))
+    ⊎ (IsLink (fin.get (kind.content old).names link) × IsOneMore (kind.failures old) (kind.failures freed))
 
 -- The link could not be made, and at most the old one is removed: the call failed by itself, memory was refused, or what has the
 -- name leaves no place.
-pub record RelinksNot {S F : Type 0} (kind : Ghosts S F) (link name : List ℕ) (old : S) (fault : Error) (new : S) : Type 0 where
+pub record FailsToReplaceLink {S F : Type 0} (kind : Ghosts S F) (link name : List ℕ) (old : S) (fault : Error) (new : S) : Type 0 where
   pub freed : S
   pub removes : TriesRemoveLink kind link old freed
   pub call : kind.make_link_gives freed link name (Err fault) new
-  pub cause : HasCause {T = Unit {0}} kind.is_known (LeavesNoPlace kind link old freed) (kind.failures freed) (kind.failures new) (Err fault)
+  pub cause : HasCause {T = Unit {0}} kind.is_known (BlocksLink kind link old freed) (kind.failures freed) (kind.failures new) (Err fault)
   pub content : IsTrue kind.is_known → MayRemoveLink link (kind.content old) (kind.content new)
   pub noted : kind.noted new ≡ kind.noted old
 
 -- if a link is set, it leads to this name now
 abbrev pub LinksTo : {S F : Type 0} → Ghosts S F → List ℕ → List ℕ → S → S → Type 0
 LinksTo kind [] name old new = new ≡ old
-LinksTo kind (b ∷ bs) name old new = Relinks kind (b ∷ bs) name old new
+LinksTo kind (b ∷ bs) name old new = ReplacesLink kind (b ∷ bs) name old new
 
 -- a link is set, and could not be made to lead to this name
-abbrev pub LinksNot : {S F : Type 0} → Ghosts S F → List ℕ → List ℕ → S → Error → S → Type 0
-LinksNot kind [] name old fault new = ⊥
-LinksNot kind (b ∷ bs) name old fault new = RelinksNot kind (b ∷ bs) name old fault new
+abbrev pub FailsToLink : {S F : Type 0} → Ghosts S F → List ℕ → List ℕ → S → Error → S → Type 0
+FailsToLink kind [] name old fault new = ⊥
+FailsToLink kind (b ∷ bs) name old fault new = FailsToReplaceLink kind (b ∷ bs) name old fault new
 
 -- ---- all of it
 
 -- if neither List nor Remove was noted, there are no more log files than the maximum, if one is set
-abbrev pub AtMost : {S F : Type 0} → Ghosts S F → Config → S → S → Type 0
-AtMost kind config old new =
+abbrev pub KeepsMaximum : {S F : Type 0} → Ghosts S F → Config → S → S → Type 0
+KeepsMaximum kind config old new =
     IsQuiet (kind.noted old) (kind.noted new) → IsTrue kind.is_known → 0 < config.max_files → candidates_in (log_files_of config None) (kind.content new) ≤ config.max_files
 
 -- what the link did to the content, if one is set
-abbrev pub Linked : List ℕ → List ℕ → Content → Content → Type 0
-Linked [] name old new = new ≡ old
-Linked (b ∷ bs) name old new = (freed : Content) × MayRemoveLink (b ∷ bs) old freed × MakesLink (b ∷ bs) name freed new
+abbrev pub ChangesLink : List ℕ → List ℕ → Content → Content → Type 0
+ChangesLink [] name old new = new ≡ old
+ChangesLink (b ∷ bs) name old new = (freed : Content) × MayRemoveLink (b ∷ bs) old freed × MakesLink (b ∷ bs) name freed new
 
 -- Old log files were removed, the file of this name was opened, and the link, if one is set, leads to it.
 pub record OpensFile {S F : Type 0} (kind : Ghosts S F) (config : Config) (name : List ℕ) (old : S) (file : F) (new : S) : Type 0 where
   pub pruned : S
   pub unlinked : S
   pub prunes : Prunes kind (log_files_of config (Some name)) config.max_files old pruned
-  pub gets : GetsFile kind name pruned file unlinked
+  pub gets : OpensNamedFile kind name pruned file unlinked
   pub links : LinksTo kind config.link name unlinked new
-  pub linked : IsTrue kind.is_known → Linked config.link name (kind.content unlinked) (kind.content new)
+  pub linked : IsTrue kind.is_known → ChangesLink config.link name (kind.content unlinked) (kind.content new)
   pub body_is_there : IsTrue kind.is_known → kind.body file < length (kind.content new).bodies
   pub noted : kind.noted new ≡ kind.noted pruned
-  pub at_most : AtMost kind config old new
+  pub at_most : KeepsMaximum kind config old new
 
 -- It was not, for this reason. Without memory for the name no call was made; else old log files were removed, and without
 -- a link the file stands.
@@ -251,13 +263,13 @@ abbrev pub RefusesFile : {S F : Type 0} → Ghosts S F → Config → List ℕ �
 RefusesFile kind config name old Memory new = new ≡ old
 RefusesFile {S} {F} kind config name old (Symlink fault) new =
     (pruned : S) × (unlinked : S) × (file : F) × Prunes kind (log_files_of config (Some name)) config.max_files old pruned
-    × GetsFile kind name pruned file unlinked × LinksNot kind config.link name unlinked fault new
+    × OpensNamedFile kind name pruned file unlinked × FailsToLink kind config.link name unlinked fault new
 RefusesFile kind config name old error new =
-    (pruned : _) × Prunes kind (log_files_of config (Some name)) config.max_files old pruned × GetsNo kind name pruned error new
+    (pruned : _) × Prunes kind (log_files_of config (Some name)) config.max_files old pruned × FailsToOpen kind name pruned error new
 
 -- All that a refusal can leave: old log files are removed, the folder is made, the name leads to a file, the link is removed.
-pub record LeavesLittle (config : Config) (name : List ℕ) (old new : Content) : Type 0 where
+pub record IsRefusalEffect (config : Config) (name : List ℕ) (old new : Content) : Type 0 where
   pub pruned : Content
-  pub only_old : TakesOnlyOld (log_files_of config (Some name)) config.max_files old pruned
+  pub only_old : RemovesOnlyOld (log_files_of config (Some name)) config.max_files old pruned
   pub rest : (new ≡ pruned) ⊎ (new ≡ after_make_folder pruned)
-      ⊎ ((unlinked : Content) × (b : ℕ) × Opens name (after_make_folder pruned) unlinked b × MayRemoveLink config.link unlinked new)
+      ⊎ ((unlinked : Content) × (b : ℕ) × OpensBody name (after_make_folder pruned) unlinked b × MayRemoveLink config.link unlinked new)

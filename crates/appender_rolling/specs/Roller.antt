@@ -4,17 +4,17 @@ use Rattle.std.specs.IoError.{error_kind}
 use Rattle.std.specs.declared.io.Error.{Error}
 use Rattle.std.specs.declared.io.ErrorKind.TheVariants.{Interrupted, WriteZero}
 use Rattle.appender_names.specs.declared.error.InitError.{InitError}
-use Rattle.appender_names.specs.declared.error.InitError.TheVariants.{Moment, Name, Memory, Limit}
+use Rattle.appender_names.specs.declared.error.InitError.TheVariants.{Directory, File, Symlink}
 use Rattle.appender_store.specs.declared.store.Folder.{Ghosts}
 use Rattle.appender_names.specs.declared.rotation.Rotation.{Rotation}
-use Rattle.appender_names.specs.Rotation.{IsMoment, is_moment, IsNever, IsBoundary, next_of}
+use Rattle.appender_names.specs.Rotation.{is_moment, IsNever, IsBoundary, next_of}
 use Rattle.appender_store.specs.Content.{after_append}
 use Rattle.appender_store.specs.Folder.{HasCause, NotedFlush, NotedOpen}
 use Rattle.appender_store.specs.Notes.{Notes}
 use Rattle.appender_retain.specs.Pruning.{IsQuiet}
-use Rattle.appender_rolling.specs.Config.{Config, is_limited, MayLimit, IsStamp, IsLaterStamp, stamp}
+use Rattle.appender_rolling.specs.Config.{Config, IsStamp, IsLaterStamp, stamp}
 use Rattle.appender_rolling.specs.declared.rolling.setup.Stamp.{Stamp}
-use Rattle.appender_rolling.specs.Opening.{file_name_of, NamesEntries, LinkClashes, FindsNumber, AtMost, OpensFile, RefusesFile, LeavesLittle}
+use Rattle.appender_rolling.specs.Opening.{file_name_of, MayOpen, IsNotReady, FindsNumber, KeepsMaximum, OpensFile, RefusesFile, IsRefusalEffect}
 use Rattle.appender_rolling.specs.declared.rolling.Switch.{Switch}
 use Rattle.appender_rolling.specs.declared.rolling.Switch.TheVariants.{None as Stayed, Opened as Switched, Failed as SwitchFailed}
 
@@ -27,7 +27,7 @@ pub record Scheduled : Type 0 where
   pub boundary : Option ℤ
 
 -- The open file in its folder, which every write changes, and how many bytes of the limit are left since the last attempt.
-pub record Held (S F : Type 0) : Type 0 where
+pub record OpenFile (S F : Type 0) : Type 0 where
   pub folder : S
   pub file : F
   pub room : ℕ
@@ -42,14 +42,14 @@ pub record Rolling (S F : Type 0) : Type 0 where
   pub boundary : Option ℤ
   pub room : ℕ
 
-abbrev pub rolling_of : {S F : Type 0} → Scheduled → Held S F → Rolling S F
+abbrev pub rolling_of : {S F : Type 0} → Scheduled → OpenFile S F → Rolling S F
 rolling_of s h = record { config = s.config; folder = h.folder; file = h.file; opened = s.opened; last = s.last; boundary = s.boundary; room = h.room }
 
 abbrev pub schedule_of : {S F : Type 0} → Rolling S F → Scheduled
 schedule_of r = record { config = r.config; opened = r.opened; last = r.last; boundary = r.boundary }
 
 -- the next boundary is one of the rotation and is after the moment of the open file; there is none exactly under NEVER
-pub record LiesAhead (r : Rotation) (opened : ℤ) (boundary : Option ℤ) : Type 0 where
+pub record IsLaterBoundary (r : Rotation) (opened : ℤ) (boundary : Option ℤ) : Type 0 where
   pub none : boundary ≡ None → IsNever r
   pub never : IsNever r → boundary ≡ None
   pub is_boundary : (b : ℤ) → boundary ≡ Some b → IsBoundary r b
@@ -57,30 +57,27 @@ pub record LiesAhead (r : Rotation) (opened : ℤ) (boundary : Option ℤ) : Typ
 
 -- What is kept over all calls, of a roller under a lock too, whichever threads take it: the open file has the name of the
 -- moment of the last opening that succeeded, and the next boundary is after that moment.
-pub record Stands (config : Config) (name : List ℕ) (opened : Stamp) (boundary : Option ℤ) : Type 0 where
+pub record IsOpened (config : Config) (name : List ℕ) (opened : Stamp) (boundary : Option ℤ) : Type 0 where
   pub is_stamp : IsStamp config opened
   pub name_is : name ≡ file_name_of config opened
-  pub lies_ahead : LiesAhead config.rotation opened.moment boundary
+  pub later_boundary : IsLaterBoundary config.rotation opened.moment boundary
 
 -- The last attempt was for a stamp not before that of the open file, and the next boundary is that of its period.
-pub record Tried (config : Config) (opened last : Stamp) (boundary : Option ℤ) : Type 0 where
+pub record IsLastAttempt (config : Config) (opened last : Stamp) (boundary : Option ℤ) : Type 0 where
   pub is_stamp : IsStamp config last
   pub not_before : (opened ≡ last) ⊎ IsLaterStamp opened last
   pub boundary_is : boundary ≡ next_of config.rotation last.moment
 
 -- the invariant of every schedule
 pub record IsSchedule (config : Config) (name : List ℕ) (opened last : Stamp) (boundary : Option ℤ) : Type 0 where
-  pub stands : Stands config name opened boundary
-  pub tried : Tried config opened last boundary
+  pub is_opened : IsOpened config name opened boundary
+  pub is_last_attempt : IsLastAttempt config opened last boundary
 
 -- ---- opening
 
 -- a roller was opened
 pub record OpensRoller {S F : Type 0} (kind : Ghosts S F) (config : Config) (m : ℤ) (old : S) (new : Rolling S F) : Type 0 where
-  pub allowed : NamesEntries config
-  pub may_limit : MayLimit config
-  pub in_range : IsMoment m
-  pub apart : ¬ LinkClashes config m
+  pub may_open : MayOpen config m
   pub config_is : new.config ≡ config
   pub number : ℕ
   pub listed : S
@@ -91,20 +88,18 @@ pub record OpensRoller {S F : Type 0} (kind : Ghosts S F) (config : Config) (m :
   pub room : new.room ≡ config.max_bytes
   pub opens : OpensFile kind config (file_name_of config (stamp m number)) listed new.file new.folder
 
--- None was, for this reason, and the folder is returned. The checks come in this order: names, limit, moment, memory, the name
--- of the link, the file.
-abbrev pub OpensNoRoller : {S F : Type 0} → Ghosts S F → Config → ℤ → S → InitError → S → Type 0
-OpensNoRoller kind config m old Name new =
-    ((¬ NamesEntries config) ⊎ (NamesEntries config × MayLimit config × IsMoment m × LinkClashes config m)) × (new ≡ old)
-OpensNoRoller kind config m old Limit new =
-    NamesEntries config × (is_limited config ≡ true) × IsNever config.rotation × (new ≡ old)
-OpensNoRoller kind config m old Moment new =
-    NamesEntries config × MayLimit config × (¬ IsMoment m) × (new ≡ old)
-OpensNoRoller kind config m old Memory new =
-    NamesEntries config × MayLimit config × IsMoment m × (new ≡ old)
-OpensNoRoller kind config m old error new =
-    NamesEntries config × MayLimit config × IsMoment m × (¬ LinkClashes config m)
+-- The first file was not opened, for this reason.
+abbrev pub FailsToOpenFirst : {S F : Type 0} → Ghosts S F → Config → ℤ → S → InitError → S → Type 0
+FailsToOpenFirst kind config m old error new = MayOpen config m
     × ((number : ℕ) × (listed : _) × FindsNumber kind config m old number listed × RefusesFile kind config (file_name_of config (stamp m number)) listed error new)
+
+-- No roller was opened, for this reason, and the folder is returned. The checks before the first call of the folder leave it
+-- as it was.
+abbrev pub OpensNoRoller : {S F : Type 0} → Ghosts S F → Config → ℤ → S → InitError → S → Type 0
+OpensNoRoller kind config m old (Directory e) new = FailsToOpenFirst kind config m old (Directory e) new
+OpensNoRoller kind config m old (File e) new = FailsToOpenFirst kind config m old (File e) new
+OpensNoRoller kind config m old (Symlink e) new = FailsToOpenFirst kind config m old (Symlink e) new
+OpensNoRoller kind config m old error new = IsNotReady config m error × (new ≡ old)
 
 -- ---- a check of the clock
 
@@ -114,26 +109,23 @@ is_due None m = false
 is_due (Some b) m = is_moment m && not (int_lt m b)
 
 -- a write asks for one byte at least
-abbrev pub wanted : ℕ → ℕ
-wanted len = if len == 0 then 1 else len
+abbrev pub room_needed : ℕ → ℕ
+room_needed len = if len == 0 then 1 else len
 
--- Something was written since the last attempt, so many bytes more, or one, are too many, and there is a number more. Without a
+-- Something was written since the last attempt, `len` bytes more (at least one) do not fit in the room, and there is a greater number. Without a
 -- limit no room is ever missing.
-abbrev pub is_full_with : Scheduled → ℕ → ℕ → Bool
-is_full_with s room len = nat_lt s.last.number 999999 && nat_lt room s.config.max_bytes && nat_lt room (wanted len)
+abbrev pub is_full : Scheduled → ℕ → ℕ → Bool
+is_full s room len = nat_lt s.last.number 999999 && nat_lt room s.config.max_bytes && nat_lt room (room_needed len)
 
--- The stamp for which a check of the clock with so many bytes to write makes an attempt, if it makes one: if a boundary was reached, the moment
+-- The stamp for which a check of the clock with `len` bytes to write makes an attempt, if it makes one: if a boundary was reached, the moment
 -- and the number 0; else, if the file is full, the last attempt's moment and the number after its own.
 abbrev pub next_with : Scheduled → ℕ → ℤ → ℕ → Option Stamp
 next_with s room m len =
     if is_due s.boundary m then Some (stamp m 0)
-    else if is_full_with s room len then Some (stamp s.last.moment (s.last.number + 1))
+    else if is_full s room len then Some (stamp s.last.moment (s.last.number + 1))
     else None
 
 -- the same of a roller
-abbrev pub is_full : {S F : Type 0} → Rolling S F → ℕ → Bool
-is_full r len = is_full_with (schedule_of r) r.room len
-
 abbrev pub next_stamp : {S F : Type 0} → Rolling S F → ℤ → ℕ → Option Stamp
 next_stamp r m len = next_with (schedule_of r) r.room m len
 
@@ -164,7 +156,7 @@ pub record SwitchesFile {S F : Type 0} (kind : Ghosts S F) (m : ℤ) (len : ℕ)
   pub content : kind.content new.folder ≡ kind.content ready
   -- if the switch noted neither List nor Remove, its opening noted neither
   pub quiet : IsQuiet (kind.noted old.folder) (kind.noted new.folder) → IsQuiet (kind.noted old.folder) (kind.noted ready)
-  pub at_most : AtMost kind old.config old.folder new.folder
+  pub at_most : KeepsMaximum kind old.config old.folder new.folder
 
 -- None was, for a reason which the folder noted: the last file stays open, the next boundary is set, and the folder
 -- is left as little changed as the refused opening left it.
@@ -182,28 +174,28 @@ pub record KeepsFile {S F : Type 0} (kind : Ghosts S F) (m : ℤ) (len : ℕ) (o
   pub refused : S
   pub refuses : RefusesFile kind old.config (file_name_of old.config at_stamp) old.folder reason refused
   pub notes : Notes kind refused (NotedOpen reason) new.folder
-  pub content : IsTrue kind.is_known → LeavesLittle old.config (file_name_of old.config at_stamp) (kind.content old.folder) (kind.content new.folder)
+  pub content : IsTrue kind.is_known → IsRefusalEffect old.config (file_name_of old.config at_stamp) (kind.content old.folder) (kind.content new.folder)
 
--- What a check of the clock at m does, with so many bytes to write: nothing at all unless a boundary was reached or the file is full. So
+-- What a check of the clock at m does, with `len` bytes to write: nothing at all unless a boundary was reached or the file is full. So
 -- without a limit of bytes a moment that isn't later than the last opening switches nothing.
-abbrev pub Looks : {S F : Type 0} → Ghosts S F → ℤ → ℕ → Switch → Rolling S F → Rolling S F → Type 0
-Looks kind m len Stayed old new = (next_stamp old m len ≡ None) × (new ≡ old)
-Looks kind m len Switched old new = SwitchesFile kind m len old new
-Looks kind m len SwitchFailed old new = KeepsFile kind m len old new
+abbrev pub ChecksClock : {S F : Type 0} → Ghosts S F → ℤ → ℕ → Switch → Rolling S F → Rolling S F → Type 0
+ChecksClock kind m len Stayed old new = (next_stamp old m len ≡ None) × (new ≡ old)
+ChecksClock kind m len Switched old new = SwitchesFile kind m len old new
+ChecksClock kind m len SwitchFailed old new = KeepsFile kind m len old new
 
 -- with none to write
-abbrev pub Sees : {S F : Type 0} → Ghosts S F → ℤ → Switch → Rolling S F → Rolling S F → Type 0
-Sees kind m switch old new = Looks kind m 0 switch old new
+abbrev pub ChecksClockOnly : {S F : Type 0} → Ghosts S F → ℤ → Switch → Rolling S F → Rolling S F → Type 0
+ChecksClockOnly kind m switch old new = ChecksClock kind m 0 switch old new
 
 -- ---- writing
 
 -- how many bytes an answer counts
-abbrev pub count_of : {E : Type 0} → Result ℕ E → ℕ
-count_of (Ok n) = n
-count_of (Err e) = 0
+abbrev pub written_count : {E : Type 0} → Result ℕ E → ℕ
+written_count (Ok n) = n
+written_count (Err e) = 0
 
 -- what a write leaves as it was
-pub record StaysOpen {S F : Type 0} (kind : Ghosts S F) (old new : Rolling S F) : Type 0 where
+pub record KeepsOpenFile {S F : Type 0} (kind : Ghosts S F) (old new : Rolling S F) : Type 0 where
   pub config_is : new.config ≡ old.config
   pub opened : new.opened ≡ old.opened
   pub last : new.last ≡ old.last
@@ -214,36 +206,36 @@ pub record StaysOpen {S F : Type 0} (kind : Ghosts S F) (old new : Rolling S F) 
 -- A write of these bytes: an `Ok(n)` added the first n of them to the open file, an `Err` added none.
 pub record Writes {S F : Type 0} (kind : Ghosts S F) (bytes : List ℕ) (answer : Result ℕ Error) (old new : Rolling S F) : Type 0 where
   pub call : kind.append_gives old.folder old.file bytes answer new.folder new.file
-  pub bound : count_of answer ≤ length bytes
-  pub content : IsTrue kind.is_known → kind.content new.folder ≡ after_append (kind.content old.folder) (kind.body old.file) (take (count_of answer) bytes)
+  pub bound : written_count answer ≤ length bytes
+  pub content : IsTrue kind.is_known → kind.content new.folder ≡ after_append (kind.content old.folder) (kind.body old.file) (take (written_count answer) bytes)
   pub cause : HasCause kind.is_known ⊥ (kind.failures old.folder) (kind.failures new.folder) answer
-  pub stays : StaysOpen kind old new
-  pub room : new.room ≡ old.room - count_of answer
+  pub stays : KeepsOpenFile kind old new
+  pub room : new.room ≡ old.room - written_count answer
 
 -- more is written after a write that took some of its bytes, and after one that was interrupted
-abbrev pub GoesOn : Result ℕ Error → Type 0
-GoesOn (Ok n) = n ≢ 0
-GoesOn (Err e) = error_kind e ≡ Interrupted
+abbrev pub IsContinued : Result ℕ Error → Type 0
+IsContinued (Ok n) = n ≢ 0
+IsContinued (Err e) = error_kind e ≡ Interrupted
 
 -- so do all of them
-abbrev pub AllGoOn : List (Result ℕ Error) → Type 0
-AllGoOn [] = Unit {0}
-AllGoOn (answer ∷ answers) = GoesOn answer × AllGoOn answers
+abbrev pub AreContinued : List (Result ℕ Error) → Type 0
+AreContinued [] = Unit {0}
+AreContinued (answer ∷ answers) = IsContinued answer × AreContinued answers
 
 -- Writes with these answers, the newest first, each of what those before it left of the bytes. All but the newest go on, and this
 -- rest is left.
 abbrev pub WritesPieces : {S F : Type 0} → Ghosts S F → List (Result ℕ Error) → List ℕ → Rolling S F → List ℕ → Rolling S F → Type 0
 WritesPieces kind [] bytes start rest now = (rest ≡ bytes) × (now ≡ start)
 WritesPieces {S} {F} kind (answer ∷ before) bytes start rest now =
-    (left : List ℕ) × (last : Rolling S F) × WritesPieces kind before bytes start left last × (left ≢ []) × AllGoOn before
-    × Writes kind left answer last now × (rest ≡ drop (count_of answer) left)
+    (left : List ℕ) × (last : Rolling S F) × WritesPieces kind before bytes start left last × (left ≢ []) × AreContinued before
+    × Writes kind left answer last now × (rest ≡ drop (written_count answer) left)
 
 -- Why none follows the writes with these answers: the newest has this very fault and wasn't interrupted, or it took nothing, or they
 -- are 2^64 - 1, after which a loop ends.
-abbrev pub Stops : List (Result ℕ Error) → Error → Type 0
-Stops [] fault = ⊥
-Stops (Ok n ∷ before) fault = ((n ≡ 0) × (error_kind fault ≡ WriteZero)) ⊎ (length before ≡ 18446744073709551614)
-Stops (Err e ∷ before) fault = ((e ≡ fault) × (error_kind e ≢ Interrupted)) ⊎ (length before ≡ 18446744073709551614)
+abbrev pub EndsWrites : List (Result ℕ Error) → Error → Type 0
+EndsWrites [] fault = ⊥
+EndsWrites (Ok n ∷ before) fault = ((n ≡ 0) × (error_kind fault ≡ WriteZero)) ⊎ (length before ≡ 18446744073709551614)
+EndsWrites (Err e ∷ before) fault = ((e ≡ fault) × (error_kind e ≢ Interrupted)) ⊎ (length before ≡ 18446744073709551614)
 
 -- They leave this rest of the bytes; what they took is after what the open file held, and nothing else has changed.
 pub record WritesSoFar {S F : Type 0} (kind : Ghosts S F) (answers : List (Result ℕ Error)) (bytes rest : List ℕ) (old new : Rolling S F) : Type 0 where
@@ -251,7 +243,7 @@ pub record WritesSoFar {S F : Type 0} (kind : Ghosts S F) (answers : List (Resul
   pub taken : List ℕ
   pub split : bytes ≡ taken ++ rest
   pub content : IsTrue kind.is_known → kind.content new.folder ≡ after_append (kind.content old.folder) (kind.body old.file) taken
-  pub stays : StaysOpen kind old new
+  pub stays : KeepsOpenFile kind old new
   pub room : new.room ≡ old.room - length taken
 
 -- Bytes were written so. After an `Ok` nothing of them is left, and an error has its reason.
@@ -260,12 +252,12 @@ pub record WritesAll {S F : Type 0} (kind : Ghosts S F) (bytes : List ℕ) (answ
   pub rest : List ℕ
   pub so_far : WritesSoFar kind answers bytes rest old new
   pub whole : OnOk answer (rest ≡ [])
-  pub stops : IfErr answer (λ fault. Stops answers fault)
+  pub stops : IfErr answer (λ fault. EndsWrites answers fault)
 
 -- A check of the clock with these bytes to write, and then the write.
 pub record Puts {S F : Type 0} (kind : Ghosts S F) (m : ℤ) (bytes : List ℕ) (switch : Switch) (answer : Result ℕ Error) (old new : Rolling S F) : Type 0 where
   pub between : Rolling S F
-  pub looks : Looks kind m (length bytes) switch old between
+  pub looks : ChecksClock kind m (length bytes) switch old between
   pub writes : Writes kind bytes answer between new
 
 -- A flush of the open file changes no content.
@@ -273,17 +265,17 @@ pub record Flushes {S F : Type 0} (kind : Ghosts S F) (answer : Result (Unit {0}
   pub call : kind.flush_gives old.folder old.file answer new.folder new.file
   pub content : kind.content new.folder ≡ kind.content old.folder
   pub cause : HasCause kind.is_known ⊥ (kind.failures old.folder) (kind.failures new.folder) answer
-  pub stays : StaysOpen kind old new
+  pub stays : KeepsOpenFile kind old new
   pub room : new.room ≡ old.room
 
--- ---- the open file alone
+-- ---- the open file by itself
 
 -- whenever the next file begins, the open file was written to, or flushed, so
-abbrev pub FileWrites : {S F : Type 0} → Ghosts S F → List ℕ → Result ℕ Error → Held S F → Held S F → Type 0
+abbrev pub FileWrites : {S F : Type 0} → Ghosts S F → List ℕ → Result ℕ Error → OpenFile S F → OpenFile S F → Type 0
 FileWrites kind bytes answer old new = (s : Scheduled) → Writes kind bytes answer (rolling_of s old) (rolling_of s new)
 
-abbrev pub FileWritesAll : {S F : Type 0} → Ghosts S F → List ℕ → Result (Unit {0}) Error → Held S F → Held S F → Type 0
+abbrev pub FileWritesAll : {S F : Type 0} → Ghosts S F → List ℕ → Result (Unit {0}) Error → OpenFile S F → OpenFile S F → Type 0
 FileWritesAll kind bytes answer old new = (s : Scheduled) → WritesAll kind bytes answer (rolling_of s old) (rolling_of s new)
 
-abbrev pub FileFlushes : {S F : Type 0} → Ghosts S F → Result (Unit {0}) Error → Held S F → Held S F → Type 0
+abbrev pub FileFlushes : {S F : Type 0} → Ghosts S F → Result (Unit {0}) Error → OpenFile S F → OpenFile S F → Type 0
 FileFlushes kind answer old new = (s : Scheduled) → Flushes kind answer (rolling_of s old) (rolling_of s new)

@@ -3,8 +3,8 @@
 ghost use Rattle.std.specs.Prelude.{◌≡◌, ℕ, List, IsTrue};
 ghost use Rattle.appender_names.specs.declared.error.InitError.{InitError};
 ghost use Rattle.appender_rolling.specs.Config.{Config};
-ghost use Rattle.appender_rolling.specs.Kept.{PartsKeep};
-ghost use Rattle.appender_rolling.specs.Limits.{TakesLittle, HasReason};
+ghost use Rattle.appender_rolling.specs.Kept.{OpeningPartsKeepBodies};
+ghost use Rattle.appender_rolling.specs.Limits.{RemovesOnlyOldNames, HasReason};
 ghost use Rattle.appender_rolling.specs.Opening.{OpensFile, RefusesFile};
 
 use appender_store::laws::names_change_one_at_a_time;
@@ -13,7 +13,7 @@ use appender_store::store::Folder;
 /// Each part of an opening keeps every body with its bytes, and no file gets a name but the one that
 /// is opened.
 pub fn openings_keep_files()
-    ensures { PartsKeep }
+    ensures { OpeningPartsKeepBodies }
 {
     names_change_one_at_a_time();
 }
@@ -23,18 +23,21 @@ pub fn openings_keep_files()
 pub fn openings_take_little<S: Folder>()
     ensures opened { (config : Config) (name : List ℕ) (old : S) (file : S.File) (new : S)
         → OpensFile S.Folder config name old file new → IsTrue S.is_known
-        → TakesLittle config name (S.content old) (S.content new) }
+        → RemovesOnlyOldNames config name (S.content old) (S.content new) }
     ensures refused { (config : Config) (name : List ℕ) (old : S) (error : InitError) (new : S)
         → RefusesFile S.Folder config name old error new → IsTrue S.is_known
-        → TakesLittle config name (S.content old) (S.content new) }
+        → RemovesOnlyOldNames config name (S.content old) (S.content new) }
 {
     names_change_one_at_a_time();
 }
 
-/// An opening is refused for a reason, by the calls that led from the folder before it to the one after:
-/// the call whose fault is returned counted a failure or was refused memory; or what had the file's name
-/// before was a link or a folder; or what had the link's name was a file or a folder, or a link whose
-/// removal counted a failure.
+/// An opening that fails has one of these reasons.
+///
+/// - `Memory`: there was no memory for the name. The folder was not called.
+/// - The call of the folder whose error is returned counted a failure, or was refused memory.
+/// - `File`: a link or a folder had the name of the file.
+/// - `Symlink`: a file or a folder had the name of the link, or the log file has the same name. Or a link had the
+///   name, and the call that removes it counted a failure.
 pub fn refusals_have_reasons<S: Folder>()
     ensures { (config : Config) (name : List ℕ) (old : S) (error : InitError) (new : S)
         → RefusesFile S.Folder config name old error new → HasReason S.Folder config name old error new }

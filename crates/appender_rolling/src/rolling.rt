@@ -3,7 +3,6 @@ ghost use Rattle.std.specs.Prelude.{◌≡◌};
 
 mod appender;
 mod builder;
-mod clock;
 mod file;
 mod gated;
 mod log_file;
@@ -12,13 +11,13 @@ mod setup;
 mod writer;
 
 pub use appender::{FileAppender, RollingFileAppender, daily, hourly, minutely, never, weekly};
-pub use appender_base::make_writer::MakeWriter;
-pub use appender_names::error::InitError;
+pub use appender_clock::{Clock, SystemClock};
+pub use appender_names::error::{InitError, NameFault};
 use appender_names::names::Names;
 pub use appender_names::rotation::{ParseRotationError, Rotation};
 use appender_store::store::Folder;
+pub use appender_traits::make_writer::MakeWriter;
 pub use builder::Builder;
-pub use clock::{Clock, SystemClock};
 pub use file::RollingFile;
 use log_file::LogFile;
 use schedule::Schedule;
@@ -41,14 +40,15 @@ pub enum Switch {
     Failed,
 }
 
-/// An open log file in a folder, and when the next one begins: at a boundary of the rotation, or when the
-/// file is full, if a limit of bytes is set.
+/// An open log file in a folder. The next one begins at a boundary of the rotation or, if a limit of bytes is set, when
+/// the file is full.
 #[derive(Drop)]
 pub struct Roller<S: Folder> {
     schedule: Schedule,
     log: LogFile<S>,
 }
 
+// Contracts see it with its folder and its file, so they can say that nothing has changed.
 impl<S: Folder> Model for Roller<S> {
     ghost use Rattle.appender_rolling.specs.Roller.{Rolling, rolling_of};
 
@@ -58,15 +58,19 @@ impl<S: Folder> Model for Roller<S> {
 }
 
 impl<S: Folder> Roller<S> {
-    ghost use Rattle.std.specs.Prelude.{◌≡◌, IfOk, IfErr, is_some};
+    ghost use Rattle.std.specs.Prelude.{◌≡◌, ◌≢◌, ◌<◌, ◌≤◌, IsTrue, IfOk, IfErr, None, Some, is_some, length, take};
+    ghost use Rattle.appender_names.specs.InitError.{code_of};
+    ghost use Rattle.appender_names.specs.Rotation.{next_of};
+    ghost use Rattle.appender_store.specs.Content.{after_append};
     ghost use Rattle.appender_rolling.specs.Config.{naming_of};
     ghost use Rattle.appender_rolling.specs.Opening.{file_name_of};
-    ghost use Rattle.appender_rolling.specs.Roller.{OpensRoller, OpensNoRoller, Looks, Sees, Writes, Puts, Flushes, LiesAhead, Stands, next_stamp};
+    ghost use Rattle.appender_rolling.specs.Roller.{OpensRoller, OpensNoRoller, ChecksClock, ChecksClockOnly, Writes, Puts, Flushes, KeepsOpenFile, IsLaterBoundary, IsOpened, written_count, next_stamp};
 
-    /// Opens the file of a moment, in seconds of UTC since the epoch. An error returns the folder. Before
-    /// any call of the folder, in this order: `Name` (prefix, suffix or link make no names), `Limit` (a
-    /// limit of bytes under `NEVER`), `Moment` (out of range), `Memory`, and `Name` (the link has the name
-    /// of a log file). Then `Directory`, `File` or `Symlink`, with the fault of the folder.
+    /// Opens the file of a moment, in seconds of UTC since the epoch. An error returns the folder.
+    ///
+    /// Errors before any call of the folder, in this order: `Name` (prefix, suffix or link make no names), `Limit` (a limit
+    /// of bytes under `NEVER`), `Moment` (out of range), `Memory`. `Name` also if the link has the name of a log file. Then
+    /// `Directory`, `File` or `Symlink`, with the fault of the folder.
     pub fn open(
         alloc: Global,
         builder: &Builder,
@@ -74,7 +78,11 @@ impl<S: Folder> Roller<S> {
         moment: i64,
     ) -> Result<Roller<S>, (InitError, S)>
         ensures ok { IfOk result (OpensRoller S.Folder builder.now moment folder) }
+        ensures config { IfOk result (λ roller. roller.config ≡ builder.now) }
+        ensures moment { IfOk result (λ roller. roller.opened.moment ≡ moment) }
+        ensures boundary { IfOk result (λ roller. roller.boundary ≡ next_of builder.now.rotation moment) }
         ensures err { IfErr result (λ refused. OpensNoRoller S.Folder builder.now moment folder refused.0 refused.1) }
+        ensures unchanged { IfErr result (λ refused. 3 < code_of refused.0 → refused.1 ≡ folder) }
     {
         let (setup, mut name) = match Setup::ready(alloc, builder, moment) {
             Ok(ready) => ready,
@@ -102,7 +110,7 @@ impl<S: Folder> Roller<S> {
         }
     }
 
-    /// Returns whether a check of the clock at this moment would open the next file: if the moment is in range
+    /// Returns whether a check of the clock at this moment would open the next file. It would if the moment is in range
     /// and not before the boundary, or if the file is full.
     pub fn due(&self, moment: i64) -> bool
         ensures { result ≡ is_some (next_stamp self.now moment 0) }
@@ -114,12 +122,17 @@ impl<S: Folder> Roller<S> {
     /// one; if the last one is full, the next of its period. A failure is noted, and tried again at the next boundary
     /// or, with a limit of bytes, at the next put that does not fit in the limit counted anew.
     pub fn see(&mut self, moment: i64) -> Switch
-        ensures { Sees S.Folder moment result self.old self.new }
+        ensures call { ChecksClockOnly S.Folder moment result self.old self.new }
+        ensures none { result ≡ Switch.None → (next_stamp self.old moment 0 ≡ None) × (self.new ≡ self.old) }
+        ensures attempt { result ≢ Switch.None → next_stamp self.old moment 0 ≡ Some self.new.last }
+        ensures opened { result ≡ Switch.Opened → self.new.opened ≡ self.new.last }
+        ensures failed { result ≡ Switch.Failed → (self.new.opened ≡ self.old.opened) × (self.new.file ≡ self.old.file) }
+        ensures boundary { result ≢ Switch.None → self.new.boundary ≡ next_of self.old.config.rotation self.new.last.moment }
     {
         self.schedule.check_clock(&mut self.log, moment, 0)
     }
 
-    /// Returns whether a put of so many bytes at this moment would open the next file.
+    /// Returns whether a put of `length` bytes at this moment would open the next file.
     pub fn due_for(&self, moment: i64, length: usize) -> bool
         ensures { result ≡ is_some (next_stamp self.now moment length) }
     {
@@ -128,24 +141,39 @@ impl<S: Folder> Roller<S> {
             .is_some()
     }
 
-    /// Checks the clock as a put of so many bytes does before its write: it also opens the next file if they do not fit
-    /// in the limit of bytes.
+    /// Checks the clock as a put of `length` bytes does before its write: it also opens the next file if they do not
+    /// fit in the limit of bytes.
     pub fn see_for(&mut self, moment: i64, length: usize) -> Switch
-        ensures { Looks S.Folder moment length result self.old self.new }
+        ensures call { ChecksClock S.Folder moment length result self.old self.new }
+        ensures none { result ≡ Switch.None → (next_stamp self.old moment length ≡ None) × (self.new ≡ self.old) }
+        ensures attempt { result ≢ Switch.None → next_stamp self.old moment length ≡ Some self.new.last }
+        ensures opened { result ≡ Switch.Opened → self.new.opened ≡ self.new.last }
+        ensures failed { result ≡ Switch.Failed → (self.new.opened ≡ self.old.opened) × (self.new.file ≡ self.old.file) }
+        ensures boundary { result ≢ Switch.None → self.new.boundary ≡ next_of self.old.config.rotation self.new.last.moment }
     {
         self.schedule.check_clock(&mut self.log, moment, length)
     }
 
     /// Adds bytes to the open file by one append, and returns how many were taken.
     pub fn write(&mut self, bytes: &[u8]) -> io::Result<usize>
-        ensures { Writes S.Folder bytes.now result self.old self.new }
+        ensures call { Writes S.Folder bytes.now result self.old self.new }
+        ensures taken { written_count result ≤ length bytes.now }
+        ensures content { IsTrue (S.Folder).is_known → (S.Folder).content self.new.folder
+            ≡ after_append ((S.Folder).content self.old.folder) ((S.Folder).body self.old.file) (take (written_count result) bytes.now) }
+        ensures stays { KeepsOpenFile S.Folder self.old self.new }
     {
         self.log.write(bytes)
     }
 
     /// Checks the clock for these bytes, and then writes them.
     pub fn put(&mut self, moment: i64, bytes: &[u8]) -> (Switch, io::Result<usize>)
-        ensures { Puts S.Folder moment bytes.now result.0 result.1 self.old self.new }
+        ensures call { Puts S.Folder moment bytes.now result.0 result.1 self.old self.new }
+        ensures none { result.0 ≡ Switch.None → (next_stamp self.old moment (length bytes.now) ≡ None) × (self.new.opened ≡ self.old.opened) }
+        ensures attempt { result.0 ≢ Switch.None → next_stamp self.old moment (length bytes.now) ≡ Some self.new.last }
+        ensures opened { result.0 ≡ Switch.Opened → self.new.opened ≡ self.new.last }
+        ensures failed { result.0 ≡ Switch.Failed → self.new.opened ≡ self.old.opened }
+        ensures boundary { result.0 ≢ Switch.None → self.new.boundary ≡ next_of self.old.config.rotation self.new.last.moment }
+        ensures taken { written_count result.1 ≤ length bytes.now }
     {
         let switch = self
             .schedule
@@ -156,7 +184,9 @@ impl<S: Folder> Roller<S> {
 
     /// Flushes the open file.
     pub fn flush(&mut self) -> io::Result<()>
-        ensures { Flushes S.Folder result self.old self.new }
+        ensures call { Flushes S.Folder result self.old self.new }
+        ensures content { (S.Folder).content self.new.folder ≡ (S.Folder).content self.old.folder }
+        ensures stays { KeepsOpenFile S.Folder self.old self.new }
     {
         self.log.flush()
     }
@@ -178,7 +208,7 @@ impl<S: Folder> Roller<S> {
     /// Returns the second at which the next period begins, if one does.
     pub fn boundary(&self) -> Option<i64>
         ensures value { result ≡ self.now.boundary }
-        ensures ahead { LiesAhead self.now.config.rotation self.now.opened.moment result }
+        ensures ahead { IsLaterBoundary self.now.config.rotation self.now.opened.moment result }
     {
         self.schedule.boundary
     }
@@ -186,7 +216,7 @@ impl<S: Folder> Roller<S> {
     /// Returns the name of the open file and the second at which the next period begins. They agree in every
     /// roller, and so also in one under a lock each time the lock is taken.
     pub fn name_and_boundary(&self) -> (&str, Option<i64>)
-        ensures { Stands self.now.config result.0.now self.now.opened result.1 }
+        ensures { IsOpened self.now.config result.0.now self.now.opened result.1 }
     {
         self.schedule.name_and_boundary()
     }

@@ -1,7 +1,7 @@
 -- Counts that do not fall.
 use Rattle.std.proofs.Common.{◌≡◌, ℕ, ◌^◌, ◌<◌, ◌≤◌, Bool, Result, Ok, Err, MatchResult, arith, ap, subst, sym, inl, inr}
 use Rattle.std.specs.declared.io.Error.{Error}
-use Rattle.appender_store.specs.Folder.{AreCounts, Counts, HasCause, Noted, after_note, kind_of}
+use Rattle.appender_store.specs.Folder.{AreNotedCounts, NotedCounts, HasCause, NoticeMessage, after_note, notice_kind_of}
 use Rattle.appender_store.specs.Notes.{CountsRise, Notes}
 use Rattle.appender_store.specs.declared.store.Folder.{Ghosts}
 use Rattle.appender_store.specs.declared.store.NoticeKind.{NoticeKind}
@@ -14,7 +14,7 @@ cause_rises is_known forbidden old new (Err fault) fit (inl risen) = omega arith
 cause_rises is_known forbidden old new (Err fault) fit (inr (same, why)) = omega arith
 
 -- one notice more lowers no count
-more_noted : (k : NoticeKind) (n : Counts) → AreCounts n → (n.lists ≤ (after_note k n).lists) × (n.removes ≤ (after_note k n).removes) × (n.flushes ≤ (after_note k n).flushes) × (n.opens ≤ (after_note k n).opens)
+more_noted : (k : NoticeKind) (n : NotedCounts) → AreNotedCounts n → (n.lists ≤ (after_note k n).lists) × (n.removes ≤ (after_note k n).removes) × (n.flushes ≤ (after_note k n).flushes) × (n.opens ≤ (after_note k n).opens)
 more_noted OfList n fit = (omega arith, omega arith, omega arith, omega arith)
 more_noted OfRemove n fit = (omega arith, omega arith, omega arith, omega arith)
 more_noted OfFlush n fit = (omega arith, omega arith, omega arith, omega arith)
@@ -25,10 +25,10 @@ module _ {S F : Type 0} (kind : Ghosts S F) where
   pub equal_notes_rise : (old new : S) → kind.failures old ≤ kind.failures new → kind.noted new ≡ kind.noted old → CountsRise kind old new
   equal_notes_rise old new failures same = record {
     failures = failures;
-    lists = omega (arith, ap (λ (n : Counts). n.lists) same);
-    removes = omega (arith, ap (λ (n : Counts). n.removes) same);
-    flushes = omega (arith, ap (λ (n : Counts). n.flushes) same);
-    opens = omega (arith, ap (λ (n : Counts). n.opens) same);
+    lists = omega (arith, ap (λ (n : NotedCounts). n.lists) same);
+    removes = omega (arith, ap (λ (n : NotedCounts). n.removes) same);
+    flushes = omega (arith, ap (λ (n : NotedCounts). n.flushes) same);
+    opens = omega (arith, ap (λ (n : NotedCounts). n.opens) same);
   }
 
   -- in the same folder no count fell
@@ -51,19 +51,19 @@ module _ {S F : Type 0} (kind : Ghosts S F) where
       equal_notes_rise old new (cause_rises kind.is_known forbidden (kind.failures old) (kind.failures new) answer fit cause) same
 
   -- one notice
-  pub note_rises : ((s : S) → AreCounts (kind.noted s)) → (old : S) (notice : Noted) (new : S) → Notes kind old notice new → CountsRise kind old new
+  pub note_rises : ((s : S) → AreNotedCounts (kind.noted s)) → (old : S) (notice : NoticeMessage) (new : S) → Notes kind old notice new → CountsRise kind old new
   note_rises fit old notice new notes =
-      let more = more_noted (kind_of notice) (kind.noted old) (fit old) in
+      let more = more_noted (notice_kind_of notice) (kind.noted old) (fit old) in
       let is = sym notes.noted in
       record {
         failures = omega (arith, notes.failures);
-        lists = subst (λ (n : Counts). (kind.noted old).lists ≤ n.lists) is more.0;
-        removes = subst (λ (n : Counts). (kind.noted old).removes ≤ n.removes) is more.1;
-        flushes = subst (λ (n : Counts). (kind.noted old).flushes ≤ n.flushes) is more.2;
-        opens = subst (λ (n : Counts). (kind.noted old).opens ≤ n.opens) is more.3;
+        lists = subst (λ (n : NotedCounts). (kind.noted old).lists ≤ n.lists) is more.0;
+        removes = subst (λ (n : NotedCounts). (kind.noted old).removes ≤ n.removes) is more.1;
+        flushes = subst (λ (n : NotedCounts). (kind.noted old).flushes ≤ n.flushes) is more.2;
+        opens = subst (λ (n : NotedCounts). (kind.noted old).opens ≤ n.opens) is more.3;
       }
 
   -- a notice of a fault, if the answer is one
-  pub fault_rises : {T : Type 0} → ((s : S) → AreCounts (kind.noted s)) → (notice_of : Error → Noted) (answer : Result T Error) (old new : S) → MatchResult answer (λ _. new ≡ old) (λ fault. Notes kind old (notice_of fault) new) → CountsRise kind old new
+  pub fault_rises : {T : Type 0} → ((s : S) → AreNotedCounts (kind.noted s)) → (notice_of : Error → NoticeMessage) (answer : Result T Error) (old new : S) → MatchResult answer (λ _. new ≡ old) (λ fault. Notes kind old (notice_of fault) new) → CountsRise kind old new
   fault_rises fit notice_of (Ok value) old new same = same_rises old new same
   fault_rises fit notice_of (Err fault) old new notes = note_rises fit old (notice_of fault) new notes

@@ -25,7 +25,7 @@ abbrev pub body_at : Content → ℕ → List ℕ
 body_at c b = slice_index_or c.bodies b []
 
 -- An absent folder has no name; each file's body is there, and no body has two names. That a body whose name
--- was removed gets none again isn't said here but by `Opens`, under which a free name gets a new body.
+-- was removed gets none again isn't said here but by `OpensBody`, under which a free name gets a new body.
 pub record IsSound (c : Content) : Type 0 where
   pub absent : c.there ≡ false → (name : List ℕ) → is_some (map.get c.names name) ≡ false
   pub bodies_there : (name : List ℕ) (b : ℕ) (t : Option ℤ) → map.get c.names name ≡ Some (File b t) → b < length c.bodies
@@ -38,8 +38,8 @@ pub record Removes (name : List ℕ) (old new : Content) : Type 0 where
 
 -- The file of this name is open, with the body of this number: its own, or for a free name a new empty one, so that a body
 -- whose name was removed gets none again.
-abbrev pub Opens : List ℕ → Content → Content → ℕ → Type 0
-Opens name old new b =
+abbrev pub OpensBody : List ℕ → Content → Content → ℕ → Type 0
+OpensBody name old new b =
     (old.there ≡ true) × (((t : Option ℤ) × (map.get old.names name ≡ Some (File b t)) × (new ≡ old))
     ⊎ ((t : Option ℤ) × (map.get old.names name ≡ None) × (b ≡ length old.bodies) × (new ≡ record old { bodies = old.bodies ++ [] ∷ []; names = map.insert old.names name (File b t) })))
 

@@ -17,50 +17,50 @@ use Rattle.appender_store.specs.declared.store.NoticeKind.{NoticeKind}
 use Rattle.appender_store.specs.declared.store.NoticeKind.TheVariants.{List as OfList, Remove as OfRemove, Flush as OfFlush, Open as OfOpen}
 
 -- how often each kind of notice was noted
-pub record Counts : Type 0 where
+pub record NotedCounts : Type 0 where
   pub lists : ℕ
   pub removes : ℕ
   pub flushes : ℕ
   pub opens : ℕ
 
 -- each count is of 64 bits
-pub record AreCounts (n : Counts) : Type 0 where
+pub record AreNotedCounts (n : NotedCounts) : Type 0 where
   pub lists : n.lists < 2 ^ 64
   pub removes : n.removes < 2 ^ 64
   pub flushes : n.flushes < 2 ^ 64
   pub opens : n.opens < 2 ^ 64
 
 -- The count after one call, failure or notice more. The greatest count of 64 bits stays, so that no count falls.
-abbrev pub saturating_next : ℕ → ℕ
-saturating_next n = min (n + 1) (2 ^ 64 - 1)
+abbrev pub next_count : ℕ → ℕ
+next_count n = min (n + 1) (2 ^ 64 - 1)
 
 -- the counts after one notice more of this kind
-abbrev pub after_note : NoticeKind → Counts → Counts
-after_note OfList n = record n { lists = saturating_next n.lists }
-after_note OfRemove n = record n { removes = saturating_next n.removes }
-after_note OfFlush n = record n { flushes = saturating_next n.flushes }
-after_note OfOpen n = record n { opens = saturating_next n.opens }
+abbrev pub after_note : NoticeKind → NotedCounts → NotedCounts
+after_note OfList n = record n { lists = next_count n.lists }
+after_note OfRemove n = record n { removes = next_count n.removes }
+after_note OfFlush n = record n { flushes = next_count n.flushes }
+after_note OfOpen n = record n { opens = next_count n.opens }
 
 -- the message of a notice: its kind, the fault, and for Remove the name
-pub data Noted : Type 0 where
-  NotedList : (error : Error) → Noted
-  NotedRemove : (name : List ℕ) (error : Error) → Noted
-  NotedFlush : (error : Error) → Noted
-  NotedOpen : (error : InitError) → Noted
+pub data NoticeMessage : Type 0 where
+  NotedList : (error : Error) → NoticeMessage
+  NotedRemove : (name : List ℕ) (error : Error) → NoticeMessage
+  NotedFlush : (error : Error) → NoticeMessage
+  NotedOpen : (error : InitError) → NoticeMessage
 
 -- the message of this notice
-abbrev pub message_of : Notice → Noted
+abbrev pub message_of : Notice → NoticeMessage
 message_of (ListFault e) = NotedList e.now
 message_of (RemoveFault name e) = NotedRemove name.now e.now
 message_of (FlushFault e) = NotedFlush e.now
 message_of (OpenFault e) = NotedOpen e.now
 
 -- the kind that is counted
-abbrev pub kind_of : Noted → NoticeKind
-kind_of (NotedList e) = OfList
-kind_of (NotedRemove name e) = OfRemove
-kind_of (NotedFlush e) = OfFlush
-kind_of (NotedOpen e) = OfOpen
+abbrev pub notice_kind_of : NoticeMessage → NoticeKind
+notice_kind_of (NotedList e) = OfList
+notice_kind_of (NotedRemove name e) = OfRemove
+notice_kind_of (NotedFlush e) = OfFlush
+notice_kind_of (NotedOpen e) = OfOpen
 
 -- name, kind and creation moment
 abbrev pub Row : Type 0
@@ -81,11 +81,11 @@ abbrev pub Lists : Content → List Listed → Type 0
 Lists c all = IsPermutation (map listed_row all) (map entry_row (fin.entries c.names))
 
 -- one failure more; the greatest count stays
-abbrev pub HasRisen : ℕ → ℕ → Type 0
-HasRisen old new = new ≡ saturating_next old
+abbrev pub IsOneMore : ℕ → ℕ → Type 0
+IsOneMore old new = new ≡ next_count old
 
 -- An `Ok` counts no failure. An `Err` counts one, or memory was refused, or the content forbids the call.
 abbrev pub HasCause : {T : Type 0} → Bool → Type 0 → ℕ → ℕ → Result T Error → Type 0
 HasCause is_known forbidden old new result =
     MatchResult result (λ _. new ≡ old)
-    (λ e. HasRisen old new ⊎ ((new ≡ old) × ((error_kind e ≡ OutOfMemory) ⊎ (IsTrue is_known × forbidden))))
+    (λ e. IsOneMore old new ⊎ ((new ≡ old) × ((error_kind e ≡ OutOfMemory) ⊎ (IsTrue is_known × forbidden))))

@@ -1,4 +1,4 @@
 -- What only bodies and their proofs cite: which values the private fields of a folder in memory represent. Callers see
--- these through `state_of` of MemoryView alone.
+-- these only through `state_of` of MemoryView.
 pub mod Calls
 pub mod Entries

@@ -9,7 +9,7 @@ use Rattle.std.specs.declared.io.Error.{Error}
 use Rattle.std.specs.declared.io.ErrorKind.{ErrorKind}
 use Rattle.std.specs.declared.io.ErrorKind.TheVariants.{NotFound, AlreadyExists, OutOfMemory, Other}
 use Rattle.appender_store.specs.Content.{Content, Entry, File, Link, Folder}
-use Rattle.appender_store.specs.Folder.{Counts, saturating_next}
+use Rattle.appender_store.specs.Folder.{NotedCounts, next_count}
 use Rattle.appender_store.specs.declared.store.Kind.{Kind}
 use Rattle.appender_store.specs.declared.store.Kind.TheVariants.{File as PlainFile, Folder as PlainFolder, Link as PlainLink}
 use Rattle.appender_store.specs.declared.store.NoticeKind.{NoticeKind}
@@ -30,17 +30,17 @@ lesser_limit (Some m) n = min m n
 
 -- Its content, the creation moment that the next files get, how many calls were made, the numbers of those that are to
 -- fail and of the appends that are to be short, with their limits, and the counts of failures and notices.
-pub record State : Type 0 where
+pub record MemoryState : Type 0 where
   pub content : Content
   pub created : Option ℤ
   pub calls : ℕ
   pub failing : FailingCalls
   pub shortened : AppendLimits
   pub failures : ℕ
-  pub noted : Counts
+  pub noted : NotedCounts
 
 -- as it is made: empty, with no call made and none to fail
-abbrev pub empty_state : Bool → State
+abbrev pub empty_state : Bool → MemoryState
 empty_state there = record {
   content = record { there = there; bodies = []; names = fin.empty };
   created = None;
@@ -52,8 +52,8 @@ empty_state there = record {
 }
 
 -- whether the next call is named to fail; calls are numbered from 1
-abbrev pub is_named : State → Bool
-is_named s = set.contains s.failing (saturating_next s.calls)
+abbrev pub is_named : MemoryState → Bool
+is_named s = set.contains s.failing (next_count s.calls)
 
 -- ---- the kind of error by which the content refuses a call, if it does
 
@@ -93,9 +93,9 @@ make_link_refusal true (Some entry) = Some AlreadyExists
 
 -- A call has a number. It counts a failure exactly if its number was named to fail, and its Err then has the kind Other. A
 -- call that isn't named is refused where the content refuses it, by this kind, and beside that only if memory is refused.
-pub record IsCalled {T : Type 0} (old : State) (refusal : Option ErrorKind) (result : Result T Error) (new : State) : Type 0 where
-  pub calls : new.calls ≡ saturating_next old.calls
-  pub failures : new.failures ≡ (if is_named old then saturating_next old.failures else old.failures)
+pub record CountsCall {T : Type 0} (old : MemoryState) (refusal : Option ErrorKind) (result : Result T Error) (new : MemoryState) : Type 0 where
+  pub calls : new.calls ≡ next_count old.calls
+  pub failures : new.failures ≡ (if is_named old then next_count old.failures else old.failures)
   pub named : is_named old ≡ true → IsErrAnd result (λ e. error_kind e ≡ Other)
   pub unnamed : is_named old ≡ false → MatchResult result (λ _. refusal ≡ None) (λ e. error_kind e ≡ unwrap_or refusal OutOfMemory)
   pub created : new.created ≡ old.created
@@ -103,28 +103,28 @@ pub record IsCalled {T : Type 0} (old : State) (refusal : Option ErrorKind) (res
   pub shortened : new.shortened ≡ old.shortened
 
 -- The same of a call that needs no memory: where it isn't named, it fails only if the content refuses it.
-pub record NeedsNoMemory {T : Type 0} (old : State) (refusal : Option ErrorKind) (result : Result T Error) (new : State) : Type 0 where
-  pub called : IsCalled old refusal result new
+pub record NeedsNoMemory {T : Type 0} (old : MemoryState) (refusal : Option ErrorKind) (result : Result T Error) (new : MemoryState) : Type 0 where
+  pub called : CountsCall old refusal result new
   pub fails : is_named old ≡ false → OnErr result (IsSome refusal)
 
 -- An opening needs memory only for a free name, and gives a new file the creation moment that was set.
-pub record OpensByName {T : Type 0} (name : List ℕ) (old : State) (result : Result T Error) (new : State) : Type 0 where
-  pub called : IsCalled old (open_refusal old.content.there (fin.get old.content.names name)) result new
+pub record OpensByName {T : Type 0} (name : List ℕ) (old : MemoryState) (result : Result T Error) (new : MemoryState) : Type 0 where
+  pub called : CountsCall old (open_refusal old.content.there (fin.get old.content.names name)) result new
   pub in_use : is_named old ≡ false → IsSome (fin.get old.content.names name) → OnErr result (IsSome (open_refusal old.content.there (fin.get old.content.names name)))
   pub created : IfOk result (λ _. fin.get old.content.names name ≡ None → fin.get new.content.names name ≡ Some (File (length old.content.bodies) old.created))
 
--- how many of so many bytes the next call takes
-abbrev pub count_taken : State → ℕ → ℕ
-count_taken s count = option_map_or (λ limit. min limit count) (fin.get s.shortened (saturating_next s.calls)) count
+-- how many of this number of bytes the next call takes
+abbrev pub count_taken : MemoryState → ℕ → ℕ
+count_taken s count = option_map_or (λ limit. min limit count) (fin.get s.shortened (next_count s.calls)) count
 
 -- An append takes all its bytes but where its number was named to be short, and needs no memory where it takes none.
-pub record TakesBytes (bytes : List ℕ) (old : State) (result : Result ℕ Error) (new : State) : Type 0 where
-  pub called : IsCalled old None result new
+pub record TakesBytes (bytes : List ℕ) (old : MemoryState) (result : Result ℕ Error) (new : MemoryState) : Type 0 where
+  pub called : CountsCall old None result new
   pub none : is_named old ≡ false → count_taken old (length bytes) ≡ 0 → IsOk result
   pub takes : IfOk result (λ n. n ≡ count_taken old (length bytes))
 
 -- what it is once a file with these bytes was put
-abbrev pub with_file : State → List ℕ → List ℕ → State
+abbrev pub with_file : MemoryState → List ℕ → List ℕ → MemoryState
 with_file s name bytes = record s {
   content = record {
     there = true;
@@ -134,11 +134,11 @@ with_file s name bytes = record s {
 }
 
 -- what it is once a link or a folder was put
-abbrev pub with_entry : State → List ℕ → Entry → State
+abbrev pub with_entry : MemoryState → List ℕ → Entry → MemoryState
 with_entry s name entry = record s { content = record s.content { there = true; names = fin.insert s.content.names name entry } }
 
 -- what it is once a name was removed
-abbrev pub without_entry : State → List ℕ → State
+abbrev pub without_entry : MemoryState → List ℕ → MemoryState
 without_entry s name = record s { content = record s.content { names = fin.remove s.content.names name } }
 
 -- the bytes of the body that a plain file's name leads to
@@ -163,8 +163,8 @@ kind_in (Some (Link t)) = Some PlainLink
 kind_in (Some Folder) = Some PlainFolder
 
 -- how often one kind was noted
-abbrev pub count_of : NoticeKind → Counts → ℕ
-count_of OfList n = n.lists
-count_of OfRemove n = n.removes
-count_of OfFlush n = n.flushes
-count_of OfOpen n = n.opens
+abbrev pub notice_count : NoticeKind → NotedCounts → ℕ
+notice_count OfList n = n.lists
+notice_count OfRemove n = n.removes
+notice_count OfFlush n = n.flushes
+notice_count OfOpen n = n.opens

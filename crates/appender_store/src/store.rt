@@ -2,8 +2,8 @@
 ghost use Rattle.std.specs.Prelude.{◌≡◌, ◌⊎◌, ◌<◌, ◌≤◌, ◌^◌, ℕ, Bool, true, length, take, IsTrue, IfOk, OnOk, OnErr, List, Result, Vec};
 ghost use Rattle.std.specs.declared.alloc.Global.{Global};
 ghost use Rattle.std.specs.declared.io.Error.{Error};
-ghost use Rattle.appender_store.specs.Content.{Content, IsSound, Opens, Removes, RemovesLink, MakesLink, after_append, after_make_folder, ForbidsOpen, ForbidsRemove, ForbidsRemoveLink, ForbidsMakeLink, ForbidsList};
-ghost use Rattle.appender_store.specs.Folder.{AreCounts, Counts, Noted, after_note, message_of, kind_of, Lists, HasCause, HasRisen};
+ghost use Rattle.appender_store.specs.Content.{Content, IsSound, OpensBody, Removes, RemovesLink, MakesLink, after_append, after_make_folder, ForbidsOpen, ForbidsRemove, ForbidsRemoveLink, ForbidsMakeLink, ForbidsList};
+ghost use Rattle.appender_store.specs.Folder.{AreNotedCounts, NotedCounts, NoticeMessage, after_note, message_of, notice_kind_of, Lists, HasCause, IsOneMore};
 
 mod calls;
 mod entries;
@@ -89,7 +89,7 @@ pub trait Folder: Drop {
     ghost failures: { Self → ℕ };
 
     /// The count of each kind of notice: at most `u64::MAX`, where it stays.
-    ghost noted: { Self → Counts };
+    ghost noted: { Self → NotedCounts };
 
     // What else one call does, as the kind of folder defines it. Generic code can show it only by making
     // the call.
@@ -109,7 +109,7 @@ pub trait Folder: Drop {
 
     ghost flush_gives: { Self → Self.File → Result (Unit {0}) Error → Self → Self.File → Type 0 };
 
-    ghost note_gives: { Self → Noted → Self → Type 0 };
+    ghost note_gives: { Self → NoticeMessage → Self → Type 0 };
 
     /// Returns each name of the folder once, in any order. Forbidden if the folder is absent.
     fn list(&mut self) -> io::Result<Vec<Listed>>
@@ -137,7 +137,7 @@ pub trait Folder: Drop {
     fn open(&mut self, name: &str) -> io::Result<Self::File>
         ensures call { open_gives self.old name.now result self.new }
         ensures ok { IfOk result (λ file. IsTrue is_known →
-            Opens name.now (content self.old) (content self.new) (body file)) }
+            OpensBody name.now (content self.old) (content self.new) (body file)) }
         ensures there { IfOk result (λ file. IsTrue is_known →
             body file < length (content self.new).bodies) }
         ensures err { OnErr result (content self.new ≡ content self.old) }
@@ -162,7 +162,7 @@ pub trait Folder: Drop {
         ensures err { OnErr result (content self.new ≡ content self.old) }
         ensures cause { HasCause is_known (ForbidsRemoveLink name.now (content self.old))
             (failures self.old) (failures self.new) result }
-        ensures memory { OnErr result (HasRisen (failures self.old) (failures self.new)
+        ensures memory { OnErr result (IsOneMore (failures self.old) (failures self.new)
             ⊎ (IsTrue is_known × ForbidsRemoveLink name.now (content self.old))) }
         ensures notices { noted self.new ≡ noted self.old };
 
@@ -204,7 +204,7 @@ pub trait Folder: Drop {
         ensures content { content self.new ≡ content self.old }
         ensures failures { failures self.new ≡ failures self.old }
         ensures notices { noted self.new ≡
-            after_note (kind_of (message_of notice.entry)) (noted self.old) };
+            after_note (notice_kind_of (message_of notice.entry)) (noted self.old) };
 
     /// Returns the number of calls that failed by themselves: at most `u64::MAX`, where it stays. A call that
     /// the content forbids, or that finds no memory, counts only if it also failed by itself.
@@ -215,7 +215,7 @@ pub trait Folder: Drop {
     ghost failures_fit: { (folder : Self) → failures folder < 2 ^ 64 };
 
     /// So is that of each kind of notice.
-    ghost noted_fit: { (folder : Self) → AreCounts (noted folder) };
+    ghost noted_fit: { (folder : Self) → AreNotedCounts (noted folder) };
 
     /// Each file's name leads to a body that is there, and no body has two names.
     ghost sound: { (folder : Self) → IsTrue is_known → IsSound (content folder) };

@@ -7,19 +7,19 @@ use Rattle.std.specs.declared.io.ErrorKind.{ErrorKind}
 use Rattle.std.specs.declared.io.ErrorKind.TheVariants.{StorageFull, QuotaExceeded, WouldBlock, Interrupted}
 
 -- a full disk or quota, or a device that is not ready
-abbrev pub is_passing_kind : ErrorKind → Bool
-is_passing_kind StorageFull = true
-is_passing_kind QuotaExceeded = true
-is_passing_kind WouldBlock = true
-is_passing_kind kind = false
+abbrev pub is_temporary_kind : ErrorKind → Bool
+is_temporary_kind StorageFull = true
+is_temporary_kind QuotaExceeded = true
+is_temporary_kind WouldBlock = true
+is_temporary_kind kind = false
 
 -- an error of these kinds, or an input/output error, which POSIX calls EIO and Linux gives the number 5
-abbrev pub MayPass : Error → Type 0
-MayPass error = (is_passing_kind (error_kind error) ≡ true) ⊎ (raw_os_error error ≡ Some (pos 5))
+abbrev pub IsTemporary : Error → Type 0
+IsTemporary error = (is_temporary_kind (error_kind error) ≡ true) ⊎ (raw_os_error error ≡ Some (pos 5))
 
 -- neither may it pass, nor was the write interrupted
-abbrev pub Lasts : Error → Type 0
-Lasts error = ¬ (MayPass error) × (error_kind error ≢ Interrupted)
+abbrev pub IsPermanent : Error → Type 0
+IsPermanent error = ¬ (IsTemporary error) × (error_kind error ≢ Interrupted)
 
 -- known bytes grow by the first few of these, or by all of them
 abbrev pub AppendsFirst : Option (List ℕ) → Option (List ℕ) → List ℕ → Type 0

@@ -1,7 +1,7 @@
 //! A writer that waits while the writer below has a fault that may pass.
 ghost use Rattle.std.specs.Prelude.{◌≡◌, ◌≤◌, [], IfOk, IfErr, IsTrue, ◌↔◌, length};
 ghost use Rattle.std.specs.Io.KnownBytes.{WriteAppends};
-ghost use Rattle.appender_wait.specs.Waiting.{Lasts, MayPass};
+ghost use Rattle.appender_wait.specs.Waiting.{IsPermanent, IsTemporary};
 
 use std::io::{ErrorKind, Write};
 use std::marker::Model;
@@ -46,7 +46,7 @@ impl<R: Wait + Clock + Eprint, W: Write> Write for WaitingWriter<R, W> {
         ensures whole { IfOk result (λ n. n ≡ length buf.now) }
         ensures written { OnOk result (Appends (W.contents self.old) (W.contents self.new) buf.now) }
         ensures beginning { AppendsFirst (W.contents self.old) (W.contents self.new) buf.now }
-        ensures lasting { IfErr result Lasts }
+        ensures lasting { IfErr result IsPermanent }
     {
         let WaitingWriter { rt, writer } = self;
         let mut rest = buf;
@@ -62,7 +62,7 @@ impl<R: Wait + Clock + Eprint, W: Write> Write for WaitingWriter<R, W> {
         ensures bytes { OnOk result (Appends None None buf.now) }
         ensures written { OnOk result (Appends (W.contents self.old) (W.contents self.new) buf.now) }
         ensures beginning { AppendsFirst (W.contents self.old) (W.contents self.new) buf.now }
-        ensures lasting { IfErr result Lasts }
+        ensures lasting { IfErr result IsPermanent }
     {
         self.write(buf)?;
         Ok(())
@@ -89,7 +89,7 @@ pub fn write_waiting<R: Wait + Clock + Eprint, W: Write>(
     ensures bound { IfOk result (λ n. n ≤ length bytes.now) }
     ensures some { IfOk result (λ n. n ≡ 0 → bytes.now ≡ []) }
     ensures bytes { WriteAppends (W.contents writer.old) (W.contents writer.new) result bytes.now }
-    ensures lasting { IfErr result Lasts }
+    ensures lasting { IfErr result IsPermanent }
 {
     if bytes.is_empty() {
         return Ok(0);
@@ -114,7 +114,7 @@ fn write_some<R: Clock + Eprint, W: Write>(
 ) -> io::Result<usize>
     ensures bound { IfOk result (λ n. n ≤ length bytes.now) }
     ensures bytes { WriteAppends (W.contents writer.old) (W.contents writer.new) result bytes.now }
-    ensures lasting { IfErr result Lasts }
+    ensures lasting { IfErr result IsPermanent }
 {
     match writer.write(bytes) {
         Ok(0) => Err(io::Error::new(ErrorKind::WriteZero, "a write took nothing")),
@@ -136,7 +136,7 @@ const EIO: i32 = 5;
 
 // Returns whether a write that failed so may be taken later.
 fn may_pass(error: &io::Error) -> bool
-    ensures { IsTrue result ↔ MayPass error.now }
+    ensures { IsTrue result ↔ IsTemporary error.now }
 {
     match error.kind() {
         ErrorKind::StorageFull | ErrorKind::QuotaExceeded | ErrorKind::WouldBlock => true,

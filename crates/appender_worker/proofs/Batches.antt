@@ -9,9 +9,9 @@ use Rattle.std.proofs.lemmas.List.Concat.{flat_map-append}
 use Rattle.std.proofs.lemmas.List.Elements.{filter-append}
 use Rattle.std.proofs.lemmas.List.Sums.{sum_by-append}
 use Rattle.std.proofs.lemmas.Bool.Decides.{nat_tests}
-use Rattle.appender_worker.specs.Batch.{Batch, IsWithin, more, Passes, WritesWaiting, Gathers, LosesLine}
+use Rattle.appender_worker.specs.Batch.{Batch, IsWithin, saturating_sum, WritesParts, WritesWaiting, Gathers, LosesLine}
 use Rattle.appender_worker.specs.Parts.{Part, part, line_of, written_of, is_whole, is_cut}
-use Rattle.appender_worker.specs.Tries.{attempt, is_failed, FailWithin}
+use Rattle.appender_worker.specs.Tries.{write_try, is_failed, FailWithin}
 use Rattle.appender_worker.proofs.Asking.{asked_join, asked_one, fail_join}
 use Rattle.appender_worker.specs.Counting.{one_more}
 use Rattle.appender_worker.specs.Inside.Gathered.{WritesLine}
@@ -19,17 +19,17 @@ use Rattle.appender_worker.proofs.Gathered.{more_more}
 
 -- first these parts were written, and then those
 pub passes_join : {W : Type 0} (contents : W → Option (List ℕ)) (tries : W → List ℕ → ℕ → W → Type 0) (ps qs : List Part) (xs ys : List (List ℕ)) (old mid new : Batch W) → mid.waiting ≡ []
-    → Passes contents tries ps xs old mid → Passes contents tries qs ys mid new → Passes contents tries (ps ++ qs) (xs ++ ys) old new
+    → WritesParts contents tries ps xs old mid → WritesParts contents tries qs ys mid new → WritesParts contents tries (ps ++ qs) (xs ++ ys) old new
 passes_join contents tries ps qs xs ys old mid new none p q =
     let first : xs ≡ map line_of ps = p.order ∙ ap (λ t. map line_of ps ++ t) none ∙ append-nil (map line_of ps) in
     record {
       order = ap (λ t. t ++ ys) first ∙ ap (λ t. map line_of ps ++ t) q.order ∙ sym (append_assoc (map line_of ps) (map line_of qs) new.waiting)
           ∙ ap (λ t. t ++ new.waiting) (sym (map-append line_of ps qs));
       bytes = rw (flat_map-append written_of ps qs) (Appends-trans (contents old.writer) (contents mid.writer) (contents new.writer) _ _ p.bytes q.bytes);
-      taken = q.taken ∙ ap (λ n. more n (count_by is_whole qs)) p.taken ∙ more_more old.taken (count_by is_whole ps) (count_by is_whole qs)
-          ∙ ap (λ n. more old.taken n) (sym (sum_by-append (λ x. cond (is_whole x) 1 0) ps qs));
-      lost = q.lost ∙ ap (λ n. more n (count_by is_cut qs)) p.lost ∙ more_more old.lost (count_by is_cut ps) (count_by is_cut qs)
-          ∙ ap (λ n. more old.lost n) (sym (sum_by-append (λ x. cond (is_cut x) 1 0) ps qs));
+      taken = q.taken ∙ ap (λ n. saturating_sum n (count_by is_whole qs)) p.taken ∙ more_more old.taken (count_by is_whole ps) (count_by is_whole qs)
+          ∙ ap (λ n. saturating_sum old.taken n) (sym (sum_by-append (λ x. cond (is_whole x) 1 0) ps qs));
+      lost = q.lost ∙ ap (λ n. saturating_sum n (count_by is_cut qs)) p.lost ∙ more_more old.lost (count_by is_cut ps) (count_by is_cut qs)
+          ∙ ap (λ n. saturating_sum old.lost n) (sym (sum_by-append (λ x. cond (is_cut x) 1 0) ps qs));
       capacity = q.capacity ∙ p.capacity;
       asked = p.asked ++ q.asked;
       were_asked = asked_join tries old.writer p.asked q.asked mid.writer new.writer p.were_asked q.were_asked;
@@ -99,19 +99,19 @@ pub cuts_line : {W : Type 0} (contents : W → Option (List ℕ)) (tries : W →
 cuts_line contents tries line n old new few bytes asks none taken lost capacity =
     let cut : is_whole (part line n) ≡ false = grind (arith, nat_tests, few) in
     let no_whole : count_by is_whole (part line n ∷ []) ≡ 0 = ap (λ b. 0 + cond b 1 0) cut in
-    let failed : is_failed (attempt line n) ≡ true = grind (arith, nat_tests, few) in
-    let fails : FailWithin (filter is_failed (attempt line n ∷ [])) (filter is_cut (part line n ∷ [])) =
-    subst (λ b. FailWithin (cond b (attempt line n ∷ []) []) (filter is_cut (part line n ∷ []))) (sym failed)
-    (subst (λ b. FailWithin (attempt line n ∷ []) (cond (not b) (part line n ∷ []) [])) (sym cut) (([], sym (append-nil (drop n line))), tt)) in
+    let failed : is_failed (write_try line n) ≡ true = grind (arith, nat_tests, few) in
+    let fails : FailWithin (filter is_failed (write_try line n ∷ [])) (filter is_cut (part line n ∷ [])) =
+    subst (λ b. FailWithin (cond b (write_try line n ∷ []) []) (filter is_cut (part line n ∷ []))) (sym failed)
+    (subst (λ b. FailWithin (write_try line n ∷ []) (cond (not b) (part line n ∷ []) [])) (sym cut) (([], sym (append-nil (drop n line))), tt)) in
     let one_cut : count_by is_cut (part line n ∷ []) ≡ 1 = ap (λ b. 0 + cond (not b) 1 0) cut in
     record {
       passes = record {
         order = ap (λ t. line ∷ [] ++ t) (sym none);
         bytes = rw append-nil bytes;
-        taken = taken ∙ sym (ap (λ k. more old.taken k) no_whole);
-        lost = lost ∙ sym (ap (λ k. more old.lost k) one_cut);
+        taken = taken ∙ sym (ap (λ k. saturating_sum old.taken k) no_whole);
+        lost = lost ∙ sym (ap (λ k. saturating_sum old.lost k) one_cut);
         capacity = capacity;
-        asked = attempt line n ∷ [];
+        asked = write_try line n ∷ [];
         were_asked = asked_one tries old.writer line n new.writer asks;
         failed_within = fails;
       };
@@ -126,18 +126,18 @@ takes_line contents tries line old new bytes asks none taken lost capacity =
     let whole : is_whole (part line (length line)) ≡ true = grind (arith, nat_tests) in
     let one_whole : count_by is_whole (part line (length line) ∷ []) ≡ 1 = ap (λ b. 0 + cond b 1 0) whole in
     let no_cut : count_by is_cut (part line (length line) ∷ []) ≡ 0 = ap (λ b. 0 + cond (not b) 1 0) whole in
-    let failed : is_failed (attempt line (length line)) ≡ false = grind (arith, nat_tests) in
+    let failed : is_failed (write_try line (length line)) ≡ false = grind (arith, nat_tests) in
     let all : take (length line) line ≡ line = take_all (length line) line (omega arith) in
     record {
       passes = record {
         order = ap (λ t. line ∷ [] ++ t) (sym none);
         bytes = rw (append-nil, all) bytes;
-        taken = taken ∙ sym (ap (λ k. more old.taken k) one_whole);
-        lost = lost ∙ sym (ap (λ k. more old.lost k) no_cut);
+        taken = taken ∙ sym (ap (λ k. saturating_sum old.taken k) one_whole);
+        lost = lost ∙ sym (ap (λ k. saturating_sum old.lost k) no_cut);
         capacity = capacity;
-        asked = attempt line (length line) ∷ [];
+        asked = write_try line (length line) ∷ [];
         were_asked = asked_one tries old.writer line (length line) new.writer asks;
-        failed_within = subst (λ b. FailWithin (cond b (attempt line (length line) ∷ []) []) (filter is_cut (part line (length line) ∷ []))) (sym failed)
+        failed_within = subst (λ b. FailWithin (cond b (write_try line (length line) ∷ []) []) (filter is_cut (part line (length line) ∷ []))) (sym failed)
             (subst (λ b. FailWithin [] (cond (not b) (part line (length line) ∷ []) [])) (sym whole) tt);
       };
       none_waits = none;

@@ -8,41 +8,41 @@ use Rattle.std.proofs.lemmas.List.Concat.{flat_map-append}
 use Rattle.std.proofs.lemmas.List.Elements.{filter-append}
 use Rattle.std.proofs.lemmas.List.Sums.{sum_by-cons, sum_by_push}
 use Rattle.std.proofs.lemmas.Bool.Decides.{nat_tests}
-use Rattle.appender_worker.specs.Batch.{more}
+use Rattle.appender_worker.specs.Batch.{saturating_sum}
 use Rattle.appender_worker.specs.Parts.{Part, part, line_of, written_of, is_whole, is_cut}
-use Rattle.appender_worker.specs.Tries.{Attempt, attempt, is_failed, Asked, FailsWithin, FailWithin}
+use Rattle.appender_worker.specs.Tries.{WriteTry, write_try, is_failed, TriesWrites, FailsWithin, FailWithin}
 use Rattle.appender_worker.specs.Counting.{one_more}
-use Rattle.appender_worker.specs.Inside.Gathered.{lines_in}
+use Rattle.appender_worker.specs.Inside.Gathered.{lines_of_lengths}
 use Rattle.appender_worker.proofs.Asking.{asked_join, asked_one, fail_join}
 
 -- whether one of these writes failed, and then what it did not take
-abbrev pub Failed : Bool → List ℕ → List Attempt → Type 0
+abbrev pub Failed : Bool → List ℕ → List WriteTry → Type 0
 Failed false rest ts = filter is_failed ts ≡ []
-Failed true rest ts = (t : Attempt) × (filter is_failed ts ≡ t ∷ []) × (drop t.taken t.bytes ≡ rest)
+Failed true rest ts = (t : WriteTry) × (filter is_failed ts ≡ t ∷ []) × (drop t.taken t.bytes ≡ rest)
 
 -- the lines before the place i, which ends there, were written as their parts say, and of the bytes after `end` so many that
 -- all up to `sent` were written; the last writes may have failed there
 pub record At {W : Type 0} (contents : W → Option (List ℕ)) (tries : W → List ℕ → ℕ → W → Type 0) (old new : W) (lengths bytes : List ℕ) (i end sent taken lost : ℕ) (given_up : Bool) : Type 0 where
   pub parts : List Part
-  pub order : map line_of parts ++ lines_in (drop i lengths) (drop end bytes) ≡ lines_in lengths bytes
+  pub order : map line_of parts ++ lines_of_lengths (drop i lengths) (drop end bytes) ≡ lines_of_lengths lengths bytes
   pub total : end + sum (drop i lengths) ≡ length bytes
   pub past : end ≤ sent
   pub within : sent ≤ length bytes
   pub written : Appends (contents old) (contents new) (flat_map written_of parts ++ take (sent - end) (drop end bytes))
   pub taken_is : taken ≡ count_by is_whole parts
   pub lost_is : lost ≡ count_by is_cut parts
-  pub asked : List Attempt
-  pub last : List Attempt
-  pub were_asked : Asked tries old (asked ++ last) new
+  pub asked : List WriteTry
+  pub last : List WriteTry
+  pub were_asked : TriesWrites tries old (asked ++ last) new
   pub failed_within : FailWithin (filter is_failed asked) (filter is_cut parts)
   pub last_failed : Failed given_up (drop sent bytes) last
 
 -- the list of lines is one longer
 order_more : (xs : List (List ℕ)) (lengths bytes : List ℕ) (i end n : ℕ) → drop i lengths ≡ n ∷ drop (i + 1) lengths
-    → (xs ++ take n (drop end bytes) ∷ []) ++ lines_in (drop (i + 1) lengths) (drop (end + n) bytes) ≡ xs ++ lines_in (drop i lengths) (drop end bytes)
+    → (xs ++ take n (drop end bytes) ∷ []) ++ lines_of_lengths (drop (i + 1) lengths) (drop (end + n) bytes) ≡ xs ++ lines_of_lengths (drop i lengths) (drop end bytes)
 order_more xs lengths bytes i end n e =
-    rw e (append_assoc xs (take n (drop end bytes) ∷ []) (lines_in (drop (i + 1) lengths) (drop (end + n) bytes))
-    ∙ ap (λ t. xs ++ take n (drop end bytes) ∷ lines_in (drop (i + 1) lengths) t) (sym (drop-drop n end bytes)))
+    rw e (append_assoc xs (take n (drop end bytes) ∷ []) (lines_of_lengths (drop (i + 1) lengths) (drop (end + n) bytes))
+    ∙ ap (λ t. xs ++ take n (drop end bytes) ∷ lines_of_lengths (drop (i + 1) lengths) t) (sym (drop-drop n end bytes)))
 
 total_more : (lengths bytes : List ℕ) (i end n : ℕ) → drop i lengths ≡ n ∷ drop (i + 1) lengths → end + sum (drop i lengths) ≡ length bytes
     → (end + n) + sum (drop (i + 1) lengths) ≡ length bytes
@@ -72,15 +72,15 @@ drop_split k n xs few within =
 
 -- one write of all the bytes that were left
 one_failed : (failed : Bool) (bytes : List ℕ) (sent k : ℕ) → (failed ≡ false → k ≡ length (drop sent bytes)) → (failed ≡ true → k < length (drop sent bytes))
-    → Failed failed (drop (sent + k) bytes) (attempt (drop sent bytes) k ∷ [])
+    → Failed failed (drop (sent + k) bytes) (write_try (drop sent bytes) k ∷ [])
 one_failed false bytes sent k all some =
     let same = all refl in
     let not_less : nat_lt k (length (drop sent bytes)) ≡ false = grind (arith, nat_tests, same) in
-    ap (λ b. cond b (attempt (drop sent bytes) k ∷ []) []) not_less
+    ap (λ b. cond b (write_try (drop sent bytes) k ∷ []) []) not_less
 one_failed true bytes sent k all some =
     let few = some refl in
     let less : nat_lt k (length (drop sent bytes)) ≡ true = grind (arith, nat_tests, few) in
-    (attempt (drop sent bytes) k, ap (λ b. cond b (attempt (drop sent bytes) k ∷ []) []) less, drop-drop k sent bytes)
+    (write_try (drop sent bytes) k, ap (λ b. cond b (write_try (drop sent bytes) k ∷ []) []) less, drop-drop k sent bytes)
 
 -- a line within what was written
 pub whole_more : {W : Type 0} (contents : W → Option (List ℕ)) (tries : W → List ℕ → ℕ → W → Type 0) (old new : W) (lengths bytes : List ℕ) (i end sent taken lost n : ℕ) (given_up : Bool)
@@ -103,7 +103,7 @@ whole_more contents tries old new lengths bytes i end sent taken lost n given_up
     ∙ ap (λ t. t ++ take (sent - (end + n)) (drop (end + n) bytes)) (sym (pieces_more at.parts p)) in
     record {
       parts = at.parts ++ p ∷ [];
-      order = ap (λ t. t ++ lines_in (drop (i + 1) lengths) (drop (end + n) bytes)) (map-append line_of at.parts (p ∷ []))
+      order = ap (λ t. t ++ lines_of_lengths (drop (i + 1) lengths) (drop (end + n) bytes)) (map-append line_of at.parts (p ∷ []))
           ∙ order_more (map line_of at.parts) lengths bytes i end n next ∙ at.order;
       total = total_more lengths bytes i end n next at.total;
       past = within;
@@ -145,7 +145,7 @@ cut_more contents tries old new lengths bytes i end sent taken lost n lt e withi
     let left : FailsWithin failed.0 p = (drop n rest, failed.2 ∙ ap (λ m. drop m bytes) (sym to_sent) ∙ sym (drop-drop (sent - end) end bytes) ∙ drop_split (sent - end) n rest (omega (arith, within)) (omega (arith, total, length-drop end bytes))) in
     record {
       parts = at.parts ++ p ∷ [];
-      order = ap (λ t. t ++ lines_in (drop (i + 1) lengths) (drop (end + n) bytes)) (map-append line_of at.parts (p ∷ []))
+      order = ap (λ t. t ++ lines_of_lengths (drop (i + 1) lengths) (drop (end + n) bytes)) (map-append line_of at.parts (p ∷ []))
           ∙ order_more (map line_of at.parts) lengths bytes i end n next ∙ at.order;
       total = total;
       past = omega arith;
@@ -155,7 +155,7 @@ cut_more contents tries old new lengths bytes i end sent taken lost n lt e withi
       lost_is = ap (λ t. t + 1) at.lost_is ∙ sym (sum_by_push (λ x. cond (is_cut x) 1 0) at.parts p ∙ ap (λ b. count_by is_cut at.parts + cond (not b) 1 0) cut);
       asked = at.asked ++ at.last;
       last = [];
-      were_asked = subst (λ t. Asked tries old t new) (sym (append-nil (at.asked ++ at.last))) at.were_asked;
+      were_asked = subst (λ t. TriesWrites tries old t new) (sym (append-nil (at.asked ++ at.last))) at.were_asked;
       failed_within = subst (λ t. FailWithin t (filter is_cut (at.parts ++ p ∷ []))) (sym failed_more)
           (subst (λ t. FailWithin (filter is_failed at.asked ++ failed.0 ∷ []) t) (sym (cut_push at.parts p cut))
           (fail_join (filter is_failed at.asked) (failed.0 ∷ []) (filter is_cut at.parts) (p ∷ []) at.failed_within (left, tt)));
@@ -190,8 +190,8 @@ sent_more contents tries old mid new lengths bytes i end sent taken lost k faile
       taken_is = at.taken_is;
       lost_is = at.lost_is;
       asked = at.asked ++ at.last;
-      last = attempt (drop sent bytes) k ∷ [];
-      were_asked = asked_join tries old (at.asked ++ at.last) (attempt (drop sent bytes) k ∷ []) mid new at.were_asked (asked_one tries mid (drop sent bytes) k new asks);
+      last = write_try (drop sent bytes) k ∷ [];
+      were_asked = asked_join tries old (at.asked ++ at.last) (write_try (drop sent bytes) k ∷ []) mid new at.were_asked (asked_one tries mid (drop sent bytes) k new asks);
       failed_within = subst (λ t. FailWithin t (filter is_cut at.parts)) (sym none_more) at.failed_within;
       last_failed = one_failed failed bytes sent k all some;
     }
@@ -258,13 +258,13 @@ at_start contents tries old lengths bytes total = record {
 -- after the last line
 pub at_end : {W : Type 0} (contents : W → Option (List ℕ)) (tries : W → List ℕ → ℕ → W → Type 0) (old new : W) (lengths bytes : List ℕ) (i end sent taken lost : ℕ) (given_up : Bool)
     → length lengths ≤ i → (given_up ≡ true → sent < length bytes) → (at : At contents tries old new lengths bytes i end sent taken lost given_up)
-    → (sent ≡ length bytes) × (lines_in lengths bytes ≡ map line_of at.parts) × Appends (contents old) (contents new) (flat_map written_of at.parts)
+    → (sent ≡ length bytes) × (lines_of_lengths lengths bytes ≡ map line_of at.parts) × Appends (contents old) (contents new) (flat_map written_of at.parts)
     × FailWithin (filter is_failed (at.asked ++ at.last)) (filter is_cut at.parts)
 at_end contents tries old new lengths bytes i end sent taken lost given_up past not_there at =
     let none = drop_all i lengths past in
     let total : end ≡ length bytes = omega (arith, (rw none at at.total)) in
     let whole : sent ≡ length bytes = omega (arith, total, at.past, at.within) in
-    let order : map line_of at.parts ++ [] ≡ lines_in lengths bytes = rw none at at.order in
+    let order : map line_of at.parts ++ [] ≡ lines_of_lengths lengths bytes = rw none at at.order in
     let size : sent - end ≡ 0 = omega (arith, total, whole) in
     let written : Appends (contents old) (contents new) (flat_map written_of at.parts ++ []) = rw size at at.written in
     let not_given : given_up ≡ false = refused given_up (λ is. let less = not_there is in omega (arith, less, whole)) in
@@ -278,7 +278,7 @@ at_end contents tries old new lengths bytes i end sent taken lost given_up past 
     refused false f = refl
 
 -- a gathered line is the last one
-pub lines_in_push : (lengths bytes line : List ℕ) → sum lengths ≡ length bytes → lines_in (lengths ++ length line ∷ []) (bytes ++ line) ≡ lines_in lengths bytes ++ line ∷ []
+pub lines_in_push : (lengths bytes line : List ℕ) → sum lengths ≡ length bytes → lines_of_lengths (lengths ++ length line ∷ []) (bytes ++ line) ≡ lines_of_lengths lengths bytes ++ line ∷ []
 lines_in_push [] bytes line h =
     let none : bytes ≡ [] = nil_from_length bytes (sym h) in
     rw none (ap (λ t. t ∷ []) (take_all (length line) line (omega arith)))
@@ -286,8 +286,8 @@ lines_in_push (n ∷ lengths) bytes line h =
     let s = sum_by-cons (λ x. x) n lengths in
     let within : n ≤ length bytes = omega (arith, s, h) in
     let rest : sum lengths ≡ length (drop n bytes) = omega (arith, s, h, length-drop n bytes) in
-    ap (λ t. t ∷ lines_in (lengths ++ length line ∷ []) (drop n (bytes ++ line))) (take-append-le n bytes line within)
-    ∙ ap (λ t. take n bytes ∷ lines_in (lengths ++ length line ∷ []) t) (drop-append-le n bytes line within)
+    ap (λ t. t ∷ lines_of_lengths (lengths ++ length line ∷ []) (drop n (bytes ++ line))) (take-append-le n bytes line within)
+    ∙ ap (λ t. take n bytes ∷ lines_of_lengths (lengths ++ length line ∷ []) t) (drop-append-le n bytes line within)
     ∙ ap (λ t. take n bytes ∷ t) (lines_in_push lengths (drop n bytes) line rest)
 
 -- one more length
@@ -295,25 +295,25 @@ pub sum_push : (lengths : List ℕ) (n : ℕ) → sum (lengths ++ n ∷ []) ≡ 
 sum_push lengths n = sum_by_push (λ x. x) lengths n
 
 -- how long the lines are together
-pub length_in_lines : (lengths bytes : List ℕ) → sum lengths ≡ length bytes → sum_by length (lines_in lengths bytes) ≡ length bytes
+pub length_in_lines : (lengths bytes : List ℕ) → sum lengths ≡ length bytes → sum_by length (lines_of_lengths lengths bytes) ≡ length bytes
 length_in_lines [] bytes h = h
 length_in_lines (n ∷ lengths) bytes h =
     let s = sum_by-cons (λ x. x) n lengths in
     let within : n ≤ length bytes = omega (arith, s, h) in
     let rest : sum lengths ≡ length (drop n bytes) = omega (arith, s, h, length-drop n bytes) in
-    omega (arith, sum_by-cons length (take n bytes) (lines_in lengths (drop n bytes)), length-take n bytes, length_in_lines lengths (drop n bytes) rest, length-drop n bytes, within)
+    omega (arith, sum_by-cons length (take n bytes) (lines_of_lengths lengths (drop n bytes)), length-take n bytes, length_in_lines lengths (drop n bytes) rest, length-drop n bytes, within)
 
 -- how many lines there are
-pub number_of_lines : (lengths bytes : List ℕ) → length (lines_in lengths bytes) ≡ length lengths
+pub number_of_lines : (lengths bytes : List ℕ) → length (lines_of_lengths lengths bytes) ≡ length lengths
 number_of_lines [] bytes = refl
 number_of_lines (n ∷ lengths) bytes = ap suc (number_of_lines lengths (drop n bytes))
 
 -- a count that grows at once
-pub more_is : (n k : ℕ) → n < 2 ^ 64 → min (n + k) (2 ^ 64 - 1) ≡ more n k
+pub more_is : (n k : ℕ) → n < 2 ^ 64 → min (n + k) (2 ^ 64 - 1) ≡ saturating_sum n k
 more_is n zero small = omega (arith, small)
 more_is n (suc k) small = omega (arith, more_is n k small, small)
 
 -- .. and in two steps
-pub more_more : (n j k : ℕ) → more (more n j) k ≡ more n (j + k)
-more_more n j zero = ap (λ m. more n m) (sym (add-zero j))
-more_more n j (suc k) = ap one_more (more_more n j k) ∙ ap (λ m. more n m) (sym (add-suc j k))
+pub more_more : (n j k : ℕ) → saturating_sum (saturating_sum n j) k ≡ saturating_sum n (j + k)
+more_more n j zero = ap (λ m. saturating_sum n m) (sym (add-zero j))
+more_more n j (suc k) = ap one_more (more_more n j k) ∙ ap (λ m. saturating_sum n m) (sym (add-suc j k))

@@ -3,16 +3,16 @@ use Rattle.std.proofs.Common.{◌≡◌, List, [], true, false, refl, arith}
 use Rattle.std.specs.Prelude.{nat_le}
 use Rattle.std.proofs.lemmas.Bool.Decides.{nat_tests}
 use Rattle.appender_worker.specs.Core.{Core, Taking, Writing, Flushing, Ending, Over}
-use Rattle.appender_worker.specs.Runs.{Event, runs, next_answers, gives_up, passes_of, WaitsFollow}
+use Rattle.appender_worker.specs.Runs.{WorkerEvent, are_expected, next_answers, gives_up, take_rounds, WaitsFollow}
 use Rattle.appender_worker.proofs.ByTable.{by_table, no_write}
 
 -- the takes of the rest of a run
-abbrev Waits : Core → List Event → Type 0
-Waits (Taking waits) es = WaitsFollow waits (passes_of (Taking waits) es)
-Waits (Writing rest repeats) es = WaitsFollow (gives_up repeats (next_answers es)) (passes_of (Writing rest repeats) es)
-Waits Flushing es = WaitsFollow true (passes_of Flushing es)
-Waits (Ending n) es = passes_of (Ending n) es ≡ []
-Waits Over es = passes_of Over es ≡ []
+abbrev Waits : Core → List WorkerEvent → Type 0
+Waits (Taking waits) es = WaitsFollow waits (take_rounds (Taking waits) es)
+Waits (Writing rest repeats) es = WaitsFollow (gives_up repeats (next_answers es)) (take_rounds (Writing rest repeats) es)
+Waits Flushing es = WaitsFollow true (take_rounds Flushing es)
+Waits (Ending n) es = take_rounds (Ending n) es ≡ []
+Waits Over es = take_rounds Over es ≡ []
 
 none : (core : Core) → Waits core []
 none (Taking waits) = tt
@@ -21,7 +21,7 @@ none Flushing = tt
 none (Ending n) = refl
 none Over = refl
 
-pub waits_law : (core : Core) (es : List Event) → runs core es ≡ true → Waits core es
+pub waits_law : (core : Core) (es : List WorkerEvent) → are_expected core es ≡ true → Waits core es
 waits_law = by_table Waits (record {
   none = none;
   empty_line = λ waits es h ih. rw (no_write (Taking false) es refl h) (refl, ih);

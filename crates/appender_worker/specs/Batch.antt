@@ -4,7 +4,7 @@ use Rattle.std.specs.Io.KnownBytes.{Appends, Keeps}
 use Rattle.std.specs.declared.io.Error.{Error}
 use Rattle.appender_worker.specs.Counting.{one_more}
 use Rattle.appender_worker.specs.Parts.{Part, part, line_of, written_of, is_whole, is_cut}
-use Rattle.appender_worker.specs.Tries.{Attempt, is_failed, Asked, FailWithin}
+use Rattle.appender_worker.specs.Tries.{WriteTry, is_failed, TriesWrites, FailWithin}
 
 -- its writer, how many bytes it gathers, the lines that wait, since they were gathered and not written yet, how many lines its
 -- writer took whole and not whole, and whether one of these came after the last flush
@@ -17,8 +17,8 @@ pub record Batch (W : Type 0) : Type 0 where
   pub failed : Bool
 
 -- no line was gathered or counted yet
-abbrev pub batch_none : {W : Type 0} → W → ℕ → Batch W
-batch_none writer capacity = record { writer = writer; capacity = capacity; waiting = []; taken = 0; lost = 0; failed = false }
+abbrev pub new_batch : {W : Type 0} → W → ℕ → Batch W
+new_batch writer capacity = record { writer = writer; capacity = capacity; waiting = []; taken = 0; lost = 0; failed = false }
 
 -- how many lines wait at most
 abbrev pub most_lines : ℕ
@@ -30,38 +30,38 @@ pub record IsWithin {W : Type 0} (b : Batch W) : Type 0 where
   pub lines : length b.waiting ≤ most_lines
 
 -- there is room for a line of n bytes beside those that wait
-pub record Fits {W : Type 0} (b : Batch W) (n : ℕ) : Type 0 where
+pub record HasRoomFor {W : Type 0} (b : Batch W) (n : ℕ) : Type 0 where
   pub bytes : sum_by length b.waiting + n ≤ b.capacity
   pub lines : length b.waiting < most_lines
 
--- n and so many more, up to the greatest count
-abbrev pub more : ℕ → ℕ → ℕ
-more n zero = n
-more n (suc added) = one_more (more n added)
+-- the sum of two counts, up to the greatest count
+abbrev pub saturating_sum : ℕ → ℕ → ℕ
+saturating_sum n zero = n
+saturating_sum n (suc added) = one_more (saturating_sum n added)
 
 -- Of these lines the first were written, in order: each up to the place in its part, and each was counted. The others wait. Each line
 -- that was not written whole had a write of its own that failed within it, so the lines after it were tried.
-pub record Passes {W : Type 0} (contents : W → Option (List ℕ)) (tries : W → List ℕ → ℕ → W → Type 0) (parts : List Part) (lines : List (List ℕ)) (old new : Batch W) : Type 0 where
+pub record WritesParts {W : Type 0} (contents : W → Option (List ℕ)) (tries : W → List ℕ → ℕ → W → Type 0) (parts : List Part) (lines : List (List ℕ)) (old new : Batch W) : Type 0 where
   pub order : lines ≡ map line_of parts ++ new.waiting
   pub bytes : Appends (contents old.writer) (contents new.writer) (flat_map written_of parts)
-  pub taken : new.taken ≡ more old.taken (count_by is_whole parts)
-  pub lost : new.lost ≡ more old.lost (count_by is_cut parts)
+  pub taken : new.taken ≡ saturating_sum old.taken (count_by is_whole parts)
+  pub lost : new.lost ≡ saturating_sum old.lost (count_by is_cut parts)
   pub capacity : new.capacity ≡ old.capacity
-  pub asked : List Attempt
-  pub were_asked : Asked tries old.writer asked new.writer
+  pub asked : List WriteTry
+  pub were_asked : TriesWrites tries old.writer asked new.writer
   pub failed_within : FailWithin (filter is_failed asked) (filter is_cut parts)
 
 -- the lines that wait were written
 pub record WritesWaiting {W : Type 0} (contents : W → Option (List ℕ)) (tries : W → List ℕ → ℕ → W → Type 0) (old new : Batch W) : Type 0 where
   pub parts : List Part
-  pub passes : Passes contents tries parts old.waiting old new
+  pub passes : WritesParts contents tries parts old.waiting old new
   pub none_waits : new.waiting ≡ []
   pub failed : new.failed ≡ (old.failed || nat_lt 0 (count_by is_cut parts))
 
 -- the line is after those that wait, of which the first may have been written, and itself too
 pub record Gathers {W : Type 0} (contents : W → Option (List ℕ)) (tries : W → List ℕ → ℕ → W → Type 0) (line : List ℕ) (old new : Batch W) : Type 0 where
   pub parts : List Part
-  pub passes : Passes contents tries parts (old.waiting ++ line ∷ []) old new
+  pub passes : WritesParts contents tries parts (old.waiting ++ line ∷ []) old new
   pub failed : new.failed ≡ (old.failed || nat_lt 0 (count_by is_cut parts))
 
 -- the lines that wait were written, and then the line was not taken whole
@@ -69,12 +69,12 @@ pub record LosesLine {W : Type 0} (contents : W → Option (List ℕ)) (tries : 
   pub parts : List Part
   pub length_written : ℕ
   pub cut : length_written < length line
-  pub passes : Passes contents tries (parts ++ part line length_written ∷ []) (old.waiting ++ line ∷ []) old new
+  pub passes : WritesParts contents tries (parts ++ part line length_written ∷ []) (old.waiting ++ line ∷ []) old new
   pub none_waits : new.waiting ≡ []
   pub failed : new.failed ≡ true
 
 -- The lines that wait were written, and then the writer was flushed. Success says that each line after the last flush was taken whole.
-pub record Empties {W : Type 0} (contents : W → Option (List ℕ)) (tries : W → List ℕ → ℕ → W → Type 0) (result : Result Unit Error) (old new : Batch W) : Type 0 where
+pub record WritesAndFlushes {W : Type 0} (contents : W → Option (List ℕ)) (tries : W → List ℕ → ℕ → W → Type 0) (result : Result Unit Error) (old new : Batch W) : Type 0 where
   pub written : Batch W
   pub writes : WritesWaiting contents tries old written
   pub flushed : Keeps (contents written.writer) (contents new.writer)

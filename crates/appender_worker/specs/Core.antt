@@ -2,7 +2,7 @@
 use Rattle.std.specs.Prelude.{ℕ, ◌+◌, List, [], ◌∷◌, Bool, true, false, ◌==◌, if◌then◌else◌, nat_le, nat_lt, length, drop}
 
 -- it takes, waiting or not; it writes what is left of a line, which was interrupted so often; it flushes once after
--- lines; it flushes so many times before the end; or it has ended
+-- lines; it flushes a number of times before the end; or it has ended
 pub data Core : Type 0 where
   Taking : Bool → Core
   Writing : List ℕ → ℕ → Core

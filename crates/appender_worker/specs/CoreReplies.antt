@@ -28,10 +28,10 @@ answer_of (Ok n) = Wrote n
 answer_of (Err e) = if is_interruption (error_kind e) then Interrupted else Failed
 
 -- that the worker wants this: a write of the whole rest, a flush, ..
-abbrev pub Wants : Core → Want → Type 0
-Wants (Taking waits) (WantTake w) = w ≡ waits
-Wants (Writing rest repeats) (WantWrite bytes) = bytes.now ≡ rest
-Wants Flushing WantFlush = Unit {0}
-Wants (Ending n) WantFlush = Unit {0}
-Wants Over WantEnded = Unit {0}
-Wants core want = ⊥
+abbrev pub HasWant : Core → Want → Type 0
+HasWant (Taking waits) (WantTake w) = w ≡ waits
+HasWant (Writing rest repeats) (WantWrite bytes) = bytes.now ≡ rest
+HasWant Flushing WantFlush = Unit {0}
+HasWant (Ending n) WantFlush = Unit {0}
+HasWant Over WantEnded = Unit {0}
+HasWant core want = ⊥

@@ -9,21 +9,21 @@ pub record Counting (W : Type 0) : Type 0 where
   pub lost : ℕ
 
 -- no line was counted yet
-abbrev pub counting_none : {W : Type 0} → W → Counting W
-counting_none writer = record { writer = writer; taken = 0; lost = 0 }
+abbrev pub new_counting : {W : Type 0} → W → Counting W
+new_counting writer = record { writer = writer; taken = 0; lost = 0 }
 
 -- one more, up to the greatest count
 abbrev pub one_more : ℕ → ℕ
 one_more n = min (n + 1) (2 ^ 64 - 1)
 
 -- the line was taken whole: known bytes grow by it, and it is counted
-pub record Takes {W : Type 0} (contents : W → Option (List ℕ)) (line : List ℕ) (old new : Counting W) : Type 0 where
+pub record CountsTaken {W : Type 0} (contents : W → Option (List ℕ)) (line : List ℕ) (old new : Counting W) : Type 0 where
   pub bytes : Appends (contents old.writer) (contents new.writer) line
   pub taken : new.taken ≡ one_more old.taken
   pub lost : new.lost ≡ old.lost
 
 -- the line was not taken whole: known bytes grow by a beginning of it, and it is counted
-pub record Loses {W : Type 0} (contents : W → Option (List ℕ)) (line : List ℕ) (old new : Counting W) : Type 0 where
+pub record CountsLost {W : Type 0} (contents : W → Option (List ℕ)) (line : List ℕ) (old new : Counting W) : Type 0 where
   pub length_written : ℕ
   pub cut : length_written < length line
   pub bytes : Appends (contents old.writer) (contents new.writer) (take length_written line)

@@ -3,28 +3,28 @@ use Rattle.std.specs.Prelude.{◌≡◌, ℕ, List, [], ◌∷◌, ◌++◌, Boo
 use Rattle.appender_worker.specs.Parts.{Part}
 
 -- the bytes that the writer was to take, and how many of the first of them it took
-pub record Attempt : Type 0 where
+pub record WriteTry : Type 0 where
   pub bytes : List ℕ
   pub taken : ℕ
 
-abbrev pub attempt : List ℕ → ℕ → Attempt
-attempt bytes taken = record { bytes = bytes; taken = taken }
+abbrev pub write_try : List ℕ → ℕ → WriteTry
+write_try bytes taken = record { bytes = bytes; taken = taken }
 
 -- whether not all of them were taken
-abbrev pub is_failed : Attempt → Bool
+abbrev pub is_failed : WriteTry → Bool
 is_failed t = nat_lt t.taken (length t.bytes)
 
 -- the writer was asked for these writes, one after another, and for no other
-abbrev pub Asked : {W : Type 0} → (W → List ℕ → ℕ → W → Type 0) → W → List Attempt → W → Type 0
-Asked {W} tries old [] new = old ≡ new
-Asked {W} tries old (t ∷ ts) new = (mid : W) × tries old t.bytes t.taken mid × Asked tries mid ts new
+abbrev pub TriesWrites : {W : Type 0} → (W → List ℕ → ℕ → W → Type 0) → W → List WriteTry → W → Type 0
+TriesWrites {W} tries old [] new = old ≡ new
+TriesWrites {W} tries old (t ∷ ts) new = (mid : W) × tries old t.bytes t.taken mid × TriesWrites tries mid ts new
 
 -- the write failed within this line: what was not taken begins with the rest of the line
-abbrev pub FailsWithin : Attempt → Part → Type 0
+abbrev pub FailsWithin : WriteTry → Part → Type 0
 FailsWithin t p = (more : List ℕ) × (drop t.taken t.bytes ≡ drop p.written p.line ++ more)
 
 -- each of these writes failed within its own line, and there are as many of them as lines
-abbrev pub FailWithin : List Attempt → List Part → Type 0
+abbrev pub FailWithin : List WriteTry → List Part → Type 0
 FailWithin [] [] = Unit {0}
 FailWithin (t ∷ ts) (p ∷ ps) = FailsWithin t p × FailWithin ts ps
 FailWithin ts ps = ⊥

@@ -24,7 +24,7 @@ ghost use Rattle.std.specs.Prelude.{
 ghost use Rattle.std.specs.IoError.{error_kind};
 ghost use Rattle.std.specs.Io.KnownBytes.{Appends};
 ghost use Rattle.appender_worker.specs.Batch.{most_lines};
-ghost use Rattle.appender_worker.specs.Inside.Gathered.{lines_in, Wrote};
+ghost use Rattle.appender_worker.specs.Inside.Gathered.{lines_of_lengths, WritesGathered};
 
 use crate::counting::{LineCounts, SharedCounts, reported};
 use crate::sink::LineSink;
@@ -38,7 +38,7 @@ use std::sync::Arc;
 const MOST_LINES: usize = 1024;
 
 /// Gathers whole lines, and writes them together: if there is no room for another one, and at a flush. One write has
-/// whole lines alone, so an appender puts all of them into one file, at one moment. A worker flushes whenever its queue is
+/// only whole lines, so an appender puts all of them into one file, at one moment. A worker flushes whenever its queue is
 /// empty, so a line waits only while others come. After a fault the line in which it is is given up, and the lines after it
 /// are written. Its `LineCounts` leave out the lines that wait. Dropping it writes these, and ignores errors.
 pub struct BatchWriter<W: LineSink + Drop> {
@@ -50,7 +50,7 @@ pub struct BatchWriter<W: LineSink + Drop> {
     lengths: Vec<usize>,
     taken: u64,
     lost: u64,
-    // The first fault since the last flush.
+    // The first fault since the last flush. The next one returns it, since the `write` of the line returned `Ok`.
     fault: Option<io::Error>,
     shared: Arc<SharedCounts, Global>,
 }
@@ -58,14 +58,14 @@ pub struct BatchWriter<W: LineSink + Drop> {
 impl<W: LineSink + Drop> Model for BatchWriter<W> {
     ghost use Rattle.std.specs.Prelude.{◌≡◌, ◌≤◌, sum, length, is_some, vec_capacity};
     ghost use Rattle.appender_worker.specs.Batch.{Batch, most_lines};
-    ghost use Rattle.appender_worker.specs.Inside.Gathered.{lines_in};
+    ghost use Rattle.appender_worker.specs.Inside.Gathered.{lines_of_lengths};
 
     ghost Value = { Batch W };
 
     ghost view = { λ b. record {
       writer = b.writer;
       capacity = b.capacity;
-      waiting = lines_in b.lengths.items b.bytes.items;
+      waiting = lines_of_lengths b.lengths.items b.bytes.items;
       taken = b.taken;
       lost = b.lost;
       failed = is_some b.fault;
@@ -93,7 +93,7 @@ impl<W: LineSink + Drop> Drop for BatchWriter<W> {
 }
 
 impl<W: LineSink + Drop> BatchWriter<W> {
-    ghost use Rattle.appender_worker.specs.Batch.{batch_none, Fits, IsWithin, more, WritesWaiting, Gathers, LosesLine};
+    ghost use Rattle.appender_worker.specs.Batch.{new_batch, HasRoomFor, IsWithin, saturating_sum, WritesWaiting, Gathers, LosesLine};
     ghost use Rattle.appender_worker.specs.Inside.Gathered.{WritesLine};
 
     /// Returns a writer that gathers up to 1,024 lines of `capacity` bytes together, and the handle to its counts, which
@@ -103,7 +103,7 @@ impl<W: LineSink + Drop> BatchWriter<W> {
         writer: W,
         capacity: usize,
     ) -> Result<(BatchWriter<W>, LineCounts), AllocError>
-        ensures { IfOk result (λ made. made.0 ≡ batch_none writer capacity) }
+        ensures { IfOk result (λ made. made.0 ≡ new_batch writer capacity) }
     {
         let bytes = Vec::with_capacity(alloc, capacity)?;
         let lengths = Vec::with_capacity(alloc, MOST_LINES)?;
@@ -126,7 +126,7 @@ impl<W: LineSink + Drop> BatchWriter<W> {
     #[tactic(auto, using(crate::proofs::Gathered::length_in_lines, crate::proofs::Gathered::number_of_lines))]
     #[inline(always)]
     fn has_room(&self, length: usize) -> bool
-        ensures { IsTrue result ↔ Fits self.now length }
+        ensures { IsTrue result ↔ HasRoomFor self.now length }
     {
         length <= self.capacity - self.bytes.len() && self.lengths.len() < MOST_LINES
     }
@@ -135,7 +135,7 @@ impl<W: LineSink + Drop> BatchWriter<W> {
     #[tactic(auto, using(crate::proofs::Gathered::length_in_lines, crate::proofs::Gathered::number_of_lines, crate::proofs::Gathered::lines_in_push, crate::proofs::Gathered::sum_push))]
     #[inline(always)]
     fn gather(&mut self, line: &[u8])
-        requires { Fits self.old (length line.now) }
+        requires { HasRoomFor self.old (length line.now) }
         ensures { self.new ≡ record self.old { waiting = self.old.waiting ++ line.now ∷ [] } }
     {
         let Ok(()) = self.bytes.extend_from_slice(line) else {
@@ -148,8 +148,8 @@ impl<W: LineSink + Drop> BatchWriter<W> {
     #[tactic(auto, using(crate::proofs::Gathered::more_is))]
     fn count(&mut self, outcome: Outcome)
         ensures { self.new ≡ record self.old {
-          taken = more self.old.taken outcome.taken;
-          lost = more self.old.lost outcome.lost;
+          taken = saturating_sum self.old.taken outcome.taken;
+          lost = saturating_sum self.old.lost outcome.lost;
           failed = (self.old.failed || is_some outcome.fault);
         } }
     {
@@ -232,7 +232,7 @@ impl<W: LineSink + Drop> Write for BatchWriter<W> {
     ghost use Rattle.std.specs.Prelude.{None};
     ghost use Rattle.std.specs.Io.{WritesAtMost};
     ghost use Rattle.std.specs.Io.KnownBytes.{Keeps, WriteAppends};
-    ghost use Rattle.appender_worker.specs.Batch.{Fits, IsWithin, Gathers, LosesLine, Empties};
+    ghost use Rattle.appender_worker.specs.Batch.{HasRoomFor, IsWithin, Gathers, LosesLine, WritesAndFlushes};
 
     /// Gathers one whole line. If there is no room for it, the lines that wait are written first. A line longer than the
     /// capacity is written by itself, and only this can fail: the error is that of its last write, but never `Interrupted`.
@@ -241,7 +241,7 @@ impl<W: LineSink + Drop> Write for BatchWriter<W> {
     fn write(&mut self, line: &[u8]) -> io::Result<usize>
         ensures bound { WritesAtMost result line.now }
         ensures bytes { WriteAppends None None result line.now }
-        ensures room { Fits self.old (length line.now)
+        ensures room { HasRoomFor self.old (length line.now)
             → self.new ≡ record self.old { waiting = self.old.waiting ++ line.now ∷ [] } }
         ensures within { IsWithin self.new }
         ensures ok { IfOk result (λ n. (n ≡ length line.now) × Gathers W.contents W.tries line.now self.old self.new) }
@@ -261,7 +261,7 @@ impl<W: LineSink + Drop> Write for BatchWriter<W> {
     fn flush(&mut self) -> io::Result<()>
         ensures bytes { Keeps None None }
         ensures empty { self.new.waiting ≡ [] }
-        ensures empties { Empties W.contents W.tries result self.old self.new }
+        ensures empties { WritesAndFlushes W.contents W.tries result self.old self.new }
     {
         self.write_waiting();
         let flushed = self.writer.flush();
@@ -281,11 +281,12 @@ struct Outcome {
     fault: Option<io::Error>,
 }
 
-// Writes lines together. If a write fails, its line is given up, and the lines after it are written.
+// Writes lines together. If a write fails, its line is given up, and the lines after it are written. A `BufWriter` of std
+// would keep the rest and write it again at the next flush: a full disk would stop it, and no count would be exact.
 fn write_lines<W: LineSink>(writer: &mut W, bytes: &[u8], lengths: &[usize]) -> Outcome
     requires total { sum lengths.now ≡ length bytes.now }
     requires few { length lengths.now ≤ most_lines }
-    ensures { Wrote W.contents W.tries (lines_in lengths.now bytes.now) writer.old writer.new result }
+    ensures { WritesGathered W.contents W.tries (lines_of_lengths lengths.now bytes.now) writer.old writer.new result }
 {
     let (mut taken, mut lost) = (0, 0);
     let mut first = None;

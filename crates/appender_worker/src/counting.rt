@@ -27,7 +27,7 @@ pub struct LineCounts {
     shared: Arc<SharedCounts, Global>,
 }
 
-// The counts, which the handle reads.
+// The counts, which the handle reads. No contract can name the value of an atomic: the writer's own counts are its fields.
 #[derive(Drop)]
 pub(crate) struct SharedCounts {
     taken: AtomicU64,
@@ -60,14 +60,14 @@ impl<W> Model for CountingWriter<W> {
 }
 
 impl<W> CountingWriter<W> {
-    ghost use Rattle.appender_worker.specs.Counting.{counting_none};
+    ghost use Rattle.appender_worker.specs.Counting.{new_counting};
 
     /// Returns a writer with counts of 0, and the handle to its counts. `AllocError` if memory is refused; then the
     /// writer is dropped.
     pub fn new(alloc: Global, writer: W) -> Result<(CountingWriter<W>, LineCounts), AllocError>
     where
         W: Drop,
-        ensures { IfOk result (λ made. made.0 ≡ counting_none writer) }
+        ensures { IfOk result (λ made. made.0 ≡ new_counting writer) }
     {
         let shared = SharedCounts::new(alloc)?;
         let counts = LineCounts::of(&shared)?;
@@ -104,16 +104,16 @@ impl<W: Write> Write for CountingWriter<W> {
     ghost use Rattle.std.specs.Prelude.{None};
     ghost use Rattle.std.specs.Io.{WritesAtMost};
     ghost use Rattle.std.specs.Io.KnownBytes.{Keeps, WriteAppends};
-    ghost use Rattle.appender_worker.specs.Counting.{Takes, Loses, KeepsCounts};
+    ghost use Rattle.appender_worker.specs.Counting.{CountsTaken, CountsLost, KeepsCounts};
 
     /// Writes one whole line, and counts it. The error is that of the writer's last write, but never `Interrupted`, so
     /// that no caller writes the line again. An empty line makes no write, and counts as taken.
     fn write(&mut self, line: &[u8]) -> io::Result<usize>
         ensures bound { WritesAtMost result line.now }
         ensures bytes { WriteAppends None None result line.now }
-        ensures ok { IfOk result (λ n. (n ≡ length line.now) × Takes W.contents line.now self.old self.new) }
+        ensures ok { IfOk result (λ n. (n ≡ length line.now) × CountsTaken W.contents line.now self.old self.new) }
         ensures err { IfErr result (λ error. (error_kind error ≢ ErrorKind.Interrupted)
-            × Loses W.contents line.now self.old self.new) }
+            × CountsLost W.contents line.now self.old self.new) }
     {
         match run_line(&mut self.writer, line) {
             Ok(()) => {

@@ -6,9 +6,9 @@ use crate::worker::{LineFault, run_line};
 use std::io::Write;
 
 /// A writer of whole lines: each `Write`, by `run_line`. Where a contract is proved for any `LineSink`, only a call of
-/// `write_line` can meet what it says of `tries`. So it can say that a line was tried.
+/// `write_line` can meet a clause on `tries`. So such a clause says that a line was tried.
 pub trait LineSink: Write {
-    // Between these two states a write of the bytes was tried, and so many of the first of them were taken.
+    // Whether a write of the bytes was tried between these two states, and this number of the first of them was taken.
     ghost tries: { Self → List ℕ → ℕ → Self → Type 0 };
 
     /// Writes one line. An interrupted write is tried again, at most 100 times.

@@ -3,7 +3,7 @@
 ghost use Rattle.std.specs.Prelude.{◌≡◌, ◌<◌, [], length, true, OnOk, IfErr, IsOk, take};
 ghost use Rattle.std.specs.Io.KnownBytes.{Appends};
 ghost use Rattle.appender_worker.specs.CoreReplies.{answer_of};
-ghost use Rattle.appender_worker.specs.Inside.LineSteps.{IsNext};
+ghost use Rattle.appender_worker.specs.Inside.LineSteps.{IsNextStep};
 
 pub use crate::batching::BatchWriter;
 pub use crate::counting::{CountingWriter, LineCounts};
@@ -60,13 +60,13 @@ pub struct WorkerCore {
 
 impl Model for WorkerCore {
     ghost use Rattle.appender_worker.specs.Core.{Core};
-    ghost use Rattle.appender_worker.specs.Inside.CoreState.{core_of, IsSound};
+    ghost use Rattle.appender_worker.specs.Inside.CoreState.{core_of, IsValidState};
 
     ghost Value = { Core };
 
     ghost view = { λ c. core_of c.state };
 
-    ghost invariant = { λ c. IsSound c.state };
+    ghost invariant = { λ c. IsValidState c.state };
 }
 
 impl WorkerCore {
@@ -79,7 +79,7 @@ impl WorkerCore {
       is_writing,
       is_flushing,
     };
-    ghost use Rattle.appender_worker.specs.CoreReplies.{Wants, found_in};
+    ghost use Rattle.appender_worker.specs.CoreReplies.{HasWant, found_in};
     ghost use Rattle.appender_worker.specs.Runs.{WritesOnce};
 
     /// Returns a worker that begins with a take that waits.
@@ -103,7 +103,7 @@ impl WorkerCore {
 
     /// Returns what to do next.
     pub fn want(&self) -> Want<'_>
-        ensures { Wants self.now result }
+        ensures { HasWant self.now result }
     {
         match &self.state {
             State::Take { waits } => Want::Take { waits: *waits },
@@ -206,7 +206,7 @@ enum Step {
 
 fn next(rest: usize, repeats: u32, answer: &io::Result<usize>) -> Step
     requires { 0 < rest }
-    ensures { IsNext rest repeats (answer_of answer.now) result }
+    ensures { IsNextStep rest repeats (answer_of answer.now) result }
 {
     match answer {
         Ok(0) => Step::GivenUp,

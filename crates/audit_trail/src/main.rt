@@ -9,13 +9,14 @@ use audit_trail_core::gather::{DiskTrails, keep_all};
 use audit_trail_core::lock::lock_files;
 use audit_trail_core::trail;
 use audit_trail_core::trail::{Fault, Limits};
+use program_io::arguments;
 use program_io::report::print;
 use program_io::streams::fill_streams;
 use program_io::waiting::WaitingInput;
-use program_io::{Host, arguments};
 use program_options::{Request, read_limits};
 use std::fs::File;
 use std::process::ExitCode;
+use tracing_appender::non_blocking::Host;
 
 static HELP: &str = concat!(
     "Writes each line of standard input, or of files, to the log of its day.\n",

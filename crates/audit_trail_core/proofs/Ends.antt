@@ -9,7 +9,7 @@ use Rattle.appender_store.specs.declared.store.Folder.{Ghosts}
 use Rattle.appender_store.proofs.Appends.{after_append_nothing}
 use Rattle.appender_rolling.specs.Appender.{Appending}
 use Rattle.file_watch.specs.Ends.{EndsLine}
-use Rattle.audit_trail_core.specs.Trail.{Adds, EndsWhole}
+use Rattle.audit_trail_core.specs.Trail.{AppendsPieces, EndsWhole}
 
 -- bytes that end with a newline do so after other bytes
 pub ends_after : (xs bytes : List ℕ) → ends_with_byte 10 bytes ≡ true → ends_with_byte 10 (xs ++ bytes) ≡ true
@@ -42,7 +42,7 @@ module _ {S F C : Type 0} (kind : Ghosts S F) where
 
   -- bytes with a newline at their end were added
   pub whole_after : (answers : List (Result ℕ Error)) (bytes : List ℕ) (old new : Appending S F C)
-      → Adds kind answers bytes [] old new → ends_with_byte 10 bytes ≡ true → EndsWhole kind new
+      → AppendsPieces kind answers bytes [] old new → ends_with_byte 10 bytes ≡ true → EndsWhole kind new
   whole_after answers bytes old new adds ends is_known =
       let taken = adds.so_far.taken in
       let same : taken ≡ bytes = sym (append-nil taken) ∙ sym adds.so_far.split in
@@ -52,7 +52,7 @@ module _ {S F C : Type 0} (kind : Ghosts S F) where
 
   -- none of the bytes were added
   pub whole_after_none : (answers : List (Result ℕ Error)) (bytes rest : List ℕ) (old new : Appending S F C)
-      → (adds : Adds kind answers bytes rest old new) → length adds.so_far.taken ≡ 0 → EndsWhole kind old → EndsWhole kind new
+      → (adds : AppendsPieces kind answers bytes rest old new) → length adds.so_far.taken ≡ 0 → EndsWhole kind old → EndsWhole kind new
   whole_after_none answers bytes rest old new adds none whole is_known =
       let nothing = nil_from_length adds.so_far.taken none in
       let content = adds.so_far.content is_known

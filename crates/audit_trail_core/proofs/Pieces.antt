@@ -9,15 +9,15 @@ use Rattle.appender_store.proofs.Appends.{after_append_nothing}
 use Rattle.appender_store.specs.declared.store.Folder.{Ghosts}
 use Rattle.appender_rolling.proofs.Pieces.{one_more_piece}
 use Rattle.appender_rolling.specs.Appender.{Appending, AppendsNow}
-use Rattle.appender_rolling.specs.Roller.{AllGoOn, count_of}
-use Rattle.audit_trail_core.specs.Trail.{Adds, AddsPart, interruptions}
+use Rattle.appender_rolling.specs.Roller.{AreContinued, written_count}
+use Rattle.audit_trail_core.specs.Trail.{AppendsPieces, AppendsPart, interruptions}
 
 module _ {S F C : Type 0} (kind : Ghosts S F) where
   -- What was added so far: appends that all continue, of which this number were interrupted, and before them others.
   pub record SoFar (bytes rest : List ℕ) (before after : ℕ) (old now : Appending S F C) : Type 0 where
     pub answers : List (Result ℕ Error)
-    pub adds : Adds kind answers bytes rest old now
-    pub go_on : AllGoOn answers
+    pub adds : AppendsPieces kind answers bytes rest old now
+    pub go_on : AreContinued answers
     pub counts : after ≡ before + interruptions answers
     pub few : after ≤ 100
 
@@ -43,7 +43,7 @@ module _ {S F C : Type 0} (kind : Ghosts S F) where
   -- one append more
   pub one_more : {bytes left : List ℕ} {before after : ℕ} {old last now : Appending S F C} (answer : Result ℕ Error)
       → (so : SoFar bytes left before after old last) → left ≢ [] → AppendsNow kind left answer last now
-      → Adds kind (answer ∷ so.answers) bytes (drop (count_of answer) left) old now
+      → AppendsPieces kind (answer ∷ so.answers) bytes (drop (written_count answer) left) old now
   one_more {bytes = bytes} {left = left} {old = old} {last = last} {now = now} answer so some appends = record {
     so_far = one_more_piece kind so.answers bytes left old.roller last.roller now.roller answer so.adds.so_far so.go_on some appends.writes;
     clock = appends.clock ∙ so.adds.clock;
@@ -55,7 +55,7 @@ module _ {S F C : Type 0} (kind : Ghosts S F) where
       → SoFar bytes rest before after old now
   took_some {bytes = bytes} {old = old} {now = now} n rest so some more appends is = record {
     answers = Ok n ∷ so.answers;
-    adds = subst (λ rest. Adds kind (Ok n ∷ so.answers) bytes rest old now) (sym is) (one_more (Ok n) so some appends);
+    adds = subst (λ rest. AppendsPieces kind (Ok n ∷ so.answers) bytes rest old now) (sym is) (one_more (Ok n) so some appends);
     go_on = (more, so.go_on);
     counts = so.counts;
     few = so.few;
@@ -75,17 +75,17 @@ module _ {S F C : Type 0} (kind : Ghosts S F) where
 
   -- it failed
   pub failed : {bytes left : List ℕ} {before after : ℕ} {old last now : Appending S F C} (answer : Result ℕ Error)
-      → SoFar bytes left before after old last → left ≢ [] → count_of answer ≡ 0 → AppendsNow kind left answer last now
-      → AddsPart kind bytes (length bytes - length left) old now
+      → SoFar bytes left before after old last → left ≢ [] → written_count answer ≡ 0 → AppendsNow kind left answer last now
+      → AppendsPart kind bytes (length bytes - length left) old now
   failed {bytes = bytes} {left = left} answer so some none appends =
       let adds = one_more answer so some appends in
-      let rest_is : drop (count_of answer) left ≡ left = ap (λ n. drop n left) none in
-      let all : length bytes ≡ length adds.so_far.taken + length (drop (count_of answer) left)
-      = ap length adds.so_far.split ∙ length-append adds.so_far.taken (drop (count_of answer) left) in
-      let same : length (drop (count_of answer) left) ≡ length left = ap length rest_is in
+      let rest_is : drop (written_count answer) left ≡ left = ap (λ n. drop n left) none in
+      let all : length bytes ≡ length adds.so_far.taken + length (drop (written_count answer) left)
+      = ap length adds.so_far.split ∙ length-append adds.so_far.taken (drop (written_count answer) left) in
+      let same : length (drop (written_count answer) left) ≡ length left = ap length rest_is in
       record {
         answers = answer ∷ so.answers;
-        rest = drop (count_of answer) left;
+        rest = drop (written_count answer) left;
         adds = adds;
         taken_is = omega (arith, all, same);
         some = subst (λ rest. rest ≢ []) (sym rest_is) some;
@@ -98,7 +98,7 @@ some_length (x ∷ xs) some = omega arith
 
 -- a part of one byte is none
 pub part_of_one : {S F C : Type 0} (kind : Ghosts S F) (byte taken : ℕ) (old new : Appending S F C)
-    → AddsPart kind (byte ∷ []) taken old new → taken ≡ 0
+    → AppendsPart kind (byte ∷ []) taken old new → taken ≡ 0
 part_of_one kind byte taken old new part =
     let all : 1 ≡ length part.adds.so_far.taken + length part.rest
     = ap length part.adds.so_far.split ∙ length-append part.adds.so_far.taken part.rest in

@@ -1,7 +1,7 @@
 -- The reports on the errors, and their statuses.
 use Rattle.std.proofs.Common.{◌≡◌, ◌⊎◌, ◌∙◌, ℕ, ◌≤◌, List, Option, None, Some, inl, inr, refl, sym, subst, arith}
 use Rattle.std.specs.Io.KnownBytes.{Appends, Keeps}
-use Rattle.audit_trail_core.specs.Fault.{account_text, status_of, ReportsStatus}
+use Rattle.audit_trail_core.specs.Fault.{account_text, trail_status, ReportsTrailStatus}
 use Rattle.audit_trail_core.specs.declared.trail.Fault.{Fault}
 use Rattle.audit_trail_core.specs.declared.trail.Fault.TheVariants.{Usage, Unknown, Option as WrongOption, Argument, Open, Read, Write, Cut, Lost, Gone, Unsynced, Locked, Own, Account, Thread, Memory}
 
@@ -15,7 +15,7 @@ keeps_twice (Some xs) None d h k = absurd h
 keeps_twice (Some xs) (Some ys) None h k = k
 keeps_twice (Some xs) (Some ys) (Some zs) h k = k ∙ h
 
-pub some_status : (fault : Fault) → ¬ (status_of fault ≡ 0)
+pub some_status : (fault : Fault) → ¬ (trail_status fault ≡ 0)
 some_status Usage e = omega (arith, e)
 some_status (Unknown word) e = omega (arith, e)
 some_status (WrongOption option error) e = omega (arith, e)
@@ -34,19 +34,19 @@ some_status Thread e = omega (arith, e)
 some_status Memory e = omega (arith, e)
 
 -- no fault
-pub reported_nothing : (a : Option (List ℕ)) → ReportsStatus 0 a a
+pub reported_nothing : (a : Option (List ℕ)) → ReportsTrailStatus 0 a a
 reported_nothing a = record { status_is = inl refl; silent = λ none. keeps_same a }
 
 -- a fault
-pub reported_fault : (fault : Fault) (status : ℕ) (a b : Option (List ℕ)) → status ≡ status_of fault → ReportsStatus status a b
+pub reported_fault : (fault : Fault) (status : ℕ) (a b : Option (List ℕ)) → status ≡ trail_status fault → ReportsTrailStatus status a b
 reported_fault fault status a b is = record { status_is = inr (fault, is); silent = λ none. absurd (some_status fault (sym is ∙ none)) }
 
 -- one after the other, and the greater status
-pub reported_both : (s t r : ℕ) (a b d : Option (List ℕ)) → (r ≡ s) ⊎ (r ≡ t) → s ≤ r → t ≤ r → ReportsStatus s a b → ReportsStatus t b d → ReportsStatus r a d
+pub reported_both : (s t r : ℕ) (a b d : Option (List ℕ)) → (r ≡ s) ⊎ (r ≡ t) → s ≤ r → t ≤ r → ReportsTrailStatus s a b → ReportsTrailStatus t b d → ReportsTrailStatus r a d
 reported_both s t r a b d one first second before after = record {
   status_is = elim one [
-    | inl same ↦ subst (λ n. (n ≡ 0) ⊎ ((fault : Fault) × (n ≡ status_of fault))) (sym same) before.status_is
-    | inr same ↦ subst (λ n. (n ≡ 0) ⊎ ((fault : Fault) × (n ≡ status_of fault))) (sym same) after.status_is
+    | inl same ↦ subst (λ n. (n ≡ 0) ⊎ ((fault : Fault) × (n ≡ trail_status fault))) (sym same) before.status_is
+    | inr same ↦ subst (λ n. (n ≡ 0) ⊎ ((fault : Fault) × (n ≡ trail_status fault))) (sym same) after.status_is
   ];
   silent = λ none. keeps_twice a b d (before.silent (omega (arith, first, none))) (after.silent (omega (arith, second, none)));
 }

@@ -4,20 +4,20 @@ use Rattle.std.specs.Io.KnownBytes.{prepend_known}
 use Rattle.std.specs.Io.Buffered.{reader_buffer, reader_capacity, reader_inner, reader_remaining}
 use Rattle.std.specs.declared.io.buffered.BufReader.{BufReader}
 use Rattle.appender_store.specs.declared.store.Folder.{Ghosts}
-use Rattle.appender_rolling.specs.declared.rolling.clock.Clock.{Ghosts as Readings}
-use Rattle.appender_rolling.specs.Appender.{Appending, OpensNow, OpensSome}
+use Rattle.appender_clock.specs.declared.Clock.{Ghosts as Readings}
+use Rattle.appender_rolling.specs.Appender.{Appending, OpensNow, OpensInSomeFolder}
 use Rattle.appender_rolling.specs.Config.{Config}
-use Rattle.audit_trail_core.specs.Trail.{Trailing, MayFlush}
+use Rattle.audit_trail_core.specs.Trail.{TrailState, MayFlush}
 
 -- a log was opened with one configuration in place of another that equals it
 pub opens_with : {S F C : Type 0} {kind : Ghosts S F} {time : Readings C} {a b : Config} (folder : S) (clock : C) (new : Appending S F C) → a ≡ b
-    → OpensNow kind time a folder clock new → OpensSome kind time b new
+    → OpensNow kind time a folder clock new → OpensInSomeFolder kind time b new
 opens_with {kind = kind} {time = time} folder clock new same opens = (folder, clock, subst (λ config. OpensNow kind time config folder clock new) same opens)
 
 -- an equal log was opened
 pub opens_same : {S F C : Type 0} {kind : Ghosts S F} {time : Readings C} {config : Config} {new same : Appending S F C} → same ≡ new
-    → OpensSome kind time config new → OpensSome kind time config same
-opens_same {kind = kind} {time = time} {config = config} is = subst (OpensSome kind time config) (sym is)
+    → OpensInSomeFolder kind time config new → OpensInSomeFolder kind time config same
+opens_same {kind = kind} {time = time} {config = config} is = subst (OpensInSomeFolder kind time config) (sym is)
 
 -- a consequence of the claim holds if the claim holds
 pub on_ok_by : {T E P Q : Type 0} (result : Result T E) → (P → Q) → OnOk result P → OnOk result Q
@@ -40,7 +40,7 @@ buffers_all remaining buffered input text inner empty capacity reported =
     (sym capacity) ahead
 
 -- less than a MiB is not flushed after a line
-pub left_few : {S F C : Type 0} (kind : Ghosts S F) (unflushed left : ℕ) (old new : Trailing S F C) → MayFlush kind unflushed left old new → left < 1048576
+pub left_few : {S F C : Type 0} (kind : Ghosts S F) (unflushed left : ℕ) (old new : TrailState S F C) → MayFlush kind unflushed left old new → left < 1048576
 left_few kind unflushed left old new flush = elim flush [
   | inl flushed ↦ omega (arith, flushed.0)
   | inr same ↦ same.1

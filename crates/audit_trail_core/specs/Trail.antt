@@ -8,15 +8,15 @@ use Rattle.appender_store.specs.Content.{body_at}
 use Rattle.appender_store.specs.declared.store.Folder.{Ghosts}
 use Rattle.appender_rolling.specs.declared.rolling.Switch.{Switch}
 use Rattle.appender_rolling.specs.declared.rolling.Switch.TheVariants.{None as Stayed}
-use Rattle.appender_rolling.specs.declared.rolling.clock.Clock.{Ghosts as Readings}
-use Rattle.appender_rolling.specs.Appender.{Appending, FlushesNow, OpensSome}
+use Rattle.appender_clock.specs.declared.Clock.{Ghosts as Readings}
+use Rattle.appender_rolling.specs.Appender.{Appending, FlushesNow, OpensInSomeFolder}
 use Rattle.appender_rolling.specs.Config.{Config}
-use Rattle.appender_rolling.specs.Roller.{Looks, WritesSoFar}
+use Rattle.appender_rolling.specs.Roller.{ChecksClock, WritesSoFar}
 use Rattle.file_watch.specs.Ends.{EndsLine}
 use Rattle.program_io.specs.Line.{ended}
 
 -- the log of a trail: a log, and whether its open file may end with a part of a line
-pub record Trailing (S F C : Type 0) : Type 0 where
+pub record TrailState (S F C : Type 0) : Type 0 where
   pub log : Appending S F C
   pub cut : Bool
 
@@ -36,67 +36,67 @@ interruptions (Err e ∷ answers) = suc (interruptions answers)
 
 -- Appends to one file with these results, the newest first, each of the bytes that those before it left. This rest is
 -- left. The clock was not read between them, and all but the newest took some bytes or were interrupted.
-pub record Adds {S F C : Type 0} (kind : Ghosts S F) (answers : List (Result ℕ Error)) (bytes rest : List ℕ) (old new : Appending S F C) : Type 0 where
+pub record AppendsPieces {S F C : Type 0} (kind : Ghosts S F) (answers : List (Result ℕ Error)) (bytes rest : List ℕ) (old new : Appending S F C) : Type 0 where
   pub so_far : WritesSoFar kind answers bytes rest old.roller new.roller
   pub clock : new.clock ≡ old.clock
 
 -- this number of the bytes were added, and not all
-pub record AddsPart {S F C : Type 0} (kind : Ghosts S F) (bytes : List ℕ) (taken : ℕ) (old new : Appending S F C) : Type 0 where
+pub record AppendsPart {S F C : Type 0} (kind : Ghosts S F) (bytes : List ℕ) (taken : ℕ) (old new : Appending S F C) : Type 0 where
   pub answers : List (Result ℕ Error)
   pub rest : List ℕ
-  pub adds : Adds kind answers bytes rest old new
+  pub adds : AppendsPieces kind answers bytes rest old new
   pub taken_is : taken ≡ length adds.so_far.taken
   pub some : rest ≢ []
 
--- The clock was read, and it was checked whether a file is due at the moment that it returned, with so many bytes to write. If
+-- The clock was read, and it was checked whether a file is due at the moment that it returned, with this number of bytes to write. If
 -- that began no file, nothing changed. Else the end of the open file was read, since another run may have left a part of a line
 -- there.
-pub record LooksAtClock {S F C : Type 0} (kind : Ghosts S F) (time : Readings C) (len : ℕ) (old new : Trailing S F C) : Type 0 where
+pub record ChecksTrailClock {S F C : Type 0} (kind : Ghosts S F) (time : Readings C) (len : ℕ) (old new : TrailState S F C) : Type 0 where
   pub moment : ℤ
   pub reading : time.now_gives old.log.clock moment
   pub switch : Switch
-  pub looks : Looks kind moment len switch old.log.roller new.log.roller
+  pub looks : ChecksClock kind moment len switch old.log.roller new.log.roller
   pub clock : new.log.clock ≡ old.log.clock
   pub same : switch ≡ Stayed → new.cut ≡ old.cut
   pub seen : new.cut ≡ false → EndsWhole kind new.log
 
 -- a newline was added if the open file might have ended with a part of a line, and else nothing
 abbrev pub EndsPart : {S F C : Type 0} → Ghosts S F → Bool → List (Result ℕ Error) → Appending S F C → Appending S F C → Type 0
-EndsPart kind true answers old new = Adds kind answers (10 ∷ []) [] old new
+EndsPart kind true answers old new = AppendsPieces kind answers (10 ∷ []) [] old new
 EndsPart kind false answers old new = (answers ≡ []) × (new ≡ old)
 
 -- A line was put: after one check of the clock for a line of its length, all of it was added to one file, where it begins a line.
 -- At most 100 appends were interrupted.
-pub record PutsLine {S F C : Type 0} (kind : Ghosts S F) (time : Readings C) (line : List ℕ) (old new : Trailing S F C) : Type 0 where
-  pub looked : Trailing S F C
-  pub looks : LooksAtClock kind time (length line) old looked
+pub record PutsLine {S F C : Type 0} (kind : Ghosts S F) (time : Readings C) (line : List ℕ) (old new : TrailState S F C) : Type 0 where
+  pub looked : TrailState S F C
+  pub looks : ChecksTrailClock kind time (length line) old looked
   pub ending : List (Result ℕ Error)
   pub begun : Appending S F C
   pub ends : EndsPart kind looked.cut ending looked.log begun
   pub begins : EndsWhole kind begun
   pub answers : List (Result ℕ Error)
-  pub adds : Adds kind answers line [] begun new.log
+  pub adds : AppendsPieces kind answers line [] begun new.log
   pub few : interruptions ending + interruptions answers ≤ 100
   pub cut : new.cut ≡ not (ends_with_byte 10 line)
 
 -- The part of a line was not ended, or it was and then this number of the line's bytes were added, and not all, where they begin a line.
-abbrev pub AddsSome : {S F C : Type 0} → Ghosts S F → List ℕ → ℕ → Trailing S F C → Appending S F C → Type 0
-AddsSome {S} {F} {C} kind line taken looked new =
-    ((taken ≡ 0) × (looked.cut ≡ true) × AddsPart kind (10 ∷ []) 0 looked.log new)
+abbrev pub AppendsSome : {S F C : Type 0} → Ghosts S F → List ℕ → ℕ → TrailState S F C → Appending S F C → Type 0
+AppendsSome {S} {F} {C} kind line taken looked new =
+    ((taken ≡ 0) × (looked.cut ≡ true) × AppendsPart kind (10 ∷ []) 0 looked.log new)
     ⊎ ((ending : List (Result ℕ Error)) × (begun : Appending S F C) × EndsPart kind looked.cut ending looked.log begun
-    × EndsWhole kind begun × AddsPart kind line taken begun new)
+    × EndsWhole kind begun × AppendsPart kind line taken begun new)
 
 -- A line was not put whole: after one check of the clock for a line of its length, this number of its bytes were added to one file,
 -- where they begin a line.
-pub record PutsPart {S F C : Type 0} (kind : Ghosts S F) (time : Readings C) (line : List ℕ) (taken : ℕ) (old new : Trailing S F C) : Type 0 where
-  pub looked : Trailing S F C
-  pub looks : LooksAtClock kind time (length line) old looked
-  pub adds : AddsSome kind line taken looked new.log
+pub record PutsPart {S F C : Type 0} (kind : Ghosts S F) (time : Readings C) (line : List ℕ) (taken : ℕ) (old new : TrailState S F C) : Type 0 where
+  pub looked : TrailState S F C
+  pub looks : ChecksTrailClock kind time (length line) old looked
+  pub adds : AppendsSome kind line taken looked new.log
   pub cut : taken ≢ 0 → new.cut ≡ true
 
 -- After a line, if this number of bytes were put since the last flush: either the log was flushed, or less than a MiB
 -- is not flushed, and nothing changed. This number is not flushed now. A flush changes no bytes.
-abbrev pub MayFlush : {S F C : Type 0} → Ghosts S F → (unflushed left : ℕ) → Trailing S F C → Trailing S F C → Type 0
+abbrev pub MayFlush : {S F C : Type 0} → Ghosts S F → (unflushed left : ℕ) → TrailState S F C → TrailState S F C → Type 0
 MayFlush kind unflushed left old new =
     ((left ≡ 0) × FlushesNow kind (Ok tt) old.log new.log × (new.cut ≡ old.cut))
     ⊎ ((left ≡ unflushed) × (left < 1048576) × (new ≡ old))
@@ -104,10 +104,10 @@ MayFlush kind unflushed left old new =
 -- This number of lines of a text were put, each whole with its newline, one after another. A last line without a newline
 -- gets one. After each line the log may be flushed, and is so at the latest when a MiB was put since the last flush, or
 -- since the start. This number of bytes is not flushed. This rest of the text is left. If nothing is left there is no line.
-abbrev pub PutsLines : {S F C : Type 0} → Ghosts S F → Readings C → (count unflushed : ℕ) → List ℕ → Trailing S F C → List ℕ → Trailing S F C → Type 0
+abbrev pub PutsLines : {S F C : Type 0} → Ghosts S F → Readings C → (count unflushed : ℕ) → List ℕ → TrailState S F C → List ℕ → TrailState S F C → Type 0
 PutsLines kind time zero unflushed text start rest now = (unflushed ≡ 0) × (rest ≡ text) × (now ≡ start)
 PutsLines {S} {F} {C} kind time (suc count) unflushed text start rest now =
-    (before : ℕ) × (left : List ℕ) × (last : Trailing S F C) × (put : Trailing S F C)
+    (before : ℕ) × (left : List ℕ) × (last : TrailState S F C) × (put : TrailState S F C)
     × PutsLines kind time count before text start left last × (left ≢ [])
     × PutsLine kind time (ended (take_through 10 left)) last put
     × MayFlush kind (before + length (ended (take_through 10 left))) unflushed put now
@@ -116,21 +116,21 @@ PutsLines {S} {F} {C} kind time (suc count) unflushed text start rest now =
 -- ---- a run
 
 -- The trail's log: a file a day, `audit.yyyy-MM-dd.log`, and a link to the newest. So many files are kept, known by their names; 0 is
--- all of them. Each takes so many bytes, and a number follows the date in its name; 0 is no limit, and there is no number.
+-- all of them. Each takes this number of bytes, and a number follows the date in its name; 0 is no limit, and there is no number.
 abbrev pub trail_config : (files bytes : ℕ) → Config
 trail_config files bytes = record { rotation = rotation_of Daily; prefix = codes "audit"; suffix = codes "log"; link = codes "latest.log"; max_files = files; by_name = true; max_bytes = bytes }
 
 -- all lines of the text were put, with flushes between them, and then the log was flushed
-pub record FlushesLines {S F C : Type 0} (kind : Ghosts S F) (time : Readings C) (text : List ℕ) (begun now : Trailing S F C) : Type 0 where
+pub record FlushesLines {S F C : Type 0} (kind : Ghosts S F) (time : Readings C) (text : List ℕ) (begun now : TrailState S F C) : Type 0 where
   pub count : ℕ
   pub unflushed : ℕ
-  pub written : Trailing S F C
+  pub written : TrailState S F C
   pub puts : PutsLines kind time count unflushed text begun [] written
   pub flushes : FlushesNow kind (Ok tt) written.log now.log
 
 -- The log was opened, all lines of the text were put into it, and it was flushed. It is this log now.
-pub record KeepsLines {S F C : Type 0} (kind : Ghosts S F) (time : Readings C) (files bytes : ℕ) (text : List ℕ) (kept : Trailing S F C) : Type 0 where
-  pub begun : Trailing S F C
-  pub opens : OpensSome kind time (trail_config files bytes) begun.log
+pub record KeepsLines {S F C : Type 0} (kind : Ghosts S F) (time : Readings C) (files bytes : ℕ) (text : List ℕ) (kept : TrailState S F C) : Type 0 where
+  pub begun : TrailState S F C
+  pub opens : OpensInSomeFolder kind time (trail_config files bytes) begun.log
   pub seen : begun.cut ≡ false → EndsWhole kind begun.log
   pub lines : FlushesLines kind time text begun kept

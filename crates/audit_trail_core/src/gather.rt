@@ -1,18 +1,20 @@
 //! The lines of several sources in one log, and the account of them.
 ghost use Rattle.std.specs.Prelude.{◌≡◌, ◌⊎◌, ℕ, ◌+◌, ◌-◌, ◌^◌, ◌<◌, ◌≤◌, IfOk, sum_by, vec_len};
 ghost use Rattle.std.specs.Io.KnownBytes.{Appends};
-ghost use Rattle.audit_trail_core.specs.Fault.{account_text, status_of, ReportsStatus};
+ghost use Rattle.audit_trail_core.specs.Fault.{account_text, trail_status, ReportsTrailStatus};
 ghost use Rattle.audit_trail_core.specs.Gather.{SendsLines};
 
 use crate::trail::{Fault, Limits, TrailLog, open_trail, report_fault};
 use file_watch::FileCounts;
-use program_io::{Host, ShortLines, end_line, read_line};
+use program_io::{ShortLines, end_line, read_line};
 use std::alloc::{AllocError, Global};
 use std::fs::File;
 use std::io;
 use std::io::{BufRead, BufReader, Read, Write};
 use std::sync::Arc;
-use tracing_appender::non_blocking::{Account, CountedWork, LineSender, NonBlockingBuilder, Sent};
+use tracing_appender::non_blocking::{
+    Account, CountedWork, Host, LineSender, NonBlockingBuilder, Sent,
+};
 use tracing_appender::rolling::InitError;
 use tracing_appender::worker::CountingWriter;
 
@@ -89,7 +91,7 @@ pub fn keep_all<R: Host, T: Trails, O: Write, E: Write>(
     output: &mut O,
     errors: &mut E,
 ) -> u8
-    ensures reported { ReportsStatus result (E.contents errors.old) (E.contents errors.new) }
+    ensures reported { ReportsTrailStatus result (E.contents errors.old) (E.contents errors.new) }
     ensures all_handed { result ≡ 0 → (lines : ℕ) × Appends (O.contents output.old) (O.contents output.new)
         (account_text lines lines 0 0) }
 {
@@ -123,7 +125,7 @@ fn keep_sources<
     O: Write,
     E: Write,
 >(rt: R, log: L, sources: Sources<'_, I>, counts: &FileCounts, output: &mut O, errors: &mut E) -> u8
-    ensures reported { ReportsStatus result (E.contents errors.old) (E.contents errors.new) }
+    ensures reported { ReportsTrailStatus result (E.contents errors.old) (E.contents errors.new) }
     ensures all_handed { result ≡ 0 → (lines : ℕ) × Appends (O.contents output.old) (O.contents output.new)
         (account_text lines lines 0 0) }
 {
@@ -143,7 +145,7 @@ fn report_gathered<I: Drop, O: Write, E: Write>(
     output: &mut O,
     errors: &mut E,
 ) -> u8
-    ensures reported { ReportsStatus result (E.contents errors.old) (E.contents errors.new) }
+    ensures reported { ReportsTrailStatus result (E.contents errors.old) (E.contents errors.new) }
     ensures printed { result ≡ 0 → Appends (O.contents output.old) (O.contents output.new)
         (account_text gathered.0.accepted gathered.0.handed gathered.0.left gathered.0.dropped) }
 {
@@ -163,7 +165,8 @@ fn greater(one: u8, other: u8) -> u8
     if one < other { other } else { one }
 }
 
-// Gathers the lines of the sources, and returns also how many the log did not take whole.
+// Gathers the lines of the sources, and returns also how many the log did not take whole. Each is written by itself: the
+// error of a batch does not say how much of it a `LineLog` wrote, so the counts would not be exact.
 fn gather_counting<L: Write + Send + Drop + 'static, I: Read + Send + Drop, R: Host>(
     rt: R,
     log: L,
@@ -180,7 +183,7 @@ fn gather_counting<L: Write + Send + Drop + 'static, I: Read + Send + Drop, R: H
 
 // Reports the number of lines that were not written whole, if there are any, and returns the status of that.
 fn report_lost<E: Write>(lost: u64, errors: &mut E) -> u8
-    ensures reported { ReportsStatus result (E.contents errors.old) (E.contents errors.new) }
+    ensures reported { ReportsTrailStatus result (E.contents errors.old) (E.contents errors.new) }
     ensures none { result ≡ 0 → lost ≡ 0 }
 {
     if lost == 0 {
@@ -191,7 +194,7 @@ fn report_lost<E: Write>(lost: u64, errors: &mut E) -> u8
 
 // Reports the faults of log files that were counted, and returns the greatest status of these.
 fn report_files<E: Write>(counts: &FileCounts, errors: &mut E) -> u8
-    ensures { ReportsStatus result (E.contents errors.old) (E.contents errors.new) }
+    ensures { ReportsTrailStatus result (E.contents errors.old) (E.contents errors.new) }
 {
     let gone = report_gone(counts.gone(), errors);
     let unsynced = report_unsynced(counts.unsynced(), errors);
@@ -200,7 +203,7 @@ fn report_files<E: Write>(counts: &FileCounts, errors: &mut E) -> u8
 
 // Reports the number of log files that were not found again, if there are any, and returns the status of that.
 fn report_gone<E: Write>(gone: u64, errors: &mut E) -> u8
-    ensures reported { ReportsStatus result (E.contents errors.old) (E.contents errors.new) }
+    ensures reported { ReportsTrailStatus result (E.contents errors.old) (E.contents errors.new) }
     ensures none { result ≡ 0 → gone ≡ 0 }
 {
     if gone == 0 {
@@ -209,9 +212,10 @@ fn report_gone<E: Write>(gone: u64, errors: &mut E) -> u8
     report_fault(&Fault::Gone(gone), errors)
 }
 
-// Reports the number of flushes that failed, if there are any, and returns the status of that.
+// Reports the number of flushes that failed, if there are any, and returns the status of that. They end no source, since
+// the sources share the log.
 fn report_unsynced<E: Write>(unsynced: u64, errors: &mut E) -> u8
-    ensures reported { ReportsStatus result (E.contents errors.old) (E.contents errors.new) }
+    ensures reported { ReportsTrailStatus result (E.contents errors.old) (E.contents errors.new) }
     ensures none { result ≡ 0 → unsynced ≡ 0 }
 {
     if unsynced == 0 {
@@ -247,7 +251,7 @@ fn open_sources<'a, T: Trails, E: Write>(
     paths: &'a [String],
     errors: &mut E,
 ) -> (Sources<'a, T::Source>, u8)
-    ensures { ReportsStatus result.1 (E.contents errors.old) (E.contents errors.new) }
+    ensures { ReportsTrailStatus result.1 (E.contents errors.old) (E.contents errors.new) }
 {
     let mut sources = Sources {
         paths: Vec::new(alloc),
@@ -269,7 +273,7 @@ fn open_or_report<'a, T: Trails, E: Write>(
     sources: &mut Sources<'a, T::Source>,
     errors: &mut E,
 ) -> u8
-    ensures { ReportsStatus result (E.contents errors.old) (E.contents errors.new) }
+    ensures { ReportsTrailStatus result (E.contents errors.old) (E.contents errors.new) }
 {
     match open_one(trails, log, path, sources) {
         Ok(()) => 0,
@@ -290,7 +294,7 @@ fn open_one<'a, T: Trails>(
 
 // Reports each source that was not sent to its end, and returns the greatest status of these.
 fn report_ends<I: Drop, E: Write>(paths: Vec<&str>, sent: Vec<Sending<I>>, errors: &mut E) -> u8
-    ensures { ReportsStatus result (E.contents errors.old) (E.contents errors.new) }
+    ensures { ReportsTrailStatus result (E.contents errors.old) (E.contents errors.new) }
 {
     let mut status = 0;
     for (path, sent) in paths.into_iter().zip(sent) {
@@ -302,7 +306,7 @@ fn report_ends<I: Drop, E: Write>(paths: Vec<&str>, sent: Vec<Sending<I>>, error
 
 // Reports a source that was not sent to its end, and returns the status of that.
 fn report_end<E: Write>(path: &str, ended: Result<(), Fault>, errors: &mut E) -> u8
-    ensures { ReportsStatus result (E.contents errors.old) (E.contents errors.new) }
+    ensures { ReportsTrailStatus result (E.contents errors.old) (E.contents errors.new) }
 {
     match ended {
         Ok(()) => 0,
@@ -312,7 +316,7 @@ fn report_end<E: Write>(path: &str, ended: Result<(), Fault>, errors: &mut E) ->
 
 // Writes the account, and returns the status of that. A fault is reported.
 fn print_account<O: Write, E: Write>(account: Account, output: &mut O, errors: &mut E) -> u8
-    ensures reported { ReportsStatus result (E.contents errors.old) (E.contents errors.new) }
+    ensures reported { ReportsTrailStatus result (E.contents errors.old) (E.contents errors.new) }
     ensures printed { result ≡ 0 → Appends (O.contents output.old) (O.contents output.new)
         (account_text account.accepted account.handed account.left account.dropped) }
 {
@@ -329,7 +333,7 @@ fn print_account<O: Write, E: Write>(account: Account, output: &mut O, errors: &
 
 // Reports the fault of a source on `errors`, and returns its status.
 fn report_source<E: Write>(path: &str, fault: &Fault, errors: &mut E) -> u8
-    ensures { result ≡ status_of fault.now }
+    ensures { result ≡ trail_status fault.now }
 {
     let _ = write!(errors, "{path}: ");
     report_fault(fault, errors)

@@ -1,4 +1,5 @@
-//! Inputs of lines that show whether the next line may have to be waited for.
+//! Inputs of lines that show whether the next line may have to be waited for. A pipe that pauses after all that there was
+//! room for doesn't show it: its lines are synced with the next one.
 ghost use Rattle.std.specs.Prelude.{◌≡◌};
 
 use std::io;

@@ -1,5 +1,5 @@
-//! The work of `audit_trail`: the lines of one input go to the log of the day, each whole and in one file; those of
-//! several files are read side by side, with an account.
+//! The work of `audit_trail`. The lines of one input are written to the log of the day, each whole and in one file. Those
+//! of several files are read side by side, with an account.
 #![tactic(auto)]
 
 pub mod gather;

@@ -3,8 +3,8 @@ ghost use Rattle.std.specs.Prelude.{◌≡◌, ◌≢◌, ◌≤◌, ℕ, IfOk, 
 ghost use Rattle.std.specs.Io.BufRead.{ends_with_byte};
 ghost use Rattle.std.specs.IoError.{error_kind};
 ghost use Rattle.std.specs.declared.io.ErrorKind.TheVariants.{Interrupted};
-ghost use Rattle.audit_trail_core.specs.Trail.{AddsPart, EndsWhole};
-ghost use Rattle.audit_trail_core.specs.Inside.Pieces.{AddsWhole, AppendsOnce, EndsPartWith};
+ghost use Rattle.audit_trail_core.specs.Trail.{AppendsPart, EndsWhole};
+ghost use Rattle.audit_trail_core.specs.Inside.Pieces.{AppendsWhole, AppendsOnce, EndsPartWith};
 
 use file_watch::Watch;
 use std::io;
@@ -21,7 +21,8 @@ const MOST_REPEATS: u32 = 100;
 pub struct LineLog<S: Folder, C: Clock, W: Watch<S>> {
     log: RollingFile<S, C>,
     watch: W,
-    // Whether the open file may end with a part of a line.
+    // Whether the open file may end with a part of a line, also if that can't be seen: an empty line does less harm than
+    // two lines in one.
     cut: bool,
     // The open file's least length in bytes: what it had at its opening, and what was appended.
     length: u64,
@@ -33,9 +34,9 @@ pub struct LineLog<S: Folder, C: Clock, W: Watch<S>> {
 
 impl<S: Folder, C: Clock, W: Watch<S>> Model for LineLog<S, C, W> {
     ghost use Rattle.std.specs.Prelude.{◌≡◌, false};
-    ghost use Rattle.audit_trail_core.specs.Trail.{EndsWhole, Trailing};
+    ghost use Rattle.audit_trail_core.specs.Trail.{EndsWhole, TrailState};
 
-    ghost Value = { Trailing S S.File C };
+    ghost Value = { TrailState S S.File C };
 
     ghost view = { λ l. record { log = l.log; cut = l.cut } };
 
@@ -44,7 +45,7 @@ impl<S: Folder, C: Clock, W: Watch<S>> Model for LineLog<S, C, W> {
 
 /// Why a line is not whole.
 #[derive(Debug, Drop)]
-pub struct LineFault {
+pub struct TrailLineFault {
     /// The number of its first bytes that were taken.
     pub taken: usize,
     /// The last append's error, never `Interrupted`; `WriteZero` if it took nothing.
@@ -53,7 +54,7 @@ pub struct LineFault {
 
 impl<S: Folder, C: Clock, W: Watch<S>> LineLog<S, C, W> {
     ghost use Rattle.std.specs.Prelude.{[], ◌∷◌};
-    ghost use Rattle.audit_trail_core.specs.Trail.{LooksAtClock, PutsLine, PutsPart};
+    ghost use Rattle.audit_trail_core.specs.Trail.{ChecksTrailClock, PutsLine, PutsPart};
 
     /// Returns a log that goes on after what is in the open file.
     pub fn new(log: RollingFile<S, C>, watch: W) -> LineLog<S, C, W>
@@ -73,12 +74,12 @@ impl<S: Folder, C: Clock, W: Watch<S>> LineLog<S, C, W> {
 
     /// Checks the clock once, with the line's length, and then adds all of the line to the open file, where it begins a
     /// line. An interrupted append is repeated, at most 100 times for a line.
-    pub fn write_line(&mut self, line: &[u8]) -> Result<(), LineFault>
+    pub fn write_line(&mut self, line: &[u8]) -> Result<(), TrailLineFault>
         ensures ok { OnOk result (PutsLine S.Folder C.Clock line.now self.old self.new) }
         ensures part { IfErr result (λ fault. PutsPart S.Folder C.Clock line.now fault.taken self.old self.new) }
         ensures err { IfErr result (λ fault. error_kind fault.error ≢ Interrupted) }
     {
-        self.look(line.len());
+        self.check_clock(line.len());
         let repeats = self.end_part()?;
         self.cut = true;
         match add_all(&mut self.log, line, repeats) {
@@ -96,8 +97,8 @@ impl<S: Folder, C: Clock, W: Watch<S>> LineLog<S, C, W> {
     }
 
     // Checks the clock before a line of so many bytes, and how a file ends that is opened then.
-    fn look(&mut self, length: usize)
-        ensures { LooksAtClock S.Folder C.Clock length self.old self.new }
+    fn check_clock(&mut self, length: usize)
+        ensures { ChecksTrailClock S.Folder C.Clock length self.old self.new }
     {
         let moment = self.log.moment();
         self.compare_before(moment, length);
@@ -125,11 +126,11 @@ impl<S: Folder, C: Clock, W: Watch<S>> LineLog<S, C, W> {
 
     // Adds a newline if the open file may end with a part of a line. Returns how many appends were
     // interrupted.
-    fn end_part(&mut self) -> Result<u32, LineFault>
+    fn end_part(&mut self) -> Result<u32, TrailLineFault>
         ensures ok { IfOk result (λ repeats. EndsPartWith S.Folder self.old.cut repeats self.old.log self.new.log) }
         ensures whole { OnOk result (self.new.cut ≡ false) }
         ensures part { IfErr result (λ fault. (fault.taken ≡ 0) × (self.old.cut ≡ true)
-            × AddsPart S.Folder (10 ∷ []) 0 self.old.log self.new.log) }
+            × AppendsPart S.Folder (10 ∷ []) 0 self.old.log self.new.log) }
         ensures cut { OnErr result (self.new.cut ≡ true) }
         ensures err { IfErr result (λ fault. error_kind fault.error ≢ Interrupted) }
     {
@@ -142,11 +143,12 @@ impl<S: Folder, C: Clock, W: Watch<S>> LineLog<S, C, W> {
                 self.cut = false;
                 Ok(repeats)
             }
-            Err(fault) => Err(LineFault { taken: 0, ..fault }),
+            Err(fault) => Err(TrailLineFault { taken: 0, ..fault }),
         }
     }
 
-    // Compares the open file with what its name leads to, and its length, until a difference is reported.
+    // Compares the open file with what its name leads to, and its length, until a difference is reported. Other programs
+    // may make the file longer, so only a shorter one is a difference.
     fn compare(&mut self)
         ensures { self.new ≡ self.old }
     {
@@ -228,10 +230,10 @@ fn add_all<S: Folder, C: Clock>(
     log: &mut RollingFile<S, C>,
     bytes: &[u8],
     repeats: u32,
-) -> Result<u32, LineFault>
+) -> Result<u32, TrailLineFault>
     requires { repeats ≤ 100 }
-    ensures ok { IfOk result (λ after. AddsWhole S.Folder bytes.now repeats after log.old log.new) }
-    ensures err { IfErr result (λ fault. AddsPart S.Folder bytes.now fault.taken log.old log.new) }
+    ensures ok { IfOk result (λ after. AppendsWhole S.Folder bytes.now repeats after log.old log.new) }
+    ensures err { IfErr result (λ fault. AppendsPart S.Folder bytes.now fault.taken log.old log.new) }
     ensures kind { IfErr result (λ fault. error_kind fault.error ≢ Interrupted) }
 {
     let (mut rest, mut repeats) = (bytes, repeats);
@@ -241,7 +243,7 @@ fn add_all<S: Folder, C: Clock>(
             Step::Again => repeats += 1,
             Step::Failed(error) => {
                 let taken = bytes.len() - rest.len();
-                return Err(LineFault { taken, error });
+                return Err(TrailLineFault { taken, error });
             }
         }
     }

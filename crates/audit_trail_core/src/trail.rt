@@ -1,14 +1,14 @@
 //! An audit trail of lines.
 ghost use Rattle.std.specs.Prelude.{◌≡◌, ◌≢◌, ◌≤◌, ℕ, List, [], length, false, Some, Ok, Err, OnOk, IfOk, IfErr, IfSome, IsOk};
 ghost use Rattle.std.specs.Io.KnownBytes.{Keeps};
-ghost use Rattle.audit_trail_core.specs.Fault.{line_fault, opening_fault, options_fault, status_of, unless_memory, words_of, ReportsFault};
+ghost use Rattle.audit_trail_core.specs.Fault.{line_fault, opening_fault, trail_options_fault, trail_status, trail_fault_unless_memory, trail_fault_words, ReportsTrailFault};
 ghost use Rattle.audit_trail_core.specs.Trail.{EndsWhole, MayFlush, PutsLine, PutsLines, FlushesLines, KeepsLines, trail_config};
-ghost use Rattle.appender_rolling.specs.Appender.{FlushesNow, OpensSome};
+ghost use Rattle.appender_rolling.specs.Appender.{FlushesNow, OpensInSomeFolder};
 ghost use Rattle.std.specs.IoError.{error_kind};
 ghost use Rattle.audit_trail_core.specs.declared.trail.Fault.TheVariants.{Account, Read, Write};
 
 use crate::input::{InputReads, LineInput};
-use crate::lines::{LineFault, LineLog};
+use crate::lines::{LineLog, TrailLineFault};
 use file_watch::{DirWatch, FileCounts, Watch};
 use program_io::report::report;
 use program_io::{ShortLines, end_line, read_line};
@@ -24,7 +24,7 @@ use tracing_appender::policy::Waits;
 use tracing_appender::rolling::{Builder, Clock, InitError, RollingFile, Rotation, SystemClock};
 use tracing_appender::store::{Folder, NoticeKind};
 
-/// The log is flushed whenever so many bytes were written since the last flush.
+/// The log is flushed whenever this number of bytes was written since the last flush.
 const FLUSHED_BYTES: usize = 1 << 20;
 
 /// How many files a trail keeps, and how many bytes each takes.
@@ -95,7 +95,7 @@ pub enum Fault {
 impl Fault {
     // Returns the status that the program ends with.
     fn status(&self) -> u8
-        ensures { result ≡ status_of self.now }
+        ensures { result ≡ trail_status self.now }
     {
         match self {
             Fault::Usage | Fault::Unknown(_) | Fault::Option(..) | Fault::Argument => 2,
@@ -106,7 +106,7 @@ impl Fault {
 
     // Returns what is reported of it, on a line, if that is the same for all faults of its kind; else nothing.
     fn words(&self) -> &'static [u8]
-        ensures { IfSome (words_of self.now) (λ words. result.now ≡ words) }
+        ensures { IfSome (trail_fault_words self.now) (λ words. result.now ≡ words) }
     {
         match self {
             Fault::Usage => b"usage: audit_trail DIRECTORY [SOURCE..]\n",
@@ -121,7 +121,7 @@ impl Fault {
 
     /// Returns this fault, or `Memory` if its cause is of the kind `OutOfMemory`.
     pub fn unless_memory(self, kind: ErrorKind) -> Fault
-        ensures { result ≡ unless_memory kind self }
+        ensures { result ≡ trail_fault_unless_memory kind self }
     {
         match kind {
             ErrorKind::OutOfMemory => Fault::Memory,
@@ -131,7 +131,7 @@ impl Fault {
 
     /// A fault of writing.
     pub(crate) fn of_write(error: io::Error) -> Fault
-        ensures { result ≡ unless_memory (error_kind error) (Write error) }
+        ensures { result ≡ trail_fault_unless_memory (error_kind error) (Write error) }
     {
         let kind = error.kind();
         Fault::Write(error).unless_memory(kind)
@@ -139,14 +139,14 @@ impl Fault {
 
     /// A fault of writing the account.
     pub(crate) fn of_account(error: io::Error) -> Fault
-        ensures { result ≡ unless_memory (error_kind error) (Account error) }
+        ensures { result ≡ trail_fault_unless_memory (error_kind error) (Account error) }
     {
         let kind = error.kind();
         Fault::Account(error).unless_memory(kind)
     }
 
     // A fault of writing a line.
-    fn of_line(fault: LineFault) -> Fault
+    fn of_line(fault: TrailLineFault) -> Fault
         ensures { result ≡ line_fault fault.taken fault.error }
     {
         let kind = fault.error.kind();
@@ -167,7 +167,7 @@ impl From<AllocError> for Fault {
 
 /// A fault of the options.
 impl From<OptionFault> for Fault {
-    ghost from_gives = { λ fault reported. reported ≡ options_fault fault };
+    ghost from_gives = { λ fault reported. reported ≡ trail_options_fault fault };
 
     fn from(fault: OptionFault) -> Fault {
         match fault {
@@ -196,7 +196,7 @@ impl From<InitError> for Fault {
 
 /// A fault of reading.
 impl From<io::Error> for Fault {
-    ghost from_gives = { λ error fault. fault ≡ unless_memory (error_kind error) (Read error) };
+    ghost from_gives = { λ error fault. fault ≡ trail_fault_unless_memory (error_kind error) (Read error) };
 
     fn from(error: io::Error) -> Fault {
         let kind = error.kind();
@@ -205,9 +205,9 @@ impl From<io::Error> for Fault {
 }
 
 /// A runtime that waits while the disk is full, and says so on its standard error.
-pub trait Waiter: Wait + time::Clock + Eprint + Drop {}
+pub trait WaitHost: Wait + time::Clock + Eprint + Drop {}
 
-impl<H: Wait + time::Clock + Eprint + Drop> Waiter for H {}
+impl<H: Wait + time::Clock + Eprint + Drop> WaitHost for H {}
 
 /// The folder of a trail. Each append to it waits while the disk is full or has another fault that may pass, and the folder
 /// prints that on standard error.
@@ -222,7 +222,7 @@ pub type TrailLog<R, H> = LineLog<TrailFolder<R, H>, SystemClock<R>, DirWatch<R>
 /// `host`, whose standard error says so. The first fault goes to `errors`, whose own faults are ignored. The error is the status
 /// of the process: 1 if the log was not opened, the input not read, a line not written whole, a flush failed or a log
 /// file was not found again; 2 if there isn't one argument; 3 if memory was refused.
-pub fn keep<R: Runtime + AllocGlobal, H: Waiter, I: Read, E: Write>(
+pub fn keep<R: Runtime + AllocGlobal, H: WaitHost, I: Read, E: Write>(
     rt: &R,
     host: H,
     limits: Limits,
@@ -234,7 +234,7 @@ pub fn keep<R: Runtime + AllocGlobal, H: Waiter, I: Read, E: Write>(
     ensures usage { length arguments.now ≢ 1 → result ≡ Err 2 }
     ensures silent { IsOk result → Keeps (E.contents errors.old) (E.contents errors.new) }
     ensures reported { IfErr result (λ status. (fault : Fault) ×
-        ReportsFault fault status (E.contents errors.old) (E.contents errors.new)) }
+        ReportsTrailFault fault status (E.contents errors.old) (E.contents errors.new)) }
     ensures lines { IfOk result (λ log. (text : List ℕ) → I.remaining input.old ≡ Some text →
         KeepsLines ⟦<TrailFolder<R, H> as Folder>⟧ ⟦<SystemClock<R> as Clock>⟧ limits.files limits.bytes text log) }
     ensures synced { IfOk result (λ log. (⟦<TrailFolder<R, H> as Folder>⟧.noted log.log.roller.folder).flushes ≡ 0) }
@@ -247,7 +247,7 @@ pub fn keep<R: Runtime + AllocGlobal, H: Waiter, I: Read, E: Write>(
 
 /// Reports a fault on `errors`, and returns its status.
 pub fn report_fault<E: Write>(fault: &Fault, errors: &mut E) -> u8
-    ensures { ReportsFault fault.now result (E.contents errors.old) (E.contents errors.new) }
+    ensures { ReportsTrailFault fault.now result (E.contents errors.old) (E.contents errors.new) }
 {
     let words = fault.words();
     let _ = if words.is_empty() {
@@ -258,7 +258,7 @@ pub fn report_fault<E: Write>(fault: &Fault, errors: &mut E) -> u8
     fault.status()
 }
 
-fn copy_lines<R: Runtime + AllocGlobal, H: Waiter, I: Read>(
+fn copy_lines<R: Runtime + AllocGlobal, H: WaitHost, I: Read>(
     rt: &R,
     host: H,
     limits: Limits,
@@ -278,7 +278,7 @@ fn copy_lines<R: Runtime + AllocGlobal, H: Waiter, I: Read>(
 }
 
 // Opens the log, writes each line of `input` to it, and flushes it.
-fn log_lines<R: Runtime + AllocGlobal, H: Waiter, I: LineInput>(
+fn log_lines<R: Runtime + AllocGlobal, H: WaitHost, I: LineInput>(
     rt: &R,
     host: H,
     limits: Limits,
@@ -296,8 +296,9 @@ fn log_lines<R: Runtime + AllocGlobal, H: Waiter, I: LineInput>(
     Ok(log)
 }
 
-// Returns a fault if a file was not found again, or a flush at a switch failed.
-fn check_files<R: Runtime + AllocGlobal, H: Waiter>(log: &TrailLog<R, H>) -> Result<(), Fault>
+// Returns a fault if a file was not found again, or a flush at a switch failed. Such a flush does not end the run: the
+// next file was open by then.
+fn check_files<R: Runtime + AllocGlobal, H: WaitHost>(log: &TrailLog<R, H>) -> Result<(), Fault>
     ensures { OnOk result ((⟦<TrailFolder<R, H> as Folder>⟧.noted log.now.log.roller.folder).flushes ≡ 0) }
 {
     match log.watch().counts().gone() {
@@ -340,14 +341,14 @@ fn flush<S: Folder, C: Clock, W: Watch<S>>(log: &mut LineLog<S, C, W>) -> Result
 
 /// Opens the trail in a folder, which is made if it is absent, with files within `limits`. `counts` has the faults of its
 /// files.
-pub fn open_trail<R: Runtime + AllocGlobal, H: Waiter>(
+pub fn open_trail<R: Runtime + AllocGlobal, H: WaitHost>(
     rt: &R,
     host: H,
     limits: Limits,
     directory: &str,
     counts: Arc<FileCounts, Global>,
 ) -> Result<TrailLog<R, H>, InitError>
-    ensures opens { IfOk result (λ trail. OpensSome ⟦<TrailFolder<R, H> as Folder>⟧ ⟦<SystemClock<R> as Clock>⟧
+    ensures opens { IfOk result (λ trail. OpensInSomeFolder ⟦<TrailFolder<R, H> as Folder>⟧ ⟦<SystemClock<R> as Clock>⟧
         (trail_config limits.files limits.bytes) trail.log) }
     ensures seen { IfOk result (λ trail. trail.cut ≡ false → EndsWhole ⟦<TrailFolder<R, H> as Folder>⟧ trail.log) }
 {
@@ -357,15 +358,16 @@ pub fn open_trail<R: Runtime + AllocGlobal, H: Waiter>(
 
 /// Opens the log of the day in a folder, which is made if it is absent, with files within `limits`. Each flush syncs its
 /// file.
-pub fn open_log<R: Runtime + AllocGlobal, H: Waiter>(
+pub fn open_log<R: Runtime + AllocGlobal, H: WaitHost>(
     rt: &R,
     host: H,
     limits: Limits,
     directory: &str,
 ) -> Result<RollingFile<TrailFolder<R, H>, SystemClock<R>>, InitError>
-    ensures { IfOk result (OpensSome ⟦<TrailFolder<R, H> as Folder>⟧ ⟦<SystemClock<R> as Clock>⟧
+    ensures { IfOk result (OpensInSomeFolder ⟦<TrailFolder<R, H> as Folder>⟧ ⟦<SystemClock<R> as Clock>⟧
         (trail_config limits.files limits.bytes)) }
 {
+    // Retention would note an absent folder.
     fs::create_dir_all(rt, directory).map_err(InitError::Directory)?;
     let settings = settings(rt.alloc(), limits)?;
     let clock = SystemClock::new(rt.clone()?);
@@ -414,7 +416,7 @@ pub fn write_lines<I: LineInput, S: Folder, C: Clock, W: Watch<S>>(
 }
 
 // Flushes the log if its input may have to be waited for, or a MiB was written since the last flush. Returns the number
-// of bytes that were written since then.
+// of bytes that were written since then. A sync after each read would wait for the disk every 8 KiB.
 fn flush_if_due<S: Folder, C: Clock, W: Watch<S>>(
     waits: bool,
     unflushed: usize,

@@ -1,5 +1,5 @@
 // A bounded channel, as `std::sync::mpsc::sync_channel` makes in Rust.
-use crate::queue::{Ending, Limit, LineSender, Queue};
+use crate::queue::{BenchSender, Ending, Limit, Queue};
 use crate::sink::Sink;
 use crossbeam_channel::{Receiver, Sender};
 use std::alloc::Global;
@@ -19,7 +19,7 @@ pub(crate) struct ChannelSender {
     dropped: Arc<AtomicU64, Global>,
 }
 
-impl LineSender for ChannelSender {
+impl BenchSender for ChannelSender {
     fn send<R: Wait>(&mut self, rt: &R, line: &[u8]) {
         let Ok(line) = line.to_vec(self.alloc) else {
             return;

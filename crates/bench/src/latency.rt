@@ -1,10 +1,10 @@
 // The time of one lossy write, at 100,000 writes a second.
 use crate::channel::start_channel;
 use crate::plain::start_plain;
-use crate::queue::{Ending, Limit, LineSender, Queue, start_ours};
+use crate::queue::{BenchSender, Ending, Limit, Queue, start_ours};
 use crate::row;
 use crate::row::Row;
-use appender_non_blocking::non_blocking::DEFAULT_BUFFERED_LINES_LIMIT;
+use appender_non_blocking::non_blocking::{DEFAULT_BUFFERED_LINES_LIMIT, Host};
 use std::alloc::Global;
 use std::fs::OpenOptions;
 use std::hint::spin_loop;
@@ -35,14 +35,14 @@ struct Direct<W: Write> {
     file: W,
 }
 
-impl<W: Write> LineSender for Direct<W> {
+impl<W: Write> BenchSender for Direct<W> {
     fn send<R: Wait>(&mut self, _rt: &R, line: &[u8]) {
         let _ = self.file.write(line);
     }
 }
 
 /// Measures each queue, and writes to a file, once a round.
-pub(crate) fn compare<R: Files + Threads + Wait + Clock + Print + Eprint + Copy + Send + 'static>(
+pub(crate) fn compare<R: Files + Host>(
     rt: R,
     alloc: Global,
     case: Case,
@@ -66,7 +66,7 @@ pub(crate) fn compare<R: Files + Threads + Wait + Clock + Print + Eprint + Copy 
     Ok(())
 }
 
-fn send_through<S: LineSender + Drop, E: Ending + Drop, R: Threads + Wait + Clock + Print>(
+fn send_through<S: BenchSender + Drop, E: Ending + Drop, R: Threads + Wait + Clock + Print>(
     rt: &R,
     alloc: Global,
     queue: Queue<S, E>,
@@ -86,7 +86,7 @@ fn send_through<S: LineSender + Drop, E: Ending + Drop, R: Threads + Wait + Cloc
     Ok(())
 }
 
-fn measure<S: LineSender, R: Wait + Clock + Print>(
+fn measure<S: BenchSender, R: Wait + Clock + Print>(
     rt: &R,
     alloc: Global,
     sender: &mut S,
@@ -116,7 +116,7 @@ fn measure<S: LineSender, R: Wait + Clock + Print>(
 }
 
 // Returns the nanoseconds that each line takes, the shortest time first. Each time includes one reading of the clock.
-fn times_of<S: LineSender, R: Wait + Clock>(
+fn times_of<S: BenchSender, R: Wait + Clock>(
     rt: &R,
     alloc: Global,
     sender: &mut S,

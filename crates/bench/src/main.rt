@@ -11,7 +11,7 @@ mod row;
 mod sink;
 mod throughput;
 
-use appender_non_blocking::non_blocking::NonBlockingBuilder;
+use appender_non_blocking::non_blocking::{Host, NonBlockingBuilder};
 use appender_rolling::rolling::{Builder, FileAppender, Rotation};
 use direct::Log;
 use queue::Limit;
@@ -101,12 +101,7 @@ fn numbers_of(rt: &(impl Env + Alloc), alloc: Global) -> io::Result<Vec<u32>> {
     Ok(numbers)
 }
 
-fn run<R: Files + Threads + Wait + Clock + Print + Eprint + Copy + Send + 'static>(
-    rt: R,
-    alloc: Global,
-    mode: &str,
-    numbers: &[u32],
-) -> io::Result<()> {
+fn run<R: Files + Host>(rt: R, alloc: Global, mode: &str, numbers: &[u32]) -> io::Result<()> {
     match (mode, numbers) {
         ("idle", [seconds]) => idle(rt, alloc, *seconds),
         ("write", [rounds, lines, bytes]) => {
@@ -140,11 +135,7 @@ fn run<R: Files + Threads + Wait + Clock + Print + Eprint + Copy + Send + 'stati
 }
 
 // Keeps a queue idle after its first line.
-fn idle<R: Threads + Wait + Clock + Print + Eprint + Copy + Send + 'static>(
-    rt: R,
-    alloc: Global,
-    seconds: u32,
-) -> io::Result<()> {
+fn idle<R: Host>(rt: R, alloc: Global, seconds: u32) -> io::Result<()> {
     let (sender, guard) = NonBlockingBuilder::default().finish(rt, alloc, io::sink())?;
     let mut sender = sender;
     sender.write(b"one line\n")?;

@@ -1,5 +1,5 @@
 // A plain queue under a lock. Each line, and each place that becomes free, wakes a thread.
-use crate::queue::{Ending, Limit, LineSender, Queue};
+use crate::queue::{BenchSender, Ending, Limit, Queue};
 use crate::sink::Sink;
 use std::alloc::Global;
 use std::collections::VecDeque;
@@ -60,7 +60,7 @@ pub(crate) struct PlainSender {
     queue: Arc<PlainQueue, Global>,
 }
 
-impl LineSender for PlainSender {
+impl BenchSender for PlainSender {
     fn send<R: Wait>(&mut self, rt: &R, line: &[u8]) {
         if let Ok(line) = line.to_vec(self.alloc) {
             self.queue.put(rt, line);

@@ -1,7 +1,7 @@
 // The queues that are compared.
 use crate::sink::Sink;
 use appender_non_blocking::non_blocking::{
-    ErrorCounter, NonBlocking, NonBlockingBuilder, WorkerGuard,
+    ErrorCounter, Host, NonBlocking, NonBlockingBuilder, WorkerGuard,
 };
 use std::alloc::Global;
 use std::io;
@@ -19,7 +19,7 @@ pub(crate) struct Limit {
 }
 
 /// Takes lines.
-pub(crate) trait LineSender {
+pub(crate) trait BenchSender {
     /// Sends a copy of a line.
     fn send<R: Wait>(&mut self, rt: &R, line: &[u8]);
 }
@@ -31,7 +31,7 @@ pub(crate) trait Ending {
 }
 
 /// A queue that a thread empties into a sink, with its first sender.
-pub(crate) struct Queue<S: LineSender, E: Ending> {
+pub(crate) struct Queue<S: BenchSender, E: Ending> {
     pub(crate) name: &'static str,
     pub(crate) sender: S,
     pub(crate) ending: E,
@@ -39,7 +39,7 @@ pub(crate) struct Queue<S: LineSender, E: Ending> {
     pub(crate) told: Arc<AtomicU64, Global>,
 }
 
-impl<H: Wait + Drop> LineSender for NonBlocking<H> {
+impl<H: Wait + Drop> BenchSender for NonBlocking<H> {
     fn send<R: Wait>(&mut self, _rt: &R, line: &[u8]) {
         let _ = self.write(line);
     }
@@ -47,12 +47,12 @@ impl<H: Wait + Drop> LineSender for NonBlocking<H> {
 
 /// The guard ends the worker.
 #[derive(Drop)]
-pub(crate) struct OurEnding<R: Wait + Clock + Print + Drop> {
+pub(crate) struct OurEnding<R: Host> {
     guard: WorkerGuard<R>,
     counter: ErrorCounter,
 }
 
-impl<H: Wait + Clock + Print + Drop> Ending for OurEnding<H> {
+impl<H: Host> Ending for OurEnding<H> {
     fn end<R: Threads + Wait>(self, _rt: &R) -> u64 {
         let OurEnding { guard, counter } = self;
         drop(guard);
@@ -61,7 +61,7 @@ impl<H: Wait + Clock + Print + Drop> Ending for OurEnding<H> {
 }
 
 /// Starts a queue of this repository.
-pub(crate) fn start_ours<R: Threads + Wait + Clock + Print + Eprint + Copy + Send + 'static>(
+pub(crate) fn start_ours<R: Host>(
     rt: R,
     alloc: Global,
     limit: Limit,

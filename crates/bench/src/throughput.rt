@@ -1,9 +1,10 @@
 // The time of a line, from the first one that is sent until the last one is written.
 use crate::channel::start_channel;
 use crate::plain::start_plain;
-use crate::queue::{Ending, Limit, LineSender, Queue, start_ours};
+use crate::queue::{BenchSender, Ending, Limit, Queue, start_ours};
 use crate::row;
 use crate::row::Row;
+use appender_non_blocking::non_blocking::Host;
 use std::alloc::Global;
 use std::io::ErrorKind;
 use std::sync::atomic::Ordering::SeqCst;
@@ -26,7 +27,7 @@ pub(crate) struct Case<'a> {
 }
 
 /// Measures each queue once a round.
-pub(crate) fn compare<R: Threads + Wait + Clock + Print + Eprint + Copy + Send + 'static>(
+pub(crate) fn compare<R: Host>(
     rt: R,
     alloc: Global,
     case: Case<'_>,
@@ -48,7 +49,7 @@ pub(crate) fn compare<R: Threads + Wait + Clock + Print + Eprint + Copy + Send +
 
 // Fails if a line was neither written nor counted as dropped.
 fn measure<
-    S: LineSender + Clone + Send + Drop + 'static,
+    S: BenchSender + Clone + Send + Drop + 'static,
     E: Ending + Drop,
     R: Threads + Wait + Clock + Print + Copy + Send + 'static,
 >(rt: R, alloc: Global, queue: Queue<S, E>, case: Case<'_>, round: u32) -> io::Result<()> {
@@ -90,7 +91,7 @@ fn measure<
 
 // Sends the lines of a case from its threads, and returns the moment at which they began.
 fn send_all<
-    S: LineSender + Clone + Send + Drop + 'static,
+    S: BenchSender + Clone + Send + Drop + 'static,
     R: Threads + Wait + Clock + Copy + Send + 'static,
 >(rt: R, alloc: Global, sender: S, case: Case<'_>) -> io::Result<Instant> {
     let threads = (case.senders as usize).saturating_add(1);
@@ -110,7 +111,7 @@ fn send_all<
 
 // Starts a thread that sends its lines once all threads have reached the gate.
 fn start_one<
-    S: LineSender + Clone + Send + Drop + 'static,
+    S: BenchSender + Clone + Send + Drop + 'static,
     R: Threads + Wait + Clock + Copy + Send + 'static,
 >(
     rt: R,
@@ -138,7 +139,7 @@ fn join_all<R: Threads>(rt: &R, running: Vec<JoinHandle<()>>) {
     }
 }
 
-fn send_some<S: LineSender + Drop, R: Wait>(rt: &R, sender: S, line: &[u8], count: u32) {
+fn send_some<S: BenchSender + Drop, R: Wait>(rt: &R, sender: S, line: &[u8], count: u32) {
     let mut sender = sender;
     for _ in 0..count {
         sender.send(rt, line);
@@ -146,7 +147,7 @@ fn send_some<S: LineSender + Drop, R: Wait>(rt: &R, sender: S, line: &[u8], coun
 }
 
 // Sends each line by a clone. If a clone can't be made its line is lost, and the check of the counts fails.
-fn send_by_clones<S: LineSender + Clone + Drop, R: Wait>(
+fn send_by_clones<S: BenchSender + Clone + Drop, R: Wait>(
     rt: &R,
     sender: S,
     line: &[u8],

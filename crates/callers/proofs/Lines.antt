@@ -10,13 +10,13 @@ use Rattle.http.specs.Request.{head_of}
 use Rattle.http.specs.Uri.{uri_text}
 use Rattle.http_server.specs.declared.response.Response.{Response}
 use Rattle.tracing_appender.specs.declared.worker.LineFault.{LineFault}
-use Rattle.callers.specs.AccessLog.{line_of, IsWritten}
+use Rattle.callers.specs.AccessLog.{access_line, IsWritten}
 
 ends : (a b c d e : List ℕ) → 0 < length (a ++ (b ++ (c ++ (d ++ (e ++ codes "\n")))))
 ends a b c d e = grind (arith, length-append)
 
 -- a line ends with a newline
-pub some : (request : Request (List ℕ)) (response : Response) → 0 < length (line_of request response)
+pub some : (request : Request (List ℕ)) (response : Response) → 0 < length (access_line request response)
 some request response =
     let head = head_of request in
     ends head.method (codes " ") (uri_text head.uri) (codes " ") (decimal response.status)

@@ -14,12 +14,12 @@ pub record Logged (S W : Type 0) : Type 0 where
   pub lost : ℕ
 
 -- no line was written yet
-abbrev pub logged_none : {S W : Type 0} → S → W → Logged S W
-logged_none service log = record { service = service; log = log; lost = 0 }
+abbrev pub new_logged : {S W : Type 0} → S → W → Logged S W
+new_logged service log = record { service = service; log = log; lost = 0 }
 
 -- the line of a request and the status of its response
-abbrev pub line_of : Request (List ℕ) → Response → List ℕ
-line_of request response =
+abbrev pub access_line : Request (List ℕ) → Response → List ℕ
+access_line request response =
     let head = head_of request in
     head.method ++ (codes " " ++ (uri_text head.uri ++ (codes " " ++ (decimal response.status ++ codes "\n"))))
 
@@ -29,7 +29,7 @@ IsWritten contents line old new whole =
     (n : ℕ) × (n ≤ length line) × (whole ≡ (n == length line)) × Appends (contents old) (contents new) (take n line)
 
 -- The line or a prefix of it was written. It is counted exactly if it is not whole.
-pub record Writes {S W : Type 0} (contents : W → Option (List ℕ)) (line : List ℕ) (old new : Logged S W) : Type 0 where
+pub record WritesLogLine {S W : Type 0} (contents : W → Option (List ℕ)) (line : List ℕ) (old new : Logged S W) : Type 0 where
   pub whole : Bool
   pub written : IsWritten contents line old.log new.log whole
   pub lost : new.lost ≡ (if whole then old.lost else one_more old.lost)

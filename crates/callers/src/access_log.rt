@@ -1,6 +1,6 @@
 //! An access log: one line for each request to a service.
 ghost use Rattle.std.specs.Prelude.{◌≡◌, string_bytes, IfOk};
-ghost use Rattle.callers.specs.AccessLog.{line_of, IsWritten};
+ghost use Rattle.callers.specs.AccessLog.{access_line, IsWritten};
 
 use bytes::Bytes;
 use http::Request;
@@ -29,11 +29,11 @@ impl<S, W> Model for AccessLog<S, W> {
 }
 
 impl<S, W> AccessLog<S, W> {
-    ghost use Rattle.callers.specs.AccessLog.{logged_none};
+    ghost use Rattle.callers.specs.AccessLog.{new_logged};
 
     /// Returns the service with its log.
     pub fn new(alloc: Global, service: S, log: W) -> AccessLog<S, W>
-        ensures { result ≡ logged_none service log }
+        ensures { result ≡ new_logged service log }
     {
         AccessLog {
             alloc,
@@ -52,11 +52,11 @@ impl<S, W> AccessLog<S, W> {
 }
 
 impl<S: Service, W: Write> Service for AccessLog<S, W> {
-    ghost use Rattle.callers.specs.AccessLog.{Writes};
+    ghost use Rattle.callers.specs.AccessLog.{WritesLogLine};
 
     // The service's own response, and the line of the request.
     ghost answers = { λ old request response new. S.answers old.service request response new.service
-        × Writes W.contents (line_of request response) old new };
+        × WritesLogLine W.contents (access_line request response) old new };
 
     fn call(
         &mut self,
@@ -78,7 +78,7 @@ fn write_line<W: Write>(
     request: &Request<Bytes>,
     response: &Response,
 ) -> bool
-    ensures { IsWritten W.contents (line_of request.now response.now) log.old log.new result }
+    ensures { IsWritten W.contents (access_line request.now response.now) log.old log.new result }
 {
     match line(alloc, request, response) {
         Ok(line) => run_line(log, line.as_bytes()).is_ok(),
@@ -87,7 +87,7 @@ fn write_line<W: Write>(
 }
 
 fn line(alloc: Global, request: &Request<Bytes>, response: &Response) -> Result<String, AllocError>
-    ensures { IfOk result (λ line. string_bytes line ≡ line_of request.now response.now) }
+    ensures { IfOk result (λ line. string_bytes line ≡ access_line request.now response.now) }
 {
     let status = response.status.as_u16();
     format!(in alloc; "{} {} {status}\n", request.method(), request.uri())

@@ -1,10 +1,9 @@
 //! An audit sink: lines for a log, and the account of all of them.
 ghost use Rattle.std.specs.Prelude.{◌≡◌, length, IfOk};
 
-use program_io::Host;
 use std::io;
 use std::io::Write;
-use tracing_appender::non_blocking::{Account, CountedWork, LineSender, NonBlockingBuilder};
+use tracing_appender::non_blocking::{Account, CountedWork, Host, LineSender, NonBlockingBuilder};
 use tracing_appender::worker::CountingWriter;
 
 /// Writes each line to the log by a worker thread, and returns the account of the lines. It is an error if the log did

@@ -1,32 +1,23 @@
 //! A structured logger over a log of the day, to which a worker thread writes.
 ghost use Rattle.std.specs.Prelude.{◌≡◌, IfOk};
+ghost use Rattle.tracing_appender.specs.Losses.{no_losses};
 
 use appender_log::LogSink;
 use log::{Level, Log, Logged, info};
-use program_io::Host;
 use std::alloc::AllocError;
 use std::io;
 use std::io::Write;
-use tracing_appender::non_blocking::{Closing, NonBlockingBuilder};
-use tracing_appender::rolling::{FileAppender, InitError, daily};
+use tracing_appender::non_blocking::{Host, Losses, NonBlockingBuilder};
+use tracing_appender::rolling::{FileAppender, daily};
 use tracing_appender::worker::CountingWriter;
-
-/// The account of the records, once the log is closed.
-#[derive(Clone, Copy, Debug, PartialEq, Eq)]
-pub struct Ended {
-    /// The number of records that were not queued, or not written whole.
-    pub lost: u64,
-    /// The result of closing the log.
-    pub closing: Closing,
-}
 
 /// Why records are not in the log.
 #[derive(Debug, Drop)]
 pub enum LoggerError {
     /// The worker was not started, or memory was refused.
     Start(io::Error),
-    /// Records were lost, or the worker has not written all of them.
-    Lost(Ended),
+    /// Records were lost.
+    Lost(Losses),
 }
 
 impl From<io::Error> for LoggerError {
@@ -42,19 +33,18 @@ impl From<AllocError> for LoggerError {
 }
 
 /// Opens the log of the day in a folder, which is made if it does not exist.
-pub fn open_log(rt: HostRuntime, directory: &str) -> Result<FileAppender, InitError> {
-    daily(rt, directory, "service")
+pub fn open_log(rt: HostRuntime, directory: &str) -> io::Result<FileAppender> {
+    Ok(daily(rt, directory, "service")?)
 }
 
-/// Logs one record for each number of rows, through a queue whose senders wait, and closes the log. Returns `Ok` if no
-/// record was lost.
+/// Logs one record for each number of rows, through a queue whose senders wait, and closes the log. Returns `Ok` if
+/// nothing was lost.
 pub fn log_reads<R: Host, W: Write + Send + Drop + 'static>(
     rt: R,
     log: W,
     reads: &[u64],
-) -> Result<Ended, LoggerError>
-    ensures lost { IfOk result (λ ended. ended.lost ≡ 0) }
-    ensures closed { IfOk result (λ ended. ended.closing ≡ Closing.Done 0) }
+) -> Result<Losses, LoggerError>
+    ensures { IfOk result (λ losses. losses ≡ no_losses) }
 {
     let (log, counts) = CountingWriter::new(rt.alloc(), log)?;
     let (lines, guard) = NonBlockingBuilder::default()
@@ -65,11 +55,13 @@ pub fn log_reads<R: Host, W: Write + Send + Drop + 'static>(
     for rows in reads {
         log_read(&logger, *rows);
     }
-    let closing = guard.close();
-    let lost = sink.lost().saturating_add(counts.lost());
-    match closing {
-        Closing::Done { left: 0 } if lost == 0 => Ok(Ended { lost, closing }),
-        _ => Err(LoggerError::Lost(Ended { lost, closing })),
+    let losses = Losses::from(guard.close())
+        .and_records(sink.lost())
+        .and_unwritten(counts.lost());
+    if losses.is_none() {
+        Ok(losses)
+    } else {
+        Err(LoggerError::Lost(losses))
     }
 }
 

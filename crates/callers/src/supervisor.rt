@@ -4,11 +4,11 @@ ghost use Rattle.std.specs.Io.KnownBytes.{Appends};
 ghost use Rattle.tracing_appender.specs.Parts.{part, written_of, is_cut};
 ghost use Rattle.callers.specs.Supervisor.{HasLines, CopiesLines};
 
-use program_io::{Host, read_line};
+use program_io::read_line;
 use std::alloc::Global;
 use std::io;
 use std::io::{BufRead, Write};
-use tracing_appender::non_blocking::{Closing, NonBlockingBuilder};
+use tracing_appender::non_blocking::{Closing, Host, NonBlockingBuilder};
 use tracing_appender::worker::{CountingWriter, run_line};
 
 /// The counts of copied lines.

@@ -1,7 +1,7 @@
 // Each caller over a log in a folder of the disk, and over one that takes no line of two or more bytes.
 use crate::access_log::AccessLog;
 use crate::audit_sink::audit;
-use crate::logger::{Ended, LoggerError, log_reads, open_log};
+use crate::logger::{LoggerError, log_reads, open_log};
 use crate::supervisor::{Captured, Copied, capture, copy};
 use bytes::{BufMut, Bytes};
 use http::Request;
@@ -13,7 +13,7 @@ use std::io::Write;
 use std::process::Abort;
 use std::test::Fail;
 use std::{fs, io};
-use tracing_appender::non_blocking::{Closing, NonBlockingBuilder};
+use tracing_appender::non_blocking::{Closing, Losses, NonBlockingBuilder};
 use tracing_appender::rolling::{FileAppender, never};
 
 const DONE: Closing = Closing::Done { left: 0 };
@@ -49,10 +49,7 @@ impl Write for Full {
 fn open(rt: HostRuntime, name: &str) -> io::Result<FileAppender> {
     let path = format!(in rt.alloc(); "logs/{name}")?;
     let _ = fs::remove_file(&rt, path);
-    match never(rt, "logs", name) {
-        Ok(log) => Ok(log),
-        Err(_) => Err(io::Error::other("no log")),
-    }
+    Ok(never(rt, "logs", name)?)
 }
 
 // Fails the test unless the log of that name has this text.
@@ -82,35 +79,21 @@ fn text_in(rt: &HostRuntime, directory: &str) -> io::Result<String> {
 #[test]
 fn the_logger_writes_each_record(rt: HostRuntime) -> Result<(), Fail> {
     let _ = fs::remove_dir_all(&rt, "service");
-    let Ok(log) = open_log(rt, "service") else {
-        return Err(Fail::from(io::Error::other("no log")));
-    };
-    let Ok(ended) = log_reads(rt, log, &[3, 512]) else {
+    let log = open_log(rt, "service")?;
+    let Ok(losses) = log_reads(rt, log, &[3, 512]) else {
         return Err(Fail::from(io::Error::other("records were lost")));
     };
-    assert_eq!(rt;
-        ended,
-        Ended {
-            lost: 0,
-            closing: DONE
-        }
-    );
+    assert_eq!(rt; losses, Losses::NONE);
     let text = text_in(&rt, "service")?;
     assert_eq!(rt;
         text.as_str(),
         "[INFO  db] read rows=3\n[INFO  db] read rows=512\n"
     );
-    let ended = match log_reads(rt, Full::new(), &[3, 512]) {
-        Err(LoggerError::Lost(ended)) => ended,
+    let losses = match log_reads(rt, Full::new(), &[3, 512]) {
+        Err(LoggerError::Lost(losses)) => losses,
         _ => return Err(Fail::from(io::Error::other("no record was lost"))),
     };
-    assert_eq!(rt;
-        ended,
-        Ended {
-            lost: 2,
-            closing: DONE
-        }
-    );
+    assert_eq!(rt; losses, Losses::NONE.and_unwritten(2));
     Ok(())
 }
 
@@ -159,7 +142,7 @@ fn the_access_log_has_a_line_for_each_request(rt: HostRuntime) -> Result<(), Fai
 }
 
 #[test]
-fn the_supervisor_says_what_was_lost(rt: HostRuntime) -> Result<(), Fail> {
+fn the_supervisor_reports_what_was_lost(rt: HostRuntime) -> Result<(), Fail> {
     let mut output = b"a\n\nbc".as_slice();
     let whole = capture(rt, &mut output, open(rt, "child")?)?;
     assert!(rt; whole.is_whole());

@@ -43,11 +43,16 @@ impl DiskFault {
     }
 }
 
-#[derive(Clone, Copy)]
-pub(crate) enum Kind {
+/// What an entry is.
+#[derive(Clone, Copy, Debug)]
+pub enum Kind {
+    /// A plain file.
     File,
+    /// A symbolic link, whose target is its bytes.
     Link,
+    /// A folder.
     Folder,
+    /// A pipe without a reader.
     Pipe,
 }
 
@@ -158,8 +163,9 @@ pub struct Disk {
     pub room: Cell<Option<usize>>,
     /// Just before the call of this number the first name becomes a link to the second.
     pub link_comes: Cell<Option<(usize, &'static str, &'static str)>>,
-    /// Just before the call of this number the name becomes a pipe without a reader.
-    pub pipe_comes: Cell<Option<(usize, &'static str)>>,
+    /// Just before the call of this number the name becomes an entry of this kind: a file of the byte `x`, or a pipe
+    /// without a reader.
+    pub entry_comes: Cell<Option<(usize, &'static str, Kind)>>,
     /// No file may be read.
     pub hides_bytes: Cell<bool>,
     /// The metadata of this name can't be read.
@@ -186,7 +192,7 @@ impl Disk {
             takes: Cell::new(None),
             room: Cell::new(None),
             link_comes: Cell::new(None),
-            pipe_comes: Cell::new(None),
+            entry_comes: Cell::new(None),
             hides_bytes: Cell::new(false),
             hides: Cell::new(None),
             seconds: Cell::new(0),
@@ -296,8 +302,11 @@ impl Disk {
             Some((at, name, target)) if at == number => self.put_link(name, target)?,
             _ => {}
         }
-        match self.pipe_comes.get() {
-            Some((at, name)) if at == number => self.put(name.as_bytes(), Kind::Pipe, b"")?,
+        match self.entry_comes.get() {
+            Some((at, name, Kind::File)) if at == number => {
+                self.put(name.as_bytes(), Kind::File, b"x")?
+            }
+            Some((at, name, kind)) if at == number => self.put(name.as_bytes(), kind, b"")?,
             _ => {}
         }
         if self.fails_at.get() == Some(number) || self.fails_each.get() == Some(call) {

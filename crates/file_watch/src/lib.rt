@@ -8,12 +8,11 @@ use std::alloc::{AllocError, Global};
 use std::fs::{Metadata, OpenFile, OpenOptions};
 use std::io::{ErrorKind, Read, Seek, SeekFrom};
 use std::os::unix::fs::MetadataExt;
-use std::rt::Files;
 use std::sync::Arc;
 use std::sync::atomic::AtomicU64;
 use std::sync::atomic::Ordering::SeqCst;
 use std::{fs, io};
-use tracing_appender::folder::DirFolder;
+use tracing_appender::folder::{DirFolder, FilesHost};
 use tracing_appender::policy::WritePolicy;
 use tracing_appender::store::{Folder, NoticeKind};
 
@@ -96,7 +95,7 @@ enum Loss {
     Truncated,
 }
 
-impl<R: Files + AllocGlobal + Eprint + Clone + Drop> DirWatch<R> {
+impl<R: FilesHost> DirWatch<R> {
     /// Watches the folder at a path, and counts by `counts`. An empty path is the current directory.
     pub fn new(
         rt: R,
@@ -188,8 +187,7 @@ impl<R: Files + AllocGlobal + Eprint + Clone + Drop> DirWatch<R> {
     }
 }
 
-impl<R: Files + AllocGlobal + Eprint + Clone + Drop, P: WritePolicy> Watch<DirFolder<R, P>>
-    for DirWatch<R> {
+impl<R: FilesHost, P: WritePolicy> Watch<DirFolder<R, P>> for DirWatch<R> {
     fn ends_line(&self, folder: &DirFolder<R, P>, file: &R::File, name: &str) -> bool {
         match file.metadata() {
             Ok(metadata) if metadata.len() == 0 => true,

@@ -42,25 +42,7 @@ use memchr::memchr;
 use std::alloc::{AllocError, Global};
 use std::io::{BufRead, ErrorKind, Read, Write};
 use std::rt::Env;
-use std::sync::Wait;
-use std::thread::Threads;
-use std::time::Clock;
 use std::{env, io};
-
-/// The runtime of a program that starts threads.
-pub trait Host: AllocGlobal
-    + Threads
-    + Wait
-    + Clock
-    + Print
-    + Eprint
-    + Copy
-    + Send
-    + Sync
-    + 'static {}
-
-impl<R: AllocGlobal + Threads + Wait + Clock + Print + Eprint + Copy + Send + Sync + 'static> Host
-    for R {}
 
 /// Returns the arguments after the program's name. The error is that of the runtime if one of them is not UTF-8, or
 /// `OutOfMemory`.
@@ -161,8 +143,8 @@ impl From<io::Error> for CopyFault {
     }
 }
 
-/// Reads the next piece of a line into `piece`, in place of what that contained: the line with its newline, if it has
-/// one, or its next `LONGEST_LINE` bytes if it is longer. Returns whether there was one. Errors are those of the input,
+/// Reads the next piece of a line into `piece`, in place of what that contained. A piece is the line with its newline, if
+/// it has one, or its next `LONGEST_LINE` bytes if it is longer. Returns whether there was one. Errors are those of the input,
 /// and `OutOfMemory`.
 pub fn read_piece<I: BufRead>(input: &mut I, piece: &mut Vec<u8>) -> io::Result<bool>
     ensures bytes { OnOk result (Consumes (I.remaining input.old) (I.remaining input.new) piece.new.items) }

@@ -1,10 +1,10 @@
 //! Options of a program.
 ghost use Rattle.std.specs.Prelude.{◌≡◌, position};
-ghost use Rattle.program_io.specs.Options.{begins_with_dash, is_dashed, means, IsRequest};
+ghost use Rattle.program_io.specs.Options.{begins_with_dash, is_dashed, IsMeaningOf, IsRequest};
 
 /// What a program is asked to do.
 #[derive(Debug, Drop)]
-pub enum Request {
+pub enum ProgramRequest {
     /// To print how it is used.
     Help,
     /// To print its version.
@@ -17,21 +17,21 @@ pub enum Request {
 
 /// Returns what arguments ask for. The first one that begins with a dash decides: `-h` and `--help` ask for the usage,
 /// and `--version` for the version; `--` is left out, and those after it are arguments; any other is unknown.
-pub fn request_of(arguments: Vec<String>) -> Request
+pub fn request_of(arguments: Vec<String>) -> ProgramRequest
     ensures { IsRequest arguments.items result }
 {
     let mut arguments = arguments;
     let Some(place) = first_dashed(arguments.as_slice()) else {
-        return Request::Run(arguments);
+        return ProgramRequest::Run(arguments);
     };
     match read_option(arguments[place].as_str()) {
-        Meaning::Help => Request::Help,
-        Meaning::Version => Request::Version,
+        Meaning::Help => ProgramRequest::Help,
+        Meaning::Version => ProgramRequest::Version,
         Meaning::End => {
             let _ = arguments.remove(place);
-            Request::Run(arguments)
+            ProgramRequest::Run(arguments)
         }
-        Meaning::Unknown => Request::Unknown,
+        Meaning::Unknown => ProgramRequest::Unknown,
     }
 }
 
@@ -61,7 +61,7 @@ fn begins(word: &str) -> bool
 }
 
 fn read_option(word: &str) -> Meaning
-    ensures { means word.now result }
+    ensures { IsMeaningOf word.now result }
 {
     match word {
         "-h" | "--help" => Meaning::Help,

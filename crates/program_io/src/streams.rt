@@ -25,7 +25,8 @@ fn fill<S: AsFd>(rt: &HostRuntime, stream: &S) -> io::Result<()> {
     Ok(())
 }
 
-// A number that is not open can't be duplicated. One that is open may fail for want of numbers.
+// A number that is not open can't be duplicated. One that is open may fail for want of numbers. A program whose streams
+// are open needs no `/dev/null`.
 fn is_closed(stream: BorrowedFd<'_>) -> bool {
     match stream.try_clone_to_owned() {
         Ok(_) => false,

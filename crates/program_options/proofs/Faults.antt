@@ -3,7 +3,7 @@ use Rattle.std.proofs.Common.{◌≡◌, ℕ, Bor, length, zero, suc, List, [], 
 use Rattle.std.proofs.lemmas.List.Elements.{Contains-append_right}
 use Rattle.std.specs.Prelude.{String, Contains}
 use Rattle.std.specs.declared.alloc.Global.{Global}
-use Rattle.program_options.specs.Options.{valued_word, IsFaultOf, IsNextAfter, IsWrong, IsWrongOption, IsWrongValue, NamesSome, Reaches, Rejects, TakesAs}
+use Rattle.program_options.specs.Options.{valued_word, IsFaultOf, IsNextAfter, IsWrong, IsWrongOption, IsWrongValue, NamesSomeWord, ReadsWords, Rejects, ReadsWordAs}
 use Rattle.program_options.specs.declared.Next.{Next}
 use Rattle.program_options.specs.declared.Next.TheVariants.{Any, Value, Argument, Help, Version}
 use Rattle.program_options.proofs.Words.{no_words}
@@ -16,7 +16,7 @@ use Rattle.program_options.specs.declared.Reading.{Reading}
 use Rattle.program_options.specs.declared.Valued.{Valued}
 
 -- the words before the rest
-taken_words : (words : List (String Global)) (k : ℕ) (rest : List (String Global)) (r : Reading) → Reaches words k rest r
+taken_words : (words : List (String Global)) (k : ℕ) (rest : List (String Global)) (r : Reading) → ReadsWords words k rest r
     → (taken : List (String Global)) × (words ≡ taken ++ rest)
 taken_words words zero rest r reached = ([], sym reached.0)
 taken_words words (suc k) rest r (word, before, reached, takes) =
@@ -24,12 +24,12 @@ taken_words words (suc k) rest r (word, before, reached, takes) =
     (so.0 ++ (word ∷ []), so.1 ∙ sym (append_assoc so.0 (word ∷ []) rest))
 
 next_word : (words : List (String Global)) (k : ℕ) (word : String Global) (rest : List (String Global)) (r : Reading)
-    → Reaches words k (word ∷ rest) r → Contains words word
+    → ReadsWords words k (word ∷ rest) r → Contains words word
 next_word words k word rest r reached =
     let so = taken_words words k (word ∷ rest) r reached in
     subst (λ all. Contains all word) (sym so.1) (Contains-append_right so.0 (word ∷ rest) word (0, search rules, refl))
 
-value_after : (next : Next) (option : Valued) (word : List ℕ) (old new : Reading) → old.next ≡ next → TakesAs next word old new
+value_after : (next : Next) (option : Valued) (word : List ℕ) (old new : Reading) → old.next ≡ next → ReadsWordAs next word old new
     → new.next ≡ Value option → word ≡ valued_word option
 value_after Any option word old new at (inl (dashed, inl (next, is_next, after))) value =
     let next_is : next ≡ Value option = sym (ap (λ (r : Reading). r.next) after) ∙ value in
@@ -46,7 +46,7 @@ value_after Argument option word old new at takes value = let same = takes.next 
 value_after Help option word old new at takes value = let same = takes.next in absurd (cc)
 value_after Version option word old new at takes value = let same = takes.next in absurd (cc)
 
-option_given : (words : List (String Global)) (k : ℕ) (rest : List (String Global)) (r : Reading) (option : Valued) → Reaches words k rest r
+option_given : (words : List (String Global)) (k : ℕ) (rest : List (String Global)) (r : Reading) (option : Valued) → ReadsWords words k rest r
     → r.next ≡ Value option → (word : String Global) × Contains words word × (string_bytes word ≡ valued_word option)
 option_given words zero rest r option reached value = absurd (cc)
 option_given words (suc k) rest r option (word, before, reached, takes) value =
@@ -70,14 +70,14 @@ wrong_value_is_of option value o (Wrong name error) wrong = wrong.0
 wrong_value_is_of option value o NoMemory wrong = tt
 
 names_option : (words : List (String Global)) (k : ℕ) (rest : List (String Global)) (r : Reading) (option : Valued) (fault : OptionFault)
-    → Reaches words k rest r → r.next ≡ Value option → IsOf (valued_word option) fault → NamesSome words fault
+    → ReadsWords words k rest r → r.next ≡ Value option → IsOf (valued_word option) fault → NamesSomeWord words fault
 names_option words k rest r option (Unknown text) reached value of = absurd of
 names_option words k rest r option (Wrong name error) reached value of =
     let given = option_given words k rest r option reached value in (given.0, given.1, inl (given.2 ∙ sym of))
 names_option words k rest r option NoMemory reached value of = tt
 
 names_word : (words : List (String Global)) (word : String Global) (o : Options) (fault : OptionFault) → Contains words word
-    → IsWrongOption (string_bytes word) o fault → NamesSome words fault
+    → IsWrongOption (string_bytes word) o fault → NamesSomeWord words fault
 names_word words word o (Unknown text) contained wrong = (word, contained, wrong.0)
 names_word words word o (Wrong name error) contained (inl (flag, is_flag, name_is, twice, raised)) = (word, contained, inl (sym name_is))
 names_word words word o (Wrong name error) contained (inr (option, value, word_is, name_is, reason)) =
@@ -85,19 +85,19 @@ names_word words word o (Wrong name error) contained (inr (option, value, word_i
 names_word words word o NoMemory contained wrong = tt
 
 names_rejected : (next : Next) (words : List (String Global)) (k : ℕ) (word : String Global) (rest : List (String Global)) (r : Reading) (fault : OptionFault)
-    → r.next ≡ next → Reaches words k (word ∷ rest) r → Rejects next (string_bytes word) r.options fault → NamesSome words fault
+    → r.next ≡ next → ReadsWords words k (word ∷ rest) r → Rejects next (string_bytes word) r.options fault → NamesSomeWord words fault
 names_rejected (Value option) words k word rest r fault at reached (inl (dashed, wrong)) =
     names_option words k (word ∷ rest) r option fault reached at (wrong_is_of (valued_word option) Missing fault wrong)
 names_rejected (Value option) words k word rest r fault at reached (inr (undashed, wrong)) =
     names_option words k (word ∷ rest) r option fault reached at (wrong_value_is_of option (string_bytes word) r.options fault wrong)
 names_rejected Any words k word rest r fault at reached wrong =
     names_word words word r.options fault (next_word words k word rest r reached) wrong
-names_rejected Argument words k word rest r fault at reached memory = subst (NamesSome words) (sym memory) tt
-names_rejected Help words k word rest r fault at reached memory = subst (NamesSome words) (sym memory) tt
-names_rejected Version words k word rest r fault at reached memory = subst (NamesSome words) (sym memory) tt
+names_rejected Argument words k word rest r fault at reached memory = subst (NamesSomeWord words) (sym memory) tt
+names_rejected Help words k word rest r fault at reached memory = subst (NamesSomeWord words) (sym memory) tt
+names_rejected Version words k word rest r fault at reached memory = subst (NamesSomeWord words) (sym memory) tt
 
 -- a fault names one of the words
-pub names_some : (words : List (String Global)) (fault : OptionFault) → IsFaultOf words fault → NamesSome words fault
+pub names_some : (words : List (String Global)) (fault : OptionFault) → IsFaultOf words fault → NamesSomeWord words fault
 names_some words (Unknown text) (inl (k, word, rest, r, reached, rejects)) =
     names_rejected r.next words k word rest r (Unknown text) refl reached rejects
 names_some words (Unknown text) (inr (k, r, option, reached, value, wrong)) = absurd wrong
@@ -109,15 +109,15 @@ names_some words NoMemory is = tt
 
 -- the next word is rejected
 pub fault_of_word : (words before after : List (String Global)) (word : String Global) (r : Reading) (fault : OptionFault)
-    → (k : ℕ) × Reaches words k before r → before ≡ word ∷ after → Rejects r.next (string_bytes word) r.options fault → IsFaultOf words fault
+    → (k : ℕ) × ReadsWords words k before r → before ≡ word ∷ after → Rejects r.next (string_bytes word) r.options fault → IsFaultOf words fault
 fault_of_word words before after word r (Unknown text) (k, reached) split rejects =
-    inl (k, word, after, r, subst (λ rest. Reaches words k rest r) split reached, rejects)
+    inl (k, word, after, r, subst (λ rest. ReadsWords words k rest r) split reached, rejects)
 fault_of_word words before after word r (Wrong name error) (k, reached) split rejects =
-    inl (k, word, after, r, subst (λ rest. Reaches words k rest r) split reached, rejects)
+    inl (k, word, after, r, subst (λ rest. ReadsWords words k rest r) split reached, rejects)
 fault_of_word words before after word r NoMemory (k, reached) split rejects = tt
 
 -- the last option has no value
-pub fault_at_end : (words rest : List (String Global)) (r : Reading) (option : Valued) (name : Bor (List ℕ)) → (k : ℕ) × Reaches words k rest r
+pub fault_at_end : (words rest : List (String Global)) (r : Reading) (option : Valued) (name : Bor (List ℕ)) → (k : ℕ) × ReadsWords words k rest r
     → length rest ≡ 0 → r.next ≡ Value option → name.now ≡ valued_word option → IsFaultOf words (Wrong name Missing)
 fault_at_end words rest r option name (k, reached) empty value name_is =
-    inr (k, r, option, subst (λ rest. Reaches words k rest r) (no_words rest empty) reached, value, (name_is, refl))
+    inr (k, r, option, subst (λ rest. ReadsWords words k rest r) (no_words rest empty) reached, value, (name_is, refl))

@@ -5,7 +5,7 @@ use Rattle.std.specs.Prelude.{Option, None, Some, OnErr}
 use Rattle.std.specs.Option.{ok_or, SomeIff}
 use Rattle.std.specs.Str.Parse.{AllDigits, IsNumeral, digits_value}
 use Rattle.program_options.specs.declared.OptionFault.{OptionFault}
-use Rattle.program_options.specs.Options.{HasUnit, IsCount, IsNumber, NoByteCount}
+use Rattle.program_options.specs.Options.{HasUnit, IsPositiveNumber, IsNumber, IsNoByteCount}
 
 same_end : (xs ys : List ℕ) (a b : ℕ) → xs ++ (a ∷ []) ≡ ys ++ (b ∷ []) → (xs ≡ ys) × (a ≡ b)
 same_end [] [] a b e = (refl, cc)
@@ -38,7 +38,7 @@ abbrev pub IsOnlyUnit : List ℕ → List ℕ → ℕ → Type 0
 IsOnlyUnit text digits unit = (others : List ℕ) (other : ℕ) → IsNumeral 10 others → HasUnit text others other → (others ≡ digits) × (other ≡ unit)
 
 pub too_many_bytes : (text digits : List ℕ) (count unit : ℕ) → IsOnlyUnit text digits unit → IsNumber digits count → 2 ^ 64 ≤ count * unit
-    → NoByteCount text
+    → IsNoByteCount text
 too_many_bytes text digits count unit only number over n fits is =
     let same = only is.digits is.unit is.is_count.number.digits is.has_unit in
     let counts : is.count ≡ count = is.is_count.number.value ∙ ap (digits_value 10) same.0 ∙ sym number.value in
@@ -51,13 +51,13 @@ from_one text digits unit (inr (inl (text_is, bytes))) = omega (arith, bytes)
 from_one text digits unit (inr (inr (inl (text_is, bytes)))) = omega (arith, bytes)
 from_one text digits unit (inr (inr (inr (text_is, bytes)))) = omega (arith, bytes)
 
-pub no_digits : (text digits : List ℕ) (unit : ℕ) → IsOnlyUnit text digits unit → ((n : ℕ) → n < 2 ^ 64 → ¬ IsCount digits n)
-    → NoByteCount text
+pub no_digits : (text digits : List ℕ) (unit : ℕ) → IsOnlyUnit text digits unit → ((n : ℕ) → n < 2 ^ 64 → ¬ IsPositiveNumber digits n)
+    → IsNoByteCount text
 no_digits text digits unit only none n fits is =
     let same = only is.digits is.unit is.is_count.number.digits is.has_unit in
     let some = mul-le is.count 1 is.count is.unit (omega arith) (from_one text is.digits is.unit is.has_unit) in
     let less : is.count < 2 ^ 64 = omega (arith, some, is.value, fits) in
-    none is.count less (subst (λ d. IsCount d is.count) same.0 is.is_count)
+    none is.count less (subst (λ d. IsPositiveNumber d is.count) same.0 is.is_count)
 
 -- the error of a product that has more than 64 bits
 pub overflows : (product : Option ℕ) (n : ℕ) (fault : OptionFault) (P : Type 0) → SomeIff product (n < 2 ^ 64) n → (2 ^ 64 ≤ n → P)

@@ -4,7 +4,7 @@ use Rattle.std.proofs.lemmas.List.{map-append}
 use Rattle.std.specs.Prelude.{String}
 use Rattle.std.specs.declared.alloc.Global.{Global}
 use Rattle.program_io.specs.Options.{begins_with_dash}
-use Rattle.program_options.specs.Options.{Adds, AreDefaults, AreUndashed, IsPlain, IsRead, Reaches, Takes, TakesAs}
+use Rattle.program_options.specs.Options.{AddsArgument, AreDefaults, AreUndashed, IsPlain, IsRead, ReadsWords, ReadsWord, ReadsWordAs}
 use Rattle.program_options.specs.declared.Next.{Next}
 use Rattle.program_options.specs.declared.Next.TheVariants.{Any, Value, Argument, Help, Version}
 use Rattle.program_options.specs.declared.Valued.{Valued}
@@ -26,15 +26,15 @@ undashed_at [] word rest all = all.0
 undashed_at (first ∷ taken) word rest all = undashed_at taken word rest all.1
 
 plain_word : (word : String Global) (old new : Reading) → begins_with_dash (string_bytes word) ≡ false → old.next ≡ Any
-    → Takes (string_bytes word) old new → Adds (string_bytes word) old new
+    → ReadsWord (string_bytes word) old new → AddsArgument (string_bytes word) old new
 plain_word word old new undashed any takes =
-    elim (subst (λ next. TakesAs next (string_bytes word) old new) any takes) [
+    elim (subst (λ next. ReadsWordAs next (string_bytes word) old new) any takes) [
       | inl dashed ↦ absurd (cc)
       | inr adds ↦ adds.1
     ]
 
 plain_so_far : (words : List (String Global)) (k : ℕ) (rest : List (String Global)) (r : Reading) → AreUndashed words
-    → Reaches words k rest r → PlainSoFar words rest r
+    → ReadsWords words k rest r → PlainSoFar words rest r
 plain_so_far words zero rest r all reached = record {
   taken = [];
   split = sym reached.0;
@@ -81,9 +81,9 @@ open_next Version h v = v refl
 
 -- one more word was read
 pub next_reached : (words before after : List (String Global)) (word : String Global) (old new : Reading)
-    → (k : ℕ) × Reaches words k before old → before ≡ word ∷ after → Takes (string_bytes word) old new → (k : ℕ) × Reaches words k after new
+    → (k : ℕ) × ReadsWords words k before old → before ≡ word ∷ after → ReadsWord (string_bytes word) old new → (k : ℕ) × ReadsWords words k after new
 next_reached words before after word old new (k, reached) split takes =
-    (suc k, (word, old, subst (λ rest. Reaches words k rest old) split reached, takes))
+    (suc k, (word, old, subst (λ rest. ReadsWords words k rest old) split reached, takes))
 
 -- what the next word may be at the end
 ends_with : (next : Next) → GoesOn next → ((option : Valued) → next ≢ Value option) → (next ≡ Any) ⊎ (next ≡ Argument)
@@ -97,7 +97,7 @@ pub no_words : (words : List (String Global)) → length words ≡ 0 → words �
 no_words [] e = refl
 no_words (word ∷ words) e = absurd (omega (arith, e))
 
-pub at_end : (words rest : List (String Global)) (r : Reading) → (k : ℕ) × Reaches words k rest r → length rest ≡ 0 → GoesOn r.next
+pub at_end : (words rest : List (String Global)) (r : Reading) → (k : ℕ) × ReadsWords words k rest r → length rest ≡ 0 → GoesOn r.next
     → ((option : Valued) → r.next ≢ Value option) → IsRead words (Run r.options r.arguments)
 at_end words rest r (k, reached) empty on value =
-    (k, r, subst (λ rest. Reaches words k rest r) (no_words rest empty) reached, refl, refl, ends_with r.next on value)
+    (k, r, subst (λ rest. ReadsWords words k rest r) (no_words rest empty) reached, refl, refl, ends_with r.next on value)

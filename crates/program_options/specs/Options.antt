@@ -26,7 +26,7 @@ pub record IsNumber (word : List ℕ) (n : ℕ) : Type 0 where
   pub value : n ≡ digits_value 10 word
 
 -- a number from 1
-pub record IsCount (word : List ℕ) (n : ℕ) : Type 0 where
+pub record IsPositiveNumber (word : List ℕ) (n : ℕ) : Type 0 where
   pub number : IsNumber word n
   pub from_one : 1 ≤ n
 
@@ -44,7 +44,7 @@ pub record IsByteCount (text : List ℕ) (n : ℕ) : Type 0 where
   pub count : ℕ
   pub unit : ℕ
   pub has_unit : HasUnit text digits unit
-  pub is_count : IsCount digits count
+  pub is_count : IsPositiveNumber digits count
   pub value : n ≡ count * unit
 
 -- ---- options
@@ -98,46 +98,46 @@ is_some_text [] = false
 is_some_text text = true
 
 -- the option was set
-abbrev pub has : Valued → Options → Bool
-has Keep o = nat_lt 0 o.keep
-has MaxBytes o = nat_lt 0 o.max_bytes
-has Suffix o = is_some_text (string_bytes o.suffix)
-has Link o = is_some_text (string_bytes o.link)
-has Queue o = nat_lt 0 o.queue
+abbrev pub has_option : Valued → Options → Bool
+has_option Keep o = nat_lt 0 o.keep
+has_option MaxBytes o = nat_lt 0 o.max_bytes
+has_option Suffix o = is_some_text (string_bytes o.suffix)
+has_option Link o = is_some_text (string_bytes o.link)
+has_option Queue o = nat_lt 0 o.queue
 
 -- the option has this value now, and nothing else changed
-abbrev pub GetsValue : Valued → List ℕ → Options → Options → Type 0
-GetsValue Keep value old new = IsCount value new.keep × (new ≡ record old { keep = new.keep })
-GetsValue MaxBytes value old new = IsByteCount value new.max_bytes × (new ≡ record old { max_bytes = new.max_bytes })
-GetsValue Suffix value old new = (value ≢ []) × (string_bytes new.suffix ≡ value) × (new ≡ record old { suffix = new.suffix })
-GetsValue Link value old new = (value ≢ []) × (string_bytes new.link ≡ value) × (new ≡ record old { link = new.link })
-GetsValue Queue value old new = IsCount value new.queue × (new ≡ record old { queue = new.queue })
+abbrev pub HasNewValue : Valued → List ℕ → Options → Options → Type 0
+HasNewValue Keep value old new = IsPositiveNumber value new.keep × (new ≡ record old { keep = new.keep })
+HasNewValue MaxBytes value old new = IsByteCount value new.max_bytes × (new ≡ record old { max_bytes = new.max_bytes })
+HasNewValue Suffix value old new = (value ≢ []) × (string_bytes new.suffix ≡ value) × (new ≡ record old { suffix = new.suffix })
+HasNewValue Link value old new = (value ≢ []) × (string_bytes new.link ≡ value) × (new ≡ record old { link = new.link })
+HasNewValue Queue value old new = IsPositiveNumber value new.queue × (new ≡ record old { queue = new.queue })
 
 -- the option was not set before, and has this value now; nothing else changed
-abbrev pub Sets : Valued → List ℕ → Options → Options → Type 0
-Sets option value old new = (has option old ≡ false) × GetsValue option value old new
+abbrev pub SetsOption : Valued → List ℕ → Options → Options → Type 0
+SetsOption option value old new = (has_option option old ≡ false) × HasNewValue option value old new
 
 -- the options with this flag set
-abbrev pub raised : Flag → Options → Options
-raised Lossy o = record o { lossy = true }
-raised NoWait o = record o { no_wait = true }
-raised Sync o = record o { sync = true }
-raised Echo o = record o { echo = true }
-raised Timestamps o = record o { timestamps = true }
-raised WholeLines o = record o { whole_lines = true }
+abbrev pub with_flag : Flag → Options → Options
+with_flag Lossy o = record o { lossy = true }
+with_flag NoWait o = record o { no_wait = true }
+with_flag Sync o = record o { sync = true }
+with_flag Echo o = record o { echo = true }
+with_flag Timestamps o = record o { timestamps = true }
+with_flag WholeLines o = record o { whole_lines = true }
 
 -- the flag was set
-abbrev pub is_raised : Flag → Options → Bool
-is_raised Lossy o = o.lossy
-is_raised NoWait o = o.no_wait
-is_raised Sync o = o.sync
-is_raised Echo o = o.echo
-is_raised Timestamps o = o.timestamps
-is_raised WholeLines o = o.whole_lines
+abbrev pub has_flag : Flag → Options → Bool
+has_flag Lossy o = o.lossy
+has_flag NoWait o = o.no_wait
+has_flag Sync o = o.sync
+has_flag Echo o = o.echo
+has_flag Timestamps o = o.timestamps
+has_flag WholeLines o = o.whole_lines
 
 -- the flag was not set before, and is now; nothing else changed
-abbrev pub Raises : Flag → Options → Options → Type 0
-Raises flag old new = (is_raised flag old ≡ false) × (new ≡ raised flag old)
+abbrev pub SetsFlag : Flag → Options → Options → Type 0
+SetsFlag flag old new = (has_flag flag old ≡ false) × (new ≡ with_flag flag old)
 
 -- ---- words
 
@@ -150,13 +150,13 @@ IsNextAfter word Help = (word ≡ codes "-h") ⊎ (word ≡ codes "--help")
 IsNextAfter word Version = word ≡ codes "--version"
 
 -- nothing was read
-pub record IsFresh (r : Reading) : Type 0 where
+pub record IsEmptyReading (r : Reading) : Type 0 where
   pub options : AreDefaults r.options
   pub arguments : r.arguments.items ≡ []
   pub next : r.next ≡ Any
 
 -- the word is one more argument
-pub record Adds (word : List ℕ) (old new : Reading) : Type 0 where
+pub record AddsArgument (word : List ℕ) (old new : Reading) : Type 0 where
   pub argument : String Global
   pub bytes : string_bytes argument ≡ word
   pub arguments : new.arguments.items ≡ old.arguments.items ++ (argument ∷ [])
@@ -164,62 +164,62 @@ pub record Adds (word : List ℕ) (old new : Reading) : Type 0 where
   pub next : new.next ≡ old.next
 
 -- The word gives the next one its meaning, sets a flag, or sets an option to the value after its `=`.
-abbrev pub TakesOption : List ℕ → Reading → Reading → Type 0
-TakesOption word old new =
+abbrev pub ReadsOption : List ℕ → Reading → Reading → Type 0
+ReadsOption word old new =
     ((next : Next) × IsNextAfter word next × (new ≡ record old { next = next }))
-    ⊎ ((flag : Flag) × (word ≡ flag_word flag) × Raises flag old.options new.options × (new ≡ record old { options = new.options }))
+    ⊎ ((flag : Flag) × (word ≡ flag_word flag) × SetsFlag flag old.options new.options × (new ≡ record old { options = new.options }))
     ⊎ ((option : Valued) × (value : List ℕ) × (word ≡ valued_word option ++ (61 ∷ value))
-    × Sets option value old.options new.options × (new ≡ record old { options = new.options }))
+    × SetsOption option value old.options new.options × (new ≡ record old { options = new.options }))
 
 -- the word is the value of this option, and does not begin with a dash
-pub record TakesValue (option : Valued) (word : List ℕ) (old new : Reading) : Type 0 where
+pub record ReadsValue (option : Valued) (word : List ℕ) (old new : Reading) : Type 0 where
   pub undashed : begins_with_dash word ≡ false
-  pub sets : Sets option word old.options new.options
+  pub sets : SetsOption option word old.options new.options
   pub after : new ≡ record old { options = new.options; next = Any }
 
 -- the word is read with the meaning that those before gave it
-abbrev pub TakesAs : Next → List ℕ → Reading → Reading → Type 0
-TakesAs (Value option) word old new = TakesValue option word old new
-TakesAs Any word old new =
-    ((begins_with_dash word ≡ true) × TakesOption word old new) ⊎ ((begins_with_dash word ≡ false) × Adds word old new)
-TakesAs next word old new = Adds word old new
+abbrev pub ReadsWordAs : Next → List ℕ → Reading → Reading → Type 0
+ReadsWordAs (Value option) word old new = ReadsValue option word old new
+ReadsWordAs Any word old new =
+    ((begins_with_dash word ≡ true) × ReadsOption word old new) ⊎ ((begins_with_dash word ≡ false) × AddsArgument word old new)
+ReadsWordAs next word old new = AddsArgument word old new
 
 -- the word is read
-abbrev pub Takes : List ℕ → Reading → Reading → Type 0
-Takes word old new = TakesAs old.next word old new
+abbrev pub ReadsWord : List ℕ → Reading → Reading → Type 0
+ReadsWord word old new = ReadsWordAs old.next word old new
 
 -- this number of words were read from the left, and these are left
-abbrev pub Reaches : List (String Global) → ℕ → List (String Global) → Reading → Type 0
-Reaches words zero rest r = (rest ≡ words) × IsFresh r
-Reaches words (suc k) rest r =
-    (word : String Global) × (before : Reading) × Reaches words k (word ∷ rest) before × Takes (string_bytes word) before r
+abbrev pub ReadsWords : List (String Global) → ℕ → List (String Global) → Reading → Type 0
+ReadsWords words zero rest r = (rest ≡ words) × IsEmptyReading r
+ReadsWords words (suc k) rest r =
+    (word : String Global) × (before : Reading) × ReadsWords words k (word ∷ rest) before × ReadsWord (string_bytes word) before r
 
 -- The words were read from the left, up to one that asks for the usage or the version, or to the end.
 abbrev pub IsRead : List (String Global) → Request → Type 0
-IsRead words AsksHelp = (k : ℕ) × (rest : List (String Global)) × (r : Reading) × Reaches words k rest r × (r.next ≡ Help)
-IsRead words AsksVersion = (k : ℕ) × (rest : List (String Global)) × (r : Reading) × Reaches words k rest r × (r.next ≡ Version)
+IsRead words AsksHelp = (k : ℕ) × (rest : List (String Global)) × (r : Reading) × ReadsWords words k rest r × (r.next ≡ Help)
+IsRead words AsksVersion = (k : ℕ) × (rest : List (String Global)) × (r : Reading) × ReadsWords words k rest r × (r.next ≡ Version)
 IsRead words (Run options arguments) =
-    (k : ℕ) × (r : Reading) × Reaches words k [] r × (r.options ≡ options) × (r.arguments ≡ arguments)
+    (k : ℕ) × (r : Reading) × ReadsWords words k [] r × (r.options ≡ options) × (r.arguments ≡ arguments)
     × ((r.next ≡ Any) ⊎ (r.next ≡ Argument))
 
 -- ---- faults
 
 -- this is no number from 1 that has 64 bits
-abbrev pub NoCount : List ℕ → Type 0
-NoCount value = (n : ℕ) → n < 2 ^ 64 → ¬ IsCount value n
+abbrev pub IsNoPositiveNumber : List ℕ → Type 0
+IsNoPositiveNumber value = (n : ℕ) → n < 2 ^ 64 → ¬ IsPositiveNumber value n
 
 -- this is no number of bytes from 1 that has 64 bits
-abbrev pub NoByteCount : List ℕ → Type 0
-NoByteCount value = (n : ℕ) → n < 2 ^ 64 → ¬ IsByteCount value n
+abbrev pub IsNoByteCount : List ℕ → Type 0
+IsNoByteCount value = (n : ℕ) → n < 2 ^ 64 → ¬ IsByteCount value n
 
 -- the reason why this value of an option is rejected, after these options
 abbrev pub IsReason : Valued → List ℕ → Options → OptionError → Type 0
-IsReason option value o Twice = has option o ≡ true
-IsReason Keep value o Count = NoCount value
-IsReason MaxBytes value o ByteCount = NoByteCount value
+IsReason option value o Twice = has_option option o ≡ true
+IsReason Keep value o Count = IsNoPositiveNumber value
+IsReason MaxBytes value o ByteCount = IsNoByteCount value
 IsReason Suffix value o Missing = value ≡ []
 IsReason Link value o Missing = value ≡ []
-IsReason Queue value o Count = NoCount value
+IsReason Queue value o Count = IsNoPositiveNumber value
 IsReason option value o error = ⊥
 
 -- the option of this word is rejected for this reason
@@ -245,7 +245,7 @@ pub record IsUnknown (word : List ℕ) : Type 0 where
 abbrev pub IsWrongOption : List ℕ → Options → OptionFault → Type 0
 IsWrongOption word o (Unknown text) = (string_bytes text ≡ word) × IsUnknown word
 IsWrongOption word o (Wrong name error) =
-    ((flag : Flag) × (word ≡ flag_word flag) × (name.now ≡ word) × (error ≡ Twice) × (is_raised flag o ≡ true))
+    ((flag : Flag) × (word ≡ flag_word flag) × (name.now ≡ word) × (error ≡ Twice) × (has_flag flag o ≡ true))
     ⊎ ((option : Valued) × (value : List ℕ) × (word ≡ valued_word option ++ (61 ∷ value)) × (name.now ≡ valued_word option) × IsReason option value o error)
 IsWrongOption word o NoMemory = Unit {0}
 
@@ -262,33 +262,33 @@ Rejects next word o fault = fault ≡ NoMemory
 abbrev pub IsFaultOf : List (String Global) → OptionFault → Type 0
 IsFaultOf words NoMemory = Unit {0}
 IsFaultOf words fault =
-    ((k : ℕ) × (word : String Global) × (rest : List (String Global)) × (r : Reading) × Reaches words k (word ∷ rest) r
+    ((k : ℕ) × (word : String Global) × (rest : List (String Global)) × (r : Reading) × ReadsWords words k (word ∷ rest) r
     × Rejects r.next (string_bytes word) r.options fault)
-    ⊎ ((k : ℕ) × (r : Reading) × (option : Valued) × Reaches words k [] r × (r.next ≡ Value option) × IsWrong (valued_word option) Missing fault)
+    ⊎ ((k : ℕ) × (r : Reading) × (option : Valued) × ReadsWords words k [] r × (r.next ≡ Value option) × IsWrong (valued_word option) Missing fault)
 
 -- the fault names the word, or the option that the word is or has before a `=`
-abbrev pub Names : List ℕ → OptionFault → Type 0
-Names word (Unknown text) = string_bytes text ≡ word
-Names word (Wrong name error) = (word ≡ name.now) ⊎ ((value : List ℕ) × (word ≡ name.now ++ (61 ∷ value)))
-Names word NoMemory = Unit {0}
+abbrev pub NamesWord : List ℕ → OptionFault → Type 0
+NamesWord word (Unknown text) = string_bytes text ≡ word
+NamesWord word (Wrong name error) = (word ≡ name.now) ⊎ ((value : List ℕ) × (word ≡ name.now ++ (61 ∷ value)))
+NamesWord word NoMemory = Unit {0}
 
 -- the fault names one of the words, or memory ran out
-abbrev pub NamesSome : List (String Global) → OptionFault → Type 0
-NamesSome words NoMemory = Unit {0}
-NamesSome words fault = (word : String Global) × Contains words word × Names (string_bytes word) fault
+abbrev pub NamesSomeWord : List (String Global) → OptionFault → Type 0
+NamesSomeWord words NoMemory = Unit {0}
+NamesSomeWord words fault = (word : String Global) × Contains words word × NamesWord (string_bytes word) fault
 
 -- this is the word of an option that is set, other than those of the limits
-abbrev pub IsOther : List ℕ → Options → Type 0
-IsOther word o =
-    ((option : Valued) × (option ≢ Keep) × (option ≢ MaxBytes) × (has option o ≡ true) × (word ≡ valued_word option))
-    ⊎ ((flag : Flag) × (is_raised flag o ≡ true) × (word ≡ flag_word flag))
+abbrev pub IsOtherOption : List ℕ → Options → Type 0
+IsOtherOption word o =
+    ((option : Valued) × (option ≢ Keep) × (option ≢ MaxBytes) × (has_option option o ≡ true) × (word ≡ valued_word option))
+    ⊎ ((flag : Flag) × (has_flag flag o ≡ true) × (word ≡ flag_word flag))
 
 -- the fault names an option that the words set beside the limits
-abbrev pub NamesOther : List (String Global) → OptionFault → Type 0
-NamesOther words (Unknown text) =
-    (options : Options) × (arguments : Vec (String Global) Global) × IsRead words (Run options arguments) × IsOther (string_bytes text) options
-NamesOther words (Wrong name error) = ⊥
-NamesOther words NoMemory = ⊥
+abbrev pub NamesOtherOption : List (String Global) → OptionFault → Type 0
+NamesOtherOption words (Unknown text) =
+    (options : Options) × (arguments : Vec (String Global) Global) × IsRead words (Run options arguments) × IsOtherOption (string_bytes text) options
+NamesOtherOption words (Wrong name error) = ⊥
+NamesOtherOption words NoMemory = ⊥
 
 -- ---- requests
 

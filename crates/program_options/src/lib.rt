@@ -7,7 +7,7 @@ ghost use Rattle.program_options.specs.declared.Flag.{Flag};
 ghost use Rattle.program_options.specs.declared.Next.{Next};
 ghost use Rattle.program_options.specs.declared.Valued.{Valued};
 ghost use Rattle.program_io.specs.Options.{begins_with_dash};
-ghost use Rattle.program_options.specs.Options.{flag_word, valued_word, AreUndashed, HasOnlyLimits, HasUnit, IsByteCount, IsCount, IsFaultOf, IsNextAfter, IsNumber, IsPlain, IsRead, IsWrong, NamesOther, NamesSome, NoByteCount, NoCount};
+ghost use Rattle.program_options.specs.Options.{flag_word, valued_word, AreUndashed, HasOnlyLimits, HasUnit, IsByteCount, IsPositiveNumber, IsFaultOf, IsNextAfter, IsNumber, IsPlain, IsRead, IsWrong, NamesOtherOption, NamesSomeWord, IsNoByteCount, IsNoPositiveNumber};
 
 use std::alloc::{AllocError, Global};
 use thiserror::Error;
@@ -179,7 +179,8 @@ pub enum Request {
 /// `--version`.
 ///
 /// Each option is set at most once, anywhere before `--`. The words after that are arguments. A value follows a `=`
-/// or is the next word, as in `--keep=7` and `--keep 7`. In a word of its own it may not begin with a dash.
+/// or is the next word, as in `--keep=7` and `--keep 7`. In a word of its own it may not begin with a dash, since a value
+/// may have been forgotten.
 /// `--max-bytes` takes `N[K|M|G]`, with 1,024 bytes for `K`.
 ///
 /// `OptionFault::Unknown` and `OptionFault::Wrong` report the first wrong word.
@@ -187,7 +188,7 @@ pub fn read(alloc: Global, words: &[String]) -> Result<Request, OptionFault>
     ensures read { IfOk result (IsRead words.now) }
     ensures plain { AreUndashed words.now → IfOk result (IsPlain words.now) }
     ensures fault { IfErr result (IsFaultOf words.now) }
-    ensures named { IfErr result (NamesSome words.now) }
+    ensures named { IfErr result (NamesSomeWord words.now) }
 {
     let mut reading = Reading::new(alloc);
     let mut rest = words;
@@ -211,7 +212,7 @@ pub fn read_limits(alloc: Global, words: &[String]) -> Result<Request, OptionFau
     ensures read { IfOk result (IsRead words.now) }
     ensures plain { AreUndashed words.now → IfOk result (IsPlain words.now) }
     ensures limits { IfOk result HasOnlyLimits }
-    ensures fault { IfErr result (λ fault. IsFaultOf words.now fault ⊎ NamesOther words.now fault) }
+    ensures fault { IfErr result (λ fault. IsFaultOf words.now fault ⊎ NamesOtherOption words.now fault) }
 {
     let request = read(alloc, words)?;
     if let Request::Run(options, _) = &request {
@@ -247,11 +248,11 @@ struct Reading {
 
 impl Reading {
     ghost use Rattle.std.specs.Prelude.{◌≡◌, true, IfErr, OnOk};
-    ghost use Rattle.program_options.specs.Options.{Adds, IsFresh, IsWrongOption, Rejects, Takes, TakesOption};
+    ghost use Rattle.program_options.specs.Options.{AddsArgument, IsEmptyReading, IsWrongOption, Rejects, ReadsWord, ReadsOption};
 
     // Returns what was read before the first word.
     fn new(alloc: Global) -> Reading
-        ensures { IsFresh result }
+        ensures { IsEmptyReading result }
     {
         Reading {
             options: Options::new(alloc),
@@ -262,7 +263,7 @@ impl Reading {
 
     // Reads the next word.
     fn take(&mut self, alloc: Global, word: &str) -> Result<(), OptionFault>
-        ensures taken { OnOk result (Takes word.now self.old self.new) }
+        ensures taken { OnOk result (ReadsWord word.now self.old self.new) }
         ensures fault { IfErr result (Rejects self.old.next word.now self.old.options) }
     {
         match self.next {
@@ -281,7 +282,7 @@ impl Reading {
     // Reads a word that begins with a dash.
     fn take_option(&mut self, alloc: Global, word: &str) -> Result<(), OptionFault>
         requires { begins_with_dash word.now ≡ true }
-        ensures taken { OnOk result (TakesOption word.now self.old self.new) }
+        ensures taken { OnOk result (ReadsOption word.now self.old self.new) }
         ensures fault { IfErr result (IsWrongOption word.now self.old.options) }
     {
         if let Some(next) = next_after(word) {
@@ -299,7 +300,7 @@ impl Reading {
 
     // Adds an argument.
     fn add(&mut self, alloc: Global, word: &str) -> Result<(), OptionFault>
-        ensures added { OnOk result (Adds word.now self.old self.new) }
+        ensures added { OnOk result (AddsArgument word.now self.old self.new) }
         ensures fault { IfErr result (λ fault. fault ≡ OptionFault.Memory) }
     {
         let argument = String::from_str(alloc, word)?;
@@ -311,11 +312,11 @@ impl Reading {
 impl Options {
     ghost use Rattle.std.specs.Prelude.{◌≡◌, true, IfErr, IfNone, IfSome, OnErr, OnOk};
     ghost use Rattle.std.specs.List.{find};
-    ghost use Rattle.program_options.specs.Options.{flag_word, has, is_raised, valued_word, AreLimits, IsOther, IsWrong, IsWrongValue, Raises, Sets};
+    ghost use Rattle.program_options.specs.Options.{flag_word, has_option, has_flag, valued_word, AreLimits, IsOtherOption, IsWrong, IsWrongValue, SetsFlag, SetsOption};
 
     // Sets the value of an option, which was not set before.
     fn set(&mut self, alloc: Global, option: Valued, value: &str) -> Result<(), OptionFault>
-        ensures set { OnOk result (Sets option value.now self.old self.new) }
+        ensures set { OnOk result (SetsOption option value.now self.old self.new) }
         ensures fault { IfErr result (IsWrongValue option value.now self.old) }
     {
         if self.has(option) {
@@ -333,7 +334,7 @@ impl Options {
 
     // Returns whether the option was set.
     fn has(&self, option: Valued) -> bool
-        ensures { result ≡ has option self.now }
+        ensures { result ≡ has_option option self.now }
     {
         match option {
             Valued::Keep => self.keep > 0,
@@ -348,7 +349,7 @@ impl Options {
     fn other_word(&self) -> Option<&'static str>
         ensures none { IfNone result (AreLimits self.now) }
         ensures some { IfSome result (λ word. ¬ AreLimits self.now) }
-        ensures word { IfSome result (λ word. IsOther word.now self.now) }
+        ensures word { IfSome result (λ word. IsOtherOption word.now self.now) }
     {
         if let Some(option) = self.first_set(&[Valued::Suffix, Valued::Link, Valued::Queue]) {
             return Some(option.word());
@@ -366,23 +367,23 @@ impl Options {
 
     // Returns the first of these options that was set.
     fn first_set(&self, options: &[Valued]) -> Option<Valued>
-        ensures { result ≡ find (λ option. has option self.now) options.now }
+        ensures { result ≡ find (λ option. has_option option self.now) options.now }
     {
         options.iter().copied().find(|option| self.has(*option))
     }
 
     // Returns the first of these flags that was set.
     fn first_raised(&self, flags: &[Flag]) -> Option<Flag>
-        ensures { result ≡ find (λ flag. is_raised flag self.now) flags.now }
+        ensures { result ≡ find (λ flag. has_flag flag self.now) flags.now }
     {
         flags.iter().copied().find(|flag| self.is_raised(*flag))
     }
 
     // Sets a flag, which was not set before.
     fn raise(&mut self, flag: Flag) -> Result<(), OptionFault>
-        ensures raised { OnOk result (Raises flag self.old self.new) }
+        ensures raised { OnOk result (SetsFlag flag self.old self.new) }
         ensures fault { IfErr result (IsWrong (flag_word flag) OptionError.Twice) }
-        ensures twice { OnErr result (is_raised flag self.old ≡ true) }
+        ensures twice { OnErr result (has_flag flag self.old ≡ true) }
     {
         if self.is_raised(flag) {
             return Err(OptionFault::Wrong(flag.word(), OptionError::Twice));
@@ -400,7 +401,7 @@ impl Options {
 
     // Returns whether the flag was set.
     fn is_raised(&self, flag: Flag) -> bool
-        ensures { result ≡ is_raised flag self.now }
+        ensures { result ≡ has_flag flag self.now }
     {
         match flag {
             Flag::Lossy => self.lossy,
@@ -488,11 +489,11 @@ fn text(alloc: Global, option: Valued, value: &str) -> Result<String, OptionFaul
     Ok(String::from_str(alloc, value)?)
 }
 
-// Returns the value of an option that is a number from 1.
+// Returns the value of an option that is a number from 1. To leave the option out says what 0 would say.
 fn count(option: Valued, value: &str) -> Result<usize, OptionFault>
-    ensures count { IfOk result (IsCount value.now) }
+    ensures count { IfOk result (IsPositiveNumber value.now) }
     ensures fault { IfErr result (IsWrong (valued_word option) OptionError.Count) }
-    ensures none { OnErr result (NoCount value.now) }
+    ensures none { OnErr result (IsNoPositiveNumber value.now) }
 {
     match read_count(value) {
         Some(count) if count > 0 => Ok(count),
@@ -504,7 +505,7 @@ fn count(option: Valued, value: &str) -> Result<usize, OptionFault>
 fn bytes(option: Valued, value: &str) -> Result<u64, OptionFault>
     ensures count { IfOk result (IsByteCount value.now) }
     ensures fault { IfErr result (IsWrong (valued_word option) OptionError.ByteCount) }
-    ensures none { OnErr result (NoByteCount value.now) }
+    ensures none { OnErr result (IsNoByteCount value.now) }
 {
     let (digits, unit) = split_unit(value);
     match read_count(digits) {

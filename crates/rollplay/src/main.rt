@@ -3,7 +3,7 @@
 #![tactic(auto)]
 
 use program_io::arguments;
-use program_io::options::{Request, request_of};
+use program_io::options::{ProgramRequest, request_of};
 use program_io::report::{print, report};
 use program_io::streams::fill_streams;
 use rollplay_core::play;
@@ -38,20 +38,25 @@ fn main(rt: HostRuntime) -> ExitCode {
         Ok(arguments) => run(rt, request_of(arguments)),
         Err(fault) if fault.kind() == ErrorKind::OutOfMemory => report_words(rt, b"no memory\n", 3),
         // One of the arguments is not UTF-8. It is ignored, as is any argument that is no option.
-        Err(_) => run(rt, Request::Run(Vec::new(rt.alloc()))),
+        Err(_) => run(rt, ProgramRequest::Run(Vec::new(rt.alloc()))),
     };
     ExitCode::from(status)
 }
 
 static USAGE: &[u8] = b"usage: rollplay < SCRIPT\n";
 
-fn run(rt: HostRuntime, request: Request) -> u8 {
+fn run(rt: HostRuntime, request: ProgramRequest) -> u8 {
     let mut output = rt.stdout();
     match request {
-        Request::Help => print(&mut output, HELP, 2),
-        Request::Version => print(&mut output, VERSION, 2),
-        Request::Run(_) => play::play(rt.alloc(), &mut rt.stdin(), &mut output, &mut rt.stderr()),
-        Request::Unknown => report_words(rt, USAGE, 2),
+        ProgramRequest::Help => print(&mut output, HELP, 2),
+        ProgramRequest::Version => print(&mut output, VERSION, 2),
+        ProgramRequest::Run(_) => play::play(
+            rt.alloc(),
+            &mut rt.stdin(),
+            &mut output,
+            &mut rt.stderr(),
+        ),
+        ProgramRequest::Unknown => report_words(rt, USAGE, 2),
     }
 }
 

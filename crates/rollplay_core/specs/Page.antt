@@ -16,11 +16,11 @@ use Rattle.appender_replay.specs.declared.replay.RollReply.{RollReply}
 use Rattle.appender_replay.specs.declared.replay.RollReply.TheVariants.{Saw, Put, Wrote, Flushed}
 use Rattle.appender_replay.specs.declared.replay.whole.Reply.{Reply}
 use Rattle.appender_replay.specs.declared.replay.whole.Reply.TheVariants.{Accepted, Full, Closed, NoMemory, Shut, Senders, Took, TookShutdown, TookGone, TookEmpty, Wrote as DidWrite, Flushed as DidFlush, Ended}
-use Rattle.rollplay_script.specs.Text.{escapes_of}
+use Rattle.rollplay_script.specs.Text.{script_escapes}
 
 -- a text with its newline
-abbrev pub line_of : List ℕ → List ℕ
-line_of text = text ++ (10 ∷ [])
+abbrev pub with_newline : List ℕ → List ℕ
+with_newline text = text ++ (10 ∷ [])
 
 -- ---- replies
 
@@ -43,7 +43,7 @@ reply_words (Flushed (Err kind)) = codes "err"
 
 -- a line for each reply
 abbrev pub reply_lines : List RollReply → List ℕ
-reply_lines = flat_map (λ reply. line_of (reply_words reply))
+reply_lines = flat_map (λ reply. with_newline (reply_words reply))
 
 -- for a run with a queue: tickets count the accepted lines from 1
 abbrev pub queue_reply_words : Reply → List ℕ
@@ -66,7 +66,7 @@ queue_reply_words (DidFlush (Err kind)) = codes "flush err"
 queue_reply_words Ended = codes "ended"
 
 abbrev pub queue_reply_lines : List Reply → List ℕ
-queue_reply_lines = flat_map (λ reply. line_of (queue_reply_words reply))
+queue_reply_lines = flat_map (λ reply. with_newline (queue_reply_words reply))
 
 -- accepted, handed, queued, left and dropped, as decimal numbers
 abbrev pub counts_words : Counts → List ℕ
@@ -79,7 +79,7 @@ counts_words c =
 -- a file's contents in one line, after a space; nothing if it is empty
 abbrev pub contents_word : List ℕ → List ℕ
 contents_word [] = []
-contents_word (b ∷ bytes) = 32 ∷ escapes_of (b ∷ bytes)
+contents_word (b ∷ bytes) = 32 ∷ script_escapes (b ∷ bytes)
 
 -- a name with the bytes of its file or the target of its link; with neither, it is a folder
 abbrev pub entry_words : List ℕ → Option (List ℕ) → Option (List ℕ) → List ℕ
@@ -91,7 +91,7 @@ entry_words name None None = codes "folder " ++ name
 abbrev pub entry_line : Content → List ℕ → List ℕ
 entry_line folder name =
     let entry = fin.get folder.names name in
-    line_of (entry_words name (bytes_in folder entry) (target_in entry))
+    with_newline (entry_words name (bytes_in folder entry) (target_in entry))
 
 -- a line for each name, in byte order
 abbrev pub folder_lines : Content → List ℕ
@@ -100,7 +100,7 @@ folder_lines folder = flat_map (entry_line folder) (fin.keys folder.names)
 -- ---- all of it
 
 abbrev pub open_line : List ℕ → List ℕ
-open_line name = line_of (codes "open " ++ name)
+open_line name = with_newline (codes "open " ++ name)
 
 -- for a log that was opened: the first file's name, the replies, and the folder at the end
 abbrev pub run_page : List ℕ → List RollReply → Content → List ℕ
@@ -109,8 +109,8 @@ run_page name replies folder = open_line name ++ (reply_lines replies ++ folder_
 -- for a log with a queue: also the counts of the queue
 abbrev pub queued_page : List ℕ → List Reply → Content → Counts → List ℕ
 queued_page name replies folder counts =
-    open_line name ++ (queue_reply_lines replies ++ (folder_lines folder ++ line_of (counts_words counts)))
+    open_line name ++ (queue_reply_lines replies ++ (folder_lines folder ++ with_newline (counts_words counts)))
 
 -- for a log that was not opened: the number of the error, and the folder that was returned
 abbrev pub refusal_page : InitError → Content → List ℕ
-refusal_page error folder = line_of (codes "init error " ++ decimal (code_of error)) ++ folder_lines folder
+refusal_page error folder = with_newline (codes "init error " ++ decimal (code_of error)) ++ folder_lines folder

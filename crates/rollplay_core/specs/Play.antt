@@ -12,7 +12,7 @@ use Rattle.appender_rolling.specs.Config.{stamp}
 use Rattle.appender_rolling.specs.Opening.{file_name_of}
 use Rattle.appender_rolling.specs.Roller.{Rolling, OpensNoRoller}
 use Rattle.appender_queue.specs.Queue.{Queue}
-use Rattle.appender_queue.specs.QueueReplies.{counts_of}
+use Rattle.appender_queue.specs.QueueReplies.{queue_counts}
 use Rattle.tracing_appender.specs.Core.{Core}
 use Rattle.appender_replay.specs.Answers.{WorkerDoes}
 use Rattle.appender_replay.specs.Replay.{RollDoes, RunsFrom, with_replies}
@@ -30,7 +30,7 @@ use Rattle.rollplay_core.specs.declared.play.Failure.TheVariants.{Line, Script, 
 use Rattle.program_io.specs.Report.{AppendsBeginning}
 use Rattle.rollplay_script.specs.declared.script.ScriptError.{ScriptError}
 use Rattle.rollplay_script.specs.declared.script.ScriptError.TheVariants.{Fault, Memory as OutOfMemory}
-use Rattle.rollplay_core.specs.Page.{line_of, run_page, queued_page, refusal_page}
+use Rattle.rollplay_core.specs.Page.{with_newline, run_page, queued_page, refusal_page}
 use Rattle.rollplay_script.specs.Script.{Plan, rolling, queued, IsScript, HasFirstFault}
 
 -- the log was opened and all steps were run, and the page has the replies and the folder at the end
@@ -53,7 +53,7 @@ pub record IsQueuedRunPage {F : Type 0} (kind : Ghosts MemoryFolder F) (config :
   pub last : Rolling MemoryFolder F
   pub number : ℕ
   pub runs : RunsFrom kind (WorkerDoes kind) config start number folder (with_replies steps replies) last
-  pub page_is : page ≡ queued_page (file_name_of config (stamp start number)) replies (state_of last.folder).content (counts_of queue)
+  pub page_is : page ≡ queued_page (file_name_of config (stamp start number)) replies (state_of last.folder).content (queue_counts queue)
 
 -- the log was not opened, and the page has the reason
 pub record IsRefusedPage {F : Type 0} (kind : Ghosts MemoryFolder F) (config : Config) (folder : MemoryFolder) (start : ℤ) (page : List ℕ) : Type 0 where
@@ -104,19 +104,19 @@ pub record IsUnwritten {F : Type 0} (kind : Ghosts MemoryFolder F) (given : Opti
 -- ---- failures
 
 -- the report for each failure
-abbrev pub words_of : Failure → List ℕ
-words_of (Line number) = line_of (codes "line " ++ (decimal number ++ codes ": fault"))
-words_of Script = line_of (codes "bad script")
-words_of Read = line_of (codes "read failed")
-words_of Write = []
-words_of Memory = line_of (codes "no memory")
+abbrev pub failure_words : Failure → List ℕ
+failure_words (Line number) = with_newline (codes "line " ++ (decimal number ++ codes ": fault"))
+failure_words Script = with_newline (codes "bad script")
+failure_words Read = with_newline (codes "read failed")
+failure_words Write = []
+failure_words Memory = with_newline (codes "no memory")
 
-abbrev pub status_of : Failure → ℕ
-status_of (Line number) = 2
-status_of Script = 2
-status_of Read = 2
-status_of Write = 2
-status_of Memory = 3
+abbrev pub failure_status : Failure → ℕ
+failure_status (Line number) = 2
+failure_status Script = 2
+failure_status Read = 2
+failure_status Write = 2
+failure_status Memory = 3
 
 -- a fault of a script is one of its lines
 abbrev pub failure_of : ScriptError → Failure
@@ -145,6 +145,6 @@ Fails kind failure given Same = Same
 -- the errors.
 pub record Reports {F : Type 0} (kind : Ghosts MemoryFolder F) (status : ℕ) (given old new errors_old errors_new : Option (List ℕ)) : Type 0 where
   pub failure : Failure
-  pub status_is : status ≡ status_of failure
+  pub status_is : status ≡ failure_status failure
   pub fails : Fails kind failure given (Keeps old new)
-  pub words : AppendsBeginning errors_old errors_new (words_of failure)
+  pub words : AppendsBeginning errors_old errors_new (failure_words failure)

@@ -4,11 +4,11 @@ ghost use Rattle.appender_names.specs.Rotation.{IsMoment};
 ghost use Rattle.appender_store.specs.MemoryView.{state_of};
 ghost use Rattle.appender_rolling.specs.Config.{stamp, last_of};
 ghost use Rattle.appender_rolling.specs.Opening.{file_name_of};
-ghost use Rattle.rollplay_core.specs.Page.{reply_words, line_of, entry_words, entry_line, folder_lines, run_page};
+ghost use Rattle.rollplay_core.specs.Page.{reply_words, with_newline, entry_words, entry_line, folder_lines, run_page};
 ghost use Rattle.rollplay_core.specs.Page.{refusal_page, open_line, reply_lines, queue_reply_words, queue_reply_lines};
 ghost use Rattle.rollplay_core.specs.Page.{counts_words, queued_page};
-ghost use Rattle.appender_queue.specs.QueueReplies.{counts_of};
-ghost use Rattle.rollplay_script.specs.Text.{escape_of, escapes_of};
+ghost use Rattle.appender_queue.specs.QueueReplies.{queue_counts};
+ghost use Rattle.rollplay_script.specs.Text.{script_escape, script_escapes};
 
 use std::alloc::AllocError;
 use std::io::Write;
@@ -76,7 +76,7 @@ pub fn print_queued_run(page: &mut Vec<u8>, start: i64, run: &Run<MemoryFolder>)
     requires number { run.now.number ≤ last_of run.now.roller.config }
     ensures { OnOk result (page.new.items ≡ page.old.items ++ queued_page
         (file_name_of run.now.roller.config (stamp start run.now.number)) run.now.replies.items
-        (state_of run.now.roller.folder).content (counts_of run.now.queue)) }
+        (state_of run.now.roller.folder).content (queue_counts run.now.queue)) }
 {
     print_opening(page, start, run.number, &run.roller)?;
     print_queue_replies(page, &run.replies)?;
@@ -123,7 +123,7 @@ fn print_replies(page: &mut Vec<u8>, replies: &[RollReply]) -> io::Result<()>
 // Prints the reply to a step.
 fn print_reply(page: &mut Vec<u8>, reply: &RollReply) -> io::Result<()>
     ensures { OnOk result
-        (page.new.items ≡ page.old.items ++ line_of (reply_words reply.now)) }
+        (page.new.items ≡ page.old.items ++ with_newline (reply_words reply.now)) }
 {
     match reply {
         RollReply::Saw(switch) => writeln!(page, "{}", SwitchWord(*switch)),
@@ -147,7 +147,7 @@ fn print_queue_replies(page: &mut Vec<u8>, replies: &[Reply]) -> io::Result<()>
 // Prints the reply to a step of a run with a queue.
 fn print_queue_reply(page: &mut Vec<u8>, reply: &Reply) -> io::Result<()>
     ensures { OnOk result
-        (page.new.items ≡ page.old.items ++ line_of (queue_reply_words reply.now)) }
+        (page.new.items ≡ page.old.items ++ with_newline (queue_reply_words reply.now)) }
 {
     let word = match reply {
         Reply::Accepted(ticket) => return writeln!(page, "accepted {ticket}"),
@@ -174,7 +174,7 @@ fn print_queue_reply(page: &mut Vec<u8>, reply: &Reply) -> io::Result<()>
 // Prints the counts of a queue.
 fn print_counts(page: &mut Vec<u8>, counts: Counts) -> io::Result<()>
     ensures { OnOk result
-        (page.new.items ≡ page.old.items ++ line_of (counts_words counts)) }
+        (page.new.items ≡ page.old.items ++ with_newline (counts_words counts)) }
 {
     let Counts {
         accepted,
@@ -213,7 +213,7 @@ fn print_entry(page: &mut Vec<u8>, folder: &MemoryFolder, name: &str) -> io::Res
 
 fn print_file(page: &mut Vec<u8>, name: &str, bytes: &[u8]) -> io::Result<()>
     ensures { OnOk result (page.new.items ≡
-        page.old.items ++ line_of (entry_words name.now (Some bytes.now) None)) }
+        page.old.items ++ with_newline (entry_words name.now (Some bytes.now) None)) }
 {
     let length = bytes.len();
     write!(page, "file {name} {length}")?;
@@ -226,7 +226,7 @@ fn print_file(page: &mut Vec<u8>, name: &str, bytes: &[u8]) -> io::Result<()>
 
 // Adds bytes in one line: a newline as `\n`, a backslash as `\\`, and others as they are.
 fn push_escapes(page: &mut Vec<u8>, bytes: &[u8]) -> Result<(), AllocError>
-    ensures { OnOk result (page.new.items ≡ page.old.items ++ escapes_of bytes.now) }
+    ensures { OnOk result (page.new.items ≡ page.old.items ++ script_escapes bytes.now) }
 {
     page.reserve(bytes.len())?;
     for byte in bytes {
@@ -236,7 +236,7 @@ fn push_escapes(page: &mut Vec<u8>, bytes: &[u8]) -> Result<(), AllocError>
 }
 
 fn push_byte(page: &mut Vec<u8>, byte: u8) -> Result<(), AllocError>
-    ensures { OnOk result (page.new.items ≡ page.old.items ++ escape_of byte) }
+    ensures { OnOk result (page.new.items ≡ page.old.items ++ script_escape byte) }
 {
     match byte {
         b'\n' => page.extend_from_slice(b"\\n"),

@@ -3,8 +3,8 @@
 ghost use Rattle.std.specs.Prelude.{◌≡◌, ◌≤◌, IfOk, IfErr, OnOk, IfSome, string_bytes, string_len};
 ghost use Rattle.std.specs.Io.KnownBytes.{Keeps, Appends};
 ghost use Rattle.appender_store.specs.MemoryView.{state_of};
-ghost use Rattle.rollplay_core.specs.Play.{IsPlayPage, IsGiven, Prints, IsOfReading, Fails, Reports, words_of};
-ghost use Rattle.rollplay_core.specs.Play.{status_of, IsRefusalPage};
+ghost use Rattle.rollplay_core.specs.Play.{IsPlayPage, IsGiven, Prints, IsOfReading, Fails, Reports, failure_words};
+ghost use Rattle.rollplay_core.specs.Play.{failure_status, IsRefusalPage};
 ghost use Rattle.program_io.specs.Report.{AppendsBeginning};
 ghost use Rattle.rollplay_script.specs.Draft.{plan_of};
 ghost use Rattle.rollplay_script.specs.Script.{rolling, queued};
@@ -57,7 +57,7 @@ enum Failure {
 
 impl Failure {
     fn status(self) -> u8
-        ensures { result ≡ status_of self }
+        ensures { result ≡ failure_status self }
     {
         match self {
             Failure::Memory => 3,
@@ -67,8 +67,8 @@ impl Failure {
 
     // Reports the failure on `errors`, without allocating.
     fn report<E: Write>(self, errors: &mut E) -> io::Result<()>
-        ensures whole { OnOk result (Appends (E.contents errors.old) (E.contents errors.new) (words_of self)) }
-        ensures beginning { AppendsBeginning (E.contents errors.old) (E.contents errors.new) (words_of self) }
+        ensures whole { OnOk result (Appends (E.contents errors.old) (E.contents errors.new) (failure_words self)) }
+        ensures beginning { AppendsBeginning (E.contents errors.old) (E.contents errors.new) (failure_words self) }
     {
         match self {
             Failure::Line(number) => report_line(errors, number),
@@ -82,8 +82,8 @@ impl Failure {
 
 // Reports that this line is faulty. A text of 64 bytes has room for every number.
 fn report_line<E: Write>(errors: &mut E, number: usize) -> io::Result<()>
-    ensures whole { OnOk result (Appends (E.contents errors.old) (E.contents errors.new) (words_of (Failure.Line number))) }
-    ensures beginning { AppendsBeginning (E.contents errors.old) (E.contents errors.new) (words_of (Failure.Line number)) }
+    ensures whole { OnOk result (Appends (E.contents errors.old) (E.contents errors.new) (failure_words (Failure.Line number))) }
+    ensures beginning { AppendsBeginning (E.contents errors.old) (E.contents errors.new) (failure_words (Failure.Line number)) }
 {
     let mut text = InlineText::<64>::new();
     writeln!(text, "line {number}: fault")?;
@@ -178,7 +178,7 @@ fn read_text<R: Read>(alloc: Global, input: &mut R) -> Result<String, Failure>
     }
 }
 
-// Runs a script, and returns the page to print.
+// Runs a script, and returns the page to print. It is made whole before it is written, so a failure leaves no part of it.
 fn play_script(alloc: Global, script: Script) -> Result<(Opening, Vec<u8>), Failure>
     ensures ok { IfOk result (λ r. IsPlayPage ⟦<MemoryFolder as Folder>⟧ script.builder script.folder
         script.start (plan_of script.plan) r.0 r.1.items) }

@@ -4,7 +4,7 @@
 /// Scripts, each with its expected page, in one text. A bar ends each script and each page.
 #[derive(Clone, Copy)]
 pub struct Table {
-    /// The number of scripts.
+    /// The number of scripts, by which a test finds that one was not read.
     pub rows: usize,
     /// The scripts and the pages.
     pub text: &'static str,

@@ -5,8 +5,8 @@ use Rattle.std.specs.Str.{bytes_eq}
 use Rattle.std.proofs.lemmas.List.{append_cancel_left}
 use Rattle.std.proofs.lemmas.List.Elements.{All-cons}
 use Rattle.rollplay_script.specs.declared.line.ScriptLine.{ScriptLine}
-use Rattle.rollplay_script.specs.Words.{tail_of, TakesWord, HasNoWord, Takes, TakesNo}
-use Rattle.rollplay_script.specs.Text.{StandsForNone}
+use Rattle.rollplay_script.specs.Words.{tail_of, TakesWord, HasNoWord, TakesWordOf, TakesNoWordOf}
+use Rattle.rollplay_script.specs.Text.{IsNoEscapedText}
 use Rattle.rollplay_script.specs.Line.{LineKind, rotation, prefix, suffix, link, maximum, byte_limit, by_name, created, file, folder, link_at, absent, failing, shortened, start, see, put, write, flush, queue, offer, shut, add, drop, work, first_word, log_kinds, folder_kinds, run_kinds, queue_kinds, HasArguments, IsNotOf, BeginsWith, ContinuesWith, TakesText}
 
 -- the text after a word determines what is left
@@ -155,14 +155,14 @@ module _ (old : Option (List ℕ)) (word : List ℕ) (rest : Option (List ℕ)) 
       (subst (λ (r : Option (List ℕ)). HasArguments begins.kind r line left) once.1 begins.arguments)
 
 -- a word of a kind was taken, and none of that kind could be
-pub takes_no : (P Q : List ℕ → Type 0) (old r s : Option (List ℕ)) → Takes P old r → TakesNo Q old s → ((w : List ℕ) → P w → Q w) → ⊥
+pub takes_no : (P Q : List ℕ → Type 0) (old r s : Option (List ℕ)) → TakesWordOf P old r → TakesNoWordOf Q old s → ((w : List ℕ) → P w → Q w) → ⊥
 takes_no P Q old r s takes none to = elim none [
   | inl no_word ↦ takes_none old takes.word r takes.taken no_word
   | inr other ↦ other.2 (to other.0 (subst P (takes_once old takes.word other.0 r s takes.taken other.1).0 takes.kind))
 ]
 
 -- a text was there, and no text could be
-pub no_text : (old new : Option (List ℕ)) (text : List ℕ) → TakesText old text new → StandsForNone (unwrap_or old []) → ⊥
+pub no_text : (old new : Option (List ℕ)) (text : List ℕ) → TakesText old text new → IsNoEscapedText (unwrap_or old []) → ⊥
 no_text old new text takes none = none text takes.text
 
 -- what is left after the arguments of a kind

@@ -16,7 +16,7 @@ use Rattle.rollplay_script.specs.declared.script.ScriptError.TheVariants.{Fault,
 use Rattle.rollplay_script.specs.declared.words.LineError.{LineError}
 use Rattle.rollplay_script.specs.declared.words.LineError.TheVariants.{Fault as LineFault, Memory as LineMemory}
 use Rattle.rollplay_script.specs.Draft.{plan_of}
-use Rattle.rollplay_script.specs.Script.{Progress, Gives, BeginsWithLine, IsFaultyLine, Stops, Reaches, IsScript, HasFirstFault, is_misplaced}
+use Rattle.rollplay_script.specs.Script.{Progress, HasParts, BeginsWithLine, IsFaultyLine, HasFaultNext, ReadsLines, IsScript, HasFirstFault, is_misplaced}
 
 -- a text is cut after its first newline
 pub begins_with_line : (text : List ℕ) (found : Option (Bor (List ℕ) × Bor (List ℕ))) (whole : Bor (List ℕ) × Bor (List ℕ)) → text ≢ [] → whole.0.now ≡ text → whole.1.now ≡ []
@@ -28,13 +28,13 @@ begins_with_line text (Some parts) whole some all none found =
     record { one = All-from_get_or (λ b. b ≢ 10) parts.0.now 0 found.1; join = inl found.0; some = some }
 
 -- reading stops at a faulty line
-pub stops_here : (rest line behind : List ℕ) (p : Progress) → BeginsWithLine rest line behind → IsFaultyLine line p → Stops rest p
+pub stops_here : (rest line behind : List ℕ) (p : Progress) → BeginsWithLine rest line behind → IsFaultyLine line p → HasFaultNext rest p
 stops_here [] line behind p begins faulty = absurd (begins.some refl)
 stops_here (b ∷ bs) line behind p begins faulty = (line, behind, begins, faulty)
 
 -- if the start is known at the end of the text, all of it is a script
-pub is_script : (text : List ℕ) (lines : ℕ) (p : Progress) (found : Option Script) (error : ScriptError) → Reaches text lines [] p
-    → IfSome found (λ s. Gives p s.builder (state_of s.folder) s.start (plan_of s.plan))
+pub is_script : (text : List ℕ) (lines : ℕ) (p : Progress) (found : Option Script) (error : ScriptError) → ReadsLines text lines [] p
+    → IfSome found (λ s. HasParts p s.builder (state_of s.folder) s.start (plan_of s.plan))
     → IfOk (ok_or found error) (λ s. IsScript text s.builder (state_of s.folder) s.start (plan_of s.plan))
 is_script text lines p None error reached is = tt
 is_script text lines p (Some s) error reached is = record {
@@ -45,7 +45,7 @@ is_script text lines p (Some s) error reached is = record {
 }
 
 -- if it is not, the fault is after the last line
-pub misses_start : (text : List ℕ) (lines : ℕ) (p : Progress) (found : Option Script) (number counted : ℕ) → Reaches text lines [] p → counted ≡ suc lines
+pub misses_start : (text : List ℕ) (lines : ℕ) (p : Progress) (found : Option Script) (number counted : ℕ) → ReadsLines text lines [] p → counted ≡ suc lines
     → (IsNone found → p.start ≡ None) → ok_or found (Fault counted) ≡ Err (Fault number) → HasFirstFault text number
 misses_start text lines p None number counted reached next none e = record {
   taken = lines;

@@ -4,21 +4,21 @@ use Rattle.std.proofs.lemmas.Bool.{cases_eq}
 use Rattle.std.proofs.lemmas.Grind.{common_steps}
 use Rattle.std.proofs.lemmas.List.{append-nil}
 use Rattle.std.proofs.lemmas.List.Elements.{All-head, All-tail, All-from_get_or}
-use Rattle.rollplay_script.specs.Text.{escape_of, StandsFirst, IsEscaped, StandsForNone}
+use Rattle.rollplay_script.specs.Text.{script_escape, BeginsWithByte, IsEscaped, IsNoEscapedText}
 
 -- a byte that needs no escape
-escape_of-plain : (b : ℕ) → b ≢ 10 → b ≢ 92 → escape_of b ≡ b ∷ []
+escape_of-plain : (b : ℕ) → b ≢ 10 → b ≢ 92 → script_escape b ≡ b ∷ []
 escape_of-plain b n s = grind (arith, common_steps)
 
 -- the byte that an escape denotes
-pub escape_of-cases : (b : ℕ) (after behind : List ℕ) → 92 ∷ after ≡ escape_of b ++ behind → (after ≡ 110 ∷ behind) ⊎ (after ≡ 92 ∷ behind)
+pub escape_of-cases : (b : ℕ) (after behind : List ℕ) → 92 ∷ after ≡ script_escape b ++ behind → (after ≡ 110 ∷ behind) ⊎ (after ≡ 92 ∷ behind)
 escape_of-cases b after behind e = elim (cases_eq b 10) [
   | inl ten ↦
-      let first : 92 ∷ after ≡ 92 ∷ (110 ∷ behind) = subst (λ (x : ℕ). 92 ∷ after ≡ escape_of x ++ behind) ten e in
+      let first : 92 ∷ after ≡ 92 ∷ (110 ∷ behind) = subst (λ (x : ℕ). 92 ∷ after ≡ script_escape x ++ behind) ten e in
       inl (cc)
   | inr not_ten ↦ elim (cases_eq b 92) [
     | inl slash ↦
-        let first : 92 ∷ after ≡ 92 ∷ (92 ∷ behind) = subst (λ (x : ℕ). 92 ∷ after ≡ escape_of x ++ behind) slash e in
+        let first : 92 ∷ after ≡ 92 ∷ (92 ∷ behind) = subst (λ (x : ℕ). 92 ∷ after ≡ script_escape x ++ behind) slash e in
         inr (cc)
     | inr plain ↦
         let first : 92 ∷ after ≡ b ∷ behind = e ∙ ap (λ x. x ++ behind) (escape_of-plain b not_ten plain) in
@@ -28,23 +28,23 @@ escape_of-cases b after behind e = elim (cases_eq b 10) [
 ]
 
 -- a byte that isn't a backslash denotes itself
-stands_first-plain : (b : ℕ) (rest : List ℕ) → b ≢ 92 → StandsFirst b (b ∷ rest) rest
+stands_first-plain : (b : ℕ) (rest : List ℕ) → b ≢ 92 → BeginsWithByte b (b ∷ rest) rest
 stands_first-plain b rest s = elim (cases_eq b 10) [
   | inl ten ↦ inr (ten, ap (λ x. x ∷ rest) ten)
   | inr not_ten ↦ inl (sym (ap (λ x. x ++ rest) (escape_of-plain b not_ten s)))
 ]
 
 -- and no other text denotes it
-stands_first-rest : (a b : ℕ) (text rest : List ℕ) → b ≢ 92 → StandsFirst a (b ∷ text) rest → rest ≡ text
+stands_first-rest : (a b : ℕ) (text rest : List ℕ) → b ≢ 92 → BeginsWithByte a (b ∷ text) rest → rest ≡ text
 stands_first-rest a b text rest s stands = elim stands [
   | inl e ↦ elim (cases_eq a 10) [
     | inl ten ↦
-        let first : b ∷ text ≡ 92 ∷ (110 ∷ rest) = subst (λ (x : ℕ). b ∷ text ≡ escape_of x ++ rest) ten e in
+        let first : b ∷ text ≡ 92 ∷ (110 ∷ rest) = subst (λ (x : ℕ). b ∷ text ≡ script_escape x ++ rest) ten e in
         let same : b ≡ 92 = cc in
         absurd (s same)
     | inr not_ten ↦ elim (cases_eq a 92) [
       | inl slash ↦
-          let first : b ∷ text ≡ 92 ∷ (92 ∷ rest) = subst (λ (x : ℕ). b ∷ text ≡ escape_of x ++ rest) slash e in
+          let first : b ∷ text ≡ 92 ∷ (92 ∷ rest) = subst (λ (x : ℕ). b ∷ text ≡ script_escape x ++ rest) slash e in
           let same : b ≡ 92 = cc in
           absurd (s same)
       | inr plain ↦
@@ -76,7 +76,7 @@ front-leaves (b ∷ bs) rest (a ∷ as') plain (left, stands, escaped) =
     (subst (λ (x : List ℕ). IsEscaped as' x) (stands_first-rest a b (bs ++ rest) left (All-head (λ x. x ≢ 92) b bs plain) stands) escaped)
 
 -- after an escape
-escape-leaves : (after behind all : List ℕ) (c : ℕ) → 92 ∷ after ≡ escape_of c ++ behind → IsEscaped all (92 ∷ after)
+escape-leaves : (after behind all : List ℕ) (c : ℕ) → 92 ∷ after ≡ script_escape c ++ behind → IsEscaped all (92 ∷ after)
     → (more : List ℕ) × IsEscaped more behind
 escape-leaves after behind [] c escape escaped = absurd (some_byte 92 after escaped)
 escape-leaves after behind (a ∷ more) c escape (left, stands, escaped) = elim stands [
@@ -96,7 +96,7 @@ escape-leaves after behind (a ∷ more) c escape (left, stands, escaped) = elim 
 ]
 
 -- a backslash that begins no escape denotes nothing
-no_escape : (after all : List ℕ) → ((b : ℕ) (rest : List ℕ) → 92 ∷ after ≢ escape_of b ++ rest) → ¬ (IsEscaped all (92 ∷ after))
+no_escape : (after all : List ℕ) → ((b : ℕ) (rest : List ℕ) → 92 ∷ after ≢ script_escape b ++ rest) → ¬ (IsEscaped all (92 ∷ after))
 no_escape after [] none escaped = some_byte 92 after escaped
 no_escape after (a ∷ more) none (left, stands, escaped) = elim stands [
   | inl e ↦ none a left e
@@ -115,7 +115,7 @@ resolved_none text = record { grows = λ more escaped. escaped; leaves = λ all 
 module _ (text done rest before : List ℕ) (resolved : IsResolved text done rest) where
   module _ (after : List ℕ) (split : rest ≡ before ++ (92 ∷ after)) (plain : (i : ℕ) → i < length before → get_or before i 0 ≢ 92) where
     -- one more escape is resolved
-    pub resolved_more : (behind : List ℕ) (c : ℕ) → 92 ∷ after ≡ escape_of c ++ behind → IsResolved text ((done ++ before) ++ (c ∷ [])) behind
+    pub resolved_more : (behind : List ℕ) (c : ℕ) → 92 ∷ after ≡ script_escape c ++ behind → IsResolved text ((done ++ before) ++ (c ∷ [])) behind
     resolved_more behind c escape =
         let front : All (λ b. b ≢ 92) before = All-from_get_or (λ b. b ≢ 92) before 0 plain in
         record {
@@ -133,7 +133,7 @@ module _ (text done rest before : List ℕ) (resolved : IsResolved text done res
         }
 
     -- no escape begins with the next backslash
-    pub resolved_no_more : ((b : ℕ) (left : List ℕ) → 92 ∷ after ≢ escape_of b ++ left) → StandsForNone text
+    pub resolved_no_more : ((b : ℕ) (left : List ℕ) → 92 ∷ after ≢ script_escape b ++ left) → IsNoEscapedText text
     resolved_no_more none all escaped =
         let front : All (λ b. b ≢ 92) before = All-from_get_or (λ b. b ≢ 92) before 0 plain in
         let left = resolved.leaves all escaped in

@@ -8,8 +8,8 @@ use Rattle.appender_replay.specs.declared.replay.whole.Step.TheVariants.{Offer, 
 use Rattle.rollplay_script.specs.declared.line.ScriptLine.{ScriptLine}
 use Rattle.rollplay_script.specs.declared.line.ScriptLine.TheVariants.{Setting, Start, Step, QueueStep}
 use Rattle.rollplay_script.specs.declared.line.Setting.TheVariants.{Rotation as SetRotation, Prefix, Suffix, Link, Max, ByName, Bytes, Created, File, Folder, LinkAt, Absent, Fail, Short, Queue}
-use Rattle.rollplay_script.specs.Words.{TakesWord, Takes}
-use Rattle.rollplay_script.specs.Text.{IsEscaped, IsSeconds, IsCreated, IsCount, IsCall}
+use Rattle.rollplay_script.specs.Words.{TakesWord, TakesWordOf}
+use Rattle.rollplay_script.specs.Text.{IsEscaped, IsSeconds, IsCreationMoment, IsCount, IsCallNumber}
 
 -- what a full queue does with a line: it drops and counts it, or its sender tries again
 abbrev pub mode_word : Bool → List ℕ
@@ -96,7 +96,7 @@ pub record TakesText (old : Option (List ℕ)) (plain : List ℕ) (new : Option 
 -- The text after the first word of a line of each kind, the line that it gives, and the rest.
 abbrev pub HasArguments : LineKind → Option (List ℕ) → ScriptLine → Option (List ℕ) → Type 0
 HasArguments rotation rest line left =
-    (r : Rotation) × (line ≡ Setting (SetRotation r)) × Takes (λ word. word ≡ rotation_word r) rest left
+    (r : Rotation) × (line ≡ Setting (SetRotation r)) × TakesWordOf (λ word. word ≡ rotation_word r) rest left
 HasArguments prefix rest line left =
     (text : String Global) × (line ≡ Setting (Prefix text)) × TakesText rest (string_bytes text) left
 HasArguments suffix rest line left =
@@ -104,12 +104,12 @@ HasArguments suffix rest line left =
 HasArguments link rest line left =
     (text : String Global) × (line ≡ Setting (Link text)) × TakesText rest (string_bytes text) left
 HasArguments maximum rest line left =
-    (n : ℕ) × (line ≡ Setting (Max n)) × Takes (λ word. IsCount word n) rest left
+    (n : ℕ) × (line ≡ Setting (Max n)) × TakesWordOf (λ word. IsCount word n) rest left
 HasArguments byte_limit rest line left =
-    (n : ℕ) × (line ≡ Setting (Bytes n)) × Takes (λ word. IsCount word n) rest left
+    (n : ℕ) × (line ≡ Setting (Bytes n)) × TakesWordOf (λ word. IsCount word n) rest left
 HasArguments by_name rest line left = (line ≡ Setting ByName) × (left ≡ rest)
 HasArguments created rest line left =
-    (moment : Option ℤ) × (line ≡ Setting (Created moment)) × Takes (λ word. IsCreated word moment) rest left
+    (moment : Option ℤ) × (line ≡ Setting (Created moment)) × TakesWordOf (λ word. IsCreationMoment word moment) rest left
 HasArguments file rest line left =
     (name : _) × (text : String Global) × (line ≡ Setting (File name text))
     × ((behind : Option (List ℕ)) × TakesWord rest name.now behind × TakesText behind (string_bytes text) left)
@@ -120,31 +120,31 @@ HasArguments link_at rest line left =
     × ((behind : Option (List ℕ)) × TakesWord rest name.now behind × TakesWord behind target.now left)
 HasArguments absent rest line left = (line ≡ Setting Absent) × (left ≡ rest)
 HasArguments failing rest line left =
-    (call : ℕ) × (line ≡ Setting (Fail call)) × Takes (λ word. IsCall word call) rest left
+    (call : ℕ) × (line ≡ Setting (Fail call)) × TakesWordOf (λ word. IsCallNumber word call) rest left
 HasArguments shortened rest line left =
     (call : ℕ) × (limit : ℕ) × (line ≡ Setting (Short call limit))
-    × ((behind : Option (List ℕ)) × Takes (λ word. IsCall word call) rest behind × Takes (λ word. IsCount word limit) behind left)
+    × ((behind : Option (List ℕ)) × TakesWordOf (λ word. IsCallNumber word call) rest behind × TakesWordOf (λ word. IsCount word limit) behind left)
 HasArguments start rest line left =
-    (m : ℤ) × (line ≡ Start m) × Takes (λ word. IsSeconds word m) rest left
+    (m : ℤ) × (line ≡ Start m) × TakesWordOf (λ word. IsSeconds word m) rest left
 HasArguments see rest line left =
-    (m : ℤ) × (line ≡ Step (See m)) × Takes (λ word. IsSeconds word m) rest left
+    (m : ℤ) × (line ≡ Step (See m)) × TakesWordOf (λ word. IsSeconds word m) rest left
 HasArguments put rest line left =
     (m : ℤ) × (bytes : _) × (line ≡ Step (Put m bytes))
-    × ((behind : Option (List ℕ)) × Takes (λ word. IsSeconds word m) rest behind × TakesText behind bytes.items left)
+    × ((behind : Option (List ℕ)) × TakesWordOf (λ word. IsSeconds word m) rest behind × TakesText behind bytes.items left)
 HasArguments write rest line left =
     (bytes : _) × (line ≡ Step (Write bytes)) × TakesText rest bytes.items left
 HasArguments flush rest line left = (line ≡ Step Flush) × (left ≡ rest)
 HasArguments queue rest line left =
     (limit : ℕ) × (lossy : Bool) × (line ≡ Setting (Queue (record { limit = limit; lossy = lossy })))
-    × ((behind : Option (List ℕ)) × Takes (λ word. IsCount word limit) rest behind × Takes (λ word. word ≡ mode_word lossy) behind left)
+    × ((behind : Option (List ℕ)) × TakesWordOf (λ word. IsCount word limit) rest behind × TakesWordOf (λ word. word ≡ mode_word lossy) behind left)
 HasArguments offer rest line left =
     (label : ℕ) × (bytes : _) × (line ≡ QueueStep (Offer label bytes))
-    × ((behind : Option (List ℕ)) × Takes (λ word. IsCount word label) rest behind × TakesText behind bytes.items left)
+    × ((behind : Option (List ℕ)) × TakesWordOf (λ word. IsCount word label) rest behind × TakesText behind bytes.items left)
 HasArguments shut rest line left = (line ≡ QueueStep Shut) × (left ≡ rest)
 HasArguments add rest line left = (line ≡ QueueStep AddSender) × (left ≡ rest)
 HasArguments drop rest line left = (line ≡ QueueStep DropSender) × (left ≡ rest)
 HasArguments work rest line left =
-    (m : ℤ) × (line ≡ QueueStep (Work m)) × Takes (λ word. IsSeconds word m) rest left
+    (m : ℤ) × (line ≡ QueueStep (Work m)) × TakesWordOf (λ word. IsSeconds word m) rest left
 
 -- after this first word, a line continues like this
 pub record ContinuesWith (word : List ℕ) (rest : Option (List ℕ)) (line : ScriptLine) (left : Option (List ℕ)) : Type 0 where
@@ -165,9 +165,9 @@ pub record BeginsWith (old : Option (List ℕ)) (line : ScriptLine) (new : Optio
   pub arguments : HasArguments kind rest line new
 
 -- the whole text is this line
-abbrev pub IsLine : List ℕ → ScriptLine → Type 0
-IsLine text line = BeginsWith (Some text) line None
+abbrev pub IsScriptLine : List ℕ → ScriptLine → Type 0
+IsScriptLine text line = BeginsWith (Some text) line None
 
 -- it is no line
-abbrev pub IsNoLine : List ℕ → Type 0
-IsNoLine text = (line : ScriptLine) → ¬ IsLine text line
+abbrev pub IsNoScriptLine : List ℕ → Type 0
+IsNoScriptLine text = (line : ScriptLine) → ¬ IsScriptLine text line

@@ -6,7 +6,7 @@ use Rattle.appender_store.specs.Content.{Link as ToLink, Folder as ToFolder}
 use Rattle.appender_store.specs.declared.store.put.PutError.{PutError}
 use Rattle.appender_store.specs.declared.store.put.PutError.TheVariants.{Name, Used, Memory as OutOfMemory}
 use Rattle.appender_store.specs.MemoryPut.{put_refusal}
-use Rattle.appender_store.specs.MemoryState.{State, empty_state, lesser_limit, with_file, with_entry}
+use Rattle.appender_store.specs.MemoryState.{MemoryState, empty_state, lesser_limit, with_file, with_entry}
 use Rattle.appender_rolling.specs.Config.{Config, defaults}
 use Rattle.appender_replay.specs.declared.replay.RollStep.{RollStep}
 use Rattle.appender_replay.specs.declared.replay.whole.Step.{Step as StepOfQueue}
@@ -15,7 +15,7 @@ use Rattle.rollplay_script.specs.declared.line.ScriptLine.{ScriptLine}
 use Rattle.rollplay_script.specs.declared.line.ScriptLine.TheVariants.{Setting as Sets, Start, Step, QueueStep}
 use Rattle.rollplay_script.specs.declared.line.Setting.{Setting}
 use Rattle.rollplay_script.specs.declared.line.Setting.TheVariants.{Rotation, Prefix, Suffix, Link, Max, ByName, Bytes, Created, File, Folder, LinkAt, Absent, Fail, Short, Queue}
-use Rattle.rollplay_script.specs.Line.{IsLine, IsNoLine}
+use Rattle.rollplay_script.specs.Line.{IsScriptLine, IsNoScriptLine}
 use Rattle.rollplay_script.specs.declared.words.LineError.{LineError}
 use Rattle.rollplay_script.specs.declared.words.LineError.TheVariants.{Fault, Memory}
 
@@ -25,7 +25,7 @@ use Rattle.rollplay_script.specs.declared.words.LineError.TheVariants.{Fault, Me
 pub record Progress : Type 0 where
   pub begun : Bool
   pub config : Config
-  pub folder : State
+  pub folder : MemoryState
   pub queueing : Option Queueing
   pub start : Option ℤ
   pub steps : List RollStep
@@ -44,7 +44,7 @@ nothing_read = record {
 }
 
 -- nothing can be put under the name
-abbrev pub is_no_name : State → List ℕ → Bool
+abbrev pub is_no_name : MemoryState → List ℕ → Bool
 is_no_name folder name = is_some (put_refusal folder.content.names name)
 
 -- the fault of a line whose put was refused
@@ -54,7 +54,7 @@ error_of_put Used = Fault
 error_of_put OutOfMemory = Memory
 
 -- a line that puts something under an invalid name
-abbrev pub is_refused_put : Setting → State → Bool
+abbrev pub is_refused_put : Setting → MemoryState → Bool
 is_refused_put (File name text) folder = is_no_name folder name.now
 is_refused_put (Folder name) folder = is_no_name folder name.now
 is_refused_put (LinkAt name target) folder = is_no_name folder name.now
@@ -83,7 +83,7 @@ config_after ByName c = record c { by_name = true }
 config_after (Bytes n) c = record c { max_bytes = n }
 config_after setting c = c
 
-abbrev pub folder_after : Setting → State → State
+abbrev pub folder_after : Setting → MemoryState → MemoryState
 folder_after (Created moment) s = record s { created = moment }
 folder_after (File name text) s = with_file s name.now (string_bytes text)
 folder_after (Folder name) s = with_entry s name.now ToFolder
@@ -98,8 +98,8 @@ abbrev pub queueing_after : Setting → Option Queueing → Option Queueing
 queueing_after (Queue given) queueing = Some given
 queueing_after setting queueing = queueing
 
-abbrev pub after_setting : Setting → Progress → Progress
-after_setting setting p = record p {
+abbrev pub progress_after_setting : Setting → Progress → Progress
+progress_after_setting setting p = record p {
   begun = true;
   config = config_after setting p.config;
   folder = folder_after setting p.folder;
@@ -107,22 +107,22 @@ after_setting setting p = record p {
 }
 
 -- what a line adds
-abbrev pub after_line : ScriptLine → Progress → Progress
-after_line (Sets setting) p = after_setting setting p
-after_line (Start m) p = record p { start = Some m }
-after_line (Step step) p = record p { steps = p.steps ++ step ∷ [] }
-after_line (QueueStep step) p = record p { queue_steps = p.queue_steps ++ step ∷ [] }
+abbrev pub progress_after_line : ScriptLine → Progress → Progress
+progress_after_line (Sets setting) p = progress_after_setting setting p
+progress_after_line (Start m) p = record p { start = Some m }
+progress_after_line (Step step) p = record p { steps = p.steps ++ step ∷ [] }
+progress_after_line (QueueStep step) p = record p { queue_steps = p.queue_steps ++ step ∷ [] }
 
 -- the text is a line that is allowed here, and was added
-pub record Adds (text : List ℕ) (old new : Progress) : Type 0 where
+pub record AddsLine (text : List ℕ) (old new : Progress) : Type 0 where
   pub line : ScriptLine
-  pub reads : IsLine text line
+  pub reads : IsScriptLine text line
   pub fits : is_misplaced line old ≡ false
-  pub after : new ≡ after_line line old
+  pub after : new ≡ progress_after_line line old
 
 -- the text is no line, or one that is not allowed here
 abbrev pub IsFaultyLine : List ℕ → Progress → Type 0
-IsFaultyLine text p = IsNoLine text ⊎ ((line : ScriptLine) × IsLine text line × (is_misplaced line p ≡ true))
+IsFaultyLine text p = IsNoScriptLine text ⊎ ((line : ScriptLine) × IsScriptLine text line × (is_misplaced line p ≡ true))
 
 -- ---- line by line
 
@@ -133,12 +133,12 @@ pub record BeginsWithLine (text line rest : List ℕ) : Type 0 where
   pub some : text ≢ []
 
 -- After this number of lines of the text, each allowed in its place, this rest is left. The script was read this far.
-abbrev pub Reaches : List ℕ → ℕ → List ℕ → Progress → Type 0
-Reaches text zero rest p = (rest ≡ text) × (p ≡ nothing_read)
-Reaches text (suc k) rest p = (before : List ℕ) × (line : List ℕ) × (q : Progress)
-    × Reaches text k before q × BeginsWithLine before line rest × Adds line q p
+abbrev pub ReadsLines : List ℕ → ℕ → List ℕ → Progress → Type 0
+ReadsLines text zero rest p = (rest ≡ text) × (p ≡ nothing_read)
+ReadsLines text (suc k) rest p = (before : List ℕ) × (line : List ℕ) × (q : Progress)
+    × ReadsLines text k before q × BeginsWithLine before line rest × AddsLine line q p
 
--- The steps of an open log: those of the log alone, or those of a worker and a queue of this number of lines.
+-- The steps of an open log: those of just the log, or those of a worker and a queue of this number of lines.
 -- The queue is lossy or not.
 pub data Plan : Type 0 where
   rolling : List RollStep → Plan
@@ -150,23 +150,23 @@ plan_with None steps queue_steps = rolling steps
 plan_with (Some queueing) steps queue_steps = queued queueing.limit queueing.lossy queue_steps
 
 -- The parts of a script that was read: the configuration of the log, the folder before, the moment, and the steps.
-pub record Gives (p : Progress) (config : Config) (folder : State) (start : ℤ) (plan : Plan) : Type 0 where
+pub record HasParts (p : Progress) (config : Config) (folder : MemoryState) (start : ℤ) (plan : Plan) : Type 0 where
   pub config_is : p.config ≡ config
   pub folder_is : p.folder ≡ folder
   pub start_is : p.start ≡ Some start
   pub plan_is : plan_with p.queueing p.steps p.queue_steps ≡ plan
 
 -- all lines of the text were taken, and they give this
-pub record IsScript (text : List ℕ) (config : Config) (folder : State) (start : ℤ) (plan : Plan) : Type 0 where
+pub record IsScript (text : List ℕ) (config : Config) (folder : MemoryState) (start : ℤ) (plan : Plan) : Type 0 where
   pub lines : ℕ
   pub progress : Progress
-  pub reached : Reaches text lines [] progress
-  pub gives : Gives progress config folder start plan
+  pub reached : ReadsLines text lines [] progress
+  pub gives : HasParts progress config folder start plan
 
 -- the next line is faulty; if nothing is left, the start is missing
-abbrev pub Stops : List ℕ → Progress → Type 0
-Stops [] p = p.start ≡ None
-Stops (b ∷ bs) p = (line : List ℕ) × (rest : List ℕ) × BeginsWithLine (b ∷ bs) line rest × IsFaultyLine line p
+abbrev pub HasFaultNext : List ℕ → Progress → Type 0
+HasFaultNext [] p = p.start ≡ None
+HasFaultNext (b ∷ bs) p = (line : List ℕ) × (rest : List ℕ) × BeginsWithLine (b ∷ bs) line rest × IsFaultyLine line p
 
 -- the first fault is in the line of this number, counted from 1
 pub record HasFirstFault (text : List ℕ) (number : ℕ) : Type 0 where
@@ -174,5 +174,5 @@ pub record HasFirstFault (text : List ℕ) (number : ℕ) : Type 0 where
   pub counted : number ≡ suc taken
   pub rest : List ℕ
   pub progress : Progress
-  pub reached : Reaches text taken rest progress
-  pub stops : Stops rest progress
+  pub reached : ReadsLines text taken rest progress
+  pub stops : HasFaultNext rest progress

@@ -5,25 +5,25 @@ use Rattle.std.specs.List.{flat_map}
 use Rattle.std.specs.Str.Parse.{IsNumeral, digits_value, signed_digits_value, without_leading_sign}
 
 -- a byte in one line: a newline is a backslash and an n, a backslash two of them, and another byte itself
-abbrev pub escape_of : ℕ → List ℕ
-escape_of b = if b == 10 then 92 ∷ 110 ∷ [] else (if b == 92 then 92 ∷ 92 ∷ [] else b ∷ [])
+abbrev pub script_escape : ℕ → List ℕ
+script_escape b = if b == 10 then 92 ∷ 110 ∷ [] else (if b == 92 then 92 ∷ 92 ∷ [] else b ∷ [])
 
 -- the bytes of a text in one line
-abbrev pub escapes_of : List ℕ → List ℕ
-escapes_of = flat_map escape_of
+abbrev pub script_escapes : List ℕ → List ℕ
+script_escapes = flat_map script_escape
 
 -- the text begins with the byte, and the rest follows; a newline may also be unescaped
-abbrev pub StandsFirst : ℕ → List ℕ → List ℕ → Type 0
-StandsFirst b text rest = (text ≡ escape_of b ++ rest) ⊎ ((b ≡ 10) × (text ≡ 10 ∷ rest))
+abbrev pub BeginsWithByte : ℕ → List ℕ → List ℕ → Type 0
+BeginsWithByte b text rest = (text ≡ script_escape b ++ rest) ⊎ ((b ≡ 10) × (text ≡ 10 ∷ rest))
 
 -- the text has the bytes of the plain one, each escaped or as it is
 abbrev pub IsEscaped : List ℕ → List ℕ → Type 0
 IsEscaped [] text = text ≡ []
-IsEscaped (b ∷ plain) text = (rest : List ℕ) × StandsFirst b text rest × IsEscaped plain rest
+IsEscaped (b ∷ plain) text = (rest : List ℕ) × BeginsWithByte b text rest × IsEscaped plain rest
 
 -- no plain text has this escaped form
-abbrev pub StandsForNone : List ℕ → Type 0
-StandsForNone text = (plain : List ℕ) → ¬ (IsEscaped plain text)
+abbrev pub IsNoEscapedText : List ℕ → Type 0
+IsNoEscapedText text = (plain : List ℕ) → ¬ (IsEscaped plain text)
 
 -- A decimal number: one digit or more. Only negative numbers have a sign.
 pub record IsSigned (word : List ℕ) (n : ℤ) : Type 0 where
@@ -43,9 +43,9 @@ pub record IsSeconds (word : List ℕ) (m : ℤ) : Type 0 where
   pub number : IsSigned word m
 
 -- a creation moment, in nanoseconds, or none
-abbrev pub IsCreated : List ℕ → Option ℤ → Type 0
-IsCreated word None = word ≡ codes "none"
-IsCreated word (Some m) = FitsSigned w128 m × IsSigned word m
+abbrev pub IsCreationMoment : List ℕ → Option ℤ → Type 0
+IsCreationMoment word None = word ≡ codes "none"
+IsCreationMoment word (Some m) = FitsSigned w128 m × IsSigned word m
 
 -- a count
 pub record IsCount (word : List ℕ) (n : ℕ) : Type 0 where
@@ -53,6 +53,6 @@ pub record IsCount (word : List ℕ) (n : ℕ) : Type 0 where
   pub number : IsUnsigned word n
 
 -- the number of a call, from 1 on
-pub record IsCall (word : List ℕ) (n : ℕ) : Type 0 where
+pub record IsCallNumber (word : List ℕ) (n : ℕ) : Type 0 where
   pub from_one : 1 ≤ n
   pub count : IsCount word n

@@ -19,11 +19,11 @@ HasNoWord None = Unit {0}
 HasNoWord (Some line) = before_first (λ b. b == 32) line ≡ []
 
 -- a word of this kind was taken
-pub record Takes (Is : List ℕ → Type 0) (old new : Option (List ℕ)) : Type 0 where
+pub record TakesWordOf (Is : List ℕ → Type 0) (old new : Option (List ℕ)) : Type 0 where
   pub word : List ℕ
   pub taken : TakesWord old word new
   pub kind : Is word
 
 -- no word was left, or one that isn't of this kind was taken
-abbrev pub TakesNo : (List ℕ → Type 0) → Option (List ℕ) → Option (List ℕ) → Type 0
-TakesNo Is old new = HasNoWord old ⊎ ((word : List ℕ) × TakesWord old word new × (¬ Is word))
+abbrev pub TakesNoWordOf : (List ℕ → Type 0) → Option (List ℕ) → Option (List ℕ) → Type 0
+TakesNoWordOf Is old new = HasNoWord old ⊎ ((word : List ℕ) × TakesWord old word new × (¬ Is word))

@@ -5,7 +5,7 @@ ghost use Rattle.std.specs.List.{All};
 ghost use Rattle.appender_names.specs.RotationText.{IsNoRotation, rotation_word};
 ghost use Rattle.rollplay_script.specs.Line.{mode_word, BeginsWith, ContinuesWith, IsNotOf};
 ghost use Rattle.rollplay_script.specs.Line.{log_kinds, folder_kinds, run_kinds, queue_kinds};
-ghost use Rattle.rollplay_script.specs.Line.{IsLine, IsNoLine};
+ghost use Rattle.rollplay_script.specs.Line.{IsScriptLine, IsNoScriptLine};
 
 use crate::words::{LineError, Words};
 use appender_names::rotation::Rotation;
@@ -34,7 +34,7 @@ pub enum Setting<'a> {
     Link(String),
     /// The number of files that are kept.
     Max(usize),
-    /// Log files are known by their names alone.
+    /// Log files are known only by their names.
     ByName,
     /// The number of bytes in a file before the next of its period begins.
     Bytes(u64),
@@ -72,8 +72,8 @@ pub enum ScriptLine<'a> {
 impl<'a> ScriptLine<'a> {
     /// Reads a whole line, without its newline.
     pub fn read(alloc: Global, line: &'a str) -> Result<ScriptLine<'a>, LineError>
-        ensures ok { IfOk result (IsLine line.now) }
-        ensures fault { result ≡ Err LineError.Fault → IsNoLine line.now }
+        ensures ok { IfOk result (IsScriptLine line.now) }
+        ensures fault { result ≡ Err LineError.Fault → IsNoScriptLine line.now }
     {
         let mut words = Words::new(line);
         let line = ScriptLine::read_words(alloc, &mut words)?;
@@ -107,7 +107,7 @@ impl<'a> ScriptLine<'a> {
             "suffix" => Setting::Suffix(words.text(alloc)?),
             "link" => Setting::Link(words.text(alloc)?),
             "max" => Setting::Max(words.count()?),
-            "bytes" => Setting::Bytes(words.label()?),
+            "bytes" => Setting::Bytes(words.unsigned()?),
             "by-name" => Setting::ByName,
             _ => return ScriptLine::read_folder_words(alloc, word, words),
         }))
@@ -172,7 +172,7 @@ impl<'a> ScriptLine<'a> {
                 lossy: read_mode(words.word()?)?,
             })),
             "offer" => ScriptLine::QueueStep(Step::Offer(
-                words.label()?,
+                words.unsigned()?,
                 words.text(alloc)?.into_bytes(),
             )),
             "shut" => ScriptLine::QueueStep(Step::Shut),

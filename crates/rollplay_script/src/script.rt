@@ -111,7 +111,7 @@ struct Draft {
 
 impl Draft {
     ghost use Rattle.rollplay_script.specs.Draft.{progress_of, plan_of};
-    ghost use Rattle.rollplay_script.specs.Script.{Adds, IsFaultyLine, Gives, nothing_read, after_setting, is_refused};
+    ghost use Rattle.rollplay_script.specs.Script.{AddsLine, IsFaultyLine, HasParts, nothing_read, progress_after_setting, is_refused};
 
     fn new(alloc: Global) -> Draft
         ensures { progress_of result ≡ nothing_read }
@@ -129,7 +129,7 @@ impl Draft {
 
     // Takes the next line. Settings are first, then `start` once, then the steps. With a queue, they are its steps.
     fn add(&mut self, alloc: Global, line: &str) -> Result<(), LineError>
-        ensures ok { OnOk result (Adds line.now (progress_of self.old) (progress_of self.new)) }
+        ensures ok { OnOk result (AddsLine line.now (progress_of self.old) (progress_of self.new)) }
         ensures fault { result ≡ Err LineError.Fault → IsFaultyLine line.now (progress_of self.old) }
     {
         match (self.start, self.queueing, ScriptLine::read(alloc, line)?) {
@@ -153,7 +153,7 @@ impl Draft {
     // Applies a setting, if it is allowed now.
     fn set(&mut self, alloc: Global, setting: &Setting<'_>) -> Result<(), LineError>
         ensures ok { OnOk result
-            (progress_of self.new ≡ after_setting setting.now (progress_of self.old)) }
+            (progress_of self.new ≡ progress_after_setting setting.now (progress_of self.old)) }
         ensures fits { OnOk result (is_refused setting.now (progress_of self.old) ≡ false) }
         ensures fault { result ≡ Err LineError.Fault →
             is_refused setting.now (progress_of self.old) ≡ true }
@@ -172,7 +172,7 @@ impl Draft {
     fn finish(self) -> Option<Script>
         ensures none { IsNone result → self.start ≡ None }
         ensures some { IfSome result (λ s.
-            Gives (progress_of self) s.builder (state_of s.folder) s.start (plan_of s.plan)) }
+            HasParts (progress_of self) s.builder (state_of s.folder) s.start (plan_of s.plan)) }
     {
         let Draft {
             begun: _,

@@ -5,9 +5,9 @@ ghost use Rattle.std.specs.Prelude.{string_bytes, unwrap_or};
 ghost use Rattle.std.specs.Int.{w128};
 ghost use Rattle.std.specs.Option.{option_map};
 ghost use Rattle.std.specs.List.{before_first};
-ghost use Rattle.rollplay_script.specs.Words.{tail_of, TakesWord, HasNoWord, Takes, TakesNo};
-ghost use Rattle.rollplay_script.specs.Text.{escape_of, IsEscaped, StandsForNone, IsSigned, IsUnsigned, IsSeconds};
-ghost use Rattle.rollplay_script.specs.Text.{IsCreated, IsCount, IsCall};
+ghost use Rattle.rollplay_script.specs.Words.{tail_of, TakesWord, HasNoWord, TakesWordOf, TakesNoWordOf};
+ghost use Rattle.rollplay_script.specs.Text.{script_escape, IsEscaped, IsNoEscapedText, IsSigned, IsUnsigned, IsSeconds};
+ghost use Rattle.rollplay_script.specs.Text.{IsCreationMoment, IsCount, IsCallNumber};
 
 use std::alloc::{AllocError, Global};
 use std::marker::Model;
@@ -70,9 +70,9 @@ impl<'a> Words<'a> {
 
     /// Takes the next word as a moment, in seconds of UTC since the epoch.
     pub fn seconds(&mut self) -> Result<i64, LineError>
-        ensures ok { IfOk result (λ seconds. Takes (λ word. IsSeconds word seconds) self.old self.new) }
+        ensures ok { IfOk result (λ seconds. TakesWordOf (λ word. IsSeconds word seconds) self.old self.new) }
         ensures err { IfErr result (λ e. (e ≡ LineError.Fault)
-            × TakesNo (λ word. (m : ℤ) × IsSeconds word m) self.old self.new) }
+            × TakesNoWordOf (λ word. (m : ℤ) × IsSeconds word m) self.old self.new) }
     {
         let number = read_signed(self.word()?).ok_or(LineError::Fault)?;
         i64::try_from(number).map_err(|_| LineError::Fault)
@@ -80,9 +80,9 @@ impl<'a> Words<'a> {
 
     /// Takes the next word as a creation moment, in nanoseconds since the epoch, or `none`.
     pub fn creation(&mut self) -> Result<Option<i128>, LineError>
-        ensures ok { IfOk result (λ created. Takes (λ word. IsCreated word created) self.old self.new) }
+        ensures ok { IfOk result (λ created. TakesWordOf (λ word. IsCreationMoment word created) self.old self.new) }
         ensures err { IfErr result (λ e. (e ≡ LineError.Fault)
-            × TakesNo (λ word. (created : Option ℤ) × IsCreated word created) self.old self.new) }
+            × TakesNoWordOf (λ word. (created : Option ℤ) × IsCreationMoment word created) self.old self.new) }
     {
         match self.word()? {
             "none" => Ok(None),
@@ -92,28 +92,28 @@ impl<'a> Words<'a> {
 
     /// Takes the next word as a count: decimal digits without a sign.
     pub fn count(&mut self) -> Result<usize, LineError>
-        ensures ok { IfOk result (λ count. Takes (λ word. IsCount word count) self.old self.new) }
+        ensures ok { IfOk result (λ count. TakesWordOf (λ word. IsCount word count) self.old self.new) }
         ensures err { IfErr result (λ e. (e ≡ LineError.Fault)
-            × TakesNo (λ word. (n : ℕ) × IsCount word n) self.old self.new) }
+            × TakesNoWordOf (λ word. (n : ℕ) × IsCount word n) self.old self.new) }
     {
         let number = read_unsigned(self.word()?).ok_or(LineError::Fault)?;
         usize::try_from(number).map_err(|_| LineError::Fault)
     }
 
     /// Takes the next word as the label of a sender: decimal digits without a sign.
-    pub fn label(&mut self) -> Result<u64, LineError>
-        ensures ok { IfOk result (λ label. Takes (λ word. IsCount word label) self.old self.new) }
+    pub fn unsigned(&mut self) -> Result<u64, LineError>
+        ensures ok { IfOk result (λ label. TakesWordOf (λ word. IsCount word label) self.old self.new) }
         ensures err { IfErr result (λ e. (e ≡ LineError.Fault)
-            × TakesNo (λ word. (n : ℕ) × IsCount word n) self.old self.new) }
+            × TakesNoWordOf (λ word. (n : ℕ) × IsCount word n) self.old self.new) }
     {
         read_unsigned(self.word()?).ok_or(LineError::Fault)
     }
 
     /// Takes the next word as the number of a call, from 1 on.
     pub fn call(&mut self) -> Result<u64, LineError>
-        ensures ok { IfOk result (λ number. Takes (λ word. IsCall word number) self.old self.new) }
+        ensures ok { IfOk result (λ number. TakesWordOf (λ word. IsCallNumber word number) self.old self.new) }
         ensures err { IfErr result (λ e. (e ≡ LineError.Fault)
-            × TakesNo (λ word. (n : ℕ) × IsCall word n) self.old self.new) }
+            × TakesNoWordOf (λ word. (n : ℕ) × IsCallNumber word n) self.old self.new) }
     {
         let number = read_unsigned(self.word()?).ok_or(LineError::Fault)?;
         if number == 0 {
@@ -126,7 +126,7 @@ impl<'a> Words<'a> {
     pub fn text(&mut self, alloc: Global) -> Result<String, LineError>
         ensures all { self.new ≡ None }
         ensures ok { IfOk result (λ plain. IsEscaped (string_bytes plain) (unwrap_or self.old [])) }
-        ensures fault { result ≡ Err LineError.Fault → StandsForNone (unwrap_or self.old []) }
+        ensures fault { result ≡ Err LineError.Fault → IsNoEscapedText (unwrap_or self.old []) }
     {
         let text = self.rest.take().unwrap_or("");
         unescape(alloc, text)
@@ -184,7 +184,7 @@ fn read_unsigned(word: &str) -> Option<u64>
 // Returns the text with a newline for each `\n` and a backslash for each `\\`. Any other backslash is a fault.
 fn unescape(alloc: Global, text: &str) -> Result<String, LineError>
     ensures ok { IfOk result (λ plain. IsEscaped (string_bytes plain) text.now) }
-    ensures fault { result ≡ Err LineError.Fault → StandsForNone text.now }
+    ensures fault { result ≡ Err LineError.Fault → IsNoEscapedText text.now }
 {
     let mut plain = String::with_capacity(alloc, text.len())?;
     let mut rest = text;
@@ -201,9 +201,9 @@ fn unescape(alloc: Global, text: &str) -> Result<String, LineError>
 // Returns the character that is escaped at the start of a text, and the text after it.
 fn split_escape(text: &str) -> Option<(char, &str)>
     ensures byte { IfSome result (λ r. r.0 < 128) }
-    ensures split { IfSome result (λ r. 92 ∷ text.now ≡ escape_of r.0 ++ r.1.now) }
+    ensures split { IfSome result (λ r. 92 ∷ text.now ≡ script_escape r.0 ++ r.1.now) }
     ensures none { IfNone result
-        ((b : ℕ) → (rest : List ℕ) → 92 ∷ text.now ≢ escape_of b ++ rest) }
+        ((b : ℕ) → (rest : List ℕ) → 92 ∷ text.now ≢ script_escape b ++ rest) }
 {
     if let Some(behind) = text.strip_prefix('n') {
         return Some(('\n', behind));

@@ -2,13 +2,14 @@
 //! minute, hour, day or week of UTC. One thread reads the lines, and another writes them.
 #![tactic(auto)]
 
+use program_io::arguments;
 use program_io::report::print;
 use program_io::streams::fill_streams;
-use program_io::{Host, arguments};
 use program_options::{Request, read};
 use rolltee_core::tee;
 use rolltee_core::tee::Fault;
 use std::process::ExitCode;
+use tracing_appender::non_blocking::Host;
 
 static HELP: &str = concat!(
     "Writes each line of standard input to a log whose files begin at times of UTC.\n",

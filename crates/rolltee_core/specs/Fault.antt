@@ -24,51 +24,51 @@ HasNoFolder arguments =
     (rotation folder : String Global) × (others : List (String Global)) × (arguments ≡ rotation ∷ folder ∷ others) × (string_bytes folder ≡ [])
 
 -- the fault, or that memory was refused if its cause is of that kind
-abbrev pub unless_memory : ErrorKind → Fault → Fault
-unless_memory OutOfMemory fault = Memory
-unless_memory kind fault = fault
+abbrev pub tee_fault_unless_memory : ErrorKind → Fault → Fault
+tee_fault_unless_memory OutOfMemory fault = Memory
+tee_fault_unless_memory kind fault = fault
 
 -- the fault of lines that were not copied
 abbrev pub copying_fault : CopyFault → Fault
-copying_fault (Failed error) = unless_memory (error_kind error) Read
-copying_fault (Refused error) = unless_memory (error_kind error) Write
+copying_fault (Failed error) = tee_fault_unless_memory (error_kind error) Read
+copying_fault (Refused error) = tee_fault_unless_memory (error_kind error) Write
 copying_fault Cut = Write
 
 -- the fault of a command line that was not read
-abbrev pub options_fault : OptionFault → Fault
-options_fault (UnknownWord word) = Unknown word
-options_fault (Wrong option error) = OfOption option error
-options_fault NoMemory = Memory
+abbrev pub tee_options_fault : OptionFault → Fault
+tee_options_fault (UnknownWord word) = Unknown word
+tee_options_fault (Wrong option error) = OfOption option error
+tee_options_fault NoMemory = Memory
 
 -- the status of a process that a fault ended
-abbrev pub status_of : Fault → ℕ
-status_of Usage = 2
-status_of (Unknown word) = 2
-status_of (OfOption option error) = 2
-status_of (Open error) = 1
-status_of Thread = 1
-status_of Read = 1
-status_of Write = 1
-status_of (Lost losses) = 1
-status_of Pending = 1
-status_of Full = 1
-status_of Memory = 3
+abbrev pub tee_status : Fault → ℕ
+tee_status Usage = 2
+tee_status (Unknown word) = 2
+tee_status (OfOption option error) = 2
+tee_status (Open error) = 1
+tee_status Thread = 1
+tee_status Read = 1
+tee_status Write = 1
+tee_status (Lost losses) = 1
+tee_status Pending = 1
+tee_status Full = 1
+tee_status Memory = 3
 
 -- the report of a fault, on a line; a fault with an error, a word or a number has further words
-abbrev pub words_of : Fault → Option (List ℕ)
-words_of Usage = Some (codes "usage: rolltee ROTATION DIR PREFIX" ++ (10 ∷ []))
-words_of (Unknown word) = None
-words_of (OfOption option error) = None
-words_of (Open error) = None
-words_of Thread = Some (codes "no thread" ++ (10 ∷ []))
-words_of Read = Some (codes "read failed" ++ (10 ∷ []))
-words_of Write = Some (codes "write failed" ++ (10 ∷ []))
-words_of (Lost losses) = None
-words_of Pending = Some (codes "shutdown pending" ++ (10 ∷ []))
-words_of Full = Some (codes "shutdown full" ++ (10 ∷ []))
-words_of Memory = Some (codes "no memory" ++ (10 ∷ []))
+abbrev pub tee_fault_words : Fault → Option (List ℕ)
+tee_fault_words Usage = Some (codes "usage: rolltee ROTATION DIR PREFIX" ++ (10 ∷ []))
+tee_fault_words (Unknown word) = None
+tee_fault_words (OfOption option error) = None
+tee_fault_words (Open error) = None
+tee_fault_words Thread = Some (codes "no thread" ++ (10 ∷ []))
+tee_fault_words Read = Some (codes "read failed" ++ (10 ∷ []))
+tee_fault_words Write = Some (codes "write failed" ++ (10 ∷ []))
+tee_fault_words (Lost losses) = None
+tee_fault_words Pending = Some (codes "shutdown pending" ++ (10 ∷ []))
+tee_fault_words Full = Some (codes "shutdown full" ++ (10 ∷ []))
+tee_fault_words Memory = Some (codes "no memory" ++ (10 ∷ []))
 
 -- the status is that of the fault, and a prefix of its words, if those are known, was added to the errors
-pub record ReportsFault (fault : Fault) (status : ℕ) (errors_old errors_new : Option (List ℕ)) : Type 0 where
-  pub status_is : status ≡ status_of fault
-  pub words : IfSome (words_of fault) (AppendsBeginning errors_old errors_new)
+pub record ReportsTeeFault (fault : Fault) (status : ℕ) (errors_old errors_new : Option (List ℕ)) : Type 0 where
+  pub status_is : status ≡ tee_status fault
+  pub words : IfSome (tee_fault_words fault) (AppendsBeginning errors_old errors_new)

@@ -4,10 +4,10 @@ use Rattle.std.specs.declared.io.Error.{Error}
 use Rattle.appender_names.specs.declared.rotation.Rotation.{Rotation}
 use Rattle.appender_store.specs.declared.store.Folder.{Ghosts}
 use Rattle.appender_rolling.specs.declared.rolling.Switch.{Switch}
-use Rattle.appender_rolling.specs.declared.rolling.clock.Clock.{Ghosts as Readings}
-use Rattle.appender_rolling.specs.Appender.{Appending, AppendsNow, OpensSome}
+use Rattle.appender_clock.specs.declared.Clock.{Ghosts as Readings}
+use Rattle.appender_rolling.specs.Appender.{Appending, AppendsNow, OpensInSomeFolder}
 use Rattle.appender_rolling.specs.Config.{Config}
-use Rattle.appender_rolling.specs.Roller.{Looks}
+use Rattle.appender_rolling.specs.Roller.{ChecksClock}
 use Rattle.program_options.specs.declared.Options.{Options}
 
 -- The configuration that is asked for. Files are kept by their names.
@@ -23,13 +23,13 @@ config_of rotation prefix o = record {
 }
 
 -- A log, and the configuration by which it is opened again.
-pub record Reopening (S F C : Type 0) : Type 0 where
+pub record ReopenableLog (S F C : Type 0) : Type 0 where
   pub log : Appending S F C
   pub config : Config
 
 -- The log is the one of before, or was opened again.
-abbrev pub IsFound : {S F C : Type 0} → Ghosts S F → Readings C → Reopening S F C → Appending S F C → Type 0
-IsFound kind time old found = (found ≡ old.log) ⊎ OpensSome kind time old.config found
+abbrev pub IsSameOrReopened : {S F C : Type 0} → Ghosts S F → Readings C → ReopenableLog S F C → Appending S F C → Type 0
+IsSameOrReopened kind time old found = (found ≡ old.log) ⊎ OpensInSomeFolder kind time old.config found
 
 -- a newline was added, or nothing
 abbrev pub MayEndPart : {S F C : Type 0} → Ghosts S F → Appending S F C → Appending S F C → Type 0
@@ -39,27 +39,27 @@ MayEndPart kind old new = (new ≡ old) ⊎ AppendsNow kind (10 ∷ []) (Ok 1) o
 abbrev pub EndsNoPart : {S F C : Type 0} → Ghosts S F → Appending S F C → Appending S F C → Type 0
 EndsNoPart kind old new = (answer : Result ℕ Error) × (answer ≢ Ok 1) × AppendsNow kind (10 ∷ []) answer old new
 
--- The log was found, and the clock was checked once, for so many bytes.
-pub record LooksFor {S F C : Type 0} (kind : Ghosts S F) (time : Readings C) (len : ℕ) (old : Reopening S F C) (looked : Appending S F C) : Type 0 where
+-- The log was found, and the clock was checked once, for this number of bytes.
+pub record FindsLog {S F C : Type 0} (kind : Ghosts S F) (time : Readings C) (len : ℕ) (old : ReopenableLog S F C) (looked : Appending S F C) : Type 0 where
   pub found : Appending S F C
-  pub is_found : IsFound kind time old found
+  pub is_found : IsSameOrReopened kind time old found
   pub moment : ℤ
   pub reading : time.now_gives found.clock moment
   pub switch : Switch
-  pub looks : Looks kind moment len switch found.roller looked.roller
+  pub looks : ChecksClock kind moment len switch found.roller looked.roller
   pub clock : looked.clock ≡ found.clock
 
 -- The bytes were added with this answer by one append, after that check, and at most a newline before them.
-pub record PutsOn {S F C : Type 0} (kind : Ghosts S F) (time : Readings C) (bytes : List ℕ) (answer : Result ℕ Error) (old : Reopening S F C) (new : Appending S F C) : Type 0 where
+pub record PutsBytes {S F C : Type 0} (kind : Ghosts S F) (time : Readings C) (bytes : List ℕ) (answer : Result ℕ Error) (old : ReopenableLog S F C) (new : Appending S F C) : Type 0 where
   pub looked : Appending S F C
-  pub looks : LooksFor kind time (length bytes) old looked
+  pub looks : FindsLog kind time (length bytes) old looked
   pub ended : Appending S F C
   pub ends : MayEndPart kind looked ended
   pub appends : AppendsNow kind bytes answer ended new
 
 -- None of the bytes was added: the log was not opened again, or a newline was not added before them, or their append failed.
-abbrev pub PutsNone : {S F C : Type 0} → Ghosts S F → Readings C → List ℕ → Error → Reopening S F C → Appending S F C → Type 0
+abbrev pub PutsNone : {S F C : Type 0} → Ghosts S F → Readings C → List ℕ → Error → ReopenableLog S F C → Appending S F C → Type 0
 PutsNone {S} {F} {C} kind time bytes error old new =
     (new ≡ old.log)
-    ⊎ ((looked : Appending S F C) × LooksFor kind time (length bytes) old looked × EndsNoPart kind looked new)
-    ⊎ PutsOn kind time bytes (Err error) old new
+    ⊎ ((looked : Appending S F C) × FindsLog kind time (length bytes) old looked × EndsNoPart kind looked new)
+    ⊎ PutsBytes kind time bytes (Err error) old new

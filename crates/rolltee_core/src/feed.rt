@@ -13,7 +13,8 @@ use tracing_appender::worker::{BatchWriter, LineCounts};
 // The most bytes of lines that are written together.
 const CAPACITY: u64 = 1 << 16;
 
-// A file with a limit of bytes has room for at least so many of them.
+// A file with a limit of bytes has room for at least so many of them. One that does not fit begins the next file, so at
+// most this part of a file is left empty, unless a line is longer.
 const BATCHES: u64 = 16;
 
 // Returns the most bytes of lines that are written together to a log with this limit of bytes a file; 0 is none.
@@ -26,7 +27,7 @@ fn capacity(limit: u64) -> usize {
     most as usize
 }
 
-/// The log of a worker. It writes lines together, and counts them for a `Watch`.
+/// The log of a worker. It writes lines together, and counts them for a `WatchedCounts`.
 #[derive(Drop)]
 pub struct WatchedLog<W: Write + Drop> {
     log: BatchWriter<W>,
@@ -35,7 +36,7 @@ pub struct WatchedLog<W: Write + Drop> {
 
 /// What became of the lines of a `WatchedLog`, also while a worker has it.
 #[derive(Drop)]
-pub struct Watch {
+pub struct WatchedCounts {
     counts: LineCounts,
     // The log owns it too, until it is dropped.
     owner: Arc<(), Global>,
@@ -44,14 +45,18 @@ pub struct Watch {
 impl<W: Write + Drop> WatchedLog<W> {
     /// Returns the log of a worker, whose files have this limit of bytes, or none if it is 0, and what shows its counts.
     /// `AllocError` if memory is refused; then the log is dropped.
-    pub fn new(alloc: Global, log: W, limit: u64) -> Result<(WatchedLog<W>, Watch), AllocError> {
+    pub fn new(
+        alloc: Global,
+        log: W,
+        limit: u64,
+    ) -> Result<(WatchedLog<W>, WatchedCounts), AllocError> {
         let (log, counts) = BatchWriter::new(alloc, log, capacity(limit))?;
         let owner = Arc::new(alloc, ()).map_err(AllocError::from)?;
         let watched = WatchedLog {
             log,
             _owner: owner.clone()?,
         };
-        Ok((watched, Watch { counts, owner }))
+        Ok((watched, WatchedCounts { counts, owner }))
     }
 }
 
@@ -66,7 +71,7 @@ impl<W: Write + Drop> Write for WatchedLog<W> {
     }
 }
 
-impl Watch {
+impl WatchedCounts {
     /// Returns the number of lines that the log did not take whole.
     pub fn lost(&self) -> u64 {
         self.counts.lost()
@@ -83,7 +88,8 @@ impl Watch {
     }
 }
 
-// The most bytes that are queued, and then one line more.
+// The most bytes that are queued, and then one line more. The queue counts only lines, and a piece may have 1 MiB. A lossy
+// queue has no such limit, since the input must not wait.
 const MOST_BYTES: usize = 1 << 24;
 
 // The first pause of a wait for the log and the longest one, in milliseconds.
@@ -94,7 +100,7 @@ const LONGEST_MILLIS: u64 = 50;
 // The lines on their way to a log.
 #[derive(Drop)]
 struct Progress {
-    watch: Watch,
+    watch: WatchedCounts,
     dropped: ErrorCounter,
     // The number of lines that the queue took or dropped.
     sent: u64,
@@ -145,7 +151,7 @@ impl<R: Wait + Clock + AllocGlobal, Q, O> Feed<R, Q, O> {
         rt: R,
         queue: Q,
         dropped: ErrorCounter,
-        watch: Watch,
+        watch: WatchedCounts,
         options: &Options,
         output: O,
     ) -> Feed<R, Q, O> {

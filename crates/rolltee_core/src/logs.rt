@@ -11,7 +11,7 @@ use std::marker::Model;
 use std::rt::Files;
 use std::sync::Arc;
 use std::{fs, io};
-use tracing_appender::folder::DirFolder;
+use tracing_appender::folder::{DirFolder, FilesHost};
 use tracing_appender::rolling::{
     Builder, Clock, InitError, RollingFile, Rotation, Switch, SystemClock,
 };
@@ -44,7 +44,7 @@ pub trait Logs {
 }
 
 impl Logs for HostRuntime {
-    ghost use Rattle.appender_rolling.specs.Appender.{OpensSome};
+    ghost use Rattle.appender_rolling.specs.Appender.{OpensInSomeFolder};
 
     type Log = DirLog<HostRuntime>;
 
@@ -56,7 +56,7 @@ impl Logs for HostRuntime {
         options: &Options,
         counts: Arc<FileCounts, Global>,
     ) -> Result<DirLog<HostRuntime>, InitError>
-        ensures opens { IfOk result (λ opened. OpensSome ⟦<DirFolder<HostRuntime> as Folder>⟧
+        ensures opens { IfOk result (λ opened. OpensInSomeFolder ⟦<DirFolder<HostRuntime> as Folder>⟧
             ⟦<SystemClock<HostRuntime> as Clock>⟧ (config_of rotation prefix.now options.now) opened.log) }
         ensures config { IfOk result (λ opened. opened.config ≡ config_of rotation prefix.now options.now) }
     {
@@ -69,7 +69,7 @@ impl Logs for HostRuntime {
 /// Opens one log, each time it is asked to.
 pub trait Opens<S: Folder, C: Clock>: Drop {
     ghost use Rattle.std.specs.Prelude.{IfOk};
-    ghost use Rattle.appender_rolling.specs.Appender.{OpensSome};
+    ghost use Rattle.appender_rolling.specs.Appender.{OpensInSomeFolder};
     ghost use Rattle.appender_rolling.specs.Config.{Config};
 
     /// The configuration of the log.
@@ -77,7 +77,7 @@ pub trait Opens<S: Folder, C: Clock>: Drop {
 
     /// Opens the log at the moment of its clock. Errors are those of `Builder::open_in`.
     fn open(&self) -> Result<RollingFile<S, C>, InitError>
-        ensures { IfOk result (OpensSome S.Folder C.Clock (config self.now)) };
+        ensures { IfOk result (OpensInSomeFolder S.Folder C.Clock (config self.now)) };
 }
 
 /// Opens a log in a folder of the file system, by the system's clock.
@@ -112,10 +112,7 @@ impl<R: AllocGlobal + Drop> DirOpener<R> {
     }
 }
 
-impl<R: Files + AllocGlobal + Eprint + std::time::Clock + Clone + Drop> Opens<
-    DirFolder<R>,
-    SystemClock<R>,
-> for DirOpener<R> {
+impl<R: FilesHost + std::time::Clock> Opens<DirFolder<R>, SystemClock<R>> for DirOpener<R> {
     ghost config = { λ opener. opener.settings };
 
     fn open(&self) -> Result<RollingFile<DirFolder<R>, SystemClock<R>>, InitError> {
@@ -189,9 +186,9 @@ pub struct FileLog<S: Folder, C: Clock, W: Watch<S>, O: Opens<S, C>> {
 }
 
 impl<S: Folder, C: Clock, W: Watch<S>, O: Opens<S, C>> Model for FileLog<S, C, W, O> {
-    ghost use Rattle.rolltee_core.specs.Log.{Reopening};
+    ghost use Rattle.rolltee_core.specs.Log.{ReopenableLog};
 
-    ghost Value = { Reopening S S.File C };
+    ghost Value = { ReopenableLog S S.File C };
 
     ghost view = { λ l. record { log = l.log; config = O.config l.opener } };
 }
@@ -199,13 +196,13 @@ impl<S: Folder, C: Clock, W: Watch<S>, O: Opens<S, C>> Model for FileLog<S, C, W
 impl<S: Folder, C: Clock, W: Watch<S>, O: Opens<S, C>> FileLog<S, C, W, O> {
     ghost use Rattle.std.specs.Prelude.{ℤ, OnOk, OnErr};
     ghost use Rattle.std.specs.Io.{WritesAtMost};
-    ghost use Rattle.appender_rolling.specs.Appender.{AppendsNow, OpensSome};
-    ghost use Rattle.appender_rolling.specs.Roller.{Looks};
-    ghost use Rattle.rolltee_core.specs.Log.{EndsNoPart, IsFound, MayEndPart};
+    ghost use Rattle.appender_rolling.specs.Appender.{AppendsNow, OpensInSomeFolder};
+    ghost use Rattle.appender_rolling.specs.Roller.{ChecksClock};
+    ghost use Rattle.rolltee_core.specs.Log.{EndsNoPart, IsSameOrReopened, MayEndPart};
 
     /// Opens the log.
     pub fn new(opener: O, watch: W, whole_lines: bool) -> Result<FileLog<S, C, W, O>, InitError>
-        ensures opens { IfOk result (λ opened. OpensSome S.Folder C.Clock (O.config opener) opened.log) }
+        ensures opens { IfOk result (λ opened. OpensInSomeFolder S.Folder C.Clock (O.config opener) opened.log) }
         ensures config { IfOk result (λ opened. opened.config ≡ O.config opener) }
     {
         let log = opener.open()?;
@@ -219,12 +216,12 @@ impl<S: Folder, C: Clock, W: Watch<S>, O: Opens<S, C>> FileLog<S, C, W, O> {
             cut: false,
             gone: false,
         };
-        opened.look_at_file();
+        opened.check_file();
         Ok(opened)
     }
 
     // Looks how long the open file is, and whether it ends with a part of a line.
-    fn look_at_file(&mut self)
+    fn check_file(&mut self)
         ensures { self.new ≡ self.old }
     {
         let (folder, file) = (self.log.folder(), self.log.open_file());
@@ -250,7 +247,7 @@ impl<S: Folder, C: Clock, W: Watch<S>, O: Opens<S, C>> FileLog<S, C, W, O> {
 
     // Opens the log again if its file is not found.
     fn find_file(&mut self) -> io::Result<()>
-        ensures found { OnOk result (IsFound S.Folder C.Clock self.old self.new.log) }
+        ensures found { OnOk result (IsSameOrReopened S.Folder C.Clock self.old self.new.log) }
         ensures lost { OnErr result (self.new.log ≡ self.old.log) }
         ensures config { self.new.config ≡ self.old.config }
     {
@@ -261,22 +258,22 @@ impl<S: Folder, C: Clock, W: Watch<S>, O: Opens<S, C>> FileLog<S, C, W, O> {
                 Err(error) => return Err(cause_of(error)),
             }
             self.gone = false;
-            self.look_at_file();
+            self.check_file();
         }
         Ok(())
     }
 
-    // Begins the next file if one is due for so many bytes.
+    // Begins the next file if one is due for this number of bytes.
     fn check_clock(&mut self, length: usize)
         ensures looks { (moment : ℤ) × (switch : Switch) × C.Clock.now_gives self.old.log.clock moment
-            × Looks S.Folder moment length switch self.old.log.roller self.new.log.roller }
+            × ChecksClock S.Folder moment length switch self.old.log.roller self.new.log.roller }
         ensures clock { self.new.log.clock ≡ self.old.log.clock }
         ensures config { self.new.config ≡ self.old.config }
     {
         let moment = self.log.moment();
-        match self.log.see_for(moment, length) {
-            Switch::Opened => self.look_at_file(),
-            Switch::None | Switch::Failed => {}
+        let switch = self.log.see_for(moment, length);
+        if switch == Switch::Opened {
+            self.check_file();
         }
     }
 
@@ -315,13 +312,13 @@ impl<S: Folder, C: Clock, W: Watch<S>, O: Opens<S, C>> Write for FileLog<S, C, W
     ghost use Rattle.std.specs.Io.{WritesAtMost};
     ghost use Rattle.std.specs.Io.KnownBytes.{Keeps, WriteAppends};
     ghost use Rattle.appender_rolling.specs.Appender.{FlushesNow};
-    ghost use Rattle.rolltee_core.specs.Log.{PutsNone, PutsOn};
+    ghost use Rattle.rolltee_core.specs.Log.{PutsNone, PutsBytes};
 
     /// Adds the first of the bytes to the file of the clock's moment, by one append.
     fn write(&mut self, bytes: &[u8]) -> io::Result<usize>
         ensures bound { WritesAtMost result bytes.now }
         ensures bytes { WriteAppends None None result bytes.now }
-        ensures puts { OnOk result (PutsOn S.Folder C.Clock bytes.now result self.old self.new.log) }
+        ensures puts { OnOk result (PutsBytes S.Folder C.Clock bytes.now result self.old self.new.log) }
         ensures fails { IfErr result (λ error. PutsNone S.Folder C.Clock bytes.now error self.old self.new.log) }
         ensures config { self.new.config ≡ self.old.config }
     {

@@ -4,7 +4,7 @@ use std::fmt::{Display, Formatter};
 
 /// How much of what was read a run did not write.
 #[derive(Clone, Copy, PartialEq, Eq, Debug)]
-pub struct Losses {
+pub struct TeeLosses {
     /// The number of lines that the log did not take whole.
     pub unwritten: u64,
     /// The number of lines that found no room in a lossy queue.
@@ -15,9 +15,9 @@ pub struct Losses {
     pub gone: u64,
 }
 
-impl Losses {
+impl TeeLosses {
     /// No losses.
-    pub const NONE: Losses = Losses {
+    pub const NONE: TeeLosses = TeeLosses {
         unwritten: 0,
         dropped: 0,
         unechoed: 0,
@@ -36,7 +36,7 @@ impl Losses {
 }
 
 /// The counts that aren't 0.
-impl Display for Losses {
+impl Display for TeeLosses {
     fn fmt<W: fmt::Write>(&self, f: &mut Formatter<W>) -> fmt::Result {
         let mut separator = "";
         for (words, count) in self.counts() {

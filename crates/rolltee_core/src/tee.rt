@@ -2,17 +2,17 @@
 ghost use Rattle.std.specs.Prelude.{◌≡◌, ◌≢◌, ◌≤◌, [], length, Err, IfSome};
 ghost use Rattle.std.specs.Io.KnownBytes.{Keeps};
 ghost use Rattle.std.specs.IoError.{error_kind};
-ghost use Rattle.rolltee_core.specs.Fault.{status_of, unless_memory, words_of, HasNoFolder, NamesNoRotation, ReportsFault};
+ghost use Rattle.rolltee_core.specs.Fault.{tee_status, tee_fault_unless_memory, tee_fault_words, HasNoFolder, NamesNoRotation, ReportsTeeFault};
 ghost use Rattle.appender_names.specs.RotationText.{IsNoRotation};
 
 use crate::feed::{Feed, WatchedLog};
 pub use crate::logs::{Logs, TeeLog};
-use crate::losses::Losses;
+use crate::losses::TeeLosses;
 use crate::waiting::WaitingLog;
 use file_watch::FileCounts;
 use program_io::report::report;
 use program_io::waiting::WaitingInput;
-use program_io::{CopyFault, Host, copy_lines};
+use program_io::{CopyFault, copy_lines};
 use program_options::{OptionError, OptionFault, Options};
 use std::alloc::AllocError;
 use std::io;
@@ -20,7 +20,7 @@ use std::io::{BufReader, ErrorKind, Read, Write};
 use std::sync::Wait;
 use std::time::Clock;
 use thiserror::Error;
-use tracing_appender::non_blocking::{Closing, NonBlocking, NonBlockingBuilder, WorkerGuard};
+use tracing_appender::non_blocking::{Closing, Host, NonBlocking, NonBlockingBuilder, WorkerGuard};
 use tracing_appender::rolling::{InitError, Rotation};
 
 /// The greatest number of queued lines, if no option sets it.
@@ -52,7 +52,7 @@ pub enum Fault {
     Write,
     /// Lines or log files were lost.
     #[error("{0}")]
-    Lost(Losses),
+    Lost(TeeLosses),
     /// The log was still being flushed a second after its last line.
     #[error("shutdown pending")]
     Pending,
@@ -67,7 +67,7 @@ pub enum Fault {
 impl Fault {
     // Returns the status that the program ends with.
     fn status(&self) -> u8
-        ensures { result ≡ status_of self.now }
+        ensures { result ≡ tee_status self.now }
     {
         match self {
             Fault::Usage | Fault::Unknown(_) | Fault::Option(_, _) => 2,
@@ -78,7 +78,7 @@ impl Fault {
 
     // Returns what is reported of it, on a line, if that is the same for all faults of its kind; else nothing.
     fn words(&self) -> &'static [u8]
-        ensures { IfSome (words_of self.now) (λ words. result.now ≡ words) }
+        ensures { IfSome (tee_fault_words self.now) (λ words. result.now ≡ words) }
     {
         match self {
             Fault::Usage => b"usage: rolltee ROTATION DIR PREFIX\n",
@@ -94,7 +94,7 @@ impl Fault {
 
     /// Returns this fault, or `Memory` if its cause is of the kind `OutOfMemory`.
     pub fn unless_memory(self, kind: ErrorKind) -> Fault
-        ensures { result ≡ unless_memory kind self }
+        ensures { result ≡ tee_fault_unless_memory kind self }
     {
         match kind {
             ErrorKind::OutOfMemory => Fault::Memory,
@@ -111,9 +111,9 @@ impl From<AllocError> for Fault {
 
 /// A fault of the words of a command line.
 impl From<OptionFault> for Fault {
-    ghost use Rattle.rolltee_core.specs.Fault.{options_fault};
+    ghost use Rattle.rolltee_core.specs.Fault.{tee_options_fault};
 
-    ghost from_gives = { λ fault reported. reported ≡ options_fault fault };
+    ghost from_gives = { λ fault reported. reported ≡ tee_options_fault fault };
 
     fn from(fault: OptionFault) -> Fault {
         match fault {
@@ -128,7 +128,7 @@ impl From<OptionFault> for Fault {
 impl From<io::Error> for Fault {
     ghost use Rattle.rolltee_core.specs.declared.tee.Fault.TheVariants.{Read};
 
-    ghost from_gives = { λ error fault. fault ≡ unless_memory (error_kind error) Read };
+    ghost from_gives = { λ error fault. fault ≡ tee_fault_unless_memory (error_kind error) Read };
 
     fn from(error: io::Error) -> Fault {
         Fault::Read.unless_memory(error.kind())
@@ -152,9 +152,9 @@ impl From<CopyFault> for Fault {
 
 /// Writes each line of `input` to a log that `logs` opens, and waits while that is full. The three arguments are its
 /// rotation, its folder and the beginning of its files' names. The first fault goes to `errors`, whose own faults are
-/// ignored; the lines read before it are written, as long as that takes. Returns the status of the process: 0; 1 if no
-/// log was opened, also if memory was refused for that, no thread made, the input not read or a line not written whole;
-/// 2 if the arguments aren't of that form; 3 if memory was refused elsewhere.
+/// ignored; the lines read before it are written, as long as that takes. Returns the status of the process. 0: all
+/// was written. 1: no log was opened, also if memory was refused for that, no thread made, the input not read or a line
+/// not written whole. 2: the arguments aren't of that form. 3: memory was refused elsewhere.
 pub fn tee<R: Host, L: Logs, I: Read, E: Write>(
     rt: R,
     logs: &L,
@@ -167,7 +167,7 @@ pub fn tee<R: Host, L: Logs, I: Read, E: Write>(
     ensures no_rotation { NamesNoRotation arguments.now → result ≡ 2 }
     ensures no_folder { HasNoFolder arguments.now → result ≡ 2 }
     ensures silent { result ≡ 0 → Keeps (E.contents errors.old) (E.contents errors.new) }
-    ensures reported { 1 ≤ result → (fault : Fault) × ReportsFault fault result (E.contents errors.old) (E.contents errors.new) }
+    ensures reported { 1 ≤ result → (fault : Fault) × ReportsTeeFault fault result (E.contents errors.old) (E.contents errors.new) }
 {
     let options = Options::new(rt.alloc());
     tee_with(rt, logs, &options, arguments, input, io::sink(), errors)
@@ -190,7 +190,7 @@ pub fn tee_with<R: Host, L: Logs, I: Read, O: Write + Drop, E: Write>(
     ensures no_rotation { NamesNoRotation arguments.now → result ≡ 2 }
     ensures no_folder { HasNoFolder arguments.now → result ≡ 2 }
     ensures silent { result ≡ 0 → Keeps (E.contents errors.old) (E.contents errors.new) }
-    ensures reported { 1 ≤ result → (fault : Fault) × ReportsFault fault result (E.contents errors.old) (E.contents errors.new) }
+    ensures reported { 1 ≤ result → (fault : Fault) × ReportsTeeFault fault result (E.contents errors.old) (E.contents errors.new) }
 {
     match copy_through(rt, logs, options, arguments, input, output) {
         Ok(()) => 0,
@@ -200,7 +200,7 @@ pub fn tee_with<R: Host, L: Logs, I: Read, O: Write + Drop, E: Write>(
 
 /// Reports a fault on `errors`, and returns its status.
 pub fn report_fault<E: Write>(fault: &Fault, errors: &mut E) -> u8
-    ensures { ReportsFault fault.now result (E.contents errors.old) (E.contents errors.new) }
+    ensures { ReportsTeeFault fault.now result (E.contents errors.old) (E.contents errors.new) }
 {
     let words = fault.words();
     let _ = if words.is_empty() {
@@ -238,7 +238,7 @@ fn copy_through<R: Host, L: Logs, I: Read, O: Write + Drop>(
     let log = WaitingLog::new(rt, !options.no_wait, log);
     let lost = copy_to(rt, log, options, input, output)?;
     let gone = files.gone();
-    all_written(Losses { gone, ..lost }, options.is_plain())
+    all_written(TeeLosses { gone, ..lost }, options.is_plain())
 }
 
 // Returns the rotation that this word names. A fault if it names none, or one that does not allow the options: there are
@@ -260,14 +260,14 @@ fn rotation_of(word: &str, options: &Options) -> Result<Rotation, Fault>
 }
 
 // Copies the lines to a log, by the thread of its worker, and returns what was lost. Waits for the lines that were read also
-// after a fault, and only then counts.
+// after a fault, and only then counts. The guard waits for a second only, which loses the lines of a slow disk.
 fn copy_to<R: Host, W: Write + Send + Drop + 'static, I: Read, O: Write + Drop>(
     rt: R,
     log: W,
     options: &Options,
     input: &mut I,
     output: O,
-) -> Result<Losses, Fault> {
+) -> Result<TeeLosses, Fault> {
     let (log, watch) = WatchedLog::new(rt.alloc(), log, options.max_bytes)?;
     let (sender, guard) = start(rt, log, options)?;
     let dropped = sender.error_counter()?;
@@ -276,7 +276,7 @@ fn copy_to<R: Host, W: Write + Send + Drop + 'static, I: Read, O: Write + Drop>(
     feed.settle();
     let closed = end(guard);
     copied.and(closed)?;
-    Ok(Losses {
+    Ok(TeeLosses {
         unwritten: feed.lost(),
         dropped: feed.dropped(),
         unechoed: feed.unechoed(),
@@ -284,9 +284,10 @@ fn copy_to<R: Host, W: Write + Send + Drop + 'static, I: Read, O: Write + Drop>(
     })
 }
 
-// Returns a fault if something was lost. A run without options reports lines that the log did not take whole by two words.
-fn all_written(lost: Losses, is_plain: bool) -> Result<(), Fault> {
-    if lost == Losses::NONE {
+// Returns a fault if something was lost: status 0 says that each line is in the log. A run without options reports lines
+// that the log did not take whole by two words, which programs that call it know.
+fn all_written(lost: TeeLosses, is_plain: bool) -> Result<(), Fault> {
+    if lost == TeeLosses::NONE {
         Ok(())
     } else if is_plain && lost.gone == 0 {
         Err(Fault::Write)
@@ -316,7 +317,7 @@ fn start<R: Host, W: Write + Send + Drop + 'static>(
 }
 
 // Waits until the log is flushed.
-fn end<R: Wait + Clock + Print + Drop>(guard: WorkerGuard<R>) -> Result<(), Fault> {
+fn end<R: Host>(guard: WorkerGuard<R>) -> Result<(), Fault> {
     match guard.close() {
         Closing::Done { .. } | Closing::Ended => Ok(()),
         Closing::Pending => Err(Fault::Pending),

@@ -11,7 +11,8 @@ use std::time::Clock;
 use tracing_appender::waiting::write_waiting;
 
 /// A log whose writes may wait, as those of `write_waiting` do. Each returns how much the log took at once, and its error
-/// means that none of the bytes was written, so that lines that are written together can be told apart.
+/// means that none of the bytes was written. So it is known which of the lines that are written together are in the log. An
+/// error of a `WaitingWriter` does not say how much was taken before it.
 #[derive(Drop)]
 pub struct WaitingLog<R, W> {
     rt: R,
@@ -21,7 +22,7 @@ pub struct WaitingLog<R, W> {
 
 impl<R, W> WaitingLog<R, W> {
     /// Returns a log that waits by the clock of `rt`, and prints on its standard error; without `waits` it returns each
-    /// fault.
+    /// fault. The pauses are no part of the errors of a run, since another thread prints them, and at once.
     pub fn new(rt: R, waits: bool, log: W) -> WaitingLog<R, W> {
         WaitingLog { rt, waits, log }
     }
@@ -33,6 +34,7 @@ impl<R: Wait + Clock + Eprint, W: TeeLog> Write for WaitingLog<R, W> {
         ensures bound { WritesAtMost result bytes.now }
         ensures bytes { WriteAppends None None result bytes.now }
     {
+        // Each try looks for the log file, so one that is removed to make room is closed.
         let taken = if self.waits {
             write_waiting(&self.rt, &mut self.log, bytes)
         } else {

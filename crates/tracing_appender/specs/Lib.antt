@@ -29,6 +29,7 @@ pub use Rattle.appender_core.specs.Tries
 pub use Rattle.appender_core.specs.Batch
 pub use Rattle.appender_folder.specs.Calls
 pub use Rattle.appender_non_blocking.specs.Account
+pub use Rattle.appender_non_blocking.specs.Losses
 pub use Rattle.appender_non_blocking.specs.Mode
 pub use Rattle.appender_non_blocking.specs.Refusal
 pub use Rattle.appender_non_blocking.specs.Counted

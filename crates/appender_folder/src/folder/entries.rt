@@ -7,7 +7,7 @@ use std::time::UNIX_EPOCH;
 use std::{fs, io};
 
 /// Returns all entries of a folder, or the fault that ended the listing, so that no choice is made among
-/// some entries alone.
+/// only some entries.
 pub(super) fn list_entries<R: Files + AllocGlobal + Clone + Drop>(
     rt: &R,
     path: &str,

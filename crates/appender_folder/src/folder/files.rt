@@ -21,15 +21,32 @@ pub(super) fn open_plain<R: Files + AllocGlobal>(
     let path = entry_path(rt.alloc(), folder, name)?;
     let path = path.as_str();
     match fs::symlink_metadata(rt, path) {
-        Ok(found) if found.is_file() => open_standing(rt, path),
-        Ok(_) => Err(not_plain()),
-        Err(fault) if fault.kind() == ErrorKind::NotFound => {
-            OpenOptions::new()
-                .append(true)
-                .create_new(true)
-                .open(rt, path)
-        }
+        Ok(found) => open_found(rt, path, &found),
+        Err(fault) if fault.kind() == ErrorKind::NotFound => make_plain(rt, path),
         Err(fault) => Err(fault),
+    }
+}
+
+// Another program may have made the file since the name was found free: then that one is opened. `create_new`
+// does not follow a link that was made meanwhile.
+fn make_plain<R: Files>(rt: &R, path: &str) -> io::Result<R::File> {
+    let made = OpenOptions::new()
+        .append(true)
+        .create_new(true)
+        .open(rt, path);
+    match made {
+        Err(fault) if fault.kind() == ErrorKind::AlreadyExists => {
+            open_found(rt, path, &fs::symlink_metadata(rt, path)?)
+        }
+        made => made,
+    }
+}
+
+fn open_found<R: Files>(rt: &R, path: &str, found: &Metadata) -> io::Result<R::File> {
+    if found.is_file() {
+        open_standing(rt, path)
+    } else {
+        Err(not_plain())
     }
 }
 
@@ -50,7 +67,7 @@ fn open_standing<R: Files>(rt: &R, path: &str) -> io::Result<R::File> {
 }
 
 // It is opened for reading too, so that a pipe that was made since the check doesn't wait for a reader. A
-// file that can't be read is opened for appends alone.
+// file that can't be read is opened only for appends.
 fn open_to_append<R: Files>(rt: &R, path: &str) -> io::Result<R::File> {
     match OpenOptions::new().read(true).append(true).open(rt, path) {
         Err(fault) if fault.kind() == ErrorKind::PermissionDenied => {
@@ -81,7 +98,7 @@ fn is_same_file(named: &Metadata, opened: &Metadata) -> bool {
     named.is_file() && named.dev() == opened.dev() && named.ino() == opened.ino()
 }
 
-/// Removes a plain file.
+/// Removes a plain file. It looks first, since `remove_file` would also remove a link.
 pub(super) fn remove_plain<R: Files + AllocGlobal>(
     rt: &R,
     folder: &str,

@@ -9,12 +9,12 @@ use std::os::unix::fs::symlink;
 use std::rt::Files;
 use std::{fs, io};
 
-// The most bytes of a link's name that its spare name has, which is five bytes longer. The name of an entry
-// has at most 255.
+// The most bytes of a link's name that are in its spare name. A spare name has five bytes more, and the name of an
+// entry has at most 255.
 const LONGEST: usize = 250;
 
-// How often a replacement is begun again if other processes change its spare name. Three threads that do
-// nothing but replace one link need up to 230 attempts.
+// The most attempts of a replacement. One fails if another process changes the spare name meanwhile. Three threads that
+// do nothing but replace one link need up to 230 attempts.
 const MOST_ATTEMPTS: u32 = 10_000;
 
 /// Checks that a link has this name. The link stays until `make_link` replaces it.
@@ -29,8 +29,8 @@ pub(super) fn check_link<R: Files + AllocGlobal>(rt: &R, folder: &str, name: &st
     }
 }
 
-/// Makes a link to a target, which need not exist. A link that has the name is replaced in one step. A file or
-/// a folder that has it stays, and the error is `AlreadyExists`.
+/// Makes a symbolic link to a target, which need not exist. A link of the same name is replaced in one step.
+/// `AlreadyExists` if a file or a folder has the name.
 pub(super) fn make_link<R: Files + AllocGlobal>(
     rt: &R,
     folder: &str,
@@ -62,7 +62,7 @@ fn is_free_or_link<R: Files>(rt: &R, path: &str) -> io::Result<bool> {
     }
 }
 
-// The path under which the link is made that replaces another: a dot, the name, and `.new`.
+// Returns the path of a new link before it replaces another: a dot, the name, and `.new`.
 fn spare_path(alloc: Global, folder: &str, name: &str) -> io::Result<String> {
     let mut path = String::from_str(alloc, folder)?;
     path.push('.')?;
@@ -71,8 +71,8 @@ fn spare_path(alloc: Global, folder: &str, name: &str) -> io::Result<String> {
     Ok(path)
 }
 
-// Replaces what has a path by a link. Other processes may do the same at this moment, under the same spare
-// path, so it begins again if one of them has removed or renamed the new link.
+// Replaces a link. Another process may do the same at this moment, under the same spare path. If it has removed or
+// renamed the new link, this begins again.
 fn replace_link<R: Files>(rt: &R, path: &str, spare: &str, target: &str) -> io::Result<()> {
     for _ in 0..MOST_ATTEMPTS {
         if renames_new_link(rt, path, spare, target)? {
@@ -82,8 +82,8 @@ fn replace_link<R: Files>(rt: &R, path: &str, spare: &str, target: &str) -> io::
     Err(Error::other("other processes change the link"))
 }
 
-// Makes a link under the spare path, and renames it. Returns whether that was possible: the spare path may be
-// in use, and is then made free, or the new link may be gone before it is renamed.
+// Makes a link under the spare path, and renames it. Returns whether it did. If the spare path is in use, the link
+// there is removed. The new link may also be gone before it is renamed.
 fn renames_new_link<R: Files>(rt: &R, path: &str, spare: &str, target: &str) -> io::Result<bool> {
     match symlink(rt, target, spare) {
         Ok(()) => {}

@@ -18,7 +18,7 @@ ghost use Rattle.appender_non_blocking.specs.Account.{
   total_queued,
   total_dropped,
 };
-ghost use Rattle.appender_non_blocking.specs.Counted.{after_try};
+ghost use Rattle.appender_non_blocking.specs.Counted.{guard_after_try};
 
 use super::counted::CountedSender;
 use super::guard::end;
@@ -26,21 +26,26 @@ use super::shared::Shared;
 use appender_channel::books::{Done, FourBooks};
 use appender_channel::state::Counted;
 use appender_queue::queue::Shut;
+use appender_traits::host::Host;
 use std::alloc::Global;
 use std::fmt;
 use std::fmt::{Debug, Formatter};
 use std::marker::Model;
 use std::sync::ledger::{Blank, Ledger, Share};
 use std::sync::{Arc, Wait};
-use std::thread::{JoinHandle, Threads};
-use std::time::Clock;
+use std::thread::JoinHandle;
 
-/// Blanks for the ledgers of an account: of accepted lines, of handed lines, of shutdowns and of closings.
+/// The four ledgers of an account, before they are opened. Make them by `Blanks::new`, and pass them to
+/// `finish_counted`. It opens each one: lines are then counted in its book, and senders, guard and worker get shares.
 #[derive(Drop)]
 pub struct Blanks {
+    /// The ledger of accepted lines. It has a part for each sender, and one for the guard.
     pub accepted: Blank,
+    /// The ledger of lines that the worker took. Its one part is the worker's.
     pub handed: Blank,
+    /// The ledger of shutdowns that were sent. Its one part is the guard's.
     pub shutdowns: Blank,
+    /// The ledger of closings of the queue. Its one part is the worker's.
     pub closings: Blank,
 }
 
@@ -114,13 +119,7 @@ impl Account {
 /// The guard of counted senders, which are settled with it. It counts as a sender. Dropped, it does what
 /// a `WorkerGuard` does.
 #[must_use]
-pub struct CountedGuard<
-    A: Ledger,
-    H: Ledger,
-    S: Ledger,
-    C: Ledger,
-    R: Wait + Clock + Print + Drop,
-> {
+pub struct CountedGuard<A: Ledger, H: Ledger, S: Ledger, C: Ledger, R: Host> {
     pub(super) rt: R,
     pub(super) shared: Arc<Shared<FourBooks<A, H, S, C>>, Global>,
     pub(super) counted: Counted,
@@ -134,8 +133,7 @@ pub struct CountedGuard<
     pub(super) worker: JoinHandle<Done<H, C>>,
 }
 
-impl<A: Ledger, H: Ledger, S: Ledger, C: Ledger, R: Wait + Clock + Print + Drop> Model
-    for CountedGuard<A, H, S, C, R> {
+impl<A: Ledger, H: Ledger, S: Ledger, C: Ledger, R: Host> Model for CountedGuard<A, H, S, C, R> {
     ghost use Rattle.std.specs.Prelude.{◌≡◌};
     ghost use Rattle.appender_non_blocking.specs.Account.{Guard};
     ghost use Rattle.appender_channel.specs.Tally.{one_if};
@@ -160,23 +158,17 @@ pub struct Settled<H: Ledger> {
 
 /// Some senders are missing. The guard and the other senders are returned as they were.
 #[derive(Drop)]
-pub struct Unsettled<A: Ledger, H: Ledger, S: Ledger, C: Ledger, R: Wait + Clock + Print + Drop> {
+pub struct Unsettled<A: Ledger, H: Ledger, S: Ledger, C: Ledger, R: Host> {
     /// The guard.
     pub guard: CountedGuard<A, H, S, C, R>,
     /// The senders that were not missing.
     pub senders: Vec<CountedSender<A, H, S, C, R>>,
 }
 
-impl<A: Ledger, H: Ledger, S: Ledger, C: Ledger, R: Wait + Clock + Print + Drop> CountedGuard<
-    A,
-    H,
-    S,
-    C,
-    R,
-> {
+impl<A: Ledger, H: Ledger, S: Ledger, C: Ledger, R: Host> CountedGuard<A, H, S, C, R> {
     /// Tries once to send the shutdown: lines that are accepted later are left.
     pub fn shut(&mut self) -> Shut
-        ensures { self.new ≡ after_try self.old result }
+        ensures { self.new ≡ guard_after_try self.old result }
     {
         let CountedGuard {
             rt,
@@ -200,13 +192,7 @@ impl<A: Ledger, H: Ledger, S: Ledger, C: Ledger, R: Wait + Clock + Print + Drop>
     }
 }
 
-impl<
-    A: Ledger,
-    H: Ledger,
-    S: Ledger,
-    C: Ledger,
-    R: Threads + Wait + Clock + Print + Drop,
-> CountedGuard<A, H, S, C, R> {
+impl<A: Ledger, H: Ledger, S: Ledger, C: Ledger, R: Host> CountedGuard<A, H, S, C, R> {
     /// Ends all senders, waits for the worker's end, and returns the account of their lines. If senders
     /// are missing, all is given back and nothing has changed.
     pub fn settle(
@@ -295,8 +281,7 @@ fn end_all<A: Ledger, H: Ledger, S: Ledger, C: Ledger, R: Wait + Drop>(
     (all, dropped)
 }
 
-impl<A: Ledger, H: Ledger, S: Ledger, C: Ledger, R: Wait + Clock + Print + Drop> Drop
-    for CountedGuard<A, H, S, C, R> {
+impl<A: Ledger, H: Ledger, S: Ledger, C: Ledger, R: Host> Drop for CountedGuard<A, H, S, C, R> {
     fn drop(self) {
         let CountedGuard {
             rt,
@@ -313,15 +298,13 @@ impl<A: Ledger, H: Ledger, S: Ledger, C: Ledger, R: Wait + Clock + Print + Drop>
     }
 }
 
-impl<A: Ledger, H: Ledger, S: Ledger, C: Ledger, R: Wait + Clock + Print + Drop> Debug
-    for CountedGuard<A, H, S, C, R> {
+impl<A: Ledger, H: Ledger, S: Ledger, C: Ledger, R: Host> Debug for CountedGuard<A, H, S, C, R> {
     fn fmt<W: fmt::Write>(&self, f: &mut Formatter<W>) -> fmt::Result {
         f.pad("CountedGuard { .. }")
     }
 }
 
-impl<A: Ledger, H: Ledger, S: Ledger, C: Ledger, R: Wait + Clock + Print + Drop> Debug
-    for Unsettled<A, H, S, C, R> {
+impl<A: Ledger, H: Ledger, S: Ledger, C: Ledger, R: Host> Debug for Unsettled<A, H, S, C, R> {
     fn fmt<W: fmt::Write>(&self, f: &mut Formatter<W>) -> fmt::Result {
         f.pad("Unsettled { .. }")
     }

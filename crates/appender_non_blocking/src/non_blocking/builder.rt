@@ -9,13 +9,13 @@ use super::sender::{Local, NonBlocking};
 use super::shared::Shared;
 use super::worker::serve;
 use appender_channel::books::{Done, FourBooks, NoBooks, Pass};
+use appender_traits::host::Host;
 use std::alloc::{AllocError, Global};
 use std::io::Write;
 use std::marker::Model;
 use std::sync::ledger::Ledger;
 use std::sync::{Arc, Wait};
 use std::thread::{JoinHandle, Threads};
-use std::time::Clock;
 use std::{io, thread};
 
 /// The greatest number of queued lines, unless a builder sets another.
@@ -25,6 +25,23 @@ const DEFAULT_NAME: &str = "tracing-appender";
 
 /// The settings of a worker and its queue. The default is a lossy queue of `DEFAULT_BUFFERED_LINES_LIMIT`
 /// lines, and a thread named `tracing-appender`.
+///
+/// ```
+/// use std::io;
+/// use std::io::Write;
+/// use tracing_appender::non_blocking::{Host, NonBlocking, NonBlockingBuilder, WorkerGuard};
+///
+/// // While 1,024 lines are queued, a write to the returned sender waits.
+/// pub fn start<R: Host, W: Write + Send + Drop + 'static>(
+///     rt: R,
+///     log: W,
+/// ) -> io::Result<(NonBlocking<R>, WorkerGuard<R>)> {
+///     NonBlockingBuilder::default()
+///         .lossy(false)
+///         .buffered_lines_limit(1024)
+///         .finish(rt, rt.alloc(), log)
+/// }
+/// ```
 #[derive(Debug, Drop)]
 pub struct NonBlockingBuilder {
     limit: usize,
@@ -35,9 +52,9 @@ pub struct NonBlockingBuilder {
 impl Model for NonBlockingBuilder {
     ghost use Rattle.std.specs.Prelude.{string_bytes};
     ghost use Rattle.std.specs.Option.{option_map};
-    ghost use Rattle.appender_non_blocking.specs.Mode.{Asked};
+    ghost use Rattle.appender_non_blocking.specs.Mode.{QueueSettings};
 
-    ghost Value = { Asked };
+    ghost Value = { QueueSettings };
 
     ghost view = { λ b. record { limit = b.limit; lossy = b.lossy; name = option_map string_bytes b.name } };
 }
@@ -101,10 +118,12 @@ impl NonBlockingBuilder {
     /// Starts the worker, and makes its first sender and its guard. The error is `OutOfMemory`, or that of
     /// the thread, which is `WouldBlock` if the C library found no memory for it. Then no thread is left, and
     /// the writer is dropped.
-    pub fn finish<
-        W: Write + Send + Drop + 'static,
-        R: Threads + Wait + Clock + Print + Eprint + Copy + Send + 'static,
-    >(self, rt: R, alloc: Global, writer: W) -> io::Result<(NonBlocking<R>, WorkerGuard<R>)>
+    pub fn finish<W: Write + Send + Drop + 'static, R: Host>(
+        self,
+        rt: R,
+        alloc: Global,
+        writer: W,
+    ) -> io::Result<(NonBlocking<R>, WorkerGuard<R>)>
         ensures { IfOk result (λ made. made.0.lossy ≡ self.lossy) }
     {
         let NonBlockingBuilder { limit, lossy, name } = self;
@@ -112,22 +131,25 @@ impl NonBlockingBuilder {
         let shared = Shared::new(alloc, limit, lossy, 0, NoBooks)?;
         let guarded = Arc::try_clone(&shared)?;
         let served = Arc::try_clone(&shared)?;
-        // A worker that finds no sender ends.
+        // A worker that finds no sender ends. A refusal of memory leaves no thread.
         let sender = NonBlocking::first(rt, alloc, shared, Local::new(alloc, limit, lossy))?;
         start(rt, name, served, writer)?;
         Ok((sender, WorkerGuard::new(rt, guarded)))
     }
 
-    /// Starts the worker, and makes this number of counted senders and the guard that settles their
-    /// account. Each sender has a place of its own in the queue, which keeps the last ticket of each.
-    /// Errors are those of `finish`.
+    /// Starts the worker, and returns counted senders and their guard. `senders` is the number of senders, and
+    /// `blanks` are new ledgers for their account. Errors are those of `finish`.
+    ///
+    /// Give each thread one of the senders. In the end pass all of them to `settle` of the guard: it waits for the
+    /// worker's end, and returns the account of their lines. Each sender has a place of its own in the queue, for which
+    /// the queue keeps the sender's last ticket. `run_counted` does all of this for a list of works.
     pub fn finish_counted<
         A: Ledger + Send + Sync + 'static,
         H: Ledger + Send + Sync + 'static,
         S: Ledger + Send + Sync + 'static,
         C: Ledger + Send + Sync + 'static,
         W: Write + Send + Drop + 'static,
-        R: Threads + Wait + Clock + Print + Eprint + Copy + Send + 'static,
+        R: Host,
     >(
         self,
         rt: R,
@@ -160,6 +182,7 @@ impl NonBlockingBuilder {
         let shared = Shared::new(alloc, limit, lossy, senders, books)?;
         let served = Arc::try_clone(&shared)?;
         let local = Local::new(alloc, limit, lossy);
+        // A refusal of memory leaves no thread, since the senders are made before it.
         let (made, part) = make_senders(rt, alloc, &shared, &local, share, senders)?;
         let pass = Pass {
             handed: lines,
@@ -239,16 +262,31 @@ fn name_or_default(alloc: Global, name: Option<String>) -> Result<String, AllocE
 
 /// Starts a worker with a lossy queue of `DEFAULT_BUFFERED_LINES_LIMIT` lines for a writer. Errors are those
 /// of `NonBlockingBuilder::finish`.
-pub fn non_blocking<
-    W: Write + Send + Drop + 'static,
-    R: Threads + Wait + Clock + Print + Eprint + Copy + Send + 'static,
->(rt: R, alloc: Global, writer: W) -> io::Result<(NonBlocking<R>, WorkerGuard<R>)>
+///
+/// ```
+/// use std::io;
+/// use std::io::Write;
+/// use tracing_appender::non_blocking::{Closing, Host, non_blocking};
+///
+/// pub fn log_start<R: Host, W: Write + Send + Drop + 'static>(rt: R, log: W) -> io::Result<Closing> {
+///     let (mut lines, guard) = non_blocking(rt, rt.alloc(), log)?;
+///     // Queues a copy of the line, which the worker thread writes to `log`.
+///     lines.write_all(b"started\n")?;
+///     // Waits for the end of the worker: `Closing::Done { left: 0 }`.
+///     Ok(guard.close())
+/// }
+/// ```
+pub fn non_blocking<W: Write + Send + Drop + 'static, R: Host>(
+    rt: R,
+    alloc: Global,
+    writer: W,
+) -> io::Result<(NonBlocking<R>, WorkerGuard<R>)>
     ensures { IfOk result (λ made. made.0.lossy ≡ true) }
 {
     NonBlockingBuilder::default().finish(rt, alloc, writer)
 }
 
-impl<R: Threads + Wait + Clock + Print + Eprint + Copy + Send + 'static> NonBlocking<R> {
+impl<R: Host> NonBlocking<R> {
     /// Does what the function `non_blocking` does.
     pub fn new<W: Write + Send + Drop + 'static>(
         rt: R,

@@ -3,7 +3,7 @@ ghost use Rattle.std.specs.Prelude.{◌≡◌, ◌≢◌, ◌+◌, ◌<◌, Ok, 
 ghost use Rattle.std.specs.IoError.{error_kind};
 ghost use Rattle.appender_non_blocking.specs.Account.{Sums, new_sender, new_senders};
 ghost use Rattle.appender_non_blocking.specs.Refusal.{IsRefusal};
-ghost use Rattle.appender_non_blocking.specs.Counted.{after_line};
+ghost use Rattle.appender_non_blocking.specs.Counted.{sums_after_line};
 
 use super::sender::{Local, Sent, copy_of, send};
 use super::shared::Shared;
@@ -83,7 +83,7 @@ impl<A: Ledger, H: Ledger, S: Ledger, C: Ledger, R: Wait + Drop> CountedSender<A
     /// room, and returns an error of the kind `Other` if the queue is closed. `OutOfMemory` if there is no
     /// memory for the copy. After an error nothing was queued or counted.
     pub fn write_line(&mut self, line: &[u8]) -> io::Result<Sent>
-        ensures sums { self.new ≡ after_line self.old result }
+        ensures sums { self.new ≡ sums_after_line self.old result }
         ensures waiting { self.old.lossy ≡ false → result ≢ Ok Sent.Dropped }
         ensures kind { IfErr result (λ e. IsRefusal self.old.lossy (error_kind e)) }
     {

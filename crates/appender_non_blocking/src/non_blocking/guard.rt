@@ -2,10 +2,11 @@
 ghost use Rattle.std.specs.Prelude.{◌≡◌};
 
 use super::shared::Shared;
-use appender_base::sync::Backoff;
 use appender_channel::books::{Books, NoBooks};
 use appender_channel::state::Counted;
 use appender_queue::queue::Shut;
+use appender_sync::Backoff;
+use appender_traits::host::Host;
 use std::alloc::Global;
 use std::fmt;
 use std::fmt::{Debug, Formatter};
@@ -34,16 +35,40 @@ pub enum Closing {
     Ended,
 }
 
-/// Sends the shutdown when it is dropped, and then waits for the worker's end, for up to 1,000
-/// milliseconds. It counts as a sender. Keep it as long as lines are to be written.
+/// Ends the worker when it is closed or dropped. Keep it until all lines are queued: lines that are accepted after the
+/// shutdown are not written.
+///
+/// It sends the shutdown. If the queue is full, it waits for room, for up to 100 milliseconds. Then it waits for the
+/// worker's end, for up to 1,000 milliseconds. `close` returns the result. A drop returns nothing. If the queue stayed
+/// full, a drop prints the line `Failed to send shutdown signal to logging worker. Error: Shutdown` to standard output.
+/// The queue counts the guard as a sender.
+///
+/// ```
+/// use std::io;
+/// use std::io::Write;
+/// use tracing_appender::non_blocking::{Host, Losses, non_blocking};
+/// use tracing_appender::worker::CountingWriter;
+///
+/// // Returns an error if the line was dropped, left in the queue or not written whole.
+/// pub fn log_stop<R: Host, W: Write + Send + Drop + 'static>(rt: R, log: W) -> io::Result<()> {
+///     let (log, counts) = CountingWriter::new(rt.alloc(), log)?;
+///     let (mut lines, guard) = non_blocking(rt, rt.alloc(), log)?;
+///     let drops = lines.error_counter()?;
+///     lines.write_all(b"stopped\n")?;
+///     Losses::from(guard.close())
+///         .and_dropped(drops.dropped_lines())
+///         .and_unwritten(counts.lost())
+///         .check()
+/// }
+/// ```
 #[must_use]
-pub struct WorkerGuard<R: Wait + Clock + Print + Drop> {
+pub struct WorkerGuard<R: Host> {
     rt: R,
     shared: Arc<Shared<NoBooks>, Global>,
     counted: Counted,
 }
 
-impl<R: Wait + Clock + Print + Drop> WorkerGuard<R> {
+impl<R: Host> WorkerGuard<R> {
     pub(super) fn new(rt: R, shared: Arc<Shared<NoBooks>, Global>) -> WorkerGuard<R> {
         let counted = shared.add_sender(&rt);
         WorkerGuard {
@@ -53,7 +78,7 @@ impl<R: Wait + Clock + Print + Drop> WorkerGuard<R> {
         }
     }
 
-    /// Does what dropping does, and returns the result.
+    /// Ends the worker as a drop does, and returns the result. It prints nothing.
     pub fn close(self) -> Closing {
         let WorkerGuard {
             rt,
@@ -66,7 +91,7 @@ impl<R: Wait + Clock + Print + Drop> WorkerGuard<R> {
     }
 }
 
-impl<R: Wait + Clock + Print + Drop> Drop for WorkerGuard<R> {
+impl<R: Host> Drop for WorkerGuard<R> {
     fn drop(self) {
         let WorkerGuard {
             rt,
@@ -77,7 +102,7 @@ impl<R: Wait + Clock + Print + Drop> Drop for WorkerGuard<R> {
     }
 }
 
-impl<R: Wait + Clock + Print + Drop> Debug for WorkerGuard<R> {
+impl<R: Host> Debug for WorkerGuard<R> {
     fn fmt<W: fmt::Write>(&self, f: &mut Formatter<W>) -> fmt::Result {
         f.pad("WorkerGuard { .. }")
     }
@@ -122,7 +147,7 @@ fn send_shutdown<B: Books, R: Wait + Clock>(
         let time = Duration::from_millis(SHUTDOWN_MILLIS);
         state = shared
             .room
-            .wait_timeout_while(rt, state, time, |state| state.goes_on_waiting())
+            .wait_timeout_while(rt, state, time, |state| state.keeps_waiting())
             .0;
     }
     let (reply, wakeups) = state.shut(waits, mine);

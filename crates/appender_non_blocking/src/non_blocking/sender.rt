@@ -20,12 +20,12 @@ ghost use Rattle.std.specs.Io.KnownBytes.{Appends};
 ghost use Rattle.appender_non_blocking.specs.Refusal.{IsRefusal};
 
 use super::shared::Shared;
-use appender_base::make_writer::MakeWriter;
-use appender_base::sync::Backoff;
 use appender_channel::books::{Books, NoBooks};
 use appender_channel::pace::{FullBackoff, LOOKS, MOST_BYTES};
 use appender_channel::state::Counted;
 use appender_queue::queue::Refused;
+use appender_sync::Backoff;
+use appender_traits::make_writer::MakeWriter;
 use std::alloc::{AllocError, Global};
 use std::fmt::{Debug, Formatter};
 use std::io::{ErrorKind, Write};
@@ -43,7 +43,7 @@ pub enum Sent {
     Dropped,
 }
 
-/// What each sender has of its own.
+/// The state of one sender, which no other thread uses.
 #[derive(Drop)]
 pub(super) struct Local {
     /// Whether a line that finds no room is dropped.
@@ -94,7 +94,7 @@ impl<R: Wait + Drop> Model for NonBlocking<R> {
 }
 
 impl Local {
-    /// Returns that of the first sender of a queue with this limit.
+    /// Returns the state of the first sender of a queue with this limit of lines: no buffer, and the initial back-offs.
     pub(super) fn new(alloc: Global, limit: usize, lossy: bool) -> Local
         ensures { result.lossy ≡ lossy }
     {
@@ -106,7 +106,7 @@ impl Local {
         }
     }
 
-    /// Returns that of one more sender.
+    /// Returns the state of one more sender of the same queue. It begins with the back-off of this one at a full queue.
     pub(super) fn another(&self, alloc: Global) -> Local
         ensures { result.lossy ≡ self.now.lossy }
     {
@@ -154,7 +154,7 @@ impl<R: Wait + Drop> NonBlocking<R> {
         })
     }
 
-    // Copies a line, and sends the copy. An error is returned by its kind alone: an `io::Error` is large, and
+    // Copies a line, and sends the copy. Only the kind of an error is returned: an `io::Error` is large, and
     // every line passes here.
     #[inline(always)]
     fn send_copy(&mut self, buf: &[u8]) -> Result<(), ErrorKind>

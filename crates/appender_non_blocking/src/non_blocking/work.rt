@@ -10,14 +10,15 @@ ghost use Rattle.appender_non_blocking.specs.Account.{
   new_senders,
 };
 ghost use Rattle.appender_non_blocking.specs.Refusal.{IsRefusal};
-ghost use Rattle.appender_non_blocking.specs.Counted.{after_line};
-ghost use Rattle.appender_non_blocking.specs.Work.{Worked};
-ghost use Rattle.appender_non_blocking.specs.Inside.Jobs.{senders_of, works_of, AllDo, AllDid};
+ghost use Rattle.appender_non_blocking.specs.Counted.{sums_after_line};
+ghost use Rattle.appender_non_blocking.specs.Work.{RunsEachWork};
+ghost use Rattle.appender_non_blocking.specs.Inside.Jobs.{senders_of, works_of, RunsJobs, RunsWorksWith};
 
 use super::account::{Account, Blanks};
 use super::builder::NonBlockingBuilder;
 use super::counted::CountedSender;
 use super::sender::Sent;
+use appender_traits::host::Host;
 use std::alloc::Global;
 use std::fmt::{Debug, Formatter};
 use std::io::Write;
@@ -25,7 +26,6 @@ use std::marker::Brand;
 use std::sync::Wait;
 use std::sync::ledger::Ledger;
 use std::thread::Threads;
-use std::time::Clock;
 use std::{fmt, io, thread};
 
 /// A sender that counts, as `CountedSender` does, without the names of its ledgers.
@@ -35,7 +35,7 @@ pub trait LineSender {
 
     /// Queues a copy of the bytes as one line, as `CountedSender::write_line` does, with the same errors.
     fn write_line(&mut self, line: &[u8]) -> io::Result<Sent>
-        ensures sums { sums self.new ≡ after_line (sums self.old) result }
+        ensures sums { sums self.new ≡ sums_after_line (sums self.old) result }
         ensures waiting { (sums self.old).lossy ≡ false → result ≢ Ok Sent.Dropped }
         ensures kind { IfErr result (λ e. IsRefusal (sums self.old).lossy (error_kind e)) };
 
@@ -96,11 +96,35 @@ impl NonBlockingBuilder {
     /// Starts the worker, runs each work once with a counted sender of its own, and waits for all of them and
     /// for the worker's end. Returns the works, in their order, and the account of all lines. Each work has a
     /// thread; if one can't be made, another thread runs its work. Errors are those of `finish`.
-    pub fn run_counted<
-        K: CountedWork + Send + Drop,
-        W: Write + Send + Drop + 'static,
-        R: Threads + Wait + Clock + Print + Eprint + Copy + Send + Sync + 'static,
-    >(
+    ///
+    /// ```
+    /// use std::io;
+    /// use std::io::Write;
+    /// use tracing_appender::non_blocking::{Account, CountedWork, Host, LineSender, NonBlockingBuilder};
+    ///
+    /// #[derive(Drop)]
+    /// pub struct Hello;
+    ///
+    /// impl CountedWork for Hello {
+    ///     ghost does = { λ _ _ _ _. Unit {0} };
+    ///
+    ///     fn run<L: LineSender>(&mut self, sender: &mut L)
+    ///         ensures { Unit {0} }
+    ///     {
+    ///         let _ = sender.write_line(b"hello\n").is_ok();
+    ///     }
+    /// }
+    ///
+    /// pub fn greet<R: Host, W: Write + Send + Drop + 'static>(rt: R, log: W) -> io::Result<Account> {
+    ///     let works = vec![in rt.alloc(); Hello, Hello]?;
+    ///     let (_, account) = NonBlockingBuilder::default()
+    ///         .run_counted(rt, rt.alloc(), log, works)
+    ///         .map_err(|unstarted| unstarted.error)?;
+    ///     // Two threads sent a line each: 2 lines were accepted, and 2 were handed to the worker.
+    ///     Ok(account)
+    /// }
+    /// ```
+    pub fn run_counted<K: CountedWork + Send + Drop, W: Write + Send + Drop + 'static, R: Host>(
         self,
         rt: R,
         alloc: Global,
@@ -108,7 +132,7 @@ impl NonBlockingBuilder {
         works: Vec<K>,
     ) -> Result<(Vec<K>, Account), Unstarted<K>>
         ensures account { IfOk result (λ ran. (ended : List Sums)
-            × Worked K.CountedWork.does self.lossy works.items ran.0.items ended
+            × RunsEachWork K.CountedWork.does self.lossy works.items ran.0.items ended
             × IsAccount ran.1.accepted ran.1.handed ran.1.left ran.1.dropped (new_guard (vec_len works)) ended) }
         ensures not_run { IfErr result (λ unstarted. unstarted.works ≡ works) }
     {
@@ -125,7 +149,7 @@ fn run_by<
     C: Ledger + Send + Sync + 'static,
     K: CountedWork + Send + Drop,
     W: Write + Send + Drop + 'static,
-    R: Threads + Wait + Clock + Print + Eprint + Copy + Send + Sync + 'static,
+    R: Host,
 >(
     builder: NonBlockingBuilder,
     rt: R,
@@ -136,7 +160,7 @@ fn run_by<
 ) -> Result<(Vec<K>, Account), Unstarted<K>>
     requires { AreBlanksOf A.Ledger H.Ledger S.Ledger C.Ledger (vec_len works) blanks }
     ensures account { IfOk result (λ ran. (ended : List Sums)
-        × Worked K.CountedWork.does builder.lossy works.items ran.0.items ended
+        × RunsEachWork K.CountedWork.does builder.lossy works.items ran.0.items ended
         × IsAccount ran.1.accepted ran.1.handed ran.1.left ran.1.dropped (new_guard (vec_len works)) ended) }
     ensures not_run { IfErr result (λ unstarted. unstarted.works ≡ works) }
 {
@@ -185,7 +209,7 @@ fn run_all<L: LineSender + Send + Drop, K: CountedWork + Send + Drop, R: Threads
     requires empty { jobs.items ≡ [] }
     ensures senders { length result.0.items ≡ length senders.items }
     ensures works { length result.1.items ≡ length works.items }
-    ensures each { AllDid K.CountedWork.does L.sums senders.items works.items result.0.items result.1.items }
+    ensures each { RunsWorksWith K.CountedWork.does L.sums senders.items works.items result.0.items result.1.items }
 {
     let (senders, works, jobs) = pair(senders, works, jobs);
     let jobs = run_jobs(rt, jobs);
@@ -225,7 +249,7 @@ fn run_jobs<L: LineSender + Send + Drop, K: CountedWork + Send + Drop, R: Thread
     jobs: Vec<Job<L, K>>,
 ) -> Vec<Job<L, K>>
     ensures long { vec_len result ≡ vec_len jobs }
-    ensures each { AllDo K.CountedWork.does L.sums jobs.items result.items }
+    ensures each { RunsJobs K.CountedWork.does L.sums jobs.items result.items }
 {
     let mut jobs = jobs;
     run_each(rt, jobs.as_mut_slice());
@@ -237,7 +261,7 @@ fn run_each<L: LineSender + Send + Drop, K: CountedWork + Send + Drop, R: Thread
     jobs: &mut [Job<L, K>],
 )
     ensures long { length jobs.new ≡ length jobs.old }
-    ensures each { AllDo K.CountedWork.does L.sums jobs.old jobs.new }
+    ensures each { RunsJobs K.CountedWork.does L.sums jobs.old jobs.new }
 {
     let threads = jobs.len().max(1);
     thread::for_each_mut(

@@ -1,14 +1,14 @@
 // What the worker's thread does.
 ghost use Rattle.std.specs.Prelude.{◌≡◌, true};
-ghost use Rattle.appender_channel.specs.Cases.{OnLine, OnEnd, OnEmpty};
+ghost use Rattle.appender_channel.specs.Cases.{IfLine, IfEnd, IfEmpty};
 ghost use Rattle.appender_worker.specs.Core.{after_flushed, is_flushing};
 
 use super::shared::Shared;
-use appender_base::sync::{Backoff, yield_for};
 use appender_channel::books::Books;
 use appender_channel::pace::{EMPTY_TURNS, LOOKS};
 use appender_channel::state::TakeRequest;
 use appender_queue::queue::Taken;
+use appender_sync::{Backoff, yield_for};
 use appender_worker::worker::{Want, WorkerCore};
 use std::io::Write;
 use std::sync::Wait;
@@ -25,9 +25,9 @@ fn take<B: Books, R: Wait>(
     pass: &mut B::Pass,
 ) -> Taken
     requires { B.may_take pass.old }
-    ensures line { OnLine result (B.may_take pass.new) }
-    ensures ended { OnEnd result (B.has_ended pass.new) }
-    ensures empty { OnEmpty result (B.may_take pass.new) }
+    ensures line { IfLine result (B.may_take pass.new) }
+    ensures ended { IfEnd result (B.has_ended pass.new) }
+    ensures empty { IfEmpty result (B.may_take pass.new) }
 {
     let sleeps = request.sleeps;
     let mut state = shared.lock(rt, backoff);
@@ -36,7 +36,7 @@ fn take<B: Books, R: Wait>(
         // With a limit of 0 there is room only now.
         shared.wake(wakeups);
         let mut state = shared.lines.wait(rt, state);
-        state.wakes();
+        state.set_awake();
     } else {
         drop(state);
         shared.wake(wakeups);

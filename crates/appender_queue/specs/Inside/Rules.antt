@@ -1,6 +1,6 @@
 -- The queue's rules over its fields and the lines of its store.
 use Rattle.std.specs.Prelude.{◌≡◌, ℕ, ◌+◌, ◌≤◌, List, [], Bool, true, false, if◌then◌else◌, length, Option, None, max, All}
-use Rattle.appender_queue.specs.Queue.{Queue, Stands}
+use Rattle.appender_queue.specs.Queue.{Queue, IsShutdownBetween}
 
 -- the lines that a queue's store has, for how many it has room, and the queue's other fields
 pub record Fields : Type 0 where
@@ -34,10 +34,10 @@ queue_of f = record {
 }
 
 -- what the fields keep
-pub record IsKept (f : Fields) : Type 0 where
+pub record AreLawfulFields (f : Fields) : Type 0 where
   -- every accepted line was handed or is stored
   pub counted : f.accepted ≡ f.handed + length f.stored
-  pub shutdown_between : Stands f.shutdown f.handed f.accepted
+  pub shutdown_between : IsShutdownBetween f.shutdown f.handed f.accepted
   -- one place at limit 0
   pub wide : f.room ≡ max f.limit 1
   pub drained : f.closed ≡ true → f.shutdown ≡ None → length f.stored ≡ 0

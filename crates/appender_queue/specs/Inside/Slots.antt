@@ -3,10 +3,10 @@ use Rattle.std.specs.Prelude.{ℕ, List, [], ◌∷◌, Bool, true, false, Optio
 use Rattle.std.specs.declared.alloc.Global.{Global}
 
 -- the lines of the full slots, in order
-abbrev pub lines_in : List (Option (Vec ℕ Global)) → List (List ℕ)
-lines_in [] = []
-lines_in (None ∷ slots) = lines_in slots
-lines_in (Some line ∷ slots) = line.items ∷ lines_in slots
+abbrev pub slot_lines : List (Option (Vec ℕ Global)) → List (List ℕ)
+slot_lines [] = []
+slot_lines (None ∷ slots) = slot_lines slots
+slot_lines (Some line ∷ slots) = line.items ∷ slot_lines slots
 
 -- no slot is full
 abbrev pub all_empty : List (Option (Vec ℕ Global)) → Bool

@@ -1,5 +1,5 @@
 // A row of slots, of which the first ones are full. Tests compare the ring with it.
-ghost use Rattle.appender_queue.specs.Inside.Slots.{lines_in, is_packed};
+ghost use Rattle.appender_queue.specs.Inside.Slots.{slot_lines, is_packed};
 ghost use Rattle.std.specs.Prelude.{◌≡◌, true, ◌<◌, ◌≤◌, [], ◌∷◌, ◌++◌, length, IfOk};
 
 use crate::queue::store::Store;
@@ -15,15 +15,15 @@ pub(crate) struct Slots {
 
 impl Model for Slots {
     ghost use Rattle.std.specs.Prelude.{◌≡◌, ℕ, List, length, ◌≤◌, true};
-    ghost use Rattle.appender_queue.specs.Inside.Slots.{lines_in, is_packed};
+    ghost use Rattle.appender_queue.specs.Inside.Slots.{slot_lines, is_packed};
 
     /// The lines, and the number of slots.
     ghost Value = { List (List ℕ) × ℕ };
 
-    ghost view = { λ s. (lines_in s.slots.items, length s.slots.items) };
+    ghost view = { λ s. (slot_lines s.slots.items, length s.slots.items) };
 
     ghost invariant = { λ s. (is_packed s.slots.items ≡ true)
-        × (s.full ≡ length (lines_in s.slots.items))
+        × (s.full ≡ length (slot_lines s.slots.items))
         × (s.full ≤ length s.slots.items) };
 }
 
@@ -69,9 +69,9 @@ impl Store for Slots {
 #[tactic(auto, using(crate::proofs::Packed::lines_in_fill, crate::proofs::Packed::packed_fill))]
 fn fill(slots: &mut [Option<Vec<u8>>], at: usize, line: Vec<u8>)
     requires packed { is_packed slots.old ≡ true }
-    requires at { at ≡ length (lines_in slots.old) }
+    requires at { at ≡ length (slot_lines slots.old) }
     requires room { at < length slots.old }
-    ensures lines { lines_in slots.new ≡ lines_in slots.old ++ line.items ∷ [] }
+    ensures lines { slot_lines slots.new ≡ slot_lines slots.old ++ line.items ∷ [] }
     ensures packed { is_packed slots.new ≡ true }
     ensures long { length slots.new ≡ length slots.old }
 {
@@ -81,10 +81,10 @@ fn fill(slots: &mut [Option<Vec<u8>>], at: usize, line: Vec<u8>)
 // Takes the first slot's line, and moves the full slots after it down by one.
 fn empty_first(slots: &mut [Option<Vec<u8>>], full: usize) -> Vec<u8>
     requires packed { is_packed slots.old ≡ true }
-    requires full { full ≡ length (lines_in slots.old) }
+    requires full { full ≡ length (slot_lines slots.old) }
     requires some { 0 < full }
     requires within { full ≤ length slots.old }
-    ensures lines { lines_in slots.old ≡ result.items ∷ lines_in slots.new }
+    ensures lines { slot_lines slots.old ≡ result.items ∷ slot_lines slots.new }
     ensures packed { is_packed slots.new ≡ true }
     ensures long { length slots.new ≡ length slots.old }
 {

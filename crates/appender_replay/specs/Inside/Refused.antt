@@ -1,4 +1,4 @@
--- Wrong runs. The headline alone refuses each of them.
+-- Wrong runs. The headline by itself refuses each of them.
 use Rattle.std.specs.Prelude.{false, ◌≡◌, IsTrue, ℕ, ◌-◌, ◌^◌, ◌<◌, ℤ, pos, true, List, [], ◌∷◌, Option, Some, Ok, Vec}
 use Rattle.std.specs.declared.alloc.Global.{Global}
 use Rattle.std.specs.FinMap as fin
@@ -11,7 +11,7 @@ use Rattle.appender_rolling.specs.Config.{Config}
 use Rattle.appender_rolling.specs.declared.rolling.Switch.TheVariants.{None as Stayed, Opened as Switched}
 use Rattle.appender_rolling.specs.Opening.{file_name_of}
 use Rattle.appender_replay.specs.Headline.{Headline}
-use Rattle.appender_replay.specs.Record.{Answered}
+use Rattle.appender_replay.specs.Record.{StepWithReply}
 use Rattle.appender_replay.specs.declared.replay.whole.Step.TheVariants.{Offer, Shut, Work}
 use Rattle.appender_replay.specs.declared.replay.whole.Reply.TheVariants.{Accepted, Shut as DidShut, Took, Wrote}
 
@@ -24,7 +24,7 @@ abbrev pub hourly : Config
 hourly = record { rotation = rotation_of Hourly; prefix = 97 ∷ []; suffix = []; link = []; max_files = 0; by_name = false; max_bytes = 0 }
 
 -- the file of this name has a body that was empty at first, and these bytes at the end
-pub record Holds {S F : Type 0} (kind : Ghosts S F) (name bytes : List ℕ) (first last : S) : Type 0 where
+pub record FileContains {S F : Type 0} (kind : Ghosts S F) (name bytes : List ℕ) (first last : S) : Type 0 where
   pub is_known : IsTrue kind.is_known
   pub body : ℕ
   pub created : Option ℤ
@@ -33,24 +33,24 @@ pub record Holds {S F : Type 0} (kind : Ghosts S F) (name bytes : List ℕ) (fir
   pub now : body_at (kind.content last) body ≡ bytes
 
 -- after these steps the file of this name can't hold these bytes
-abbrev pub NeverHolds : {S F : Type 0} → Ghosts S F → Config → List Answered → List ℕ → List ℕ → Type 0
-NeverHolds {S} {F} kind c past name bytes =
-    (limit : ℕ) (first last : S) → Holds kind name bytes first last → Headline kind limit c (pos 0) 0 past first last → ⊥
+abbrev pub NeverContains : {S F : Type 0} → Ghosts S F → Config → List StepWithReply → List ℕ → List ℕ → Type 0
+NeverContains {S} {F} kind c past name bytes =
+    (limit : ℕ) (first last : S) → FileContains kind name bytes first last → Headline kind limit c (pos 0) 0 past first last → ⊥
 
 -- The line `xy` is written whole. The file holds it twice, or it lacks a byte.
-abbrev pub one_line : Vec ℕ Global → List Answered
-one_line line = (Work (pos 0), Wrote Stayed (Ok 2)) ∷ (Work (pos 0), Took 1) ∷ (Offer 0 line, Accepted 1) ∷ []
+abbrev pub one_line_run : Vec ℕ Global → List StepWithReply
+one_line_run line = (Work (pos 0), Wrote Stayed (Ok 2)) ∷ (Work (pos 0), Took 1) ∷ (Offer 0 line, Accepted 1) ∷ []
 
 abbrev pub WritesTwice : {S F : Type 0} → Ghosts S F → Type 0
-WritesTwice {S} {F} kind = (line : Vec ℕ Global) → line.items ≡ 120 ∷ 121 ∷ [] → NeverHolds kind (one_file 0) (one_line line) (97 ∷ []) (120 ∷ 121 ∷ 120 ∷ 121 ∷ [])
+WritesTwice {S} {F} kind = (line : Vec ℕ Global) → line.items ≡ 120 ∷ 121 ∷ [] → NeverContains kind (one_file 0) (one_line_run line) (97 ∷ []) (120 ∷ 121 ∷ 120 ∷ 121 ∷ [])
 
 abbrev pub LosesByte : {S F : Type 0} → Ghosts S F → Type 0
-LosesByte {S} {F} kind = (line : Vec ℕ Global) → line.items ≡ 120 ∷ 121 ∷ [] → NeverHolds kind (one_file 0) (one_line line) (97 ∷ []) (120 ∷ [])
+LosesByte {S} {F} kind = (line : Vec ℕ Global) → line.items ≡ 120 ∷ 121 ∷ [] → NeverContains kind (one_file 0) (one_line_run line) (97 ∷ []) (120 ∷ [])
 
 -- the lines `x` and `y` are written, and the file holds `y` first
 abbrev pub WritesOutOfOrder : {S F : Type 0} → Ghosts S F → Type 0
 WritesOutOfOrder {S} {F} kind = (x y : Vec ℕ Global) → x.items ≡ 120 ∷ [] → y.items ≡ 121 ∷ []
-    → NeverHolds kind (one_file 0)
+    → NeverContains kind (one_file 0)
     ((Work (pos 0), Wrote Stayed (Ok 1)) ∷ (Work (pos 0), Took 2) ∷ (Work (pos 0), Wrote Stayed (Ok 1)) ∷ (Work (pos 0), Took 1) ∷ (Offer 0 y, Accepted 2) ∷ (Offer 0 x, Accepted 1) ∷ [])
     (97 ∷ []) (121 ∷ 120 ∷ [])
 
@@ -75,7 +75,7 @@ NeverPrunes {S} {F} kind = (limit : ℕ) (first last : S) (b : ℕ) (created : �
 -- `x` is written at 01:00:00, and `y` at 00:59:59 to the file of 00 o'clock
 abbrev pub FollowsClockBack : {S F : Type 0} → Ghosts S F → Type 0
 FollowsClockBack {S} {F} kind = (x y : Vec ℕ Global) → x.items ≡ 120 ∷ [] → y.items ≡ 121 ∷ []
-    → NeverHolds kind hourly
+    → NeverContains kind hourly
     ((Work (pos 3599), Wrote Stayed (Ok 1)) ∷ (Work (pos 0), Took 2) ∷ (Work (pos 3600), Wrote Switched (Ok 1)) ∷ (Work (pos 0), Took 1) ∷ (Offer 0 y, Accepted 2) ∷ (Offer 0 x, Accepted 1) ∷ [])
     (file_name_of hourly (record { moment = pos 0; number = 0 })) (121 ∷ [])
 

@@ -9,8 +9,8 @@ use Rattle.appender_queue.specs.declared.queue.Refused.TheVariants.{Full as Refu
 use Rattle.appender_queue.specs.declared.queue.Taken.{Taken}
 use Rattle.appender_queue.specs.declared.queue.Taken.TheVariants.{Line as TakenLine, Shutdown as TakenShutdown, Gone as TakenGone, Empty as TakenEmpty}
 use Rattle.appender_store.specs.declared.store.Folder.{Ghosts}
-use Rattle.appender_replay.specs.Record.{Answered, written_answer}
-use Rattle.appender_replay.specs.Answers.{IsWrote, IsFlushed, offer_answer, take_answer}
+use Rattle.appender_replay.specs.Record.{StepWithReply, written_answer}
+use Rattle.appender_replay.specs.Answers.{IsWorkerWrite, IsWorkerFlush, run_offer_reply, run_take_reply}
 use Rattle.appender_replay.specs.Replay.{by_kind}
 use Rattle.appender_rolling.specs.Roller.{Rolling, Puts, Flushes}
 use Rattle.appender_replay.specs.declared.replay.whole.Step.TheVariants.{Offer, Shut, AddSender, DropSender, Work}
@@ -50,17 +50,17 @@ parts queue worker roller = record { queue = queue; worker = worker; roller = ro
 -- an offer of a copy, for which memory may be refused unless it is empty
 abbrev pub OffersCopy : Queue → List ℕ → Reply → Queue → Type 0
 OffersCopy old line reply new =
-    ((reply ≡ NoMemory) × (line ≢ []) × (new ≡ old)) ⊎ ((reply ≡ offer_answer old) × (new ≡ after_offer old line))
+    ((reply ≡ NoMemory) × (line ≢ []) × (new ≡ old)) ⊎ ((reply ≡ run_offer_reply old) × (new ≡ after_offer old line))
 
 -- the worker's step
 abbrev pub WorkDoes : {S F : Type 0} → Ghosts S F → Core → ℤ → Reply → Parts S F → Parts S F → Type 0
 WorkDoes kind (Taking waits) m reply old new =
-    (reply ≡ take_answer old.queue)
+    (reply ≡ run_take_reply old.queue)
     × (new.queue ≡ after_take old.queue waits)
     × (new.worker ≡ after_took (Taking waits) (take_finds old.queue))
     × (new.roller ≡ old.roller)
 WorkDoes kind (Writing rest repeats) m reply old new =
-    IsWrote reply (λ switch shown.
+    IsWorkerWrite reply (λ switch shown.
     (answer : Result ℕ Error) × (shown ≡ by_kind answer)
     × Puts kind m rest switch answer old.roller new.roller
     × (new.worker ≡ after_wrote (Writing rest repeats) (written_answer shown)))
@@ -68,20 +68,20 @@ WorkDoes kind (Writing rest repeats) m reply old new =
 WorkDoes kind Over m reply old new =
     (reply ≡ Ended) × (new.queue ≡ old.queue) × (new.worker ≡ Over) × (new.roller ≡ old.roller)
 WorkDoes kind flushing m reply old new =
-    IsFlushed reply (λ shown. (answer : Result (Unit {0}) Error) × (shown ≡ by_kind answer) × Flushes kind answer old.roller new.roller)
+    IsWorkerFlush reply (λ shown. (answer : Result (Unit {0}) Error) × (shown ≡ by_kind answer) × Flushes kind answer old.roller new.roller)
     × (new.queue ≡ old.queue)
     × (new.worker ≡ after_flushed flushing)
 
-abbrev pub StepDoes : {S F : Type 0} → Ghosts S F → Answered → Parts S F → Parts S F → Type 0
-StepDoes kind (Offer label line, reply) old new =
+abbrev pub RunStepDoes : {S F : Type 0} → Ghosts S F → StepWithReply → Parts S F → Parts S F → Type 0
+RunStepDoes kind (Offer label line, reply) old new =
     OffersCopy old.queue line.items reply new.queue × (new.worker ≡ old.worker) × (new.roller ≡ old.roller)
-StepDoes kind (Shut, reply) old new =
+RunStepDoes kind (Shut, reply) old new =
     (reply ≡ DidShut (shut_reply old.queue)) × (new.queue ≡ after_shut old.queue)
     × (new.worker ≡ old.worker) × (new.roller ≡ old.roller)
-StepDoes kind (AddSender, reply) old new =
+RunStepDoes kind (AddSender, reply) old new =
     (reply ≡ Senders (saturating_next old.queue.senders)) × (new.queue ≡ record old.queue { senders = saturating_next old.queue.senders })
     × (new.worker ≡ old.worker) × (new.roller ≡ old.roller)
-StepDoes kind (DropSender, reply) old new =
+RunStepDoes kind (DropSender, reply) old new =
     (reply ≡ Senders (one_less old.queue.senders)) × (new.queue ≡ record old.queue { senders = one_less old.queue.senders })
     × (new.worker ≡ old.worker) × (new.roller ≡ old.roller)
-StepDoes kind (Work m, reply) old new = WorkDoes kind old.worker m reply old new
+RunStepDoes kind (Work m, reply) old new = WorkDoes kind old.worker m reply old new

@@ -1,8 +1,8 @@
-// Runs of a queue, a worker and a roller together, as senders and a worker drive them.
+// Runs of a queue, a worker and a roller together.
 ghost use Rattle.std.specs.Prelude.{◌≡◌, [], length, IfOk, IfErr, IsOk};
 ghost use Rattle.appender_replay.specs.Replay.{with_replies, with_replies_onto, RunsFrom, RollerFollows, IsNotRun};
-ghost use Rattle.appender_replay.specs.Answers.{WorkerDoes, worker_event};
-ghost use Rattle.appender_replay.specs.Inside.Steps.{offered_reply, taken_reply, OffersCopy, WorkDoes, StepDoes, parts};
+ghost use Rattle.appender_replay.specs.Answers.{WorkerDoes, run_event};
+ghost use Rattle.appender_replay.specs.Inside.Steps.{offered_reply, taken_reply, OffersCopy, WorkDoes, RunStepDoes, parts};
 ghost use Rattle.appender_replay.specs.Whole.{LinesFollow};
 ghost use Rattle.appender_replay.specs.Headline.{Headline};
 
@@ -20,7 +20,7 @@ use std::io;
 /// A step of a run. Moments are seconds of UTC since the epoch.
 #[derive(Debug, Drop, PartialEq, Eq)]
 pub enum Step {
-    /// A sender, by its label, offers a copy of this line.
+    /// A sender offers a copy of this line. The number is the sender's label.
     Offer(u64, Vec<u8>),
     /// The shutdown is sent.
     Shut,
@@ -28,49 +28,53 @@ pub enum Step {
     AddSender,
     /// One sender less.
     DropSender,
-    /// The worker does the one thing that it wants next. Only a write checks the clock.
+    /// The worker does its next action, at this moment: a take, a write or a flush. Only a write checks the clock.
     Work(i64),
 }
 
-/// The reply to a step. It has a fault by its kind alone.
+/// The reply to a step. Of an error it has only the kind.
 #[derive(Clone, Copy, Debug, PartialEq, Eq)]
 pub enum Reply {
     /// To `Offer`: the line's ticket.
     Accepted(u64),
-    /// To `Offer`: no place was free.
+    /// To `Offer`: the queue is full.
     Full,
-    /// To `Offer`: the queue is closed, or has given out all its tickets.
+    /// To `Offer`: the queue is closed, or has no tickets left.
     Closed,
     /// To `Offer`: memory for the copy of a line that isn't empty was refused, and nothing changed.
     NoMemory,
     /// To `Shut`.
     Shut(Shut),
-    /// To `AddSender` and `DropSender`: how many there are now.
+    /// To `AddSender` and `DropSender`: the number of senders after the step.
     Senders(u64),
     /// To `Work`: the worker took the line with this ticket.
     Took(u64),
-    /// To `Work`: it took the shutdown.
+    /// To `Work`: the worker took the shutdown.
     TookShutdown,
     /// To `Work`: the queue is closed, or closed by this take, since no sender is left.
     TookGone,
     /// To `Work`: there was nothing to take.
     TookEmpty,
-    /// To `Work`: it wrote, and how many bytes were taken.
+    /// To `Work`: the worker wrote. The number is that of the bytes that were taken.
     Wrote(Switch, Result<usize, io::ErrorKind>),
-    /// To `Work`: it flushed.
+    /// To `Work`: the worker flushed.
     Flushed(Result<(), io::ErrorKind>),
-    /// To `Work`: it has ended.
+    /// To `Work`: the worker had ended before.
     Ended,
 }
 
-/// A run that was opened: one reply a step, what the last step left, and the number of the first file, which
-/// is 0 without a limit of bytes.
+/// The result of `replay`, after the last step.
 #[derive(Drop)]
 pub struct Run<S: Folder> {
+    /// The replies, one for each step, in the order of the steps.
     pub replies: Vec<Reply>,
+    /// The queue, with the lines that were not taken.
     pub queue: LineQueue,
+    /// The worker, with the line that it is writing, if there is one.
     pub worker: WorkerCore,
+    /// The roller, whose folder has the files that were written.
     pub roller: Roller<S>,
+    /// The number in the name of the file that was opened first. 0 if no limit of bytes is set.
     pub number: u32,
 }
 
@@ -118,7 +122,7 @@ fn reply_to_take(taken: &Taken) -> Reply
     }
 }
 
-// Does what the worker wants next.
+// Does the worker's next action.
 fn work<S: Folder>(
     queue: &mut LineQueue,
     worker: &mut WorkerCore,
@@ -159,7 +163,7 @@ fn run_step<S: Folder>(
     roller: &mut Roller<S>,
     step: &Step,
 ) -> Reply
-    ensures { StepDoes S.Folder (step.now, result)
+    ensures { RunStepDoes S.Folder (step.now, result)
         (parts queue.old worker.old roller.old) (parts queue.new worker.new roller.new) }
 {
     match step {
@@ -171,9 +175,9 @@ fn run_step<S: Folder>(
     }
 }
 
-/// Opens a roller over the folder at `start`, in seconds of UTC since the epoch, with a queue of `limit` lines
-/// and a worker before it, and runs the steps in order. Room for all replies and for the queue is taken before
-/// the opening.
+/// Opens a roller over the folder at the moment `start`, in seconds of UTC since the epoch, and runs the steps in
+/// order. The worker takes lines from a queue of `limit` lines, and writes them by the roller. Memory for the replies
+/// and the queue is allocated before the opening: `Memory` if it is refused. `Init` if the opening fails.
 pub fn replay<S: Folder>(
     alloc: Global,
     builder: &Builder,
@@ -190,7 +194,7 @@ pub fn replay<S: Folder>(
         run.queue run.worker) }
     ensures runs { IfOk result (λ run. RunsFrom S.Folder (WorkerDoes S.Folder) builder.now start run.number folder
         (with_replies steps.now run.replies.items) run.roller) }
-    ensures roller { IfOk result (λ run. RollerFollows S.Folder (WorkerDoes S.Folder) worker_event builder.now start
+    ensures roller { IfOk result (λ run. RollerFollows S.Folder (WorkerDoes S.Folder) run_event builder.now start
         run.number folder (with_replies steps.now run.replies.items) run.roller) }
     ensures err { IfErr result (λ error. IsNotRun S.Folder builder.now start folder error) }
 {

@@ -8,5 +8,5 @@ abbrev pub rank_in : Candidate → Rank
 rank_in c = (c.key, c.name.now, c.place)
 
 -- how many of c candidates are removed, so that at most max - 1 are left beside the next file
-abbrev pub how_many_go : ℕ → ℕ → ℕ
-how_many_go max c = if max == 0 then 0 else c - (max - 1)
+abbrev pub removal_count : ℕ → ℕ → ℕ
+removal_count max c = if max == 0 then 0 else c - (max - 1)

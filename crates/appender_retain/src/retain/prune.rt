@@ -4,9 +4,9 @@ ghost use Rattle.std.specs.Option.{option_map};
 ghost use Rattle.appender_store.specs.Content.{IsFile};
 ghost use Rattle.std.specs.FinMap as fin;
 ghost use Rattle.appender_store.specs.Folder.{listed_row};
-ghost use Rattle.appender_retain.specs.Pruning.{Prunes, RemovesFile, RemovesEach, name_at};
+ghost use Rattle.appender_retain.specs.Pruning.{Prunes, RemovesFile, RemovesEach, listed_name_at};
 ghost use Rattle.appender_retain.specs.Inside.Files.{AreFiles};
-ghost use Rattle.appender_retain.specs.Rank.{matching};
+ghost use Rattle.appender_retain.specs.Rank.{log_files_by_parts};
 
 use super::{LogFiles, plan_log_files};
 use appender_names::names::Names;
@@ -19,7 +19,7 @@ use std::io;
 /// folder can't be listed, or memory is refused, `Notice::List` is noted and nothing is removed. A removal that
 /// fails is noted as `Notice::Remove`, and the next is tried.
 pub fn prune_old_logs<S: Folder>(alloc: Global, folder: &mut S, names: &Names, max: usize)
-    ensures { Prunes S.Folder (matching names.now) max folder.old folder.new }
+    ensures { Prunes S.Folder (log_files_by_parts names.now) max folder.old folder.new }
 {
     prune_log_files(alloc, folder, &LogFiles::matching(names), max);
 }
@@ -49,8 +49,8 @@ pub fn prune_log_files<S: Folder>(alloc: Global, folder: &mut S, log: &LogFiles<
 // Removes the files at these places, one after another.
 fn remove_planned<S: Folder>(folder: &mut S, listed: &[Listed], gone: &[usize])
     requires { IsTrue S.is_known → AreFiles (S.content folder.old).names
-        (filter_map (name_at (map listed_row listed.now)) gone.now) }
-    ensures { RemovesEach S.Folder (filter_map (name_at (map listed_row listed.now)) gone.now)
+        (filter_map (listed_name_at (map listed_row listed.now)) gone.now) }
+    ensures { RemovesEach S.Folder (filter_map (listed_name_at (map listed_row listed.now)) gone.now)
         folder.old folder.new }
 {
     names_change_one_at_a_time();
@@ -63,7 +63,7 @@ fn remove_planned<S: Folder>(folder: &mut S, listed: &[Listed], gone: &[usize])
 
 // Returns the name listed at a place, if it can be read.
 fn listed_name(listed: &[Listed], place: usize) -> Option<&str>
-    ensures { option_map (λ name. name.now) result ≡ name_at (map listed_row listed.now) place }
+    ensures { option_map (λ name. name.now) result ≡ listed_name_at (map listed_row listed.now) place }
 {
     Some(listed.get(place)?.name.as_ref()?.as_str())
 }

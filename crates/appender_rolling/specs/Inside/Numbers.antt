@@ -11,8 +11,8 @@ abbrev pub number_after : Rotation → ℤ → ℤ × ℕ → ℕ
 number_after r m key = if is_in_period r m key.0 then (if nat_lt key.1 999999 then key.1 + 1 else 999999) else 0
 
 -- the number after that of a listed name; 0 for a name that doesn't read
-abbrev pub number_behind : Naming → ℤ → Row → ℕ
-number_behind n m row = option_map_or (number_after n.rotation m) (option_and_then (reading_at n) row.0) 0
+abbrev pub number_after_row : Naming → ℤ → Row → ℕ
+number_after_row n m row = option_map_or (number_after n.rotation m) (option_and_then (reading_at n) row.0) 0
 
 abbrev pub greater_of : ℕ → ℕ → ℕ
 greater_of a b = if nat_lt a b then b else a
@@ -20,4 +20,4 @@ greater_of a b = if nat_lt a b then b else a
 -- the greatest of them, which is 0 if no listed name is one of the period
 abbrev pub first_number : Naming → ℤ → List Row → ℕ
 first_number n m [] = 0
-first_number n m (row ∷ rows) = greater_of (number_behind n m row) (first_number n m rows)
+first_number n m (row ∷ rows) = greater_of (number_after_row n m row) (first_number n m rows)

@@ -3,24 +3,35 @@ ghost use Rattle.std.specs.Prelude.{◌≡◌, IfOk, IfErr};
 ghost use Rattle.appender_names.specs.declared.rotation.RotationKind.TheVariants.{Minutely, Hourly, Daily, Weekly, Never};
 ghost use Rattle.appender_names.specs.Rotation.{rotation_of};
 ghost use Rattle.appender_rolling.specs.Config.{defaults};
-ghost use Rattle.appender_rolling.specs.Appender.{plain_config, SharesSome, OpensNoneOfSome};
+ghost use Rattle.appender_rolling.specs.Appender.{plain_config, SharesInSomeFolder, OpensNoneInSomeFolder};
 
 use super::gated::Gated;
 use super::writer::RollingWriter;
 use super::{Builder, Clock, InitError, RollingFile, Rotation, SystemClock};
-use appender_base::make_writer::MakeWriter;
-use appender_folder::folder::DirFolder;
+use appender_folder::folder::{DirFolder, FilesHost};
 use appender_store::store::Folder;
+use appender_traits::make_writer::MakeWriter;
 use std::alloc::{AllocError, Global};
 use std::fmt::{Debug, Formatter};
 use std::io::Write;
 use std::marker::Model;
-use std::rt::Files;
 use std::sync::{RwLock, RwLockReadGuard, Wait};
 use std::{fmt, io, time};
 
 /// A log that threads share, each by writers that it makes. Making a writer, and each write of its own,
 /// checks the clock, and at a boundary of the rotation opens the next file.
+///
+/// ```
+/// use std::io;
+/// use std::io::Write;
+/// use tracing_appender::rolling::{RollingFileAppender, Rotation};
+///
+/// // The files are as `logs/web.2026-11-28-10`. Threads can share the log by a reference, and each makes a writer.
+/// pub fn log_request(rt: HostRuntime) -> io::Result<()> {
+///     let mut log = RollingFileAppender::new(rt, Rotation::HOURLY, "logs", "web")?;
+///     log.write_all(b"GET / 200\n")
+/// }
+/// ```
 #[derive(Drop)]
 pub struct RollingFileAppender<S: Folder, C: Clock, R: Drop = HostRuntime> {
     rt: R,
@@ -34,9 +45,9 @@ pub struct RollingFileAppender<S: Folder, C: Clock, R: Drop = HostRuntime> {
 pub type FileAppender<R = HostRuntime> = RollingFileAppender<DirFolder<R>, SystemClock<R>, R>;
 
 impl<S: Folder, C: Clock, R: Drop> Model for RollingFileAppender<S, C, R> {
-    ghost use Rattle.appender_rolling.specs.Appender.{Sharing};
+    ghost use Rattle.appender_rolling.specs.Appender.{SharedLog};
 
-    ghost Value = { Sharing C };
+    ghost Value = { SharedLog C };
 
     ghost view = { λ a. record { clock = a.clock } };
 }
@@ -60,14 +71,14 @@ impl<S: Folder, C: Clock, R: Wait + Drop> RollingFileAppender<S, C, R> {
     ghost use Rattle.std.specs.Prelude.{◌≡◌, false, MatchOption};
     ghost use Rattle.std.specs.Sync.RwLock.{read_guard_value};
     ghost use Rattle.appender_rolling.specs.Roller.{Scheduled};
-    ghost use Rattle.appender_rolling.specs.Appender.{AsksSome, SeesSome};
+    ghost use Rattle.appender_rolling.specs.Appender.{SomeRollerIsDue, SomeRollerChecksClock};
 
     // Enters the gate, unless a file is due: then opens it while no other thread is inside, and the caller
     // tries again.
-    fn pass(&self, moment: i64) -> Option<RwLockReadGuard<'_, Gated<S>>>
+    fn enter_gate(&self, moment: i64) -> Option<RwLockReadGuard<'_, Gated<S>>>
         ensures { MatchOption result
-            ((old : Scheduled) × (new : Scheduled) × SeesSome S.Folder moment old new)
-            (λ gate. AsksSome S.Folder (read_guard_value gate).schedule moment false) }
+            ((old : Scheduled) × (new : Scheduled) × SomeRollerChecksClock S.Folder moment old new)
+            (λ gate. SomeRollerIsDue S.Folder (read_guard_value gate).schedule moment false) }
     {
         let gate = self.gate.read(&self.rt);
         if !gate.due(&self.rt, moment) {
@@ -93,7 +104,7 @@ impl<S: Folder, C: Clock, R: Drop> RollingFileAppender<S, C, R> {
 impl<'a, S: Folder + 'a, C: Clock, R: Wait + Drop + 'a> MakeWriter<'a>
     for RollingFileAppender<S, C, R> {
     ghost use Rattle.std.specs.Prelude.{IsOk, IfOk};
-    ghost use Rattle.appender_rolling.specs.Appender.{LooksNow};
+    ghost use Rattle.appender_rolling.specs.Appender.{NoFileIsDueNow};
 
     type Writer = RollingWriter<'a, S, R>;
 
@@ -102,11 +113,13 @@ impl<'a, S: Folder + 'a, C: Clock, R: Wait + Drop + 'a> MakeWriter<'a>
     /// file is opened when the open one is full; a writer that was made before may write past the limit.
     fn make_writer(&'a self) -> Result<RollingWriter<'a, S, R>, AllocError>
         ensures ok { IsOk result }
-        ensures looks { IfOk result (LooksNow S.Folder C.Clock self.now.clock) }
+        ensures looks { IfOk result (NoFileIsDueNow S.Folder C.Clock self.now.clock) }
     {
         let moment = self.clock.now();
+        // The gate is left after an opening, and then the check is made again: only so is the boundary that of the gate
+        // that the writer holds. Without a limit of bytes the second check is the last.
         for _ in self.rt.forever() {
-            if let Some(gate) = self.pass(moment) {
+            if let Some(gate) = self.enter_gate(moment) {
                 return Ok(RollingWriter { rt: &self.rt, gate });
             }
         }
@@ -119,7 +132,7 @@ impl<S: Folder, C: Clock, R: Drop> Write for RollingFileAppender<S, C, R> {
     ghost use Rattle.std.specs.Io.{WritesAtMost};
     ghost use Rattle.std.specs.Io.KnownBytes.{WriteAppends};
     ghost use Rattle.appender_rolling.specs.Roller.{Scheduled};
-    ghost use Rattle.appender_rolling.specs.Appender.{PutsAtClock, FlushesSome};
+    ghost use Rattle.appender_rolling.specs.Appender.{PutsAtClock, SomeRollerFlushes};
 
     /// Reads the clock once, and writes the bytes at that moment. `write_all` repeats it for what was not taken,
     /// so that its pieces may be in two files. It takes no lock.
@@ -134,7 +147,7 @@ impl<S: Folder, C: Clock, R: Drop> Write for RollingFileAppender<S, C, R> {
 
     /// Flushes the open file, and reads no clock.
     fn flush(&mut self) -> io::Result<()>
-        ensures { (s : Scheduled) × FlushesSome S.Folder s result }
+        ensures { (s : Scheduled) × SomeRollerFlushes S.Folder s result }
     {
         self.gate.get_mut().flush_alone()
     }
@@ -152,7 +165,7 @@ impl<S: Folder, C: Clock, R: Drop> Debug for RollingFileAppender<S, C, R> {
 
 impl Builder {
     ghost use Rattle.std.specs.Prelude.{◌≡◌};
-    ghost use Rattle.appender_rolling.specs.Appender.{SharesNow, SharesSome, OpensNone};
+    ghost use Rattle.appender_rolling.specs.Appender.{SharesNow, SharesInSomeFolder, OpensNone};
 
     /// Opens an appender in a folder, at the clock's moment. Errors are those of `Roller::open`, and return
     /// folder and clock.
@@ -172,14 +185,14 @@ impl Builder {
 
     /// Opens an appender in a folder of the file system, by the system's clock. Errors are those
     /// of `Roller::open`.
-    pub fn build<R: Files + AllocGlobal + Eprint + time::Clock + Clone + Drop>(
+    pub fn build<R: FilesHost + time::Clock>(
         &self,
         rt: R,
         directory: &str,
     ) -> Result<FileAppender<R>, InitError>
-        ensures ok { IfOk result (SharesSome ⟦<DirFolder<R> as Folder>⟧ ⟦<SystemClock<R> as Clock>⟧
+        ensures ok { IfOk result (SharesInSomeFolder ⟦<DirFolder<R> as Folder>⟧ ⟦<SystemClock<R> as Clock>⟧
             self.now) }
-        ensures err { IfErr result (OpensNoneOfSome ⟦<DirFolder<R> as Folder>⟧ ⟦<SystemClock<R> as Clock>⟧
+        ensures err { IfErr result (OpensNoneInSomeFolder ⟦<DirFolder<R> as Folder>⟧ ⟦<SystemClock<R> as Clock>⟧
             self.now) }
     {
         let waits = rt.clone()?;
@@ -197,11 +210,7 @@ impl RollingFileAppender<DirFolder, SystemClock> {
     }
 }
 
-impl<R: Files + AllocGlobal + Eprint + time::Clock + Clone + Drop> RollingFileAppender<
-    DirFolder<R>,
-    SystemClock<R>,
-    R,
-> {
+impl<R: FilesHost + time::Clock> RollingFileAppender<DirFolder<R>, SystemClock<R>, R> {
     /// Opens an appender in a folder of the file system, by the system's clock. The names of its files
     /// begin with the prefix; an empty one is none. Errors are those of `Builder::build`.
     pub fn new(
@@ -210,9 +219,9 @@ impl<R: Files + AllocGlobal + Eprint + time::Clock + Clone + Drop> RollingFileAp
         directory: &str,
         prefix: &str,
     ) -> Result<FileAppender<R>, InitError>
-        ensures ok { IfOk result (SharesSome ⟦<DirFolder<R> as Folder>⟧ ⟦<SystemClock<R> as Clock>⟧
+        ensures ok { IfOk result (SharesInSomeFolder ⟦<DirFolder<R> as Folder>⟧ ⟦<SystemClock<R> as Clock>⟧
             (plain_config rotation prefix.now)) }
-        ensures err { IfErr result (OpensNoneOfSome ⟦<DirFolder<R> as Folder>⟧ ⟦<SystemClock<R> as Clock>⟧
+        ensures err { IfErr result (OpensNoneInSomeFolder ⟦<DirFolder<R> as Folder>⟧ ⟦<SystemClock<R> as Clock>⟧
             (plain_config rotation prefix.now)) }
     {
         Builder::new()
@@ -223,15 +232,15 @@ impl<R: Files + AllocGlobal + Eprint + time::Clock + Clone + Drop> RollingFileAp
 }
 
 /// Opens a log with a new file each minute: `directory/prefix.yyyy-MM-dd-HH-mm`. Errors are those of
-/// `Builder::build`.
-pub fn minutely<R: Files + AllocGlobal + Eprint + time::Clock + Clone + Drop>(
+/// `Builder::build`. `daily` has an example.
+pub fn minutely<R: FilesHost + time::Clock>(
     rt: R,
     directory: &str,
     prefix: &str,
 ) -> Result<FileAppender<R>, InitError>
-    ensures ok { IfOk result (SharesSome ⟦<DirFolder<R> as Folder>⟧ ⟦<SystemClock<R> as Clock>⟧
+    ensures ok { IfOk result (SharesInSomeFolder ⟦<DirFolder<R> as Folder>⟧ ⟦<SystemClock<R> as Clock>⟧
         (plain_config (rotation_of Minutely) prefix.now)) }
-    ensures err { IfErr result (OpensNoneOfSome ⟦<DirFolder<R> as Folder>⟧ ⟦<SystemClock<R> as Clock>⟧
+    ensures err { IfErr result (OpensNoneInSomeFolder ⟦<DirFolder<R> as Folder>⟧ ⟦<SystemClock<R> as Clock>⟧
         (plain_config (rotation_of Minutely) prefix.now)) }
 {
     RollingFileAppender::new(rt, Rotation::MINUTELY, directory, prefix)
@@ -239,14 +248,14 @@ pub fn minutely<R: Files + AllocGlobal + Eprint + time::Clock + Clone + Drop>(
 
 /// Opens a log with a new file each hour: `directory/prefix.yyyy-MM-dd-HH`. Errors as for
 /// `minutely`.
-pub fn hourly<R: Files + AllocGlobal + Eprint + time::Clock + Clone + Drop>(
+pub fn hourly<R: FilesHost + time::Clock>(
     rt: R,
     directory: &str,
     prefix: &str,
 ) -> Result<FileAppender<R>, InitError>
-    ensures ok { IfOk result (SharesSome ⟦<DirFolder<R> as Folder>⟧ ⟦<SystemClock<R> as Clock>⟧
+    ensures ok { IfOk result (SharesInSomeFolder ⟦<DirFolder<R> as Folder>⟧ ⟦<SystemClock<R> as Clock>⟧
         (plain_config (rotation_of Hourly) prefix.now)) }
-    ensures err { IfErr result (OpensNoneOfSome ⟦<DirFolder<R> as Folder>⟧ ⟦<SystemClock<R> as Clock>⟧
+    ensures err { IfErr result (OpensNoneInSomeFolder ⟦<DirFolder<R> as Folder>⟧ ⟦<SystemClock<R> as Clock>⟧
         (plain_config (rotation_of Hourly) prefix.now)) }
 {
     RollingFileAppender::new(rt, Rotation::HOURLY, directory, prefix)
@@ -254,14 +263,26 @@ pub fn hourly<R: Files + AllocGlobal + Eprint + time::Clock + Clone + Drop>(
 
 /// Opens a log with a new file each day: `directory/prefix.yyyy-MM-dd`. Errors as for
 /// `minutely`.
-pub fn daily<R: Files + AllocGlobal + Eprint + time::Clock + Clone + Drop>(
+///
+/// ```
+/// use std::io;
+/// use std::io::Write;
+/// use tracing_appender::rolling::daily;
+///
+/// pub fn log_start(rt: HostRuntime) -> io::Result<()> {
+///     let mut log = daily(rt, "logs", "app")?;
+///     // Appends to the file of today, as `logs/app.2026-11-28`.
+///     log.write_all(b"started\n")
+/// }
+/// ```
+pub fn daily<R: FilesHost + time::Clock>(
     rt: R,
     directory: &str,
     prefix: &str,
 ) -> Result<FileAppender<R>, InitError>
-    ensures ok { IfOk result (SharesSome ⟦<DirFolder<R> as Folder>⟧ ⟦<SystemClock<R> as Clock>⟧
+    ensures ok { IfOk result (SharesInSomeFolder ⟦<DirFolder<R> as Folder>⟧ ⟦<SystemClock<R> as Clock>⟧
         (plain_config (rotation_of Daily) prefix.now)) }
-    ensures err { IfErr result (OpensNoneOfSome ⟦<DirFolder<R> as Folder>⟧ ⟦<SystemClock<R> as Clock>⟧
+    ensures err { IfErr result (OpensNoneInSomeFolder ⟦<DirFolder<R> as Folder>⟧ ⟦<SystemClock<R> as Clock>⟧
         (plain_config (rotation_of Daily) prefix.now)) }
 {
     RollingFileAppender::new(rt, Rotation::DAILY, directory, prefix)
@@ -269,14 +290,14 @@ pub fn daily<R: Files + AllocGlobal + Eprint + time::Clock + Clone + Drop>(
 
 /// Opens a log with a new file each week, on Sunday: `directory/prefix.yyyy-MM-dd`. Errors as for
 /// `minutely`.
-pub fn weekly<R: Files + AllocGlobal + Eprint + time::Clock + Clone + Drop>(
+pub fn weekly<R: FilesHost + time::Clock>(
     rt: R,
     directory: &str,
     prefix: &str,
 ) -> Result<FileAppender<R>, InitError>
-    ensures ok { IfOk result (SharesSome ⟦<DirFolder<R> as Folder>⟧ ⟦<SystemClock<R> as Clock>⟧
+    ensures ok { IfOk result (SharesInSomeFolder ⟦<DirFolder<R> as Folder>⟧ ⟦<SystemClock<R> as Clock>⟧
         (plain_config (rotation_of Weekly) prefix.now)) }
-    ensures err { IfErr result (OpensNoneOfSome ⟦<DirFolder<R> as Folder>⟧ ⟦<SystemClock<R> as Clock>⟧
+    ensures err { IfErr result (OpensNoneInSomeFolder ⟦<DirFolder<R> as Folder>⟧ ⟦<SystemClock<R> as Clock>⟧
         (plain_config (rotation_of Weekly) prefix.now)) }
 {
     RollingFileAppender::new(rt, Rotation::WEEKLY, directory, prefix)
@@ -284,14 +305,14 @@ pub fn weekly<R: Files + AllocGlobal + Eprint + time::Clock + Clone + Drop>(
 
 /// Opens a log of one file for all time: `directory/prefix`, or for an empty prefix the date of the opening.
 /// Errors as for `minutely`.
-pub fn never<R: Files + AllocGlobal + Eprint + time::Clock + Clone + Drop>(
+pub fn never<R: FilesHost + time::Clock>(
     rt: R,
     directory: &str,
     prefix: &str,
 ) -> Result<FileAppender<R>, InitError>
-    ensures ok { IfOk result (SharesSome ⟦<DirFolder<R> as Folder>⟧ ⟦<SystemClock<R> as Clock>⟧
+    ensures ok { IfOk result (SharesInSomeFolder ⟦<DirFolder<R> as Folder>⟧ ⟦<SystemClock<R> as Clock>⟧
         (plain_config (rotation_of Never) prefix.now)) }
-    ensures err { IfErr result (OpensNoneOfSome ⟦<DirFolder<R> as Folder>⟧ ⟦<SystemClock<R> as Clock>⟧
+    ensures err { IfErr result (OpensNoneInSomeFolder ⟦<DirFolder<R> as Folder>⟧ ⟦<SystemClock<R> as Clock>⟧
         (plain_config (rotation_of Never) prefix.now)) }
 {
     RollingFileAppender::new(rt, Rotation::NEVER, directory, prefix)

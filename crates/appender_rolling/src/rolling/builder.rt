@@ -1,8 +1,8 @@
 //! The settings of an appender.
 ghost use Rattle.std.specs.Prelude.{◌≡◌, ◌≢◌, ◌↔◌, ◌⊎◌, true, IfOk, IfErr, Err, IsTrue};
 ghost use Rattle.appender_names.specs.Rotation.{IsNever};
-ghost use Rattle.appender_names.specs.Name.{IsAllowed};
-ghost use Rattle.appender_rolling.specs.Config.{defaults, text_of, naming_of, is_limited, MayLimit};
+ghost use Rattle.appender_names.specs.Name.{IsNotNamed};
+ghost use Rattle.appender_rolling.specs.Config.{defaults, text_or_empty, naming_of, is_limited, MayLimit};
 ghost use Rattle.appender_rolling.specs.Opening.{LinksEntry};
 
 use appender_names::error::InitError;
@@ -13,6 +13,22 @@ use std::marker::Model;
 
 /// The settings of an appender: its rotation, the names of its files, how many files are kept, how many bytes
 /// each takes, and the link to the newest.
+///
+/// ```
+/// use std::io;
+/// use tracing_appender::rolling::{Builder, FileAppender, Rotation};
+///
+/// // The files are as `logs/db.2026-11-28.log`, and the newest seven are kept.
+/// pub fn open_log(rt: HostRuntime) -> io::Result<FileAppender> {
+///     let settings = Builder::new()
+///         .rotation(Rotation::DAILY)
+///         .filename_prefix(rt.alloc(), "db")?
+///         .filename_suffix(rt.alloc(), "log")?
+///         .max_log_files(7)
+///         .log_files_by_name(true);
+///     Ok(settings.build(rt, "logs")?)
+/// }
+/// ```
 #[derive(Debug, Drop)]
 pub struct Builder {
     rotation: Rotation,
@@ -25,15 +41,15 @@ pub struct Builder {
 }
 
 impl Model for Builder {
-    ghost use Rattle.appender_rolling.specs.Config.{Config, text_of};
+    ghost use Rattle.appender_rolling.specs.Config.{Config, text_or_empty};
 
     ghost Value = { Config };
 
     ghost view = { λ b. record {
       rotation = b.rotation;
-      prefix = text_of b.prefix;
-      suffix = text_of b.suffix;
-      link = text_of b.link;
+      prefix = text_or_empty b.prefix;
+      suffix = text_or_empty b.suffix;
+      link = text_or_empty b.link;
       max_files = b.max_files;
       by_name = b.by_name;
       max_bytes = b.max_bytes;
@@ -100,7 +116,7 @@ impl Builder {
     /// Sets how many log files are kept; 0 is no maximum. Before a file is opened, the oldest are removed.
     ///
     /// By default, as in the crate tracing-appender, this counts each plain file whose name begins with the prefix and
-    /// ends with the suffix, and the oldest is that of the earliest creation time. So it may remove a file of another
+    /// ends with the suffix. The oldest is that of the earliest creation time. So it may remove a file of another
     /// program, and after files were copied or restored it may remove the file of today. `log_files_by_name` avoids both.
     #[must_use]
     pub fn max_log_files(mut self, max: usize) -> Builder
@@ -110,10 +126,9 @@ impl Builder {
         self
     }
 
-    /// Sets whether `max_log_files` knows log files by their names alone. Then it counts the plain files whose names read
-    /// as the start of a period of this log, and the oldest is that of the earliest period and lowest number. The file
-    /// that is opened is never removed, nor is one with another name. Under `NEVER`, which has no periods, none is
-    /// removed.
+    /// Sets whether `max_log_files` goes only by names. Then it counts the plain files whose names read as the start of
+    /// a period of this log. The oldest is that of the earliest period and lowest number. The file that is opened is
+    /// never removed, and no file with another name is. Under `NEVER`, which has no periods, none is removed.
     #[must_use]
     pub fn log_files_by_name(mut self, by_name: bool) -> Builder
         ensures { result ≡ record self { by_name = by_name } }
@@ -135,20 +150,10 @@ impl Builder {
     }
 
     /// Returns the naming of the log files. `Name` if prefix and suffix make no names of entries of a
-    /// folder; else `Limit` if a limit of bytes is set under `NEVER`; else `Memory` if there is no room
-    /// for a copy of both.
+    /// folder. Else `Limit` if a limit of bytes is set under `NEVER`. Else `Memory` if there is no room for a copy of both.
     pub fn names(&self, alloc: Global) -> Result<Names, InitError>
         ensures ok { IfOk result (λ names. names ≡ naming_of self.now) }
-        ensures allowed { result ≢ Err InitError.Name →
-            IsAllowed self.now.rotation self.now.prefix self.now.suffix }
-        ensures name { result ≡ Err InitError.Name →
-            ¬ (IsAllowed self.now.rotation self.now.prefix self.now.suffix) }
-        ensures limit { result ≡ Err InitError.Limit →
-            (is_limited self.now ≡ true) × IsNever self.now.rotation }
-        ensures may_limit { result ≢ Err InitError.Name → result ≢ Err InitError.Limit →
-            MayLimit self.now }
-        ensures err { IfErr result (λ e.
-            (e ≡ InitError.Name) ⊎ (e ≡ InitError.Limit) ⊎ (e ≡ InitError.Memory)) }
+        ensures err { IfErr result (IsNotNamed (is_limited self.now) self.now.rotation self.now.prefix self.now.suffix) }
     {
         if self.max_bytes == 0 {
             Names::new(alloc, self.rotation, text(&self.prefix), text(&self.suffix))
@@ -191,7 +196,7 @@ impl Builder {
 
 // A text that may be set.
 fn text(set: &Option<String>) -> &str
-    ensures { result.now ≡ text_of set.now }
+    ensures { result.now ≡ text_or_empty set.now }
 {
     match set {
         Some(text) => text.as_str(),

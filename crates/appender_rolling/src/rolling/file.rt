@@ -2,17 +2,31 @@
 ghost use Rattle.std.specs.Prelude.{◌≡◌, IfOk, IfErr};
 
 use super::{Builder, Clock, InitError, Roller, Switch, SystemClock};
-use appender_folder::folder::DirFolder;
+use appender_folder::folder::{DirFolder, FilesHost};
 use appender_store::store::Folder;
 use std::alloc::Global;
 use std::fmt::{Debug, Formatter};
 use std::io::Write;
 use std::marker::Model;
-use std::rt::Files;
 use std::{fmt, io, time};
 
 /// A log for one thread. Each write checks the clock, and at a boundary of the rotation opens the next file.
 /// Contracts say what each write did to the folder.
+///
+/// ```
+/// use std::io;
+/// use tracing_appender::rolling::{Builder, Rotation, Switch};
+///
+/// pub fn log_two(rt: HostRuntime) -> io::Result<Switch> {
+///     let settings = Builder::new().rotation(Rotation::DAILY).max_file_bytes(10);
+///     let mut log = settings.open(rt, "logs")?;
+///     log.put(b"first\n").1?;
+///     // The 7 bytes do not fit in the same file, so this opens the next one: `Switch::Opened`.
+///     let (switch, written) = log.put(b"second\n");
+///     written?;
+///     Ok(switch)
+/// }
+/// ```
 #[derive(Drop)]
 pub struct RollingFile<S: Folder, C: Clock> {
     pub(super) roller: Roller<S>,
@@ -28,15 +42,20 @@ impl<S: Folder, C: Clock> Model for RollingFile<S, C> {
 }
 
 impl<S: Folder, C: Clock> RollingFile<S, C> {
-    ghost use Rattle.std.specs.Prelude.{◌≡◌, is_some};
+    ghost use Rattle.std.specs.Prelude.{◌≡◌, ◌≢◌, ◌≤◌, Some, is_some, length};
     ghost use Rattle.appender_rolling.specs.Appender.{AppendsNow, PutsNow};
     ghost use Rattle.appender_rolling.specs.Opening.{file_name_of};
-    ghost use Rattle.appender_rolling.specs.Roller.{Looks, Sees, next_stamp};
+    ghost use Rattle.appender_rolling.specs.Roller.{ChecksClock, ChecksClockOnly, KeepsOpenFile, written_count, next_stamp};
 
     /// Checks the clock, and then adds bytes to the open file by one append. Returns whether a new file was
     /// opened, and how many bytes were taken.
     pub fn put(&mut self, bytes: &[u8]) -> (Switch, io::Result<usize>)
-        ensures { PutsNow S.Folder C.Clock bytes.now result.0 result.1 self.old self.new }
+        ensures call { PutsNow S.Folder C.Clock bytes.now result.0 result.1 self.old self.new }
+        ensures none { result.0 ≡ Switch.None → self.new.roller.opened ≡ self.old.roller.opened }
+        ensures opened { result.0 ≡ Switch.Opened → self.new.roller.opened ≡ self.new.roller.last }
+        ensures failed { result.0 ≡ Switch.Failed → self.new.roller.opened ≡ self.old.roller.opened }
+        ensures taken { written_count result.1 ≤ length bytes.now }
+        ensures clock { self.new.clock ≡ self.old.clock }
     {
         let moment = self.clock.now();
         self.roller.put(moment, bytes)
@@ -59,23 +78,31 @@ impl<S: Folder, C: Clock> RollingFile<S, C> {
 
     /// Opens the next file if one is due at this moment, and reads no clock. Returns whether a file was opened.
     pub fn see(&mut self, moment: i64) -> Switch
-        ensures sees { Sees S.Folder moment result self.old.roller self.new.roller }
+        ensures sees { ChecksClockOnly S.Folder moment result self.old.roller self.new.roller }
+        ensures none { result ≡ Switch.None → self.new ≡ self.old }
+        ensures attempt { result ≢ Switch.None → next_stamp self.old.roller moment 0 ≡ Some self.new.roller.last }
+        ensures opened { result ≡ Switch.Opened → self.new.roller.opened ≡ self.new.roller.last }
+        ensures failed { result ≡ Switch.Failed → self.new.roller.opened ≡ self.old.roller.opened }
         ensures clock { self.new.clock ≡ self.old.clock }
     {
         self.roller.see(moment)
     }
 
-    /// Returns whether a `put` of so many bytes at this moment would open the next file.
+    /// Returns whether a `put` of `length` bytes at this moment would open the next file.
     pub fn due_for(&self, moment: i64, length: usize) -> bool
         ensures { result ≡ is_some (next_stamp self.now.roller moment length) }
     {
         self.roller.due_for(moment, length)
     }
 
-    /// Does what `see` does, and also opens the next file if so many bytes do not fit in the limit of bytes. What is
-    /// appended then is where a `put` of that length would write it.
+    /// Does what `see` does, and also opens the next file if `length` bytes do not fit in the limit of bytes. An
+    /// `append` after it writes to the same file as a `put` of that length.
     pub fn see_for(&mut self, moment: i64, length: usize) -> Switch
-        ensures sees { Looks S.Folder moment length result self.old.roller self.new.roller }
+        ensures sees { ChecksClock S.Folder moment length result self.old.roller self.new.roller }
+        ensures none { result ≡ Switch.None → self.new ≡ self.old }
+        ensures attempt { result ≢ Switch.None → next_stamp self.old.roller moment length ≡ Some self.new.roller.last }
+        ensures opened { result ≡ Switch.Opened → self.new.roller.opened ≡ self.new.roller.last }
+        ensures failed { result ≡ Switch.Failed → self.new.roller.opened ≡ self.old.roller.opened }
         ensures clock { self.new.clock ≡ self.old.clock }
     {
         self.roller.see_for(moment, length)
@@ -84,7 +111,9 @@ impl<S: Folder, C: Clock> RollingFile<S, C> {
     /// Adds bytes to the open file by one append, and reads no clock: what follows a `see` or a short `put` is in
     /// the same file. Returns how many were taken.
     pub fn append(&mut self, bytes: &[u8]) -> io::Result<usize>
-        ensures { AppendsNow S.Folder bytes.now result self.old self.new }
+        ensures call { AppendsNow S.Folder bytes.now result self.old self.new }
+        ensures taken { written_count result ≤ length bytes.now }
+        ensures stays { KeepsOpenFile S.Folder self.old.roller self.new.roller }
     {
         self.roller.write(bytes)
     }
@@ -153,8 +182,9 @@ impl<S: Folder, C: Clock> Debug for RollingFile<S, C> {
 }
 
 impl Builder {
-    ghost use Rattle.std.specs.Prelude.{◌≡◌};
-    ghost use Rattle.appender_rolling.specs.Appender.{OpensNow, OpensSome, OpensNone, OpensNoneOfSome};
+    ghost use Rattle.std.specs.Prelude.{◌≡◌, ◌<◌};
+    ghost use Rattle.appender_names.specs.InitError.{code_of};
+    ghost use Rattle.appender_rolling.specs.Appender.{OpensNow, OpensInSomeFolder, OpensNone, OpensNoneInSomeFolder};
 
     /// Opens a log for one thread in a folder, at the clock's moment. Errors are those of `Roller::open`, and
     /// return folder and clock.
@@ -165,8 +195,11 @@ impl Builder {
         clock: C,
     ) -> Result<RollingFile<S, C>, (InitError, S, C)>
         ensures ok { IfOk result (OpensNow S.Folder C.Clock self.now folder clock) }
+        ensures config { IfOk result (λ log. log.roller.config ≡ self.now) }
         ensures err { IfErr result (λ refused.
             OpensNone S.Folder C.Clock self.now folder clock refused.0 refused.1 refused.2) }
+        ensures unchanged { IfErr result (λ refused. 3 < code_of refused.0 → refused.1 ≡ folder) }
+        ensures clock { IfErr result (λ refused. refused.2 ≡ clock) }
     {
         let moment = clock.now();
         match Roller::open(alloc, self, folder, moment) {
@@ -177,14 +210,14 @@ impl Builder {
 
     /// Opens a log for one thread in a folder of the file system, by the system's clock. Errors
     /// are those of `Roller::open`.
-    pub fn open<R: Files + AllocGlobal + Eprint + time::Clock + Clone + Drop>(
+    pub fn open<R: FilesHost + time::Clock>(
         &self,
         rt: R,
         directory: &str,
     ) -> Result<RollingFile<DirFolder<R>, SystemClock<R>>, InitError>
-        ensures ok { IfOk result (OpensSome ⟦<DirFolder<R> as Folder>⟧ ⟦<SystemClock<R> as Clock>⟧
+        ensures ok { IfOk result (OpensInSomeFolder ⟦<DirFolder<R> as Folder>⟧ ⟦<SystemClock<R> as Clock>⟧
             self.now) }
-        ensures err { IfErr result (OpensNoneOfSome ⟦<DirFolder<R> as Folder>⟧ ⟦<SystemClock<R> as Clock>⟧
+        ensures err { IfErr result (OpensNoneInSomeFolder ⟦<DirFolder<R> as Folder>⟧ ⟦<SystemClock<R> as Clock>⟧
             self.now) }
     {
         let alloc = rt.alloc();

@@ -4,15 +4,15 @@ ghost use Rattle.std.specs.Prelude.{◌≡◌};
 use super::Roller;
 use super::log_file::LogFile;
 use super::schedule::Schedule;
-use appender_base::sync::{Backoff, lock};
 use appender_store::store::Folder;
+use appender_sync::{Backoff, lock};
 use std::fmt::Formatter;
 use std::sync::{Mutex, Wait};
 use std::{fmt, io};
 
 /// A roller inside a gate. Many threads at once may hold the gate and write to the open file, which has a
-/// lock of its own; a thread that opens the next file holds the gate alone. So the schedule needs no
-/// lock but the gate.
+/// lock of its own. A thread that opens the next file holds the gate alone. So the schedule needs no
+/// lock but the gate. The file's lock has no boundary: an invariant can't tie the contents of two locks.
 #[derive(Drop)]
 pub struct Gated<S: Folder> {
     pub(super) schedule: Schedule,
@@ -23,7 +23,7 @@ impl<S: Folder> Gated<S> {
     ghost use Rattle.std.specs.Prelude.{◌≡◌, None, OnOk};
     ghost use Rattle.std.specs.Io.KnownBytes.{Appends};
     ghost use Rattle.appender_rolling.specs.Roller.{schedule_of};
-    ghost use Rattle.appender_rolling.specs.Appender.{AsksSome, SeesSome, PutsSome, WritesSome, WritesAllSome, FlushesSome};
+    ghost use Rattle.appender_rolling.specs.Appender.{SomeRollerIsDue, SomeRollerChecksClock, SomeRollerPuts, SomeRollerWrites, SomeRollerWritesAll, SomeRollerFlushes};
 
     pub(super) fn new(roller: Roller<S>) -> Gated<S>
         ensures { result.schedule ≡ schedule_of roller }
@@ -37,7 +37,7 @@ impl<S: Folder> Gated<S> {
     // Returns whether a check of the clock at this moment would open the next file. The file's lock is taken only if a
     // limit of bytes is set.
     pub(super) fn due<R: Wait>(&self, rt: &R, moment: i64) -> bool
-        ensures { AsksSome S.Folder self.now.schedule moment result }
+        ensures { SomeRollerIsDue S.Folder self.now.schedule moment result }
     {
         let room = if self.schedule.is_limited() {
             lock(rt, &self.log, &mut Backoff::NEW).room
@@ -49,14 +49,14 @@ impl<S: Folder> Gated<S> {
 
     // Checks the clock.
     pub(super) fn see(&mut self, moment: i64)
-        ensures { SeesSome S.Folder moment self.old.schedule self.new.schedule }
+        ensures { SomeRollerChecksClock S.Folder moment self.old.schedule self.new.schedule }
     {
         self.schedule.check_clock(self.log.get_mut(), moment, 0);
     }
 
     // Checks the clock for these bytes, and then writes them.
     pub(super) fn put(&mut self, moment: i64, bytes: &[u8]) -> io::Result<usize>
-        ensures { PutsSome S.Folder moment bytes.now result self.old.schedule self.new.schedule }
+        ensures { SomeRollerPuts S.Folder moment bytes.now result self.old.schedule self.new.schedule }
     {
         let log = self.log.get_mut();
         self.schedule.check_clock(log, moment, bytes.len());
@@ -65,7 +65,7 @@ impl<S: Folder> Gated<S> {
 
     // Makes one append to the open file.
     pub(super) fn write<R: Wait>(&self, rt: &R, bytes: &[u8]) -> io::Result<usize>
-        ensures { WritesSome S.Folder self.now.schedule bytes.now result }
+        ensures { SomeRollerWrites S.Folder self.now.schedule bytes.now result }
     {
         lock(rt, &self.log, &mut Backoff::NEW).write(bytes)
     }
@@ -73,21 +73,21 @@ impl<S: Folder> Gated<S> {
     // Repeats it under one lock for what was not taken.
     pub(super) fn write_all<R: Wait>(&self, rt: &R, bytes: &[u8]) -> io::Result<()>
         ensures bytes { OnOk result (Appends None None bytes.now) }
-        ensures appends { WritesAllSome S.Folder self.now.schedule bytes.now result }
+        ensures appends { SomeRollerWritesAll S.Folder self.now.schedule bytes.now result }
     {
         lock(rt, &self.log, &mut Backoff::NEW).write_all(bytes)
     }
 
     // Flushes the open file.
     pub(super) fn flush<R: Wait>(&self, rt: &R) -> io::Result<()>
-        ensures { FlushesSome S.Folder self.now.schedule result }
+        ensures { SomeRollerFlushes S.Folder self.now.schedule result }
     {
         lock(rt, &self.log, &mut Backoff::NEW).flush()
     }
 
     // Flushes the open file, for which a thread that holds the gate alone takes no lock.
     pub(super) fn flush_alone(&mut self) -> io::Result<()>
-        ensures flush { FlushesSome S.Folder self.old.schedule result }
+        ensures flush { SomeRollerFlushes S.Folder self.old.schedule result }
         ensures same { self.new.schedule ≡ self.old.schedule }
     {
         self.log.get_mut().flush()

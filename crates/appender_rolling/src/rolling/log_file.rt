@@ -12,14 +12,15 @@ use std::marker::Model;
 pub(super) struct LogFile<S: Folder> {
     pub(super) folder: S,
     pub(super) file: S::File,
+    // The subtraction stops at 0. So it can't overflow, and a log without a limit is no other case.
     pub(super) room: u64,
 }
 
 impl<S: Folder> Model for LogFile<S> {
     ghost use Rattle.std.specs.Prelude.{◌<◌, length, IsTrue};
-    ghost use Rattle.appender_rolling.specs.Roller.{Held};
+    ghost use Rattle.appender_rolling.specs.Roller.{OpenFile};
 
-    ghost Value = { Held S S.File };
+    ghost Value = { OpenFile S S.File };
 
     ghost view = { λ l. record { folder = l.folder; file = l.file; room = l.room } };
 
@@ -40,7 +41,7 @@ impl<S: Folder> LogFile<S> {
     }
 
     // Makes one append after another until all bytes are taken. An interrupted one is repeated; `WriteZero` if
-    // one takes nothing.
+    // one takes nothing. The loop has a bound, so that it is proved to end.
     pub(super) fn write_all(&mut self, bytes: &[u8]) -> io::Result<()>
         ensures { FileWritesAll S.Folder bytes.now result self.old self.new }
     {

@@ -2,7 +2,7 @@
 ghost use Rattle.std.specs.Prelude.{◌≡◌, ◌↔◌, true, IsTrue};
 ghost use Rattle.appender_rolling.specs.Config.{is_limited};
 ghost use Rattle.appender_rolling.specs.Opening.{file_name_of};
-ghost use Rattle.appender_rolling.specs.Roller.{ClosesLast, Looks, Stands, rolling_of, is_due, is_full_with, next_with};
+ghost use Rattle.appender_rolling.specs.Roller.{ClosesLast, ChecksClock, IsOpened, rolling_of, is_due, is_full, next_with};
 
 use super::Switch;
 use super::log_file::LogFile;
@@ -18,7 +18,8 @@ pub(super) struct Schedule {
     pub(super) setup: Setup,
     pub(super) name: String,
     pub(super) opened: Stamp,
-    // What the last attempt was for, which may have failed.
+    // What the last attempt was for, which may have failed. The file after a full one has its moment, so the latest
+    // moment is not stored.
     pub(super) last: Stamp,
     pub(super) boundary: Option<i64>,
 }
@@ -61,8 +62,8 @@ impl Schedule {
         self.setup.max_bytes() != 0
     }
 
-    // Returns what the next attempt is for, if a check of the clock at this moment makes one, with so many bytes
-    // to write to a file with this much room.
+    // Returns what the next attempt is for, if a check of the clock at this moment makes one. `len` bytes are to be
+    // written to a file with room for `room` bytes.
     pub(super) fn next_stamp(&self, room: u64, moment: i64, len: usize) -> Option<Stamp>
         ensures { result ≡ next_with self.now room moment len }
     {
@@ -78,23 +79,23 @@ impl Schedule {
         None
     }
 
-    // Whether so many bytes are too many for a file with this much room.
+    // Whether `len` bytes do not fit in a file with room for `room` bytes, and another file can be numbered.
     fn is_full(&self, room: u64, len: usize) -> bool
-        ensures { result ≡ is_full_with self.now room len }
+        ensures { result ≡ is_full self.now room len }
     {
         let wanted = if len == 0 { 1 } else { len as u64 };
         self.last.number < LAST_NUMBER && room < self.setup.max_bytes() && room < wanted
     }
 
-    // Checks the clock with so many bytes to write: if a boundary was reached or the file is full, opens the
-    // next file in place of this one.
+    // Checks the clock before a write of `len` bytes: if a boundary was reached or the file is full, opens the next
+    // file in place of this one.
     pub(super) fn check_clock<S: Folder>(
         &mut self,
         log: &mut LogFile<S>,
         moment: i64,
         len: usize,
     ) -> Switch
-        ensures { Looks S.Folder moment len result
+        ensures { ChecksClock S.Folder moment len result
             (rolling_of self.old log.old) (rolling_of self.new log.new) }
     {
         names_change_one_at_a_time();
@@ -122,7 +123,7 @@ impl Schedule {
     // Returns the name of the open file and the second at which the next period begins. They agree in every
     // schedule, and so also in one under a lock each time the lock is taken.
     pub(super) fn name_and_boundary(&self) -> (&str, Option<i64>)
-        ensures { Stands self.now.config result.0.now self.now.opened result.1 }
+        ensures { IsOpened self.now.config result.0.now self.now.opened result.1 }
     {
         (self.name.as_str(), self.boundary)
     }

@@ -1,20 +1,19 @@
 // The opening of a log file: old ones are removed, the file is opened, and a link is made to it.
-ghost use Rattle.std.specs.Prelude.{◌≡◌, ◌↔◌, ◌≤◌, true, IfOk, IfErr, OnOk, IsTrue, Err, map, option_and_then};
-ghost use Rattle.appender_names.specs.declared.error.InitError.TheVariants.{Name, Limit};
+ghost use Rattle.std.specs.Prelude.{◌≡◌, ◌↔◌, ◌≤◌, true, ℤ, IsOk, IfOk, IfErr, OnOk, IsTrue, Err, map, option_and_then};
 ghost use Rattle.appender_names.specs.Rotation.{IsMoment};
 ghost use Rattle.appender_names.specs.Name.{reading_at};
 ghost use Rattle.appender_store.specs.Folder.{listed_row};
-ghost use Rattle.appender_rolling.specs.Inside.Numbers.{greater_of, number_after as after_of, number_behind as behind_of, first_number as first_of};
-ghost use Rattle.appender_rolling.specs.Opening.{GetsFile, GetsNo, Relinks, RelinksNot};
+ghost use Rattle.appender_rolling.specs.Inside.Numbers.{greater_of, number_after as after_of, number_after_row as behind_of, first_number as first_of};
+ghost use Rattle.appender_rolling.specs.Opening.{OpensNamedFile, FailsToOpen, ReplacesLink, FailsToReplaceLink};
 
-use super::{Builder, InitError};
+use super::{Builder, InitError, NameFault};
 use appender_names::names::Names;
 use appender_names::rotation::{Rotation, in_range};
 use appender_retain::laws::{links_add_none, openings_add_one};
 use appender_retain::retain::{LogFiles, prune_log_files};
 use appender_store::laws::names_change_one_at_a_time;
 use appender_store::store::{Folder, Listed, Notice};
-use std::alloc::Global;
+use std::alloc::{AllocError, Global};
 use std::io;
 use std::marker::Model;
 
@@ -73,24 +72,32 @@ impl Setup {
     ghost use Rattle.appender_rolling.specs.Opening.{NamesEntries, ReadsAsDate, LinkClashes, IsReady, IsNotReady, FindsNumber};
     ghost use Rattle.appender_rolling.specs.Opening.{OpensFile, RefusesFile, file_name_of};
 
-    /// Copies what a builder has set. `Name` if prefix, suffix or link make no names of entries of a
-    /// folder; else `Limit` if a limit of bytes is set under `NEVER`; else `Memory` if there is no room
-    /// for the copies.
-    fn new(alloc: Global, builder: &Builder) -> Result<Setup, InitError>
-        ensures ok { IfOk result (λ setup. setup ≡ builder.now) }
-        ensures allowed { result ≢ Err Name → NamesEntries builder.now }
-        ensures name { result ≡ Err Name → ¬ (NamesEntries builder.now) }
-        ensures limit { result ≡ Err Limit → NamesEntries builder.now
-            × (is_limited builder.now ≡ true) × IsNever builder.now.rotation }
-        ensures may_limit { result ≢ Err Name → result ≢ Err Limit → MayLimit builder.now }
-        ensures err { IfErr result (λ error. (error ≡ Name) ⊎ (error ≡ Limit) ⊎ (error ≡ Memory)) }
+    // Copies what a builder has set. `Name` if prefix, suffix or link make no names of entries of a folder; else `Limit`
+    // if a limit of bytes is set under `NEVER`. The inner error: there is no room for the copies.
+    fn new(alloc: Global, builder: &Builder) -> Result<Result<Setup, AllocError>, InitError>
+        ensures copy { IfOk result (λ copied. IfOk copied (λ setup. setup ≡ builder.now)) }
+        ensures allowed { IsOk result → NamesEntries builder.now }
+        ensures may_limit { IsOk result → MayLimit builder.now }
+        ensures err { (m : ℤ) → IfErr result (λ error. IsNotReady builder.now m error) }
     {
         if !builder.may_link() {
-            return Err(InitError::Name);
+            return Err(InitError::Name(NameFault::Link));
         }
+        match builder.names(alloc) {
+            Ok(names) => Ok(Setup::of(alloc, names, builder)),
+            Err(InitError::Memory) => Ok(Err(AllocError)),
+            Err(error) => Err(error),
+        }
+    }
+
+    // Adds copies of the other settings to the names.
+    fn of(alloc: Global, names: Names, builder: &Builder) -> Result<Setup, AllocError>
+        requires { names ≡ naming_of builder.now }
+        ensures { IfOk result (λ setup. setup ≡ builder.now) }
+    {
         Ok(Setup {
             alloc,
-            names: builder.names(alloc)?,
+            names,
             link: String::from_str(alloc, builder.link())?,
             max_files: builder.max_files(),
             by_name: builder.by_name(),
@@ -109,21 +116,17 @@ impl Setup {
         ensures room { IfOk result (λ ready. string_len ready.1 ≤ string_capacity ready.1) }
         ensures err { IfErr result (λ error. IsNotReady builder.now moment error) }
     {
-        let setup = Setup::new(alloc, builder);
-        if is_refused_name(&setup) {
-            return Err(InitError::Name);
-        }
-        if is_refused_limit(&setup) {
-            return Err(InitError::Limit);
-        }
+        // The names are checked while they are copied. A clash needs the first file's name. That is made with number 0
+        // here, and gets its number without memory, so a refusal of memory is known before the folder is listed.
+        let copied = Setup::new(alloc, builder)?;
         if !in_range(moment) {
             return Err(InitError::Moment);
         }
-        let setup = setup?;
+        let setup = copied?;
         let mut name = setup.file_name(Stamp { moment, number: 0 })?;
         name.reserve(0)?;
         if setup.link_clashes(name.as_str(), moment) {
-            return Err(InitError::Name);
+            return Err(InitError::Name(NameFault::Clash));
         }
         Ok((setup, name))
     }
@@ -248,21 +251,8 @@ impl Setup {
     }
 }
 
-// Whether a setup was refused for its names.
-fn is_refused_name(setup: &Result<Setup, InitError>) -> bool
-    ensures { IsTrue result ↔ (setup.now ≡ Err Name) }
-{
-    matches!(setup, Err(InitError::Name))
-}
-
-// Whether a setup was refused for its limit of bytes.
-fn is_refused_limit(setup: &Result<Setup, InitError>) -> bool
-    ensures { IsTrue result ↔ (setup.now ≡ Err Limit) }
-{
-    matches!(setup, Err(InitError::Limit))
-}
-
-// The number after the greatest of those listed for the moment's period.
+// The number after the greatest of those listed for the moment's period. Those of folders and links count too, since no
+// file can be opened under their names.
 fn first_number(names: &Names, moment: i64, listed: &[Listed]) -> u32
     requires moment { IsMoment moment }
     requires numbered { names.now.numbered ≡ true }
@@ -321,8 +311,8 @@ fn greater(a: u32, b: u32) -> u32
 
 // Opens the file of this name. If that is refused, makes the folder and opens it again.
 fn open_or_make<S: Folder>(folder: &mut S, name: &str) -> Result<S::File, InitError>
-    ensures ok { IfOk result (λ file. GetsFile S.Folder name.now folder.old file folder.new) }
-    ensures err { IfErr result (λ error. GetsNo S.Folder name.now folder.old error folder.new) }
+    ensures ok { IfOk result (λ file. OpensNamedFile S.Folder name.now folder.old file folder.new) }
+    ensures err { IfErr result (λ error. FailsToOpen S.Folder name.now folder.old error folder.new) }
 {
     match folder.open(name) {
         Ok(file) => Ok(file),
@@ -341,8 +331,8 @@ fn open_or_make<S: Folder>(folder: &mut S, name: &str) -> Result<S::File, InitEr
 // Makes a link to a name, in place of an older link.
 fn relink<S: Folder>(folder: &mut S, link: &str, name: &str) -> io::Result<()>
     requires { IsTrue S.is_known → (S.content folder.old).there ≡ true }
-    ensures ok { OnOk result (Relinks S.Folder link.now name.now folder.old folder.new) }
-    ensures err { IfErr result (λ fault. RelinksNot S.Folder link.now name.now
+    ensures ok { OnOk result (ReplacesLink S.Folder link.now name.now folder.old folder.new) }
+    ensures err { IfErr result (λ fault. FailsToReplaceLink S.Folder link.now name.now
         folder.old fault folder.new) }
 {
     names_change_one_at_a_time();

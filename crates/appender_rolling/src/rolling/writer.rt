@@ -19,9 +19,9 @@ pub struct RollingWriter<'a, S: Folder, R = HostRuntime> {
 
 impl<'a, S: Folder, R> Model for RollingWriter<'a, S, R> {
     ghost use Rattle.std.specs.Sync.RwLock.{read_guard_value};
-    ghost use Rattle.appender_rolling.specs.Appender.{Holding};
+    ghost use Rattle.appender_rolling.specs.Appender.{WriterSchedule};
 
-    ghost Value = { Holding };
+    ghost Value = { WriterSchedule };
 
     ghost view = { λ w. (read_guard_value w.gate).schedule };
 }
@@ -34,13 +34,13 @@ impl<S: Folder, R> Drop for RollingWriter<'_, S, R> {
 }
 
 impl<'a, S: Folder, R: Wait> Write for RollingWriter<'a, S, R> {
-    ghost use Rattle.appender_rolling.specs.Appender.{WritesSome, WritesAllSome, FlushesSome};
+    ghost use Rattle.appender_rolling.specs.Appender.{SomeRollerWrites, SomeRollerWritesAll, SomeRollerFlushes};
 
     /// Makes one append to the open file, and reads no clock.
     fn write(&mut self, bytes: &[u8]) -> io::Result<usize>
         ensures bound { WritesAtMost result bytes.now }
         ensures bytes { WriteAppends None None result bytes.now }
-        ensures append { WritesSome S.Folder self.old bytes.now result }
+        ensures append { SomeRollerWrites S.Folder self.old bytes.now result }
         ensures same { self.new ≡ self.old }
     {
         self.gate.write(self.rt, bytes)
@@ -49,7 +49,7 @@ impl<'a, S: Folder, R: Wait> Write for RollingWriter<'a, S, R> {
     /// Repeats `write` under one lock until all bytes are taken, so that no other piece is between them.
     fn write_all(&mut self, bytes: &[u8]) -> io::Result<()>
         ensures bytes { OnOk result (Appends None None bytes.now) }
-        ensures appends { WritesAllSome S.Folder self.old bytes.now result }
+        ensures appends { SomeRollerWritesAll S.Folder self.old bytes.now result }
         ensures same { self.new ≡ self.old }
     {
         self.gate.write_all(self.rt, bytes)
@@ -57,14 +57,14 @@ impl<'a, S: Folder, R: Wait> Write for RollingWriter<'a, S, R> {
 
     /// Flushes the open file.
     fn flush(&mut self) -> io::Result<()>
-        ensures flush { FlushesSome S.Folder self.old result }
+        ensures flush { SomeRollerFlushes S.Folder self.old result }
         ensures same { self.new ≡ self.old }
     {
         self.gate.flush(self.rt)
     }
 }
 
-impl<S: Folder, R: Wait> Debug for RollingWriter<'_, S, R> {
+impl<S: Folder, R> Debug for RollingWriter<'_, S, R> {
     fn fmt<W: fmt::Write>(&self, f: &mut Formatter<W>) -> fmt::Result {
         f.pad("RollingWriter { .. }")
     }

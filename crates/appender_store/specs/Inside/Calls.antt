@@ -5,7 +5,7 @@ use Rattle.std.specs.FinMap as fin
 use Rattle.std.specs.BTreeSet.{BTreeSet}
 use Rattle.std.specs.BTreeMap.{BTreeMap}
 use Rattle.appender_store.specs.MemoryState.{FailingCalls, AppendLimits}
-use Rattle.appender_store.specs.Folder.{saturating_next}
+use Rattle.appender_store.specs.Folder.{next_count}
 use Rattle.appender_store.specs.declared.store.calls.Calls.{Calls}
 
 -- the set that the code's set represents
@@ -22,4 +22,4 @@ failures_of c = c.failed % 2 ^ 64
 
 -- whether the next call is named to fail
 abbrev pub is_next_named : Calls → Bool
-is_next_named c = set.contains (failing_calls_of c.failing) (saturating_next c.made)
+is_next_named c = set.contains (failing_calls_of c.failing) (next_count c.made)

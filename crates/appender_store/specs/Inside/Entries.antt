@@ -32,8 +32,8 @@ abbrev pub content_of : Bool → Vec (Vec ℕ Global) Global → BTreeMap (Strin
 content_of there bodies names = record { there = there; bodies = bodies_of bodies; names = names_of names }
 
 -- what a name leads to, with its number
-abbrev pub Sees : Option Entry → Look → Type 0
-Sees entry Free = entry ≡ None
-Sees entry (PlainSeen b) = (t : Option ℤ) × (entry ≡ Some (File b t))
-Sees entry (LinkSeen target) = entry ≡ Some (Link target.now)
-Sees entry FolderSeen = entry ≡ Some Folder
+abbrev pub IsLookOf : Option Entry → Look → Type 0
+IsLookOf entry Free = entry ≡ None
+IsLookOf entry (PlainSeen b) = (t : Option ℤ) × (entry ≡ Some (File b t))
+IsLookOf entry (LinkSeen target) = entry ≡ Some (Link target.now)
+IsLookOf entry FolderSeen = entry ≡ Some Folder

@@ -2,7 +2,7 @@
 ghost use Rattle.std.specs.Prelude.{◌≡◌, true, false, OnOk, OnErr, IfErr, if◌then◌else◌};
 ghost use Rattle.std.specs.IoError.{error_kind};
 ghost use Rattle.std.specs.declared.io.ErrorKind.TheVariants.{Other};
-ghost use Rattle.appender_store.specs.Folder.{saturating_next};
+ghost use Rattle.appender_store.specs.Folder.{next_count};
 ghost use Rattle.std.specs.FinSet as set;
 ghost use Rattle.std.specs.FinMap as fin;
 
@@ -40,11 +40,11 @@ impl Calls {
 
     // Counts a call, and a failure if it was named to fail.
     pub(crate) fn count(&mut self) -> io::Result<()>
-        ensures made { self.new.made ≡ saturating_next self.old.made }
+        ensures made { self.new.made ≡ next_count self.old.made }
         ensures failing { self.new.failing ≡ self.old.failing }
         ensures shortened { self.new.shortened ≡ self.old.shortened }
         ensures failures { failures_of self.new ≡
-            (if is_next_named self.old then saturating_next (failures_of self.old) else failures_of self.old) }
+            (if is_next_named self.old then next_count (failures_of self.old) else failures_of self.old) }
         ensures ok { OnOk result (is_next_named self.old ≡ false) }
         ensures err { IfErr result (λ e. (is_next_named self.old ≡ true) × (error_kind e ≡ Other)) }
     {
@@ -96,7 +96,7 @@ impl Calls {
         Ok(())
     }
 
-    // Lets a call take at most so many bytes.
+    // Lets a call take at most `limit` bytes.
     pub(crate) fn shorten(&mut self, call: u64, limit: usize) -> Result<(), AllocError>
         ensures made { self.new.made ≡ self.old.made }
         ensures failing { self.new.failing ≡ self.old.failing }

@@ -3,7 +3,7 @@ ghost use Rattle.std.specs.Prelude.{◌≡◌, ◌≤◌, ◌<◌, [], ◌∷◌
 ghost use Rattle.std.specs.FinMap as fin;
 ghost use Rattle.appender_store.specs.Content.{File};
 ghost use Rattle.appender_store.specs.Folder.{listed_row, entry_row};
-ghost use Rattle.appender_store.specs.Inside.Entries.{names_of, bodies_of, entry_of, Sees};
+ghost use Rattle.appender_store.specs.Inside.Entries.{names_of, bodies_of, entry_of, IsLookOf};
 
 use super::{Kind, Listed};
 use std::alloc::{AllocError, Global};
@@ -80,7 +80,7 @@ pub(crate) fn take_name(names: &mut BTreeMap<String, Item>, name: &str)
 
 // What a name leads to.
 pub(crate) fn look_up<'a>(names: &'a BTreeMap<String, Item>, name: &str) -> Look<'a>
-    ensures { Sees (fin.get (names_of names.now) name.now) result }
+    ensures { IsLookOf (fin.get (names_of names.now) name.now) result }
 {
     match names.get(name) {
         None => Look::Free,

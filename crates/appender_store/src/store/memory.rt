@@ -21,6 +21,21 @@ pub struct MemoryFile {
 /// A folder in memory, whose content is known and whose calls can be made to fail or to be short. Its
 /// calls have numbers from 1: all of `Folder` but `note` and `failures`, and refused ones too. An error is
 /// `NotFound` for what is absent, and `AlreadyExists` for a name in use.
+///
+/// ```
+/// use std::alloc::Global;
+/// use tracing_appender::rolling::{Builder, Roller, Rotation};
+/// use tracing_appender::store::MemoryFolder;
+///
+/// // The folder then has the files `1970-01-01` with `first` and `1970-01-02` with `second`.
+/// pub fn log_two_days(alloc: Global) -> Option<MemoryFolder> {
+///     let settings = Builder::new().rotation(Rotation::DAILY);
+///     let mut log = Roller::open(alloc, &settings, MemoryFolder::new(alloc), 0).ok()?;
+///     let _ = log.put(0, b"first\n");
+///     let _ = log.put(86_400, b"second\n");
+///     Some(log.into_folder())
+/// }
+/// ```
 #[derive(Drop)]
 pub struct MemoryFolder {
     alloc: Global,
@@ -41,7 +56,7 @@ impl MemoryFolder {
     ghost use Rattle.appender_store.specs.Content.{Link, Folder, IsLinkOrFolder};
     ghost use Rattle.appender_store.specs.Inside.Entries.{entry_of};
     ghost use Rattle.appender_store.specs.MemoryPut.{AnswersPut};
-    ghost use Rattle.appender_store.specs.MemoryState.{empty_state, lesser_limit, with_file, with_entry, without_entry, bytes_in, target_in, kind_in, count_of};
+    ghost use Rattle.appender_store.specs.MemoryState.{empty_state, lesser_limit, with_file, with_entry, without_entry, bytes_in, target_in, kind_in, notice_count};
     ghost use Rattle.appender_store.specs.MemoryView.{state_of};
 
     /// Returns an empty folder.
@@ -198,7 +213,7 @@ impl MemoryFolder {
 
     /// Returns the number of notices of a kind: at most `u64::MAX`, where it stays.
     pub fn notices(&self, kind: NoticeKind) -> u64
-        ensures { result ≡ count_of kind (state_of self.now).noted }
+        ensures { result ≡ notice_count kind (state_of self.now).noted }
     {
         self.noted.of(kind)
     }
@@ -252,11 +267,12 @@ impl MemoryFolder {
     }
 }
 
+// No call that the content forbids returns `OutOfMemory`, nor does an opening of an existing file or an append of no bytes.
 impl Folder for MemoryFolder {
     ghost use Rattle.std.specs.Prelude.{◌≡◌, true, None};
     ghost use Rattle.std.specs.FinMap as fin;
-    ghost use Rattle.appender_store.specs.Folder.{after_note, kind_of};
-    ghost use Rattle.appender_store.specs.MemoryState.{IsCalled, NeedsNoMemory, OpensByName, TakesBytes, list_refusal, remove_refusal, remove_link_refusal, make_link_refusal};
+    ghost use Rattle.appender_store.specs.Folder.{after_note, notice_kind_of};
+    ghost use Rattle.appender_store.specs.MemoryState.{CountsCall, NeedsNoMemory, OpensByName, TakesBytes, list_refusal, remove_refusal, remove_link_refusal, make_link_refusal};
     ghost use Rattle.appender_store.specs.MemoryView.{state_of};
 
     type File = MemoryFile;
@@ -272,7 +288,7 @@ impl Folder for MemoryFolder {
     ghost noted = { λ f. (state_of f).noted };
 
     ghost list_gives = { λ old r new.
-        IsCalled (state_of old) (list_refusal (state_of old).content) r (state_of new) };
+        CountsCall (state_of old) (list_refusal (state_of old).content) r (state_of new) };
 
     ghost remove_gives = { λ old name r new. NeedsNoMemory (state_of old)
         (remove_refusal (fin.get (state_of old).content.names name)) r (state_of new) };
@@ -284,7 +300,7 @@ impl Folder for MemoryFolder {
     ghost remove_link_gives = { λ old name r new. NeedsNoMemory (state_of old)
         (remove_link_refusal (fin.get (state_of old).content.names name)) r (state_of new) };
 
-    ghost make_link_gives = { λ old name target r new. IsCalled (state_of old)
+    ghost make_link_gives = { λ old name target r new. CountsCall (state_of old)
         (make_link_refusal (state_of old).content.there (fin.get (state_of old).content.names name)) r (state_of new) };
 
     ghost append_gives = { λ old file bytes r new after.
@@ -294,7 +310,7 @@ impl Folder for MemoryFolder {
         NeedsNoMemory (state_of old) None r (state_of new) };
 
     ghost note_gives = { λ old said new.
-        state_of new ≡ record (state_of old) { noted = after_note (kind_of said) (state_of old).noted } };
+        state_of new ≡ record (state_of old) { noted = after_note (notice_kind_of said) (state_of old).noted } };
 
     ghost use Rattle.std.proofs.Common.{arith};
 

@@ -1,13 +1,13 @@
 // Counts of notices.
 ghost use Rattle.std.specs.Prelude.{◌≡◌};
-ghost use Rattle.appender_store.specs.Folder.{after_note, message_of, kind_of};
+ghost use Rattle.appender_store.specs.Folder.{after_note, message_of, notice_kind_of};
 
 use super::{Notice, NoticeKind};
 
 impl Notice<'_> {
     /// Returns its kind.
     pub fn kind(&self) -> NoticeKind
-        ensures { result ≡ kind_of (message_of self.now) }
+        ensures { result ≡ notice_kind_of (message_of self.now) }
     {
         match self {
             Notice::List(_) => NoticeKind::List,
@@ -28,13 +28,13 @@ pub struct NoticeCounts {
 }
 
 impl NoticeCounts {
-    ghost use Rattle.appender_store.specs.NoticeCounts.{counts_of};
-    ghost use Rattle.appender_store.specs.MemoryState.{count_of};
+    ghost use Rattle.appender_store.specs.NoticeCounts.{notice_counts_of};
+    ghost use Rattle.appender_store.specs.MemoryState.{notice_count};
 
     /// Nothing was noted.
     #[must_use]
     pub fn new() -> NoticeCounts
-        ensures { counts_of result ≡ record { lists = 0; removes = 0; flushes = 0; opens = 0 } }
+        ensures { notice_counts_of result ≡ record { lists = 0; removes = 0; flushes = 0; opens = 0 } }
     {
         NoticeCounts {
             lists: 0,
@@ -46,7 +46,7 @@ impl NoticeCounts {
 
     /// Counts one notice more.
     pub fn add(&mut self, kind: NoticeKind)
-        ensures { counts_of self.new ≡ after_note kind (counts_of self.old) }
+        ensures { notice_counts_of self.new ≡ after_note kind (notice_counts_of self.old) }
     {
         match kind {
             NoticeKind::List => self.lists = self.lists.saturating_add(1),
@@ -58,7 +58,7 @@ impl NoticeCounts {
 
     /// Returns the number of notices of this kind.
     pub fn of(&self, kind: NoticeKind) -> u64
-        ensures { result ≡ count_of kind (counts_of self.now) }
+        ensures { result ≡ notice_count kind (notice_counts_of self.now) }
     {
         let NoticeCounts {
             lists,

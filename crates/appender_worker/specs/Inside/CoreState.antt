@@ -13,9 +13,9 @@ core_of (End flushes) = Ending flushes
 core_of Ended = Over
 
 -- a line in hand has bytes left, and was interrupted only so often
-abbrev pub IsSound : State → Type 0
-IsSound (Take waits) = Unit {0}
-IsSound (Write line from repeats) = (from < length line.items) × (repeats ≤ most_repeats)
-IsSound Flush = Unit {0}
-IsSound (End flushes) = Unit {0}
-IsSound Ended = Unit {0}
+abbrev pub IsValidState : State → Type 0
+IsValidState (Take waits) = Unit {0}
+IsValidState (Write line from repeats) = (from < length line.items) × (repeats ≤ most_repeats)
+IsValidState Flush = Unit {0}
+IsValidState (End flushes) = Unit {0}
+IsValidState Ended = Unit {0}

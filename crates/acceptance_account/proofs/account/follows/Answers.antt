@@ -1,6 +1,6 @@
 use Rattle.std.proofs.Common.{refl, [], rules, subst, sym, IsTrue}
 use Rattle.std.proofs.lemmas.Slice.Zip.{Zip-more, either_empty_from_Zip}
-use Rattle.appender_replay.specs.Headline.{after, Replies}
+use Rattle.appender_replay.specs.Headline.{account_after, Replies}
 use Rattle.appender_replay.specs.declared.replay.whole.Step.{Step}
 use Rattle.appender_replay.specs.declared.replay.whole.Reply.{Reply}
 use Rattle.acceptance_account.proofs.Folds.{reaches_next, reaches_end, breaks}
@@ -15,7 +15,7 @@ loop-step-preserved c =
     let pair : Step × Reply = (c.in-Some.step.now, c.in-Some.reply.now) in
     let demanded : IsTrue c.demands.result = search rules in
     let fits : Replies c.args.limit c.args.settings.now c.loop-step.account pair = c.demands.ensures.0 demanded in
-    reaches_next _ _ _ _ _ (after c.args.settings.now) (λ t past. refl) _ _ _ _ _ _ turn.0 turn.1 c.in_ok-follow.ensures
+    reaches_next _ _ _ _ _ (account_after c.args.settings.now) (λ t past. refl) _ _ _ _ _ _ turn.0 turn.1 c.in_ok-follow.ensures
     (λ past f e. (f, subst (λ v. Replies c.args.limit c.args.settings.now v pair) e fits)) c.loop-step.invariant
 
 pub returns-then-not-demands : goal.returns-then-not-demands

@@ -46,7 +46,7 @@ returns g c =
     let periods = c.periods_lie_between_boundaries.ensures in
     let grounds : Grounds g.S.Folder c.args.builder.now = record {
       laws = record { begins = periods.begin _; ends = periods.end _ };
-      others = other_names c.args.builder.now runs.opens.may_limit (c.names_are_periods.ensures _);
+      others = other_names c.args.builder.now runs.opens.may_open.may_limit (c.names_are_periods.ensures _);
       maps = record { removals = c.names_change_one_at_a_time.ensures.removals; additions = c.names_change_one_at_a_time.ensures.additions };
       parts = c.openings_keep_files.ensures;
       sound = g.met.S.Folder.sound;

@@ -2,7 +2,7 @@ use Rattle.std.proofs.Common.{◌≡◌, ◌∙◌, List, map, length, take, sym
 use Rattle.std.proofs.lemmas.Result.{IfOk-weaker}
 use Rattle.appender_store.specs.Folder.{listed_row}
 use Rattle.appender_retain.specs.Rank.{IsPlan}
-use Rattle.appender_retain.specs.Inside.Candidate.{rank_in, how_many_go}
+use Rattle.appender_retain.specs.Inside.Candidate.{rank_in, removal_count}
 use Rattle.appender_retain.specs.declared.retain.Candidate.{Candidate}
 use Rattle.appender_retain.proofs.Ranks.{InOrder, plans}
 use Rattle.appender_retain.proofs.Candidates.{candidates_in_order, places_gone}
@@ -13,8 +13,8 @@ returns c =
     let all : List Candidate = c.sort_unstable.new.self.items in
     let order : InOrder c.args.log.now (map listed_row c.args.listed.now) (map rank_in all) =
     candidates_in_order c.args.log.now (map listed_row c.args.listed.now) c.in_ok-all.all.items all c.in_ok-all.ensures c.sort_unstable.ensures.permutation c.sort_unstable.ensures.sorted in
-    let count : c.how_many-count.result ≡ how_many_go c.args.max (length all) =
-    c.how_many-count.ensures ∙ ap (how_many_go c.args.max) (c.len.ensures ∙ sym c.deref.ensures.len ∙ ap length c.deref.ensures.value) in
+    let count : c.how_many-count.result ≡ removal_count c.args.max (length all) =
+    c.how_many-count.ensures ∙ ap (removal_count c.args.max) (c.len.ensures ∙ sym c.deref.ensures.len ∙ ap length c.deref.ensures.value) in
     IfOk-weaker c.places.result _ _
     (λ gone is.
     subst (IsPlan c.args.log.now c.args.max (map listed_row c.args.listed.now))

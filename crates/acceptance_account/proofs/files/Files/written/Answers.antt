@@ -1,6 +1,6 @@
 use Rattle.std.proofs.Common.{◌∙◌, ◌++◌, List, [], ℕ, if◌then◌else◌, ap, sym, rules}
 use Rattle.std.specs.Str.{bytes_eq}
-use Rattle.appender_replay.specs.Headline.{written, Files}
+use Rattle.appender_replay.specs.Headline.{written_to_name, Files}
 use Rattle.acceptance_account.proofs.Written.{written_next, written_end}
 use Rattle.acceptance_account.proofs.files.Files.written.Goals as goal
 
@@ -16,4 +16,4 @@ loop-write-preserved c =
 pub returns : goal.returns
 returns c =
     let all = written_end c.args.name.now c.deref-write-items.result.now c.loop-write.write-index c.loop-write.all.items c.loop-write-test.false c.loop-write.invariant in
-    sym all ∙ ap (written c.args.name.now) (c.deref-write-items.ensures.value ∙ ap (λ (f : Files). f.writes) c.self.view_is)
+    sym all ∙ ap (written_to_name c.args.name.now) (c.deref-write-items.ensures.value ∙ ap (λ (f : Files). f.writes) c.self.view_is)

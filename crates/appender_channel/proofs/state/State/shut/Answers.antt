@@ -1,5 +1,5 @@
 use Rattle.std.proofs.Common.{◌≡◌, inl, inr, rules, subst, sym}
-use Rattle.appender_queue.specs.QueueChanges.{ShutLeaves}
+use Rattle.appender_queue.specs.QueueChanges.{ShutChanges}
 use Rattle.appender_channel.specs.Tally.{tally_of}
 use Rattle.appender_channel.proofs.state.State.shut.Goals.{in-Sent, in-Already}
 use Rattle.appender_channel.proofs.state.State.shut.Goals as goal
@@ -18,9 +18,9 @@ invariant_of-self g c =
           )
       | in-Already w ↦
           let unchanged : c.shut-reply.new.self ≡ c.self.inside.queue = elim w.in-Already.is [
-            | inl e ↦ subst (λ reply. ShutLeaves c.self.inside.queue c.shut-reply.new.self reply) e leaves
-            | inr (inl e) ↦ subst (λ reply. ShutLeaves c.self.inside.queue c.shut-reply.new.self reply) e leaves
-            | inr (inr e) ↦ subst (λ reply. ShutLeaves c.self.inside.queue c.shut-reply.new.self reply) e leaves
+            | inl e ↦ subst (λ reply. ShutChanges c.self.inside.queue c.shut-reply.new.self reply) e leaves
+            | inr (inl e) ↦ subst (λ reply. ShutChanges c.self.inside.queue c.shut-reply.new.self reply) e leaves
+            | inr (inr e) ↦ subst (λ reply. ShutChanges c.self.inside.queue c.shut-reply.new.self reply) e leaves
           ] in
           rw w.self-inside-is (
             c.shut-reply.ensures.lawful,

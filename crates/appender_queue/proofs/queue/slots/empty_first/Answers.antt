@@ -1,11 +1,11 @@
 use Rattle.std.proofs.Common.{◌<◌, length, ◌∙◌, sym}
 use Rattle.appender_queue.proofs.Packed.{first_full, first_out}
-use Rattle.appender_queue.specs.Inside.Slots.{lines_in}
+use Rattle.appender_queue.specs.Inside.Slots.{slot_lines}
 use Rattle.appender_queue.proofs.queue.slots.empty_first.Goals as goal
 
 pub unreachable-requires : goal.unreachable-requires
 unreachable-requires c =
-    let some : 0 < length (lines_in c.args.slots.now) = rw c.requires.full at c.requires.some in
+    let some : 0 < length (slot_lines c.args.slots.now) = rw c.requires.full at c.requires.some in
     first_full c.args.slots.now c.index-slots-0.result c.requires.packed some (sym c.take.ensures.value ∙ c.in_default.is)
 
 pub returns-clause-lines : goal.returns-clause-lines

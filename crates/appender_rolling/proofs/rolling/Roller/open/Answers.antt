@@ -18,4 +18,4 @@ returns-in-Err-open_file-clause-err g c =
     rw (← ready.setup_is, ← name) c.in-Err-open_file.ensures.err in
     let some : c.in-Err-open_file.error ≢ Memory = λ is. c.open_file.ensures.memory (c.in-Err-open_file.is ∙ ap Err is) in
     refuses_roller g.S.Folder c.args.builder.now c.args.moment c.args.folder c.first_number-number.new.folder c.first_number-number.result c.in-Err-open_file.error c.open_file.new.folder
-    ready.allowed ready.may_limit ready.in_range ready.apart found some refused
+    ready.may_open found some refused

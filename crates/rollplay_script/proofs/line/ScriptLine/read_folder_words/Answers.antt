@@ -1,6 +1,6 @@
 use Rattle.std.proofs.Common.{refl, subst, Option, List, [], ◌++◌, ℕ, unwrap_or, string_bytes, rules}
-use Rattle.rollplay_script.specs.Words.{TakesWord, Takes}
-use Rattle.rollplay_script.specs.Text.{IsEscaped, StandsForNone, IsCount}
+use Rattle.rollplay_script.specs.Words.{TakesWord, TakesWordOf}
+use Rattle.rollplay_script.specs.Text.{IsEscaped, IsNoEscapedText, IsCount}
 use Rattle.rollplay_script.proofs.LineLemmas.{continues_with, none_behind, none_unless, takes_no, takes_none, takes_once}
 use Rattle.rollplay_script.specs.Line.{folder_kinds, run_kinds, queue_kinds, created, file, folder, link_at, absent, failing, shortened}
 use Rattle.rollplay_script.proofs.line.ScriptLine.read_folder_words.Goals.{in-created+in_ok-creation-in-created, in-file+in_ok-word-in-file+in_ok-text-in-file, in-folder+in_ok-word-in-folder, in-text+in_ok-word-in-text+in_ok-word-in-text-2, in-absent, in-fail+in_ok-call-in-fail, in-short+in_ok-call-in-short+in_ok-count-in-short}
@@ -21,7 +21,7 @@ returns-in_err-word-in-file-clause-fault c = λ e. none_behind c.args.word.now c
 pub returns-in_err-text-in-file-clause-fault : goal.returns-in_err-text-in-file-clause-fault
 returns-in_err-text-in-file-clause-fault c = λ e. none_behind c.args.word.now c.args.words.now (folder_kinds ++ run_kinds ++ queue_kinds) file c.in-file.is (λ line left h.
     let behind = (takes_once _ _ _ _ _ h.3.1 c.in_ok-word-in-file.ensures.ok).1 in
-    let none : StandsForNone (unwrap_or c.word.new.self []) = c.in_err-text-in-file.ensures.fault (search rules) in
+    let none : IsNoEscapedText (unwrap_or c.word.new.self []) = c.in_err-text-in-file.ensures.fault (search rules) in
     none (string_bytes h.1) (subst (λ (r : Option (List ℕ)). IsEscaped (string_bytes h.1) (unwrap_or r [])) behind h.3.2.text))
 
 pub returns-in_err-word-in-text-2-clause-fault : goal.returns-in_err-word-in-text-2-clause-fault
@@ -36,7 +36,7 @@ returns-in_err-call-in-short-clause-fault c = λ e. none_behind c.args.word.now 
 pub returns-in_err-count-in-short-clause-fault : goal.returns-in_err-count-in-short-clause-fault
 returns-in_err-count-in-short-clause-fault c = λ e. none_behind c.args.word.now c.args.words.now (folder_kinds ++ run_kinds ++ queue_kinds) shortened c.in-short.is (λ line left h.
     let behind = (takes_once _ _ _ _ _ h.3.1.taken c.in_ok-call-in-short.ensures.ok.taken).1 in
-    takes_no _ _ _ _ _ (subst (λ (r : Option (List ℕ)). Takes (λ word. IsCount word h.1) r left) behind h.3.2) c.in_err-count-in-short.ensures.err.1 (λ w is. (h.1, is)))
+    takes_no _ _ _ _ _ (subst (λ (r : Option (List ℕ)). TakesWordOf (λ word. IsCount word h.1) r left) behind h.3.2) c.in_err-count-in-short.ensures.err.1 (λ w is. (h.1, is)))
 
 pub returns-in_err-word-in-folder-clause-fault : goal.returns-in_err-word-in-folder-clause-fault
 returns-in_err-word-in-folder-clause-fault c = λ e. none_behind c.args.word.now c.args.words.now (folder_kinds ++ run_kinds ++ queue_kinds) folder c.in-folder.is (λ line left h.

@@ -1,17 +1,17 @@
 use Rattle.std.proofs.Common.{refl, ◌∙◌, ◌++◌, [], unwrap_or, rules}
-use Rattle.rollplay_script.specs.Text.{StandsForNone}
+use Rattle.rollplay_script.specs.Text.{IsNoEscapedText}
 use Rattle.rollplay_script.proofs.LineLemmas.{continues_with, none_behind, none_unless, no_text, takes_no, takes_none, takes_once}
 use Rattle.rollplay_script.specs.Line.{log_kinds, folder_kinds, run_kinds, queue_kinds, rotation, prefix, suffix, link, maximum, byte_limit, by_name}
-use Rattle.rollplay_script.proofs.line.ScriptLine.read_log_words.Goals.{in-rotation+in_ok-word-in-rotation+in_ok-read_rotation-in-rotation, in-prefix+in_ok-text-in-prefix, in-suffix+in_ok-text-in-suffix, in-link+in_ok-text-in-link, in-max+in_ok-count-in-max, in-bytes+in_ok-label-in-bytes, in-text}
+use Rattle.rollplay_script.proofs.line.ScriptLine.read_log_words.Goals.{in-rotation+in_ok-word-in-rotation+in_ok-read_rotation-in-rotation, in-prefix+in_ok-text-in-prefix, in-suffix+in_ok-text-in-suffix, in-link+in_ok-text-in-link, in-max+in_ok-count-in-max, in-bytes+in_ok-unsigned-in-bytes, in-text}
 use Rattle.rollplay_script.proofs.line.ScriptLine.read_log_words.Goals as goal
 
 pub returns-in_err-count-in-max-clause-fault : goal.returns-in_err-count-in-max-clause-fault
 returns-in_err-count-in-max-clause-fault c = λ e. none_behind c.args.word.now c.args.words.now (log_kinds ++ folder_kinds ++ run_kinds ++ queue_kinds) maximum c.in-max.is (λ line left h.
     takes_no _ _ _ _ _ h.2 c.in_err-count-in-max.ensures.err.1 (λ w is. (h.0, is)))
 
-pub returns-in_err-label-in-bytes-clause-fault : goal.returns-in_err-label-in-bytes-clause-fault
-returns-in_err-label-in-bytes-clause-fault c = λ e. none_behind c.args.word.now c.args.words.now (log_kinds ++ folder_kinds ++ run_kinds ++ queue_kinds) byte_limit c.in-bytes.is (λ line left h.
-    takes_no _ _ _ _ _ h.2 c.in_err-label-in-bytes.ensures.err.1 (λ w is. (h.0, is)))
+pub returns-in_err-unsigned-in-bytes-clause-fault : goal.returns-in_err-unsigned-in-bytes-clause-fault
+returns-in_err-unsigned-in-bytes-clause-fault c = λ e. none_behind c.args.word.now c.args.words.now (log_kinds ++ folder_kinds ++ run_kinds ++ queue_kinds) byte_limit c.in-bytes.is (λ line left h.
+    takes_no _ _ _ _ _ h.2 c.in_err-unsigned-in-bytes.ensures.err.1 (λ w is. (h.0, is)))
 
 pub returns-in_err-word-in-rotation-clause-fault : goal.returns-in_err-word-in-rotation-clause-fault
 returns-in_err-word-in-rotation-clause-fault c = λ e. none_behind c.args.word.now c.args.words.now (log_kinds ++ folder_kinds ++ run_kinds ++ queue_kinds) rotation c.in-rotation.is (λ line left h.
@@ -24,17 +24,17 @@ returns-in_err-read_rotation-in-rotation-clause-fault c = λ e. none_behind c.ar
 
 pub returns-in_err-text-in-prefix-clause-fault : goal.returns-in_err-text-in-prefix-clause-fault
 returns-in_err-text-in-prefix-clause-fault c = λ e. none_behind c.args.word.now c.args.words.now (log_kinds ++ folder_kinds ++ run_kinds ++ queue_kinds) prefix c.in-prefix.is (λ line left h.
-    let none : StandsForNone (unwrap_or c.args.words.now []) = c.in_err-text-in-prefix.ensures.fault (search rules) in
+    let none : IsNoEscapedText (unwrap_or c.args.words.now []) = c.in_err-text-in-prefix.ensures.fault (search rules) in
     no_text _ _ _ h.2 none)
 
 pub returns-in_err-text-in-suffix-clause-fault : goal.returns-in_err-text-in-suffix-clause-fault
 returns-in_err-text-in-suffix-clause-fault c = λ e. none_behind c.args.word.now c.args.words.now (log_kinds ++ folder_kinds ++ run_kinds ++ queue_kinds) suffix c.in-suffix.is (λ line left h.
-    let none : StandsForNone (unwrap_or c.args.words.now []) = c.in_err-text-in-suffix.ensures.fault (search rules) in
+    let none : IsNoEscapedText (unwrap_or c.args.words.now []) = c.in_err-text-in-suffix.ensures.fault (search rules) in
     no_text _ _ _ h.2 none)
 
 pub returns-in_err-text-in-link-clause-fault : goal.returns-in_err-text-in-link-clause-fault
 returns-in_err-text-in-link-clause-fault c = λ e. none_behind c.args.word.now c.args.words.now (log_kinds ++ folder_kinds ++ run_kinds ++ queue_kinds) link c.in-link.is (λ line left h.
-    let none : StandsForNone (unwrap_or c.args.words.now []) = c.in_err-text-in-link.ensures.fault (search rules) in
+    let none : IsNoEscapedText (unwrap_or c.args.words.now []) = c.in_err-text-in-link.ensures.fault (search rules) in
     no_text _ _ _ h.2 none)
 
 pub returns-in_default-clause-fault : goal.returns-in_default-clause-fault
@@ -55,8 +55,8 @@ returns-clause-ok c = elim c.match-word.branch [
       rw (w.words-is, w.result-is) (continues_with _ _ link w.in-link.is _ _ (_, refl, record { text = w.in_ok-text-in-link.ensures.ok; all = w.text-in-link.ensures.all }))
   | in-max+in_ok-count-in-max w ↦
       rw (w.words-is, w.result-is) (continues_with _ _ maximum w.in-max.is _ _ (_, refl, w.in_ok-count-in-max.ensures.ok))
-  | in-bytes+in_ok-label-in-bytes w ↦
-      rw (w.words-is, w.result-is) (continues_with _ _ byte_limit w.in-bytes.is _ _ (_, refl, w.in_ok-label-in-bytes.ensures.ok))
+  | in-bytes+in_ok-unsigned-in-bytes w ↦
+      rw (w.words-is, w.result-is) (continues_with _ _ byte_limit w.in-bytes.is _ _ (_, refl, w.in_ok-unsigned-in-bytes.ensures.ok))
   | in-text w ↦
       rw (w.words-is, w.result-is) (continues_with _ _ by_name w.in-text.is _ _ (refl, refl))
 ]

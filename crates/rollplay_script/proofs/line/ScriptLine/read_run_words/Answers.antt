@@ -1,7 +1,7 @@
 use Rattle.std.proofs.Common.{refl, subst, Option, List, [], ◌++◌, ℕ, unwrap_or, rules}
 use Rattle.std.specs.Int.{w64}
 use Rattle.std.proofs.lemmas.Int.{to_z-of_z}
-use Rattle.rollplay_script.specs.Text.{IsEscaped, StandsForNone}
+use Rattle.rollplay_script.specs.Text.{IsEscaped, IsNoEscapedText}
 use Rattle.rollplay_script.proofs.LineLemmas.{continues_with, none_behind, none_unless, no_text, takes_no, takes_once}
 use Rattle.rollplay_script.specs.Line.{run_kinds, queue_kinds, start, see, put, write, flush}
 use Rattle.rollplay_script.proofs.line.ScriptLine.read_run_words.Goals.{in-start+in_ok-seconds-in-start, in-see+in_ok-seconds-in-see, in-put+in_ok-seconds-in-put+in_ok-text-in-put, in-write+in_ok-text-in-write, in-flush}
@@ -22,12 +22,12 @@ returns-in_err-seconds-in-put-clause-fault c = λ e. none_behind c.args.word.now
 pub returns-in_err-text-in-put-clause-fault : goal.returns-in_err-text-in-put-clause-fault
 returns-in_err-text-in-put-clause-fault c = λ e. none_behind c.args.word.now c.args.words.now (run_kinds ++ queue_kinds) put c.in-put.is (λ line left h.
     let behind = (takes_once _ _ _ _ _ h.3.1.taken c.in_ok-seconds-in-put.ensures.ok.taken).1 in
-    let none : StandsForNone (unwrap_or c.seconds-in-put.new.self []) = c.in_err-text-in-put.ensures.fault (search rules) in
+    let none : IsNoEscapedText (unwrap_or c.seconds-in-put.new.self []) = c.in_err-text-in-put.ensures.fault (search rules) in
     none h.1.items (subst (λ (r : Option (List ℕ)). IsEscaped h.1.items (unwrap_or r [])) behind h.3.2.text))
 
 pub returns-in_err-text-in-write-clause-fault : goal.returns-in_err-text-in-write-clause-fault
 returns-in_err-text-in-write-clause-fault c = λ e. none_behind c.args.word.now c.args.words.now (run_kinds ++ queue_kinds) write c.in-write.is (λ line left h.
-    let none : StandsForNone (unwrap_or c.args.words.now []) = c.in_err-text-in-write.ensures.fault (search rules) in
+    let none : IsNoEscapedText (unwrap_or c.args.words.now []) = c.in_err-text-in-write.ensures.fault (search rules) in
     no_text _ _ _ h.2 none)
 
 pub returns-in_default-clause-fault : goal.returns-in_default-clause-fault

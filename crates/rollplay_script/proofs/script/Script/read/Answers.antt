@@ -1,6 +1,6 @@
 use Rattle.std.proofs.Common.{◌≡◌, ℕ, suc, Err, List, [], sym, ap, subst, ◌∙◌, arith, rules}
 use Rattle.rollplay_script.specs.Draft.{progress_of}
-use Rattle.rollplay_script.specs.Script.{Reaches}
+use Rattle.rollplay_script.specs.Script.{ReadsLines}
 use Rattle.rollplay_script.proofs.ScriptLemmas.{stops_here, is_script, misses_start, fault_of_line, line_takes, no_bytes}
 use Rattle.rollplay_script.proofs.script.Script.read.Goals as goal
 
@@ -30,14 +30,14 @@ pub returns-clause-ok : goal.returns-clause-ok
 returns-clause-ok c =
     let reached = c.loop-rest.invariant.reached in
     let empty : c.loop-rest.rest.now ≡ [] = no_bytes _ c.loop-rest-test.ensures in
-    let at_end : Reaches c.args.text.now reached.0 [] (progress_of c.loop-rest.draft) =
-    subst (λ (rest : List ℕ). Reaches c.args.text.now reached.0 rest (progress_of c.loop-rest.draft)) empty reached.2 in
+    let at_end : ReadsLines c.args.text.now reached.0 [] (progress_of c.loop-rest.draft) =
+    subst (λ (rest : List ℕ). ReadsLines c.args.text.now reached.0 rest (progress_of c.loop-rest.draft)) empty reached.2 in
     rw c.ok_or.ensures.value (is_script _ _ _ _ _ at_end c.finish.ensures.some)
 
 pub returns-clause-fault : goal.returns-clause-fault
 returns-clause-fault c = λ number e.
     let reached = c.loop-rest.invariant.reached in
     let empty : c.loop-rest.rest.now ≡ [] = no_bytes _ c.loop-rest-test.ensures in
-    let at_end : Reaches c.args.text.now reached.0 [] (progress_of c.loop-rest.draft) =
-    subst (λ (rest : List ℕ). Reaches c.args.text.now reached.0 rest (progress_of c.loop-rest.draft)) empty reached.2 in
+    let at_end : ReadsLines c.args.text.now reached.0 [] (progress_of c.loop-rest.draft) =
+    subst (λ (rest : List ℕ). ReadsLines c.args.text.now reached.0 rest (progress_of c.loop-rest.draft)) empty reached.2 in
     misses_start _ _ _ _ _ _ at_end reached.1 c.finish.ensures.none (sym c.ok_or.ensures.value ∙ e)

@@ -1,12 +1,12 @@
 use Rattle.std.proofs.Common.{inl, inr, subst}
 use Rattle.appender_rolling.specs.Appender.{AppendsNow}
-use Rattle.rolltee_core.specs.Log.{LooksFor, PutsOn}
+use Rattle.rolltee_core.specs.Log.{FindsLog, PutsBytes}
 use Rattle.rolltee_core.proofs.Outcome.{if_err, on_ok}
 use Rattle.rolltee_core.proofs.logs.FileLogWrite.write.Goals as goal
 
 pub returns-clause-puts : goal.returns-clause-puts
 returns-clause-puts g c =
-    let puts : PutsOn g.S.Folder g.C.Clock c.args.bytes.now c.append.result c.args.self.now c.append.new.self.log = record {
+    let puts : PutsBytes g.S.Folder g.C.Clock c.args.bytes.now c.append.result c.args.self.now c.append.new.self.log = record {
       looked = c.check_clock.new.self.log;
       looks = record {
         found = c.find_file.new.self.log;

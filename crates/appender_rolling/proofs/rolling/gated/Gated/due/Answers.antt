@@ -1,7 +1,7 @@
 use Rattle.std.proofs.Common.{w64, FitsSigned, ◌≡◌, ◌∙◌, true, false, ap, sym}
 use Rattle.std.proofs.lemmas.Int.{to_z-of_z}
 use Rattle.std.specs.Prelude.{is_some}
-use Rattle.appender_rolling.specs.Roller.{Held, next_with}
+use Rattle.appender_rolling.specs.Roller.{OpenFile, next_with}
 use Rattle.appender_rolling.proofs.Fullness.{begins_at_boundaries}
 use Rattle.appender_rolling.proofs.rolling.gated.Gated.due.Goals.{then-is_limited, else-is_limited}
 use Rattle.appender_rolling.proofs.rolling.gated.Gated.due.Goals as goal
@@ -15,7 +15,7 @@ returns g c =
     elim c.if-is_limited.branch [
       | then-is_limited w ↦ record {
         plain = λ unlimited. absurd (let both : true ≡ false = sym w.if-is_limited.true ∙ c.is_limited.ensures ∙ unlimited in cc);
-        limited = λ limited. (w.lock.result.value, asked ∙ ap (λ room. is_some (next_with schedule room c.args.moment 0)) (w.room-is ∙ ap (λ (h : Held _ _). h.room) (w.behind-lock.view_is ∙ w.deref.ensures)));
+        limited = λ limited. (w.lock.result.value, asked ∙ ap (λ room. is_some (next_with schedule room c.args.moment 0)) (w.room-is ∙ ap (λ (h : OpenFile _ _). h.room) (w.behind-lock.view_is ∙ w.deref.ensures)));
       }
       | else-is_limited w ↦ record {
         plain = λ unlimited. asked ∙ begins_at_boundaries schedule c.if-is_limited.room c.args.moment 0 unlimited;

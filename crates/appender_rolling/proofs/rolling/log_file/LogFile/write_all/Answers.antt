@@ -7,7 +7,7 @@ use Rattle.std.specs.IoError.{error_kind}
 use Rattle.std.specs.declared.io.Error.{Error}
 use Rattle.std.specs.declared.io.ErrorKind.TheVariants.{Interrupted}
 use Rattle.appender_store.specs.declared.store.Folder.{Ghosts}
-use Rattle.appender_rolling.specs.Roller.{Scheduled, Held, rolling_of, count_of, GoesOn, AllGoOn, Stops, WritesSoFar, FileWrites, FileWritesAll}
+use Rattle.appender_rolling.specs.Roller.{Scheduled, OpenFile, rolling_of, written_count, IsContinued, AreContinued, EndsWrites, WritesSoFar, FileWrites, FileWritesAll}
 use Rattle.appender_store.proofs.Appends.{after_append_nothing}
 use Rattle.appender_rolling.proofs.Pieces.{one_more_piece}
 use Rattle.appender_rolling.proofs.rolling.log_file.LogFile.write_all.Goals.{in-Ok, in-Err, in-Interrupted, in_default}
@@ -15,28 +15,28 @@ use Rattle.appender_rolling.proofs.rolling.log_file.LogFile.write_all.Goals as g
 
 module _ {S F : Type 0} (kind : Ghosts S F) where
   -- so many writes before the loop's turn
-  abbrev Before : ℕ → List ℕ → List ℕ → Held S F → Held S F → Type 0
+  abbrev Before : ℕ → List ℕ → List ℕ → OpenFile S F → OpenFile S F → Type 0
   Before made bytes left start last =
-      (answers : List (Result ℕ Error)) × ((s : Scheduled) → WritesSoFar kind answers bytes left (rolling_of s start) (rolling_of s last)) × AllGoOn answers × (length answers ≡ made)
+      (answers : List (Result ℕ Error)) × ((s : Scheduled) → WritesSoFar kind answers bytes left (rolling_of s start) (rolling_of s last)) × AreContinued answers × (length answers ≡ made)
 
   -- an end before all was written
-  ended : {made : ℕ} {bytes left : List ℕ} {start last now : Held S F} {answer : Result ℕ Error} {fault : Error}
+  ended : {made : ℕ} {bytes left : List ℕ} {start last now : OpenFile S F} {answer : Result ℕ Error} {fault : Error}
       → (before : Before made bytes left start last) → left ≢ [] → FileWrites kind left answer last now
-      → Stops (answer ∷ before.0) fault → FileWritesAll kind bytes (Err fault) start now
+      → EndsWrites (answer ∷ before.0) fault → FileWritesAll kind bytes (Err fault) start now
   ended {bytes = bytes} {left = left} {start = start} {last = last} {now = now} {answer = answer} before some writes stops s = record {
     answers = answer ∷ before.0;
-    rest = drop (count_of answer) left;
+    rest = drop (written_count answer) left;
     so_far = one_more_piece kind before.0 bytes left (rolling_of s start) (rolling_of s last) (rolling_of s now) answer (before.1 s) before.2 some (writes s);
     whole = tt;
     stops = stops;
   }
 
   -- the loop goes on after such a write
-  went_on : {made : ℕ} {bytes left rest : List ℕ} {start last now : Held S F} {answer : Result ℕ Error}
-      → Before made bytes left start last → left ≢ [] → GoesOn answer → FileWrites kind left answer last now → rest ≡ drop (count_of answer) left
+  went_on : {made : ℕ} {bytes left rest : List ℕ} {start last now : OpenFile S F} {answer : Result ℕ Error}
+      → Before made bytes left start last → left ≢ [] → IsContinued answer → FileWrites kind left answer last now → rest ≡ drop (written_count answer) left
       → Before (made + 1) bytes rest start now
   went_on {made = made} {bytes = bytes} {left = left} {start = start} {last = last} {now = now} {answer = answer} before some goes writes is =
-      let so_far : (s : Scheduled) → WritesSoFar kind (answer ∷ before.0) bytes (drop (count_of answer) left) (rolling_of s start) (rolling_of s now)
+      let so_far : (s : Scheduled) → WritesSoFar kind (answer ∷ before.0) bytes (drop (written_count answer) left) (rolling_of s start) (rolling_of s now)
       = λ s. one_more_piece kind before.0 bytes left (rolling_of s start) (rolling_of s last) (rolling_of s now) answer (before.1 s) before.2 some (writes s) in
       let count : suc (length before.0) ≡ made + 1 = omega arith in
       (answer ∷ before.0, λ s. subst (λ rest. WritesSoFar kind (answer ∷ before.0) bytes rest (rolling_of s start) (rolling_of s now)) (sym is) (so_far s), (goes, before.2), count)
@@ -45,7 +45,7 @@ some_left : (xs : List ℕ) → false ≡ (length xs == 0) → xs ≢ []
 some_left xs some is = let both : false ≡ true = some ∙ ap (λ ys. length ys == 0) is in absurd (let both : false ≡ true = both in cc)
 
 -- no write follows that many
-too_many : (answers : List (Result ℕ Error)) (fault : Error) → length answers ≡ 18446744073709551615 → Stops answers fault
+too_many : (answers : List (Result ℕ Error)) (fault : Error) → length answers ≡ 18446744073709551615 → EndsWrites answers fault
 too_many [] fault e = absurd (omega arith)
 too_many (Ok n ∷ before) fault e = inr (omega arith)
 too_many (Err cause ∷ before) fault e = inr (omega arith)
@@ -90,7 +90,7 @@ returns-then-is_empty g c s =
 pub returns-in-Ok-eq0 : goal.returns-in-Ok-eq0
 returns-in-Ok-eq0 g c =
     ended g.S.Folder c.loop-made.invariant (some_left c.loop-made.rest.now (sym c.if-is_empty.false ∙ c.is_empty.ensures)) c.write.ensures.writes
-    (subst (λ answer. Stops (answer ∷ c.loop-made.invariant.0) c.from.result) (sym c.in-Ok-eq0.is) (inl (c.in-Ok-eq0.field-0-test, c.from.ensures)))
+    (subst (λ answer. EndsWrites (answer ∷ c.loop-made.invariant.0) c.from.result) (sym c.in-Ok-eq0.is) (inl (c.in-Ok-eq0.field-0-test, c.from.ensures)))
 
 pub returns-in-Err-2 : goal.returns-in-Err-2
 returns-in-Err-2 g c =
@@ -99,7 +99,7 @@ returns-in-Err-2 g c =
       | in_default w ↦ λ is. w.in_default.not-Interrupted (c.kind.ensures ∙ is)
     ] in
     ended g.S.Folder c.loop-made.invariant (some_left c.loop-made.rest.now (sym c.if-is_empty.false ∙ c.is_empty.ensures)) c.write.ensures.writes
-    (subst (λ answer. Stops (answer ∷ c.loop-made.invariant.0) c.in-Err.fault) (sym c.in-Err.is) (inl (refl, not_interrupted)))
+    (subst (λ answer. EndsWrites (answer ∷ c.loop-made.invariant.0) c.in-Err.fault) (sym c.in-Err.is) (inl (refl, not_interrupted)))
 
 -- a slice to the end is all that is left
 whole_rest : (n : ℕ) (xs : List ℕ) → take (length xs - n) (drop n xs) ≡ drop n xs
@@ -108,14 +108,14 @@ whole_rest n xs = ap (λ k. take k (drop n xs)) (sym (length-drop n xs)) ∙ tak
 pub loop-made-preserved : goal.loop-made-preserved
 loop-made-preserved g c =
     let some : c.loop-made.rest.now ≢ [] = some_left c.loop-made.rest.now (sym c.if-is_empty.false ∙ c.is_empty.ensures) in
-    let left = λ (answer : Result ℕ Error). drop (count_of answer) c.loop-made.rest.now in
-    let next : GoesOn c.write.result → c.match-write.rest.now ≡ left c.write.result
+    let left = λ (answer : Result ℕ Error). drop (written_count answer) c.loop-made.rest.now in
+    let next : IsContinued c.write.result → c.match-write.rest.now ≡ left c.write.result
     → Before g.S.Folder (c.loop-made._made + 1) c.args.bytes.now c.match-write.rest.now c.args.self.now c.write.new.self
     = λ goes is. went_on g.S.Folder c.loop-made.invariant some goes c.write.ensures.writes is in
     elim c.match-write.branch [
-      | in-Ok w ↦ next (subst GoesOn (sym w.in-Ok.is) w.in-Ok.taken-test.1) (ap (λ rest. rest.now) w.rest-is ∙ whole_rest w.in-Ok.taken c.loop-made.rest.now ∙ ap left (sym w.in-Ok.is))
+      | in-Ok w ↦ next (subst IsContinued (sym w.in-Ok.is) w.in-Ok.taken-test.1) (ap (λ rest. rest.now) w.rest-is ∙ whole_rest w.in-Ok.taken c.loop-made.rest.now ∙ ap left (sym w.in-Ok.is))
       | in-Err w ↦ elim w.match-matches.branch [
-        | in-Interrupted w' ↦ next (subst GoesOn (sym w.in-Err.is) (sym w.kind.ensures ∙ w'.in-Interrupted.is)) (ap (λ rest. rest.now) w.rest-is ∙ ap left (sym w.in-Err.is))
+        | in-Interrupted w' ↦ next (subst IsContinued (sym w.in-Err.is) (sym w.kind.ensures ∙ w'.in-Interrupted.is)) (ap (λ rest. rest.now) w.rest-is ∙ ap left (sym w.in-Err.is))
         | in_default w' ↦ absurd (let both : true ≡ false = sym w.if-matches.true ∙ w'.matches-is in cc)
       ]
     ]

@@ -2,8 +2,8 @@ use Rattle.std.proofs.Common.{w64, FitsSigned, ◌≡◌, ◌∙◌, Some, inl, 
 use Rattle.std.proofs.lemmas.Int.{ints, to_z-of_z}
 use Rattle.appender_names.specs.Rotation.{next_of}
 use Rattle.appender_rolling.specs.Config.{Config, IsStamp}
-use Rattle.appender_rolling.specs.Roller.{Scheduled, Held, LiesAhead, IsSchedule, next_with}
-use Rattle.appender_rolling.proofs.Boundaries.{IsNext, is_next, next_lies_ahead, ahead_of_stamp}
+use Rattle.appender_rolling.specs.Roller.{Scheduled, OpenFile, IsLaterBoundary, IsSchedule, next_with}
+use Rattle.appender_rolling.proofs.Boundaries.{IsNext, is_next, next_is_later, ahead_of_stamp}
 use Rattle.appender_rolling.proofs.Closings.{closes_quietly}
 use Rattle.appender_rolling.proofs.Kept.{maps, keeps_little}
 use Rattle.appender_rolling.proofs.Refusals.{refuses_little}
@@ -34,11 +34,11 @@ invariant_of-self g c =
     let in_range = is_stamp.in_range in
     let small : FitsSigned w64 c.in-Some.stamp.moment = omega (arith, ints, in_range.0, in_range.1) in
     let date = simp to_z-of_z at c.next_date-self-inside.ensures in
-    let ahead : LiesAhead c.self.inside.setup.rotation c.in-Some.stamp.moment c.next_date-self-inside.result =
-    rw (← c.rotation.ensures) (next_lies_ahead _ _ _ date.none date.boundary) in
+    let ahead : IsLaterBoundary c.self.inside.setup.rotation c.in-Some.stamp.moment c.next_date-self-inside.result =
+    rw (← c.rotation.ensures) (next_is_later _ _ _ date.none date.boundary) in
     record {
-      stands = record { is_stamp = is_stamp; name_is = c.in-Ok.ensures.name; lies_ahead = ahead };
-      tried = record {
+      is_opened = record { is_stamp = is_stamp; name_is = c.in-Ok.ensures.name; later_boundary = ahead };
+      is_last_attempt = record {
         is_stamp = is_stamp;
         not_before = inl refl;
         boundary_is = date.value ∙ ap (λ r. next_of r c.in-Some.stamp.moment) c.rotation.ensures;
@@ -56,15 +56,15 @@ invariant_of-self-in-Err g c =
     let in_range = is_stamp.in_range in
     let small : FitsSigned w64 c.in-Some.stamp.moment = omega (arith, ints, in_range.0, in_range.1) in
     let date = simp to_z-of_z at c.next_date-self-inside.ensures in
-    let ahead : LiesAhead c.self.inside.setup.rotation c.in-Some.stamp.moment c.next_date-self-inside.result =
-    rw (← c.rotation.ensures) (next_lies_ahead _ _ _ date.none date.boundary) in
+    let ahead : IsLaterBoundary c.self.inside.setup.rotation c.in-Some.stamp.moment c.next_date-self-inside.result =
+    rw (← c.rotation.ensures) (next_is_later _ _ _ date.none date.boundary) in
     record {
-      stands = record {
-        is_stamp = c.self.invariant.stands.is_stamp;
-        name_is = c.self.invariant.stands.name_is;
-        lies_ahead = ahead_of_stamp _ _ _ _ later.later ahead;
+      is_opened = record {
+        is_stamp = c.self.invariant.is_opened.is_stamp;
+        name_is = c.self.invariant.is_opened.name_is;
+        later_boundary = ahead_of_stamp _ _ _ _ later.later ahead;
       };
-      tried = record {
+      is_last_attempt = record {
         is_stamp = is_stamp;
         not_before = inr later.later;
         boundary_is = date.value ∙ ap (λ r. next_of r c.in-Some.stamp.moment) c.rotation.ensures;
@@ -121,7 +121,7 @@ returns-in-Err g c =
       last = refl;
       boundary = rw (← c.self.view_is) (date.value ∙ ap (λ r. next_of r c.in-Some.stamp.moment) c.rotation.ensures);
       room = rw (← c.self.view_is) c.max_bytes-log-inside.ensures;
-      file = ap (λ (h : Held _ _). h.file) c.log.view_is;
+      file = ap (λ (h : OpenFile _ _). h.file) c.log.view_is;
       reason = c.in-Err.error;
       refused = c.open_next.new.folder;
       refuses = rw (← c.self.view_is, ← c.log.view_is) refused;

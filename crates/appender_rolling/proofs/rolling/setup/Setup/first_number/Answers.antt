@@ -1,6 +1,6 @@
 use Rattle.std.proofs.Common.{w64, FitsSigned, ◌≡◌, ◌∙◌, true, false, map, refl, ap, sym, arith, string_bytes}
 use Rattle.std.proofs.lemmas.Int.{to_z-of_z}
-use Rattle.appender_names.specs.Name.{Naming, last_by}
+use Rattle.appender_names.specs.Name.{Naming, greatest_number}
 use Rattle.appender_store.specs.Folder.{listed_row}
 use Rattle.appender_rolling.specs.Config.{naming_of, is_limited, last_of}
 use Rattle.appender_rolling.specs.Opening.{IsFirstNumber, IsListed}
@@ -14,7 +14,7 @@ returns-in-Ok g c =
     let fits : FitsSigned w64 c.args.moment = c.ranges.moment in
     let numbered : c.self.inside.names.numbered ≡ true = sym c.is_numbered.ensures ∙ c.if-not-is_numbered.false in
     let limited : is_limited c.args.self.now ≡ true = rw (← c.self.view_is) (sym c.self.invariant ∙ numbered) in
-    let last : last_of c.args.self.now ≡ 999999 = ap last_by limited in
+    let last : last_of c.args.self.now ≡ 999999 = ap greatest_number limited in
     let names : c.self.inside.names ≡ naming_of c.args.self.now = rw (← c.self.view_is) (named c.self.inside.names (string_bytes c.self.inside.link) c.self.inside.max_files c.self.inside.by_name c.self.inside.max_bytes c.self.invariant) in
     let found = simp to_z-of_z at c.first_number.ensures.value in
     let value : c.first_number.result ≡ first_of (naming_of c.args.self.now) c.args.moment (map listed_row c.in-Ok.listed.items) =
