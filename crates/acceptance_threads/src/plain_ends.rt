@@ -1,7 +1,9 @@
 // When the worker of plain senders ends, and how many lines its queue takes.
 use crate::expect::expect_eq;
 use acceptance_gate::{Gate, new_gate};
-use appender_non_blocking::non_blocking::{Closing, Host, NonBlocking, NonBlockingBuilder};
+use appender_non_blocking::non_blocking::{
+    Closing, Host, NonBlocking, NonBlockingBuilder, WorkerGuard,
+};
 use std::io::Write;
 use std::process::Abort;
 use std::sync::Wait;
@@ -29,6 +31,40 @@ impl<R: Host> Drop for Ending<R> {
         let mut gate = gate;
         let _ = gate.write(b"end").is_ok();
     }
+}
+
+// A queue and its guard, which a trait's method closes. So a type over any `Host` may do.
+struct Service<R: Host> {
+    lines: NonBlocking<R>,
+    guard: WorkerGuard<R>,
+}
+
+impl<R: Host> Drop for Service<R> {
+    fn drop(self) {
+        let Service { lines, guard } = self;
+        let mut lines = lines;
+        let _ = lines.write(b"closed").is_ok();
+        drop(lines);
+        let _ = guard.close();
+    }
+}
+
+fn open_service<R: Host, W: Write + Send + Drop + 'static>(
+    rt: R,
+    log: W,
+) -> io::Result<Service<R>> {
+    let (lines, guard) = NonBlockingBuilder::default().finish(rt, rt.alloc(), log)?;
+    Ok(Service { lines, guard })
+}
+
+#[test]
+fn a_trait_closes_a_guard(rt: HostRuntime) -> Result<(), Fail> {
+    let (gate, seen) = new_gate(rt, b"")?;
+    drop(open_service(rt, Ending { gate })?);
+    assert!(rt; seen.come(rt, 2));
+    assert!(rt; seen.has_at(&rt, 0, b"closed"));
+    assert!(rt; seen.has_at(&rt, 1, b"end"));
+    Ok(())
 }
 
 // Neither a dropped sender nor a guard that found no room keeps the worker from its end.

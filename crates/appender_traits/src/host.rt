@@ -1,4 +1,4 @@
-//! What a queue asks of the runtime of its program.
+//! What a queue and its guard ask of the runtime of their program.
 
 use std::sync::Wait;
 use std::thread::Threads;
@@ -19,3 +19,9 @@ pub trait Host: AllocGlobal
 
 impl<R: AllocGlobal + Threads + Wait + Clock + Print + Eprint + Copy + Send + Sync + 'static> Host
     for R {}
+
+/// The runtime that a guard keeps: waits, the clock, and standard output, to which a drop may print. Each `Host` is one.
+/// Methods of a guard ask no more, so that an `impl` of another trait may call them.
+pub trait GuardHost: Wait + Clock + Print + Drop {}
+
+impl<R: Wait + Clock + Print + Drop> GuardHost for R {}

@@ -26,14 +26,14 @@ use super::shared::Shared;
 use appender_channel::books::{Done, FourBooks};
 use appender_channel::state::Counted;
 use appender_queue::queue::Shut;
-use appender_traits::host::Host;
+use appender_traits::host::GuardHost;
 use std::alloc::Global;
 use std::fmt;
 use std::fmt::{Debug, Formatter};
 use std::marker::Model;
 use std::sync::ledger::{Blank, Ledger, Share};
 use std::sync::{Arc, Wait};
-use std::thread::JoinHandle;
+use std::thread::{JoinHandle, Threads};
 
 /// The four ledgers of an account, before they are opened. Make them by `Blanks::new`, and pass them to
 /// `finish_counted`. It opens each one: lines are then counted in its book, and senders, guard and worker get shares.
@@ -119,7 +119,7 @@ impl Account {
 /// The guard of counted senders, which are settled with it. It counts as a sender. Dropped, it does what
 /// a `WorkerGuard` does.
 #[must_use]
-pub struct CountedGuard<A: Ledger, H: Ledger, S: Ledger, C: Ledger, R: Host> {
+pub struct CountedGuard<A: Ledger, H: Ledger, S: Ledger, C: Ledger, R: GuardHost> {
     pub(super) rt: R,
     pub(super) shared: Arc<Shared<FourBooks<A, H, S, C>>, Global>,
     pub(super) counted: Counted,
@@ -133,7 +133,8 @@ pub struct CountedGuard<A: Ledger, H: Ledger, S: Ledger, C: Ledger, R: Host> {
     pub(super) worker: JoinHandle<Done<H, C>>,
 }
 
-impl<A: Ledger, H: Ledger, S: Ledger, C: Ledger, R: Host> Model for CountedGuard<A, H, S, C, R> {
+impl<A: Ledger, H: Ledger, S: Ledger, C: Ledger, R: GuardHost> Model
+    for CountedGuard<A, H, S, C, R> {
     ghost use Rattle.std.specs.Prelude.{◌≡◌};
     ghost use Rattle.appender_non_blocking.specs.Account.{Guard};
     ghost use Rattle.appender_channel.specs.Tally.{one_if};
@@ -158,14 +159,14 @@ pub struct Settled<H: Ledger> {
 
 /// Some senders are missing. The guard and the other senders are returned as they were.
 #[derive(Drop)]
-pub struct Unsettled<A: Ledger, H: Ledger, S: Ledger, C: Ledger, R: Host> {
+pub struct Unsettled<A: Ledger, H: Ledger, S: Ledger, C: Ledger, R: GuardHost> {
     /// The guard.
     pub guard: CountedGuard<A, H, S, C, R>,
     /// The senders that were not missing.
     pub senders: Vec<CountedSender<A, H, S, C, R>>,
 }
 
-impl<A: Ledger, H: Ledger, S: Ledger, C: Ledger, R: Host> CountedGuard<A, H, S, C, R> {
+impl<A: Ledger, H: Ledger, S: Ledger, C: Ledger, R: GuardHost> CountedGuard<A, H, S, C, R> {
     /// Tries once to send the shutdown: lines that are accepted later are left.
     pub fn shut(&mut self) -> Shut
         ensures { self.new ≡ guard_after_try self.old result }
@@ -192,7 +193,13 @@ impl<A: Ledger, H: Ledger, S: Ledger, C: Ledger, R: Host> CountedGuard<A, H, S, 
     }
 }
 
-impl<A: Ledger, H: Ledger, S: Ledger, C: Ledger, R: Host> CountedGuard<A, H, S, C, R> {
+impl<A: Ledger, H: Ledger, S: Ledger, C: Ledger, R: Threads + GuardHost> CountedGuard<
+    A,
+    H,
+    S,
+    C,
+    R,
+> {
     /// Ends all senders, waits for the worker's end, and returns the account of their lines. If senders
     /// are missing, all is given back and nothing has changed.
     pub fn settle(
@@ -281,7 +288,8 @@ fn end_all<A: Ledger, H: Ledger, S: Ledger, C: Ledger, R: Wait + Drop>(
     (all, dropped)
 }
 
-impl<A: Ledger, H: Ledger, S: Ledger, C: Ledger, R: Host> Drop for CountedGuard<A, H, S, C, R> {
+impl<A: Ledger, H: Ledger, S: Ledger, C: Ledger, R: GuardHost> Drop
+    for CountedGuard<A, H, S, C, R> {
     fn drop(self) {
         let CountedGuard {
             rt,
@@ -298,13 +306,14 @@ impl<A: Ledger, H: Ledger, S: Ledger, C: Ledger, R: Host> Drop for CountedGuard<
     }
 }
 
-impl<A: Ledger, H: Ledger, S: Ledger, C: Ledger, R: Host> Debug for CountedGuard<A, H, S, C, R> {
+impl<A: Ledger, H: Ledger, S: Ledger, C: Ledger, R: GuardHost> Debug
+    for CountedGuard<A, H, S, C, R> {
     fn fmt<W: fmt::Write>(&self, f: &mut Formatter<W>) -> fmt::Result {
         f.pad("CountedGuard { .. }")
     }
 }
 
-impl<A: Ledger, H: Ledger, S: Ledger, C: Ledger, R: Host> Debug for Unsettled<A, H, S, C, R> {
+impl<A: Ledger, H: Ledger, S: Ledger, C: Ledger, R: GuardHost> Debug for Unsettled<A, H, S, C, R> {
     fn fmt<W: fmt::Write>(&self, f: &mut Formatter<W>) -> fmt::Result {
         f.pad("Unsettled { .. }")
     }

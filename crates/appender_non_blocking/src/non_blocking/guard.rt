@@ -6,7 +6,7 @@ use appender_channel::books::{Books, NoBooks};
 use appender_channel::state::Counted;
 use appender_queue::queue::Shut;
 use appender_sync::Backoff;
-use appender_traits::host::Host;
+use appender_traits::host::GuardHost;
 use std::alloc::Global;
 use std::fmt;
 use std::fmt::{Debug, Formatter};
@@ -62,13 +62,13 @@ pub enum Closing {
 /// }
 /// ```
 #[must_use]
-pub struct WorkerGuard<R: Host> {
+pub struct WorkerGuard<R: GuardHost> {
     rt: R,
     shared: Arc<Shared<NoBooks>, Global>,
     counted: Counted,
 }
 
-impl<R: Host> WorkerGuard<R> {
+impl<R: GuardHost> WorkerGuard<R> {
     pub(super) fn new(rt: R, shared: Arc<Shared<NoBooks>, Global>) -> WorkerGuard<R> {
         let counted = shared.add_sender(&rt);
         WorkerGuard {
@@ -91,7 +91,7 @@ impl<R: Host> WorkerGuard<R> {
     }
 }
 
-impl<R: Host> Drop for WorkerGuard<R> {
+impl<R: GuardHost> Drop for WorkerGuard<R> {
     fn drop(self) {
         let WorkerGuard {
             rt,
@@ -102,7 +102,7 @@ impl<R: Host> Drop for WorkerGuard<R> {
     }
 }
 
-impl<R: Host> Debug for WorkerGuard<R> {
+impl<R: GuardHost> Debug for WorkerGuard<R> {
     fn fmt<W: fmt::Write>(&self, f: &mut Formatter<W>) -> fmt::Result {
         f.pad("WorkerGuard { .. }")
     }
