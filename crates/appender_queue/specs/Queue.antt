@@ -122,14 +122,23 @@ has_line q = nat_lt q.handed q.accepted && is_before q.shutdown q.handed
 abbrev pub after_closing : Queue → Queue
 after_closing q = record q { lines = []; closed = true; worker_waits = false }
 
+-- what a take finds: a closed queue, else a line, else the shutdown, else that no sender is left, else nothing
+abbrev pub take_case : {A : Type 0} → Queue → A → A → A → A → A → A
+take_case q closed line shutdown no_sender nothing =
+    if q.closed then closed
+    else if has_line q then line
+    else if is_sent q.shutdown then shutdown
+    else if q.senders == 0 then no_sender
+    else nothing
+
 -- the queue after a take
 abbrev pub after_take : Queue → Bool → Queue
-after_take q waits =
-    if q.closed then record q { worker_waits = false }
-    else if has_line q then record q { lines = drop 1 q.lines; handed = q.handed + 1; worker_waits = false }
-    else if is_sent q.shutdown then after_closing q
-    else if q.senders == 0 then after_closing q
-    else record q { worker_waits = waits }
+after_take q waits = take_case q
+    (record q { worker_waits = false })
+    (record q { lines = drop 1 q.lines; handed = q.handed + 1; worker_waits = false })
+    (after_closing q)
+    (after_closing q)
+    (record q { worker_waits = waits })
 
 -- how many accepted lines wait for the worker
 abbrev pub queued_of : Queue → ℕ

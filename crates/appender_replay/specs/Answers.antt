@@ -1,10 +1,10 @@
 -- The reply to each step of a run of queue, worker and roller, given the steps before it, what it does to the roller, and
 -- how the run reads as a history of the files.
-use Rattle.std.specs.Prelude.{◌≡◌, ◌≢◌, ◌⊎◌, ℕ, ◌+◌, ◌≤◌, ◌==◌, List, [], ◌∷◌, ◌++◌, Bool, if◌then◌else◌, length, take, Result, Some, None}
+use Rattle.std.specs.Prelude.{◌≡◌, ◌≢◌, ◌⊎◌, ℕ, ◌+◌, ◌≤◌, List, [], ◌∷◌, ◌++◌, Bool, if◌then◌else◌, length, take, Result, Some, None}
 use Rattle.std.specs.declared.io.Error.{Error}
 use Rattle.std.specs.declared.io.ErrorKind.{ErrorKind}
 use Rattle.appender_worker.specs.Core.{Core, Taking, Writing, Flushing, Ending, Over}
-use Rattle.appender_queue.specs.Queue.{Queue, is_open, has_room, is_sent, has_line, saturating_next, one_less}
+use Rattle.appender_queue.specs.Queue.{Queue, is_open, has_room, take_case, saturating_next, one_less}
 use Rattle.appender_queue.specs.QueueReplies.{shut_reply}
 use Rattle.appender_store.specs.declared.store.Folder.{Ghosts}
 use Rattle.appender_replay.specs.Record.{StepWithReply, queue_after, worker_after}
@@ -31,15 +31,9 @@ IsWorkerFlush reply P = ⊥
 abbrev pub run_offer_reply : Queue → Reply
 run_offer_reply q = if is_open q then (if has_room q then Accepted (q.accepted + 1) else Full) else Closed
 
--- The reply to a take: the first accepted line that was not handed, if it is before the shutdown; else the shutdown; else, with no
--- sender left, that; else that nothing is there.
+-- the reply to a take: a line is the first accepted one that was not handed
 abbrev pub run_take_reply : Queue → Reply
-run_take_reply q =
-    if q.closed then TookGone
-    else if has_line q then Took (q.handed + 1)
-    else if is_sent q.shutdown then TookShutdown
-    else if q.senders == 0 then TookGone
-    else TookEmpty
+run_take_reply q = take_case q TookGone (Took (q.handed + 1)) TookShutdown TookGone TookEmpty
 
 -- The reply to the worker's step: it does the one thing that it wants next.
 abbrev pub IsWorkReply : Queue → Core → Reply → Type 0

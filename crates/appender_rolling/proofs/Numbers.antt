@@ -1,6 +1,6 @@
 -- The number of the first file: of a listing, and so of the folder's names.
 use Rattle.std.proofs.Common.{◌≡◌, ◌∙◌, ◌⊎◌, inl, inr, ℕ, zero, suc, ◌+◌, ◌<◌, ◌≤◌, ℤ, Bool, true, false, if◌then◌else◌, List, [], ◌∷◌, map, Option, None, Some, refl, sym, ap, subst, arith, lit≤}
-use Rattle.std.specs.Prelude.{nat_lt, unwrap_or}
+use Rattle.std.specs.Prelude.{nat_lt, max, unwrap_or}
 use Rattle.std.specs.FinMap as fin
 use Rattle.std.specs.Cmp.Lexicographic.{nat_list_cmp_total}
 use Rattle.std.proofs.lemmas.Bool.Decides.{nat_tests}
@@ -17,7 +17,7 @@ use Rattle.appender_retain.proofs.Elements.{Contains_later, Contains_map, map_Co
 use Rattle.appender_retain.proofs.Entries.{entry_there, there_entry}
 use Rattle.appender_retain.proofs.Listing.{row_name}
 use Rattle.appender_rolling.specs.Opening.{IsFirstNumber, IsListed, HasEntry}
-use Rattle.appender_rolling.specs.Inside.Numbers.{number_after_row, greater_of, first_number}
+use Rattle.appender_rolling.specs.Inside.Numbers.{number_after_row, first_number}
 
 some_is : {X : Type 0} (x y : X) → ◌≡◌ {A = Option X} (Some x) (Some y) → x ≡ y
 some_is x y e = ap (λ (o : Option _). unwrap_or o x) e
@@ -89,13 +89,14 @@ module _ (n : Naming) (m : ℤ) where
       by (Some key) e = rw e (within key e (is_in_period n.rotation m key.0) (nat_lt key.1 999999) refl refl)
 
   -- of names of two kinds it is the greater of theirs
-  joined : (P Q : List ℕ → Type 0) (a b : ℕ) → IsFirstNumber n m P a → IsFirstNumber n m Q b → IsFirstNumber n m (λ name. P name ⊎ Q name) (greater_of a b)
+  joined : (P Q : List ℕ → Type 0) (a b : ℕ) → IsFirstNumber n m P a → IsFirstNumber n m Q b → IsFirstNumber n m (λ name. P name ⊎ Q name) (max a b)
   joined P Q a b first second = by (nat_lt a b) refl
     where
-      by : (t : Bool) → nat_lt a b ≡ t → IsFirstNumber n m (λ name. P name ⊎ Q name) (if t then b else a)
+      by : (t : Bool) → nat_lt a b ≡ t → IsFirstNumber n m (λ name. P name ⊎ Q name) (max a b)
       by true e =
           let less : a < b = grind (arith, nat_tests) in
-          record {
+          let greatest : max a b ≡ b = omega (arith, less) in
+          rw greatest (record {
             at_most = second.at_most;
             above = λ name k there has. elim there [
               | inl p ↦ elim (first.above name k p has) [
@@ -108,10 +109,11 @@ module _ (n : Naming) (m : ℤ) where
               | inl none ↦ absurd (omega (arith, less, none))
               | inr (name, k, there, has, next) ↦ inr (name, k, inr there, has, next)
             ];
-          }
+          })
       by false e =
           let less : b ≤ a = grind (arith, nat_tests) in
-          record {
+          let greatest : max a b ≡ a = omega (arith, less) in
+          rw greatest (record {
             at_most = first.at_most;
             above = λ name k there has. elim there [
               | inl p ↦ first.above name k p has
@@ -124,7 +126,7 @@ module _ (n : Naming) (m : ℤ) where
               | inl none ↦ inl none
               | inr (name, k, there, has, next) ↦ inr (name, k, inl there, has, next)
             ];
-          }
+          })
 
   -- of a listing
   pub of_listing : (rows : List Row) → IsFirstNumber n m (IsListed rows) (first_number n m rows)

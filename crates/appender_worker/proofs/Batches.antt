@@ -13,7 +13,7 @@ use Rattle.appender_worker.specs.Batch.{Batch, IsWithin, saturating_sum, WritesP
 use Rattle.appender_worker.specs.Parts.{Part, part, line_of, written_of, is_whole, is_cut}
 use Rattle.appender_worker.specs.Tries.{write_try, is_failed, FailWithin}
 use Rattle.appender_worker.proofs.Asking.{asked_join, asked_one, fail_join}
-use Rattle.appender_worker.specs.Counting.{one_more}
+use Rattle.appender_queue.specs.Queue.{saturating_next}
 use Rattle.appender_worker.specs.Inside.Gathered.{WritesLine}
 use Rattle.appender_worker.proofs.Gathered.{more_more}
 
@@ -95,7 +95,7 @@ loses_alone contents tries line old mid new w failed l = record {
 
 -- a line by itself that was cut
 pub cuts_line : {W : Type 0} (contents : W → Option (List ℕ)) (tries : W → List ℕ → ℕ → W → Type 0) (line : List ℕ) (n : ℕ) (old new : Batch W) → n < length line → Appends (contents old.writer) (contents new.writer) (take n line)
-    → tries old.writer line n new.writer → new.waiting ≡ [] → new.taken ≡ old.taken → new.lost ≡ one_more old.lost → new.capacity ≡ old.capacity → WritesLine contents tries line n old new
+    → tries old.writer line n new.writer → new.waiting ≡ [] → new.taken ≡ old.taken → new.lost ≡ saturating_next old.lost → new.capacity ≡ old.capacity → WritesLine contents tries line n old new
 cuts_line contents tries line n old new few bytes asks none taken lost capacity =
     let cut : is_whole (part line n) ≡ false = grind (arith, nat_tests, few) in
     let no_whole : count_by is_whole (part line n ∷ []) ≡ 0 = ap (λ b. 0 + cond b 1 0) cut in
@@ -120,7 +120,7 @@ cuts_line contents tries line n old new few bytes asks none taken lost capacity 
 
 -- a line by itself that was taken whole
 pub takes_line : {W : Type 0} (contents : W → Option (List ℕ)) (tries : W → List ℕ → ℕ → W → Type 0) (line : List ℕ) (old new : Batch W) → Appends (contents old.writer) (contents new.writer) line
-    → tries old.writer line (length line) new.writer → new.waiting ≡ [] → new.taken ≡ one_more old.taken → new.lost ≡ old.lost → new.capacity ≡ old.capacity
+    → tries old.writer line (length line) new.writer → new.waiting ≡ [] → new.taken ≡ saturating_next old.taken → new.lost ≡ old.lost → new.capacity ≡ old.capacity
     → WritesLine contents tries line (length line) old new
 takes_line contents tries line old new bytes asks none taken lost capacity =
     let whole : is_whole (part line (length line)) ≡ true = grind (arith, nat_tests) in

@@ -11,7 +11,7 @@ use Rattle.std.proofs.lemmas.Bool.Decides.{nat_tests}
 use Rattle.appender_worker.specs.Batch.{saturating_sum}
 use Rattle.appender_worker.specs.Parts.{Part, part, line_of, written_of, is_whole, is_cut}
 use Rattle.appender_worker.specs.Tries.{WriteTry, write_try, is_failed, TriesWrites, FailsWithin, FailWithin}
-use Rattle.appender_worker.specs.Counting.{one_more}
+use Rattle.appender_queue.specs.Queue.{saturating_next}
 use Rattle.appender_worker.specs.Inside.Gathered.{lines_of_lengths}
 use Rattle.appender_worker.proofs.Asking.{asked_join, asked_one, fail_join}
 
@@ -316,4 +316,4 @@ more_is n (suc k) small = omega (arith, more_is n k small, small)
 -- .. and in two steps
 pub more_more : (n j k : ℕ) → saturating_sum (saturating_sum n j) k ≡ saturating_sum n (j + k)
 more_more n j zero = ap (λ m. saturating_sum n m) (sym (add-zero j))
-more_more n j (suc k) = ap one_more (more_more n j k) ∙ ap (λ m. saturating_sum n m) (sym (add-suc j k))
+more_more n j (suc k) = ap saturating_next (more_more n j k) ∙ ap (λ m. saturating_sum n m) (sym (add-suc j k))

@@ -2,7 +2,7 @@
 use Rattle.std.specs.Prelude.{◌≡◌, ℕ, zero, suc, ◌+◌, ◌<◌, ◌≤◌, List, [], ◌∷◌, ◌++◌, Bool, true, false, ◌||◌, Option, Result, OnOk, nat_lt, length, map, flat_map, sum_by, count_by, filter}
 use Rattle.std.specs.Io.KnownBytes.{Appends, Keeps}
 use Rattle.std.specs.declared.io.Error.{Error}
-use Rattle.appender_worker.specs.Counting.{one_more}
+use Rattle.appender_queue.specs.Queue.{saturating_next}
 use Rattle.appender_worker.specs.Parts.{Part, part, line_of, written_of, is_whole, is_cut}
 use Rattle.appender_worker.specs.Tries.{WriteTry, is_failed, TriesWrites, FailWithin}
 
@@ -37,7 +37,7 @@ pub record HasRoomFor {W : Type 0} (b : Batch W) (n : ℕ) : Type 0 where
 -- the sum of two counts, up to the greatest count
 abbrev pub saturating_sum : ℕ → ℕ → ℕ
 saturating_sum n zero = n
-saturating_sum n (suc added) = one_more (saturating_sum n added)
+saturating_sum n (suc added) = saturating_next (saturating_sum n added)
 
 -- Of these lines the first were written, in order: each up to the place in its part, and each was counted. The others wait. Each line
 -- that was not written whole had a write of its own that failed within it, so the lines after it were tried.

@@ -5,7 +5,7 @@ use Rattle.http.specs.declared.request.Request.{Request}
 use Rattle.http.specs.Request.{head_of}
 use Rattle.http.specs.Uri.{uri_text}
 use Rattle.http_server.specs.declared.response.Response.{Response}
-use Rattle.tracing_appender.specs.Counting.{one_more}
+use Rattle.tracing_appender.specs.Queue.{saturating_next}
 
 -- the service, its log, and the number of lines that the log did not take whole
 pub record Logged (S W : Type 0) : Type 0 where
@@ -32,4 +32,4 @@ IsWritten contents line old new whole =
 pub record WritesLogLine {S W : Type 0} (contents : W → Option (List ℕ)) (line : List ℕ) (old new : Logged S W) : Type 0 where
   pub whole : Bool
   pub written : IsWritten contents line old.log new.log whole
-  pub lost : new.lost ≡ (if whole then old.lost else one_more old.lost)
+  pub lost : new.lost ≡ (if whole then old.lost else saturating_next old.lost)

@@ -1,8 +1,8 @@
 -- What one step does to queue, worker and roller, by the contracts of the three.
-use Rattle.std.specs.Prelude.{◌≡◌, ◌≢◌, ◌⊎◌, ℕ, ℤ, ◌==◌, List, [], if◌then◌else◌, Result, Ok, Err, slice_index_or}
+use Rattle.std.specs.Prelude.{◌≡◌, ◌≢◌, ◌⊎◌, ℕ, ℤ, List, [], Result, Ok, Err, slice_index_or}
 use Rattle.std.specs.declared.io.Error.{Error}
 use Rattle.appender_worker.specs.Core.{Core, Taking, Writing, Over, Found, Line, Last, Nothing, after_took, after_wrote, after_flushed}
-use Rattle.appender_queue.specs.Queue.{Queue, is_sent, has_line, saturating_next, one_less, after_offer, after_shut, after_take}
+use Rattle.appender_queue.specs.Queue.{Queue, take_case, saturating_next, one_less, after_offer, after_shut, after_take}
 use Rattle.appender_queue.specs.QueueReplies.{shut_reply}
 use Rattle.appender_queue.specs.declared.queue.Refused.{Refused}
 use Rattle.appender_queue.specs.declared.queue.Refused.TheVariants.{Full as RefusedFull, Closed as RefusedClosed}
@@ -31,12 +31,7 @@ taken_reply TakenEmpty = TookEmpty
 
 -- what the worker sees of the reply to a take
 abbrev pub take_finds : Queue → Found
-take_finds q =
-    if q.closed then Last
-    else if has_line q then Line (slice_index_or q.lines 0 [])
-    else if is_sent q.shutdown then Last
-    else if q.senders == 0 then Last
-    else Nothing
+take_finds q = take_case q Last (Line (slice_index_or q.lines 0 [])) Last Last Nothing
 
 -- queue, worker and roller of a run
 pub record Parts (S F : Type 0) : Type 0 where

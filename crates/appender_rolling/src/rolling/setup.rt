@@ -3,7 +3,7 @@ ghost use Rattle.std.specs.Prelude.{◌≡◌, ◌↔◌, ◌≤◌, true, ℤ, 
 ghost use Rattle.appender_names.specs.Rotation.{IsMoment};
 ghost use Rattle.appender_names.specs.Name.{reading_at};
 ghost use Rattle.appender_store.specs.Folder.{listed_row};
-ghost use Rattle.appender_rolling.specs.Inside.Numbers.{greater_of, number_after as after_of, number_after_row as behind_of, first_number as first_of};
+ghost use Rattle.appender_rolling.specs.Inside.Numbers.{number_after as after_of, number_after_row, first_number as first_of};
 ghost use Rattle.appender_rolling.specs.Opening.{OpensNamedFile, FailsToOpen, ReplacesLink, FailsToReplaceLink};
 
 use super::{Builder, InitError, NameFault};
@@ -261,16 +261,16 @@ fn first_number(names: &Names, moment: i64, listed: &[Listed]) -> u32
 {
     let mut first = 0;
     for entry in listed {
-        first = greater(first, number_behind(names, moment, entry));
+        first = first.max(number_after_entry(names, moment, entry));
     }
     first
 }
 
 // The number after that of a listed name, if it is one of the moment's period; else 0.
-fn number_behind(names: &Names, moment: i64, entry: &Listed) -> u32
+fn number_after_entry(names: &Names, moment: i64, entry: &Listed) -> u32
     requires moment { IsMoment moment }
     requires numbered { names.now.numbered ≡ true }
-    ensures value { result ≡ behind_of names.now moment (listed_row entry.now) }
+    ensures value { result ≡ number_after_row names.now moment (listed_row entry.now) }
     ensures bound { result ≤ 999_999 }
 {
     match read_entry(names, entry) {
@@ -301,12 +301,6 @@ fn read_entry(names: &Names, entry: &Listed) -> Option<(i64, u32)>
         result ≡ option_and_then (reading_at names.now) (listed_row entry.now).0 }
 {
     names.read_numbered(entry.name.as_ref()?.as_str())
-}
-
-fn greater(a: u32, b: u32) -> u32
-    ensures { result ≡ greater_of a b }
-{
-    if a < b { b } else { a }
 }
 
 // Opens the file of this name. If that is refused, makes the folder and opens it again.

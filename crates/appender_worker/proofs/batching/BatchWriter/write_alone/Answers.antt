@@ -1,7 +1,7 @@
 use Rattle.std.proofs.Common.{◌∙◌, ap, sym, subst, refl, take, length}
 use Rattle.std.specs.Io.KnownBytes.{Appends}
 use Rattle.appender_worker.specs.Batch.{Batch}
-use Rattle.appender_worker.specs.Counting.{one_more}
+use Rattle.appender_queue.specs.Queue.{saturating_next}
 use Rattle.appender_worker.proofs.Batches.{cuts_line, takes_line, or_false}
 use Rattle.appender_worker.proofs.batching.BatchWriter.write_alone.Goals as goal
 
@@ -23,7 +23,7 @@ returns-in-Err-clause-cut g c =
       cuts_line contents tries line n c.args.self.now c.count-in-Err.new.self c.in-Err.ensures.fault.0 bytes asks
           (ap (λ (b : Batch _). b.waiting) counted ∙ ap (λ (b : Batch _). b.waiting) c.self.view_is ∙ c.requires)
           (ap (λ (b : Batch _). b.taken) counted ∙ ap (λ (b : Batch _). b.taken) c.self.view_is)
-          (ap (λ (b : Batch _). b.lost) counted ∙ ap (λ (b : Batch _). one_more b.lost) c.self.view_is)
+          (ap (λ (b : Batch _). b.lost) counted ∙ ap (λ (b : Batch _). saturating_next b.lost) c.self.view_is)
           (ap (λ (b : Batch _). b.capacity) counted ∙ ap (λ (b : Batch _). b.capacity) c.self.view_is),
     )
 
@@ -43,7 +43,7 @@ returns-in-Ok-clause-ok g c =
       ap (λ (b : Batch _). b.failed) counted ∙ sym (or_false _) ∙ ap (λ (b : Batch _). b.failed) c.self.view_is,
       takes_line contents tries line c.args.self.now c.count.new.self bytes asks
           (ap (λ (b : Batch _). b.waiting) counted ∙ ap (λ (b : Batch _). b.waiting) c.self.view_is ∙ c.requires)
-          (ap (λ (b : Batch _). b.taken) counted ∙ ap (λ (b : Batch _). one_more b.taken) c.self.view_is)
+          (ap (λ (b : Batch _). b.taken) counted ∙ ap (λ (b : Batch _). saturating_next b.taken) c.self.view_is)
           (ap (λ (b : Batch _). b.lost) counted ∙ ap (λ (b : Batch _). b.lost) c.self.view_is)
           (ap (λ (b : Batch _). b.capacity) counted ∙ ap (λ (b : Batch _). b.capacity) c.self.view_is),
     )
