@@ -1,6 +1,7 @@
 #!/usr/bin/env bash
-# Copies a small library, and this one, into other repositories by `add-to`, and compares what is there then. Each check
-# that fails prints a line, and the last line is `N passed, M failed`. It ends within seconds and leaves nothing.
+# Copies a small library, and this one, into other repositories by `add-to`, and compares what is there then. The examples
+# of the pages are compiled and run there. Each check that fails prints a line, and the last line is `N passed, M failed`. It
+# ends within minutes and leaves nothing.
 set -u
 export LC_ALL=C
 unset GIT_DIR GIT_WORK_TREE GIT_INDEX_FILE
@@ -190,6 +191,36 @@ check 'this library: its version is a number' 1 "$(version version "$whole" | gr
 for name in $(ls "$whole/crates"); do
   check "this library: $name" '' \
     "$(diff -r -x out -x must-fail -x LICENSE -x VERSION "$top/crates/$name" "$whole/crates/$name" 2>&1)"
+done
+
+# ---- the examples of README and CALLING, each in a crate of its own there
+
+mkdir "$work/examples"
+awk -v folder="$work/examples" '
+  /^```rust$/ { file = folder "/example_" ++count ".rt"; next }
+  /^```$/ { file = "" }
+  file { print > file }
+' "$top/README.md" "$top/docs/CALLING.md"
+check 'the pages have examples' 8 "$(ls "$work/examples" | wc -l)"
+for file in "$work"/examples/*; do
+  name=$(basename "$file" .rt)
+  source=$whole/crates/$name/src
+  mkdir -p "$source"
+  echo "$name: appender_log appender_names log tracing_appender" >> "$whole/crates.txt"
+  how=(--test)
+  if grep -q '^fn main' "$file"; then
+    how=()
+    sed '1i #![tactic(auto)]' "$file" > "$source/main.rt"
+  elif grep -q '^use crate::log_start;' "$file"; then
+    cp "$file" "$source/tests.rt"
+    printf '%s\n' '#![tactic(auto)]' 'use std::io;' 'use std::io::Write;' '#[cfg(test)]' 'mod tests;' \
+      'pub fn log_start<W: Write>(log: &mut W, name: &str) -> io::Result<()> {' '    writeln!(log, "started {name}")' '}' \
+      > "$source/lib.rt"
+  else
+    { sed '1i #![tactic(auto)]' "$file"; printf '%s\n' '#[test]' 'fn compiles(_rt: HostRuntime) {}'; } > "$source/lib.rt"
+  fi
+  check "$name of the pages" '0 ended' \
+    "$(cd "$whole/crates/$name" && rt try "${how[@]}" > "$work/out" 2> "$work/err"; echo "$? $(sed -n 's/^run=\([a-z]*\) status=0 .*/\1/p' "$work/out" "$work/err")")"
 done
 
 echo "$passed passed, $failed failed"

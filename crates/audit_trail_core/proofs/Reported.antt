@@ -1,6 +1,8 @@
 -- The reports on the errors, and their statuses.
-use Rattle.std.proofs.Common.{◌≡◌, ◌⊎◌, ◌∙◌, ℕ, ◌≤◌, List, Option, None, Some, inl, inr, refl, sym, subst, arith}
+use Rattle.std.proofs.Common.{◌≡◌, ◌⊎◌, ◌∙◌, ℕ, ◌<◌, ◌≤◌, Bool, true, false, List, Option, None, Some, inl, inr, refl, sym, subst, arith}
+use Rattle.std.specs.Prelude.{max, nat_lt}
 use Rattle.std.specs.Io.KnownBytes.{Appends, Keeps}
+use Rattle.std.proofs.lemmas.Bool.Decides.{nat_tests}
 use Rattle.audit_trail_core.specs.Fault.{account_text, trail_status, ReportsTrailStatus}
 use Rattle.audit_trail_core.specs.declared.trail.Fault.{Fault}
 use Rattle.audit_trail_core.specs.declared.trail.Fault.TheVariants.{Usage, Unknown, Option as WrongOption, Argument, Open, Read, Write, Cut, Lost, Gone, Unsynced, Locked, Own, Account, Thread, Memory}
@@ -42,14 +44,19 @@ pub reported_fault : (fault : Fault) (status : ℕ) (a b : Option (List ℕ)) �
 reported_fault fault status a b is = record { status_is = inr (fault, is); silent = λ none. absurd (some_status fault (sym is ∙ none)) }
 
 -- one after the other, and the greater status
-pub reported_both : (s t r : ℕ) (a b d : Option (List ℕ)) → (r ≡ s) ⊎ (r ≡ t) → s ≤ r → t ≤ r → ReportsTrailStatus s a b → ReportsTrailStatus t b d → ReportsTrailStatus r a d
-reported_both s t r a b d one first second before after = record {
-  status_is = elim one [
-    | inl same ↦ subst (λ n. (n ≡ 0) ⊎ ((fault : Fault) × (n ≡ trail_status fault))) (sym same) before.status_is
-    | inr same ↦ subst (λ n. (n ≡ 0) ⊎ ((fault : Fault) × (n ≡ trail_status fault))) (sym same) after.status_is
-  ];
-  silent = λ none. keeps_twice a b d (before.silent (omega (arith, first, none))) (after.silent (omega (arith, second, none)));
+pub reported_both : (s t r : ℕ) (a b d : Option (List ℕ)) → r ≡ max s t → ReportsTrailStatus s a b → ReportsTrailStatus t b d → ReportsTrailStatus r a d
+reported_both s t r a b d is before after = record {
+  status_is = one (nat_lt s t) refl;
+  silent = λ none. keeps_twice a b d (before.silent (omega (arith, is, none))) (after.silent (omega (arith, is, none)));
 }
+  where
+    one : (less : Bool) → nat_lt s t ≡ less → (r ≡ 0) ⊎ ((fault : Fault) × (r ≡ trail_status fault))
+    one true e =
+        let less : s < t = grind (arith, nat_tests) in
+        subst (λ n. (n ≡ 0) ⊎ ((fault : Fault) × (n ≡ trail_status fault))) (omega (arith, is, less)) after.status_is
+    one false e =
+        let less : t ≤ s = grind (arith, nat_tests) in
+        subst (λ n. (n ≡ 0) ⊎ ((fault : Fault) × (n ≡ trail_status fault))) (omega (arith, is, less)) before.status_is
 
 -- all lines of an account were handed to the log
 pub all_handed : (old new : Option (List ℕ)) (accepted handed left dropped : ℕ) → handed ≡ accepted → left ≡ 0 → dropped ≡ 0

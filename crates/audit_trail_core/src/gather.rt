@@ -99,7 +99,7 @@ pub fn keep_all<R: Host, T: Trails, O: Write, E: Write>(
         Ok((log, counts)) => {
             let (sources, unopened) = open_sources(rt.alloc(), trails, &log, paths, errors);
             let ended = keep_sources(rt, log, sources, &counts, output, errors);
-            greater(unopened, ended)
+            unopened.max(ended)
         }
         Err(fault) => report_fault(&fault, errors),
     }
@@ -154,15 +154,7 @@ fn report_gathered<I: Drop, O: Write, E: Write>(
     let lost = report_lost(lost, errors);
     let files = report_files(counts, errors);
     let reported = print_account(account, output, errors);
-    greater(greater(ended, lost), greater(files, reported))
-}
-
-fn greater(one: u8, other: u8) -> u8
-    ensures either { (result ≡ one) ⊎ (result ≡ other) }
-    ensures first { one ≤ result }
-    ensures second { other ≤ result }
-{
-    if one < other { other } else { one }
+    ended.max(lost).max(files.max(reported))
 }
 
 // Gathers the lines of the sources, and returns also how many the log did not take whole. Each is written by itself: the
@@ -198,7 +190,7 @@ fn report_files<E: Write>(counts: &FileCounts, errors: &mut E) -> u8
 {
     let gone = report_gone(counts.gone(), errors);
     let unsynced = report_unsynced(counts.unsynced(), errors);
-    greater(gone, unsynced)
+    gone.max(unsynced)
 }
 
 // Reports the number of log files that were not found again, if there are any, and returns the status of that.
@@ -257,10 +249,10 @@ fn open_sources<'a, T: Trails, E: Write>(
         paths: Vec::new(alloc),
         inputs: Vec::new(alloc),
     };
-    let mut status = 0;
+    let mut status = 0u8;
     for path in paths {
         let reported = open_or_report(trails, log, path.as_str(), &mut sources, errors);
-        status = greater(status, reported);
+        status = status.max(reported);
     }
     (sources, status)
 }
@@ -296,10 +288,10 @@ fn open_one<'a, T: Trails>(
 fn report_ends<I: Drop, E: Write>(paths: Vec<&str>, sent: Vec<Sending<I>>, errors: &mut E) -> u8
     ensures { ReportsTrailStatus result (E.contents errors.old) (E.contents errors.new) }
 {
-    let mut status = 0;
+    let mut status = 0u8;
     for (path, sent) in paths.into_iter().zip(sent) {
         let reported = report_end(path, sent.ended, errors);
-        status = greater(status, reported);
+        status = status.max(reported);
     }
     status
 }

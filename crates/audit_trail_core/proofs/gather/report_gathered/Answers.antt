@@ -4,9 +4,9 @@ use Rattle.audit_trail_core.proofs.gather.report_gathered.Goals as goal
 
 pub returns-clause-reported : goal.returns-clause-reported
 returns-clause-reported g c =
-    let lines = reported_both _ _ _ _ _ _ c.greater.ensures.either c.greater.ensures.first c.greater.ensures.second c.report_ends-ended.ensures c.report_lost-lost.ensures.reported in
-    let files = reported_both _ _ _ _ _ _ c.greater-2.ensures.either c.greater-2.ensures.first c.greater-2.ensures.second c.report_files-files.ensures c.print_account-reported.ensures.reported in
-    reported_both _ _ _ _ _ _ c.greater-3.ensures.either c.greater-3.ensures.first c.greater-3.ensures.second lines files
+    let lines = reported_both _ _ _ _ _ _ c.max.ensures c.report_ends-ended.ensures c.report_lost-lost.ensures.reported in
+    let files = reported_both _ _ _ _ _ _ c.max-2.ensures c.report_files-files.ensures c.print_account-reported.ensures.reported in
+    reported_both _ _ _ _ _ _ c.max-3.ensures lines files
 
 pub returns-clause-printed : goal.returns-clause-printed
-returns-clause-printed g c none = c.print_account-reported.ensures.printed (omega (arith, none, c.greater-3.ensures.second, c.greater-2.ensures.second))
+returns-clause-printed g c none = c.print_account-reported.ensures.printed (omega (arith, none, c.max-3.ensures, c.max-2.ensures))
