@@ -33,7 +33,7 @@ static TEXTS: [(Losses, &str); 7] = [
             unwritten: 4,
             is_open: true,
         },
-        "records lost: 1; lines dropped: 2; lines left: 3; lines not written whole: 4; the worker did not end",
+        "the worker did not end; records lost: 1; lines dropped: 2; lines left: 3; lines not written whole: 4",
     ),
 ];
 

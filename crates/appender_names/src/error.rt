@@ -11,7 +11,7 @@ use thiserror::Error;
 /// Why an appender cannot be opened.
 #[derive(Debug, Drop, Error)]
 pub enum InitError {
-    /// The folder was absent and could not be made.
+    /// There is no folder at the path, and none could be made.
     #[error("failed to create log directory: {0}")]
     Directory(io::Error),
     /// The log file could not be opened.

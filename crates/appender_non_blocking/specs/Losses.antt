@@ -8,7 +8,7 @@ use Rattle.appender_non_blocking.specs.declared.non_blocking.guard.Closing.TheVa
 abbrev pub no_losses : Losses
 no_losses = record { records = 0; dropped = 0; left = 0; unwritten = 0; is_open = false }
 
--- what a guard that was closed tells
+-- what was lost by the result of closing a guard
 abbrev pub losses_at : Closing → Losses
 losses_at (Done left) = record no_losses { left = left }
 losses_at Ended = no_losses

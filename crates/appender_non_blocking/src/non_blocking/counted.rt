@@ -78,7 +78,7 @@ impl<A: Ledger, H: Ledger, S: Ledger, C: Ledger, R: Wait + Drop> CountedSender<A
         }
     }
 
-    /// Queues a copy of the bytes as one line, which may be empty, and returns its ticket. If the queue is
+    /// Queues a copy of the bytes as one line, which may be empty, and returns its ticket. It adds no newline. If the queue is
     /// full or closed, a lossy sender drops the line and returns `Dropped`. Otherwise the call waits for
     /// room, and returns an error of the kind `Other` if the queue is closed. `OutOfMemory` if there is no
     /// memory for the copy. After an error nothing was queued or counted.

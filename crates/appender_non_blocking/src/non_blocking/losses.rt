@@ -113,21 +113,23 @@ impl From<Closing> for Losses {
     }
 }
 
-/// Each count that isn't 0, as `records lost: 1; lines left: 2`, and `nothing lost` if there is none.
+/// Whether the worker did not end, and each count that isn't 0, as `the worker did not end; lines dropped: 2`. `nothing lost`
+/// if there is none.
 impl Display for Losses {
     fn fmt<W: fmt::Write>(&self, f: &mut Formatter<W>) -> fmt::Result {
         if self.is_none() {
             return f.write_str("nothing lost");
         }
         let mut separator = "";
+        if self.is_open {
+            f.write_str("the worker did not end")?;
+            separator = "; ";
+        }
         for (words, count) in self.counts() {
             if count > 0 {
                 write!(f, "{separator}{words}: {count}")?;
                 separator = "; ";
             }
-        }
-        if self.is_open {
-            write!(f, "{separator}the worker did not end")?;
         }
         Ok(())
     }

@@ -33,7 +33,7 @@ pub trait LineSender {
     /// What it has counted.
     ghost sums: { Self → Sums };
 
-    /// Queues a copy of the bytes as one line, as `CountedSender::write_line` does, with the same errors.
+    /// Queues a copy of the bytes as one line, as `CountedSender::write_line` does, with the same errors. It adds no newline.
     fn write_line(&mut self, line: &[u8]) -> io::Result<Sent>
         ensures sums { sums self.new ≡ sums_after_line (sums self.old) result }
         ensures waiting { (sums self.old).lossy ≡ false → result ≢ Ok Sent.Dropped }

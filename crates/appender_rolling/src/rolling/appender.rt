@@ -108,9 +108,10 @@ impl<'a, S: Folder + 'a, C: Clock, R: Wait + Drop + 'a> MakeWriter<'a>
 
     type Writer = RollingWriter<'a, S, R>;
 
-    /// Checks the clock, and returns a writer to the open file; no other file is opened until it is dropped. A
-    /// thread that holds one must not make another: it may wait for itself. With a limit of bytes the next
-    /// file is opened when the open one is full; a writer that was made before may write past the limit.
+    /// Checks the clock, and returns a writer to the open file; no other file is opened until it is dropped. Writers of
+    /// several threads write to it at the same time, so write each line by one call. A thread that holds a writer must
+    /// not make another: it may wait for itself. With a limit of bytes the next file is opened when the open one is full;
+    /// a writer that was made before may write past the limit.
     fn make_writer(&'a self) -> Result<RollingWriter<'a, S, R>, AllocError>
         ensures ok { IsOk result }
         ensures looks { IfOk result (NoFileIsDueNow S.Folder C.Clock self.now.clock) }
