@@ -191,6 +191,10 @@ impl Watch<Disturbed> for Looking {
         let noted = folder.folder.notices(NoticeKind::Flush);
         self.counts.set_unsynced(noted.saturating_add(failed));
     }
+
+    fn unsynced(&self) -> u64 {
+        self.counts.unsynced()
+    }
 }
 
 // Whether what a body holds, if it is there, is nothing or ends with a newline.

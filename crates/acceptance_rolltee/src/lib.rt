@@ -13,6 +13,8 @@ mod pieces;
 #[cfg(test)]
 mod program;
 #[cfg(test)]
+mod rests;
+#[cfg(test)]
 mod settings;
 #[cfg(test)]
 mod waits;

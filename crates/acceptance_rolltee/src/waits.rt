@@ -234,13 +234,17 @@ fn waits_for_an_input_that_does_not_block(rt: HostRuntime) -> Result<(), Fail> {
     check(rt, PROMPT, &mut input, (0, ""), 6)
 }
 
-// A disk that is full for two writes, and one whose write fails for good.
+// A disk that refuses two writes, since it is full, fails, is not writable or is read only, or for any other reason of the
+// system but memory.
 #[test]
-fn waits_for_a_full_disk(rt: HostRuntime) -> Result<(), Fail> {
+fn waits_for_a_disk_that_refuses_writes(rt: HostRuntime) -> Result<(), Fail> {
     for (code, told, written) in [
         (28, (0, ""), 3),
         (5, (0, ""), 3),
-        (13, (1, "write failed\n"), 1u64),
+        (13, (0, ""), 3),
+        (30, (0, ""), 3),
+        (27, (0, ""), 3),
+        (12, (1, "write failed\n"), 1u64),
     ] {
         let manner = Manner {
             failures: 2,

@@ -74,6 +74,9 @@ pub trait Watch<S: Folder>: Drop {
 
     /// Counts the flushes that failed: `failed` of those that were asked for, and those that the folder noted.
     fn count_unsynced(&self, folder: &S, failed: u64);
+
+    /// Returns the number of flushes that were counted last.
+    fn unsynced(&self) -> u64;
 }
 
 /// Checks the open file of a log in a folder of the file system. A file that was truncated, whose name leads
@@ -84,7 +87,7 @@ pub struct DirWatch<R> {
     // Ends with a slash.
     path: String,
     counts: Arc<FileCounts, Global>,
-    // Whether a file that couldn't be compared is found.
+    // Whether a file that couldn't be compared for want of memory is found.
     lenient: bool,
 }
 
@@ -117,7 +120,7 @@ impl<R: FilesHost> DirWatch<R> {
         })
     }
 
-    /// Takes a file that couldn't be compared, as for want of memory, for one that is found.
+    /// Takes a file that couldn't be compared for want of memory for one that is found.
     pub fn lenient(mut self) -> DirWatch<R> {
         self.lenient = true;
         self
@@ -209,7 +212,7 @@ impl<R: FilesHost, P: WritePolicy> Watch<DirFolder<R, P>> for DirWatch<R> {
         let lost = match self.loss(folder, file, name, length) {
             Ok(None) => return true,
             Ok(Some(loss)) => Ok(loss),
-            Err(_) if self.lenient => return true,
+            Err(fault) if self.lenient && fault.kind() == ErrorKind::OutOfMemory => return true,
             Err(fault) => Err(fault),
         };
         self.report(name, lost);
@@ -219,6 +222,10 @@ impl<R: FilesHost, P: WritePolicy> Watch<DirFolder<R, P>> for DirWatch<R> {
     fn count_unsynced(&self, folder: &DirFolder<R, P>, failed: u64) {
         let noted = folder.notices(NoticeKind::Flush);
         self.counts.set_unsynced(noted.saturating_add(failed));
+    }
+
+    fn unsynced(&self) -> u64 {
+        self.counts.unsynced()
     }
 }
 

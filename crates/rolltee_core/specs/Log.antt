@@ -1,5 +1,5 @@
 -- The log of a run. `kind` has the ghost members of a kind of folder, and `time` those of a kind of clock.
-use Rattle.std.specs.Prelude.{◌≡◌, ◌≢◌, ◌⊎◌, ℕ, ℤ, List, [], ◌∷◌, length, Ok, Err, Result, string_bytes, nat_lt}
+use Rattle.std.specs.Prelude.{◌≡◌, ◌≢◌, ◌⊎◌, ℕ, ℤ, List, [], ◌∷◌, length, Ok, Err, Result, Bool, true, string_bytes, nat_lt}
 use Rattle.std.specs.declared.io.Error.{Error}
 use Rattle.appender_names.specs.declared.rotation.Rotation.{Rotation}
 use Rattle.appender_store.specs.declared.store.Folder.{Ghosts}
@@ -26,6 +26,8 @@ config_of rotation prefix o = record {
 pub record ReopenableLog (S F C : Type 0) : Type 0 where
   pub log : Appending S F C
   pub config : Config
+  -- whether the last write took a part of a line, whose rest belongs to the same file
+  pub short : Bool
 
 -- The log is the one of before, or was opened again.
 abbrev pub IsSameOrReopened : {S F C : Type 0} → Ghosts S F → Readings C → ReopenableLog S F C → Appending S F C → Type 0
@@ -39,15 +41,19 @@ MayEndPart kind old new = (new ≡ old) ⊎ AppendsNow kind (10 ∷ []) (Ok 1) o
 abbrev pub EndsNoPart : {S F C : Type 0} → Ghosts S F → Appending S F C → Appending S F C → Type 0
 EndsNoPart kind old new = (answer : Result ℕ Error) × (answer ≢ Ok 1) × AppendsNow kind (10 ∷ []) answer old new
 
--- The log was found, and the clock was checked once, for this number of bytes.
+-- The clock was checked once, for this number of bytes.
+pub record ChecksOnce {S F C : Type 0} (kind : Ghosts S F) (time : Readings C) (len : ℕ) (old new : Appending S F C) : Type 0 where
+  pub moment : ℤ
+  pub reading : time.now_gives old.clock moment
+  pub switch : Switch
+  pub looks : ChecksClock kind moment len switch old.roller new.roller
+  pub clock : new.clock ≡ old.clock
+
+-- The log was found, and the clock was checked once, unless the bytes are the rest of a line.
 pub record FindsLog {S F C : Type 0} (kind : Ghosts S F) (time : Readings C) (len : ℕ) (old : ReopenableLog S F C) (looked : Appending S F C) : Type 0 where
   pub found : Appending S F C
   pub is_found : IsSameOrReopened kind time old found
-  pub moment : ℤ
-  pub reading : time.now_gives found.clock moment
-  pub switch : Switch
-  pub looks : ChecksClock kind moment len switch found.roller looked.roller
-  pub clock : looked.clock ≡ found.clock
+  pub looks : ChecksOnce kind time len found looked ⊎ ((old.short ≡ true) × (looked ≡ found))
 
 -- The bytes were added with this answer by one append, after that check, and at most a newline before them.
 pub record PutsBytes {S F C : Type 0} (kind : Ghosts S F) (time : Readings C) (bytes : List ℕ) (answer : Result ℕ Error) (old : ReopenableLog S F C) (new : Appending S F C) : Type 0 where

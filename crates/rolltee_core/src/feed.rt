@@ -142,6 +142,8 @@ pub struct Feed<R, Q, O> {
     output: O,
     // The number of lines that were not written whole there.
     unechoed: u64,
+    // Whether it was reported that lines are dropped.
+    reported: bool,
 }
 
 impl<R: Wait + Clock + AllocGlobal, Q, O> Feed<R, Q, O> {
@@ -172,6 +174,7 @@ impl<R: Wait + Clock + AllocGlobal, Q, O> Feed<R, Q, O> {
             within: false,
             output,
             unechoed: 0,
+            reported: false,
         }
     }
 
@@ -214,20 +217,41 @@ impl<R: Wait + Clock + AllocGlobal, Q, O> Feed<R, Q, O> {
     }
 }
 
-impl<R: Wait + Clock + AllocGlobal, Q: Write, O: Write> Feed<R, Q, O> {
-    // Queues a line as it is, and writes it to the output if that is asked for. After a fault of the output no more is
-    // written there.
+impl<R: Wait + Clock + AllocGlobal + Eprint, Q: Write, O: Write> Feed<R, Q, O> {
+    // Queues a line as it is, and writes it to the output if that is asked for.
     fn send(&mut self, line: &[u8]) -> io::Result<()> {
         let taken = self.queue.write(line)?;
         self.progress.sent = self.progress.sent.saturating_add(1);
         self.unwritten = self.unwritten.saturating_add(taken);
-        if self.echo && (self.unechoed > 0 || report(&mut self.output, line).is_err()) {
-            self.unechoed = self.unechoed.saturating_add(1);
+        self.report_drops();
+        if self.echo {
+            self.echo_line(line);
         }
         if self.waits && self.unwritten >= MOST_BYTES && !self.settle() {
             return Err(io::Error::other("the worker ended"));
         }
         Ok(())
+    }
+
+    // Reports the first line that a lossy queue drops, at once.
+    fn report_drops(&mut self) {
+        if !self.waits && !self.reported && self.dropped() > 0 {
+            self.reported = true;
+            let _ = eprintln!(self.rt; "lines are dropped: the queue is full");
+        }
+    }
+
+    // Writes a line to the output. A fault is reported at once, and then no more is written there.
+    fn echo_line(&mut self, line: &[u8]) {
+        if self.unechoed == 0 {
+            match report(&mut self.output, line) {
+                Ok(()) => return,
+                Err(fault) => {
+                    let _ = eprintln!(self.rt; "lines are not echoed: {fault}");
+                }
+            }
+        }
+        self.unechoed = self.unechoed.saturating_add(1);
     }
 
     // Queues a line after the time.
@@ -242,7 +266,7 @@ impl<R: Wait + Clock + AllocGlobal, Q: Write, O: Write> Feed<R, Q, O> {
     }
 }
 
-impl<R: Wait + Clock + AllocGlobal, Q: Write, O: Write> Write for Feed<R, Q, O> {
+impl<R: Wait + Clock + AllocGlobal + Eprint, Q: Write, O: Write> Write for Feed<R, Q, O> {
     /// Queues one line, after its time if that is asked for. If there are 16 MiB in a queue that isn't lossy, waits until
     /// they are written; then the error is `Other` if the worker ended before. Other errors are those of the queue.
     fn write(&mut self, line: &[u8]) -> io::Result<usize> {

@@ -19,7 +19,7 @@ use tracing_appender::store::Folder;
 
 /// A log of lines.
 pub trait TeeLog: Write {
-    /// Says that the last line, of which a write failed, is not written on.
+    /// Says that the last line, of which a write failed, is not written on. The next write begins a line.
     fn give_up(&mut self) {}
 }
 
@@ -183,6 +183,10 @@ pub struct FileLog<S: Folder, C: Clock, W: Watch<S>, O: Opens<S, C>> {
     cut: bool,
     // Whether it was reported that the open file was not found again, or was truncated.
     gone: bool,
+    // Whether the last append took a part of a line, whose rest belongs to the same file.
+    short: bool,
+    // The number of flushes that failed, those of the open folder's switches aside.
+    unsynced: u64,
 }
 
 impl<S: Folder, C: Clock, W: Watch<S>, O: Opens<S, C>> Model for FileLog<S, C, W, O> {
@@ -190,11 +194,11 @@ impl<S: Folder, C: Clock, W: Watch<S>, O: Opens<S, C>> Model for FileLog<S, C, W
 
     ghost Value = { ReopenableLog S S.File C };
 
-    ghost view = { λ l. record { log = l.log; config = O.config l.opener } };
+    ghost view = { λ l. record { log = l.log; config = O.config l.opener; short = l.short } };
 }
 
 impl<S: Folder, C: Clock, W: Watch<S>, O: Opens<S, C>> FileLog<S, C, W, O> {
-    ghost use Rattle.std.specs.Prelude.{ℤ, OnOk, OnErr};
+    ghost use Rattle.std.specs.Prelude.{ℤ, true, OnOk, OnErr};
     ghost use Rattle.std.specs.Io.{WritesAtMost};
     ghost use Rattle.appender_rolling.specs.Appender.{AppendsNow, OpensInSomeFolder};
     ghost use Rattle.appender_rolling.specs.Roller.{ChecksClock};
@@ -215,6 +219,8 @@ impl<S: Folder, C: Clock, W: Watch<S>, O: Opens<S, C>> FileLog<S, C, W, O> {
             within: false,
             cut: false,
             gone: false,
+            short: false,
+            unsynced: 0,
         };
         opened.check_file();
         Ok(opened)
@@ -245,11 +251,17 @@ impl<S: Folder, C: Clock, W: Watch<S>, O: Opens<S, C>> FileLog<S, C, W, O> {
         }
     }
 
+    // Counts the flushes that failed.
+    fn count_unsynced(&self) {
+        self.watch.count_unsynced(self.log.folder(), self.unsynced);
+    }
+
     // Opens the log again if its file is not found.
     fn find_file(&mut self) -> io::Result<()>
         ensures found { OnOk result (IsSameOrReopened S.Folder C.Clock self.old self.new.log) }
         ensures lost { OnErr result (self.new.log ≡ self.old.log) }
         ensures config { self.new.config ≡ self.old.config }
+        ensures short { self.new.short ≡ true → self.old.short ≡ true }
     {
         self.compare();
         if self.gone {
@@ -258,6 +270,9 @@ impl<S: Folder, C: Clock, W: Watch<S>, O: Opens<S, C>> FileLog<S, C, W, O> {
                 Err(error) => return Err(cause_of(error)),
             }
             self.gone = false;
+            self.short = false;
+            // The new folder noted no flush.
+            self.unsynced = self.watch.unsynced();
             self.check_file();
         }
         Ok(())
@@ -269,11 +284,13 @@ impl<S: Folder, C: Clock, W: Watch<S>, O: Opens<S, C>> FileLog<S, C, W, O> {
             × ChecksClock S.Folder moment length switch self.old.log.roller self.new.log.roller }
         ensures clock { self.new.log.clock ≡ self.old.log.clock }
         ensures config { self.new.config ≡ self.old.config }
+        ensures short { self.new.short ≡ self.old.short }
     {
         let moment = self.log.moment();
         let switch = self.log.see_for(moment, length);
         if switch == Switch::Opened {
             self.check_file();
+            self.count_unsynced();
         }
     }
 
@@ -282,6 +299,7 @@ impl<S: Folder, C: Clock, W: Watch<S>, O: Opens<S, C>> FileLog<S, C, W, O> {
         ensures ends { OnOk result (MayEndPart S.Folder self.old.log self.new.log) }
         ensures stays { OnErr result (EndsNoPart S.Folder self.old.log self.new.log) }
         ensures config { self.new.config ≡ self.old.config }
+        ensures short { self.new.short ≡ self.old.short }
     {
         if self.cut {
             if self.append(b"\n")? == 0 {
@@ -297,6 +315,7 @@ impl<S: Folder, C: Clock, W: Watch<S>, O: Opens<S, C>> FileLog<S, C, W, O> {
         ensures bound { WritesAtMost result bytes.now }
         ensures appends { AppendsNow S.Folder bytes.now result self.old.log self.new.log }
         ensures config { self.new.config ≡ self.old.config }
+        ensures short { self.new.short ≡ self.old.short }
     {
         let taken = self.log.append(bytes)?;
         self.length = self.length.saturating_add(taken as u64);
@@ -308,24 +327,31 @@ impl<S: Folder, C: Clock, W: Watch<S>, O: Opens<S, C>> FileLog<S, C, W, O> {
 }
 
 impl<S: Folder, C: Clock, W: Watch<S>, O: Opens<S, C>> Write for FileLog<S, C, W, O> {
-    ghost use Rattle.std.specs.Prelude.{None, OnOk, IfErr};
+    ghost use Rattle.std.specs.Prelude.{◌<◌, true, length, None, OnOk, IfOk, IfErr, IsErr};
     ghost use Rattle.std.specs.Io.{WritesAtMost};
     ghost use Rattle.std.specs.Io.KnownBytes.{Keeps, WriteAppends};
     ghost use Rattle.appender_rolling.specs.Appender.{FlushesNow};
     ghost use Rattle.rolltee_core.specs.Log.{PutsNone, PutsBytes};
 
-    /// Adds the first of the bytes to the file of the clock's moment, by one append.
+    /// Adds the first of the bytes to the file of the clock's moment, by one append. After a write that took a part of a
+    /// line it adds them to the same file, without a check of the clock.
     fn write(&mut self, bytes: &[u8]) -> io::Result<usize>
         ensures bound { WritesAtMost result bytes.now }
         ensures bytes { WriteAppends None None result bytes.now }
         ensures puts { OnOk result (PutsBytes S.Folder C.Clock bytes.now result self.old self.new.log) }
         ensures fails { IfErr result (λ error. PutsNone S.Folder C.Clock bytes.now error self.old self.new.log) }
         ensures config { self.new.config ≡ self.old.config }
+        ensures short { IfOk result (λ n. self.new.short ≡ true → n < length bytes.now) }
+        ensures still_short { IsErr result → self.new.short ≡ true → self.old.short ≡ true }
     {
         self.find_file()?;
-        self.check_clock(bytes.len());
-        self.end_part()?;
-        self.append(bytes)
+        if !self.short {
+            self.check_clock(bytes.len());
+            self.end_part()?;
+        }
+        let taken = self.append(bytes)?;
+        self.short = taken < bytes.len() && self.within;
+        Ok(taken)
     }
 
     /// Flushes the open file, and looks for it.
@@ -334,6 +360,10 @@ impl<S: Folder, C: Clock, W: Watch<S>, O: Opens<S, C>> Write for FileLog<S, C, W
         ensures flushes { FlushesNow S.Folder result self.old.log self.new.log }
     {
         let flushed = self.log.flush();
+        if flushed.is_err() {
+            self.unsynced = self.unsynced.saturating_add(1);
+        }
+        self.count_unsynced();
         self.compare();
         flushed
     }
@@ -341,6 +371,7 @@ impl<S: Folder, C: Clock, W: Watch<S>, O: Opens<S, C>> Write for FileLog<S, C, W
 
 impl<S: Folder, C: Clock, W: Watch<S>, O: Opens<S, C>> TeeLog for FileLog<S, C, W, O> {
     fn give_up(&mut self) {
+        self.short = false;
         self.cut = self.cut || (self.whole_lines && self.within);
     }
 }

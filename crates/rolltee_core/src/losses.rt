@@ -13,6 +13,8 @@ pub struct TeeLosses {
     pub unechoed: u64,
     /// The number of log files that were removed, renamed, replaced or truncated while they were written to.
     pub gone: u64,
+    /// The number of syncs of log files that failed.
+    pub unsynced: u64,
 }
 
 impl TeeLosses {
@@ -22,15 +24,17 @@ impl TeeLosses {
         dropped: 0,
         unechoed: 0,
         gone: 0,
+        unsynced: 0,
     };
 
     // The counts with their words, in the order in which they are reported.
-    fn counts(&self) -> [(&'static str, u64); 4] {
+    fn counts(&self) -> [(&'static str, u64); 5] {
         [
             ("lines not written whole", self.unwritten),
             ("lines dropped", self.dropped),
             ("lines not echoed", self.unechoed),
             ("log files not found again", self.gone),
+            ("syncs that failed", self.unsynced),
         ]
     }
 }

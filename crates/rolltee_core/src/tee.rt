@@ -237,8 +237,12 @@ fn copy_through<R: Host, L: Logs, I: Read, O: Write + Drop>(
         .map_err(Fault::Open)?;
     let log = WaitingLog::new(rt, !options.no_wait, log);
     let lost = copy_to(rt, log, options, input, output)?;
-    let gone = files.gone();
-    all_written(TeeLosses { gone, ..lost }, options.is_plain())
+    let lost = TeeLosses {
+        gone: files.gone(),
+        unsynced: files.unsynced(),
+        ..lost
+    };
+    all_written(lost, options.is_plain())
 }
 
 // Returns the rotation that this word names. A fault if it names none, or one that does not allow the options: there are
@@ -280,7 +284,7 @@ fn copy_to<R: Host, W: Write + Send + Drop + 'static, I: Read, O: Write + Drop>(
         unwritten: feed.lost(),
         dropped: feed.dropped(),
         unechoed: feed.unechoed(),
-        gone: 0,
+        ..TeeLosses::NONE
     })
 }
 
