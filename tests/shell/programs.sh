@@ -432,7 +432,9 @@ for ((i = 0; i < 400; i++)); do printf '%0127d\n' "$i"; done > "$many"
 mkdir "$disk"
 if mount -t tmpfs -o size=16k programs "$disk" 2> "$err"; then
   run "$rolltee" --no-wait never "$disk/logs" app < "$many"
-  check 'rolltee --no-wait, a full disk' '1||lines not written whole: ' "$status|$(cat "$out")|$(sed 's/[0-9]*$//' "$err")"
+  check 'rolltee --no-wait, a full disk' \
+    $'1||lines are lost: No space left on device (os error 28)\nlines not written whole: ' \
+    "$status|$(cat "$out")|$(sed '2s/[0-9]*$//' "$err")"
   check 'rolltee --no-wait, a full disk: the log begins with the lines' same \
     "$(cmp -s -n "$(stat -c %s "$disk/logs/app")" "$disk/logs/app" "$many" && echo same || echo other)"
   rm -r "$disk/logs"
@@ -679,6 +681,56 @@ lost_file removed 'rm app' 'removed, renamed or replaced'
 lost_file moved 'mv app app.1' 'removed, renamed or replaced'
 lost_file truncated ': > app' truncated
 lost_file 'gone with its folder' 'rm -r ../lost' 'removed, renamed or replaced'
+
+# The folder is replaced by a file: the next line waits until there can be a folder again.
+says() {
+  grep -q "$1" "$err"
+}
+rm -f "$work/lines.fifo"
+mkfifo "$work/lines.fifo"
+log=$work/closed/app
+timeout 9 "$rolltee" never "$work/closed" app < "$work/lines.fifo" > "$out" 2> "$err" &
+running=$!
+exec 9> "$work/lines.fifo"
+echo one >&9
+wait_until has_lines "$log" 1
+rm -r "$work/closed"
+echo file > "$work/closed"
+echo two >&9
+wait_until says '^writes pause: '
+check 'rolltee, a folder that is replaced by a file: it says so at once' \
+  "$log: log file not found again: Not a directory (os error 20)"$'\nwrites pause: File exists (os error 17)' "$(cat "$err")"
+rm "$work/closed"
+echo three >&9
+exec 9>&-
+wait "$running"
+check 'rolltee, a folder that is replaced by a file' 1 "$?"
+check 'rolltee, a folder that is replaced by a file: what is reported at the end' \
+  $'writes go on\nlog files not found again: 1' "$(tail -n 2 "$err")"
+check 'rolltee, a folder that is replaced by a file: the log' $'[two\nthree]' "$(content "$log")"
+
+# refused FAULT ARGUMENT..: runs `rolltee` with these lines, and with this fault of one of its calls, as write:error=EIO.
+refused() {
+  local fault=$1
+  shift
+  timeout 9 strace -f -qq -o "$work/calls" -P "$work/refused/app" -e "trace=${fault%%:*}" -e "inject=$fault:when=1" \
+    "$rolltee" "$@" never "$work/refused" app < "$lines" > "$out" 2> "$err"
+  status=$?
+}
+if ! strace -f -qq -o "$work/calls" -e trace=fdatasync true > /dev/null 2> "$err"; then
+  skip 'rolltee, calls that are refused' "$(head -1 "$err")"
+else
+  run "$rolltee" never "$work/refused" app < "$lines"
+  refused write:error=EROFS
+  check 'rolltee, a write to a disk that is read only' \
+    $'0||writes pause: Read-only file system (os error 30)\nwrites go on' "$(told)"
+  refused write:error=EROFS --no-wait
+  check 'rolltee --no-wait, a write to a disk that is read only' \
+    $'1||lines are lost: Read-only file system (os error 30)\nlines not written whole: 1' "$(told)"
+  check 'rolltee, a disk that is read only: the log' $'[one\ntwo\none\ntwo\ntwo]' "$(content "$work/refused/app")"
+  refused fdatasync:error=EIO --sync
+  check 'rolltee --sync, a sync that fails' '1||syncs that failed: 1' "$(told)"
+fi
 
 # ---- a supervisor
 

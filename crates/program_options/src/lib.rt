@@ -27,7 +27,7 @@ pub struct Options {
     pub queue: usize,
     /// `--lossy`: whether a line is dropped if the queue is full. Otherwise the input waits.
     pub lossy: bool,
-    /// `--no-wait`: whether lines are dropped while the disk is full. Otherwise they wait.
+    /// `--no-wait`: whether lines are lost that the disk refuses, as when it is full. Otherwise they wait.
     pub no_wait: bool,
     /// `--sync`: whether each flush of the log also syncs it.
     pub sync: bool,

@@ -26,7 +26,7 @@ static HELP: &str = concat!(
     "  --suffix S     ends the files' names with a dot and S\n",
     "  --link NAME    keeps a symbolic link in DIR to the newest file\n",
     "  --sync         syncs the file to the disk whenever no line waits\n",
-    "  --no-wait      loses lines while the disk is full, in place of waiting\n",
+    "  --no-wait      loses lines that the disk refuses, in place of waiting\n",
     "  --queue N      lets up to N lines wait to be written, in place of 1,024\n",
     "  --lossy        drops a line that finds the queue full; else the input waits\n",
     "  --echo         writes each line to standard output too\n",
@@ -45,10 +45,11 @@ static HELP: &str = concat!(
     "  server 2>&1 | rolltee --echo --timestamps --keep 48 hourly /logs app\n",
     "\n",
     "Status: 0 if every line was written; 1 if no log was opened, the input not read,\n",
-    "a line lost, or a log file removed or truncated (the next line begins another);\n",
-    "2 if the words are wrong; 3 if memory was refused. It says what was lost. While\n",
-    "the disk is full it waits. It catches no signal: INT or TERM ends it at once,\n",
-    "and up to 2,048 lines that wait are lost. See rolltee(1).\n",
+    "a line lost, a sync failed, or a log file removed or truncated (the next line\n",
+    "begins another); 2 if the words are wrong; 3 if memory was refused. It says what\n",
+    "was lost. While the disk refuses lines, as when it is full, it waits. It catches\n",
+    "no signal: INT or TERM ends it at once, and up to 2,048 lines that wait are\n",
+    "lost. See rolltee(1).\n",
 );
 
 static VERSION: &str = "rolltee, over a port of tracing-appender 0.2.5\n";
