@@ -291,11 +291,13 @@ check 'rolltee --timestamps' '0||' "$(told)"
 check 'rolltee --timestamps: the log' 2 \
   "$(cat "$work"/times/* | grep -cE "^$(date -u +%Y-%m-%dT%H:)[0-9]{2}:[0-9]{2}\.[0-9]{6}Z (one|two)$")"
 timeout 5 "$rolltee" never "$work/unheard" app --echo > /dev/full 2> "$err" < "$lines"
-check 'rolltee --echo > /dev/full' '1|lines not echoed: 2' "$?|$(cat "$err")"
+check 'rolltee --echo > /dev/full' \
+  $'1|lines are not echoed: No space left on device (os error 28)\nlines not echoed: 2' "$?|$(cat "$err")"
 check 'rolltee --echo > /dev/full: the log' $'[one\ntwo]' "$(content "$work/unheard/app")"
 # A reader that ends after a line, as a pager does.
 seq 20000 | timeout 9 "$rolltee" --echo never "$work/reader" app 2> "$err" | head -n 1 > "$out"
-check 'rolltee --echo | head: what it says' '1|lines not echoed: ' "${PIPESTATUS[1]}|$(sed 's/[0-9]*$//' "$err")"
+check 'rolltee --echo | head: what it says' $'1|lines are not echoed: Broken pipe (os error 32)\nlines not echoed: ' \
+  "${PIPESTATUS[1]}|$(sed '2s/[0-9]*$//' "$err")"
 check 'rolltee --echo | head: the log' same "$(seq 20000 | cmp -s - "$work/reader/app" && echo same || echo other)"
 run "$rolltee" --max-bytes 1K --keep 2 weekly "$work/kept" app < <(for ((i = 0; i < 20; i++)); do printf '%0127d\n' "$i"; done)
 check 'rolltee --max-bytes 1K --keep 2: the sizes of the files' '0||1024 512' \
@@ -708,6 +710,34 @@ check 'rolltee, a folder that is replaced by a file' 1 "$?"
 check 'rolltee, a folder that is replaced by a file: what is reported at the end' \
   $'writes go on\nlog files not found again: 1' "$(tail -n 2 "$err")"
 check 'rolltee, a folder that is replaced by a file: the log' $'[two\nthree]' "$(content "$log")"
+
+# Something else has the link's name: nothing is removed or made, at a start and during a run.
+mkdir "$work/linked"
+echo mine > "$work/linked/cur"
+seq 2 > "$work/linked/app.2020-02-01.000000"
+run "$rolltee" --keep 1 --max-bytes 1K --link cur daily "$work/linked" app < "$lines"
+check 'rolltee, a link that is a file' \
+  '1||failed to create symlink to latest log file: File exists (os error 17)' "$(told)"
+check 'rolltee, a link that is a file: the folder' 'app.2020-02-01.000000 cur' "$(ls "$work/linked" | paste -s -d ' ')"
+rm "$work/linked/cur"
+timeout 9 "$rolltee" --keep 1 --max-bytes 1K --link cur daily "$work/linked" app < "$work/lines.fifo" > "$out" 2> "$err" &
+running=$!
+exec 9> "$work/lines.fifo"
+echo one >&9
+wait_until has_lines "$work/linked/cur" 1
+log=$(readlink -f "$work/linked/cur")
+rm "$work/linked/cur" "$log"
+echo mine > "$work/linked/cur"
+echo two >&9
+wait_until says '^writes pause: File exists'
+sleep 0.3
+check 'rolltee, a link that becomes a file: the folder' cur "$(ls "$work/linked")"
+rm "$work/linked/cur"
+echo three >&9
+exec 9>&-
+wait "$running"
+check 'rolltee, a link that becomes a file' 1 "$?"
+check 'rolltee, a link that becomes a file: the log' $'[two\nthree]' "$(content "$work/linked/cur")"
 
 # refused FAULT ARGUMENT..: runs `rolltee` with these lines, and with this fault of one of its calls, as write:error=EIO.
 refused() {

@@ -86,6 +86,8 @@ pub struct DirOpener<R> {
     rt: R,
     settings: Builder,
     directory: String,
+    // The name of the link, if it is not empty.
+    link: String,
     // Whether each flush syncs.
     syncs: bool,
 }
@@ -103,10 +105,12 @@ impl<R: AllocGlobal + Drop> DirOpener<R> {
     {
         let settings = settings(rt.alloc(), rotation, prefix, options)?;
         let directory = String::from_str(rt.alloc(), directory)?;
+        let link = String::from_str(rt.alloc(), options.link.as_str())?;
         Ok(DirOpener {
             rt,
             settings,
             directory,
+            link,
             syncs: options.sync,
         })
     }
@@ -117,6 +121,7 @@ impl<R: FilesHost + std::time::Clock> Opens<DirFolder<R>, SystemClock<R>> for Di
 
     fn open(&self) -> Result<RollingFile<DirFolder<R>, SystemClock<R>>, InitError> {
         make_folder(&self.rt, &self.settings, self.directory.as_str())?;
+        check_link(&self.rt, self.directory.as_str(), self.link.as_str())?;
         let folder = DirFolder::new(self.rt.clone()?, self.directory.as_str())?;
         let folder = if self.syncs { folder.synced() } else { folder };
         let clock = SystemClock::new(self.rt.clone()?);
@@ -138,6 +143,28 @@ fn make_folder<R: Files + AllocGlobal>(
         Ok(()) => Ok(()),
         Err(fault) if fault.kind() == ErrorKind::OutOfMemory => Err(InitError::Memory),
         Err(fault) => Err(InitError::Directory(fault)),
+    }
+}
+
+// The number of the error on Linux.
+const EEXIST: i32 = 17;
+
+// Returns an error if something else has the link's name. The opening returns it too, but only after it removed an old file and
+// made a new one, each time that it is tried.
+fn check_link<R: Files + AllocGlobal>(
+    rt: &R,
+    directory: &str,
+    link: &str,
+) -> Result<(), InitError> {
+    if link.is_empty() || link.contains('/') {
+        return Ok(());
+    }
+    let path = format!(in rt.alloc(); "{directory}/{link}")?;
+    match fs::symlink_metadata(rt, path.as_str()) {
+        Ok(found) if !found.is_symlink() => {
+            Err(InitError::Symlink(io::Error::from_raw_os_error(EEXIST)))
+        }
+        _ => Ok(()),
     }
 }
 
