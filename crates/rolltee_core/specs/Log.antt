@@ -49,6 +49,10 @@ pub record ChecksOnce {S F C : Type 0} (kind : Ghosts S F) (time : Readings C) (
   pub looks : ChecksClock kind moment len switch old.roller new.roller
   pub clock : new.clock ≡ old.clock
 
+-- The same, or the bytes are the rest of a line.
+abbrev pub MayCheckOnce : {S F C : Type 0} → Ghosts S F → Readings C → ℕ → ReopenableLog S F C → Appending S F C → Type 0
+MayCheckOnce kind time len old new = ChecksOnce kind time len old.log new ⊎ ((old.short ≡ true) × (new ≡ old.log))
+
 -- The log was found, and the clock was checked once, unless the bytes are the rest of a line.
 pub record FindsLog {S F C : Type 0} (kind : Ghosts S F) (time : Readings C) (len : ℕ) (old : ReopenableLog S F C) (looked : Appending S F C) : Type 0 where
   pub found : Appending S F C

@@ -225,11 +225,10 @@ impl<S: Folder, C: Clock, W: Watch<S>, O: Opens<S, C>> Model for FileLog<S, C, W
 }
 
 impl<S: Folder, C: Clock, W: Watch<S>, O: Opens<S, C>> FileLog<S, C, W, O> {
-    ghost use Rattle.std.specs.Prelude.{ℤ, true, OnOk, OnErr};
+    ghost use Rattle.std.specs.Prelude.{ℤ, ◌<◌, true, length, IfOk, IsErr, OnOk, OnErr};
     ghost use Rattle.std.specs.Io.{WritesAtMost};
     ghost use Rattle.appender_rolling.specs.Appender.{AppendsNow, OpensInSomeFolder};
-    ghost use Rattle.appender_rolling.specs.Roller.{ChecksClock};
-    ghost use Rattle.rolltee_core.specs.Log.{EndsNoPart, IsSameOrReopened, MayEndPart};
+    ghost use Rattle.rolltee_core.specs.Log.{EndsNoPart, IsSameOrReopened, MayCheckOnce, MayEndPart};
 
     /// Opens the log.
     pub fn new(opener: O, watch: W, whole_lines: bool) -> Result<FileLog<S, C, W, O>, InitError>
@@ -305,14 +304,15 @@ impl<S: Folder, C: Clock, W: Watch<S>, O: Opens<S, C>> FileLog<S, C, W, O> {
         Ok(())
     }
 
-    // Begins the next file if one is due for this number of bytes.
+    // Begins the next file if one is due for this number of bytes, unless they are the rest of a line.
     fn check_clock(&mut self, length: usize)
-        ensures looks { (moment : ℤ) × (switch : Switch) × C.Clock.now_gives self.old.log.clock moment
-            × ChecksClock S.Folder moment length switch self.old.log.roller self.new.log.roller }
-        ensures clock { self.new.log.clock ≡ self.old.log.clock }
+        ensures looks { MayCheckOnce S.Folder C.Clock length self.old self.new.log }
         ensures config { self.new.config ≡ self.old.config }
         ensures short { self.new.short ≡ self.old.short }
     {
+        if self.short {
+            return;
+        }
         let moment = self.log.moment();
         let switch = self.log.see_for(moment, length);
         if switch == Switch::Opened {
@@ -326,7 +326,7 @@ impl<S: Folder, C: Clock, W: Watch<S>, O: Opens<S, C>> FileLog<S, C, W, O> {
         ensures ends { OnOk result (MayEndPart S.Folder self.old.log self.new.log) }
         ensures stays { OnErr result (EndsNoPart S.Folder self.old.log self.new.log) }
         ensures config { self.new.config ≡ self.old.config }
-        ensures short { self.new.short ≡ self.old.short }
+        ensures short { self.new.short ≡ true → self.old.short ≡ true }
     {
         if self.cut {
             if self.append(b"\n")? == 0 {
@@ -342,13 +342,15 @@ impl<S: Folder, C: Clock, W: Watch<S>, O: Opens<S, C>> FileLog<S, C, W, O> {
         ensures bound { WritesAtMost result bytes.now }
         ensures appends { AppendsNow S.Folder bytes.now result self.old.log self.new.log }
         ensures config { self.new.config ≡ self.old.config }
-        ensures short { self.new.short ≡ self.old.short }
+        ensures short { IfOk result (λ n. self.new.short ≡ true → (0 < n) × (n < length bytes.now)) }
+        ensures still_short { IsErr result → self.new.short ≡ true → self.old.short ≡ true }
     {
         let taken = self.log.append(bytes)?;
         self.length = self.length.saturating_add(taken as u64);
         if taken > 0 {
             self.within = bytes[taken - 1] != b'\n';
         }
+        self.short = taken > 0 && taken < bytes.len() && self.within;
         Ok(taken)
     }
 }
@@ -368,23 +370,20 @@ impl<S: Folder, C: Clock, W: Watch<S>, O: Opens<S, C>> Write for FileLog<S, C, W
         ensures puts { OnOk result (PutsBytes S.Folder C.Clock bytes.now result self.old self.new.log) }
         ensures fails { IfErr result (λ error. PutsNone S.Folder C.Clock bytes.now error self.old self.new.log) }
         ensures config { self.new.config ≡ self.old.config }
-        ensures short { IfOk result (λ n. self.new.short ≡ true → n < length bytes.now) }
+        ensures short { IfOk result (λ n. self.new.short ≡ true → (0 < n) × (n < length bytes.now)) }
         ensures still_short { IsErr result → self.new.short ≡ true → self.old.short ≡ true }
     {
         self.find_file()?;
-        if !self.short {
-            self.check_clock(bytes.len());
-            self.end_part()?;
-        }
-        let taken = self.append(bytes)?;
-        self.short = taken < bytes.len() && self.within;
-        Ok(taken)
+        self.check_clock(bytes.len());
+        self.end_part()?;
+        self.append(bytes)
     }
 
     /// Flushes the open file, and looks for it.
     fn flush(&mut self) -> io::Result<()>
         ensures bytes { Keeps None None }
         ensures flushes { FlushesNow S.Folder result self.old.log self.new.log }
+        ensures short { self.new.short ≡ self.old.short }
     {
         let flushed = self.log.flush();
         if flushed.is_err() {

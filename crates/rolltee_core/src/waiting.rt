@@ -14,11 +14,11 @@ use tracing_appender::waiting::write_waiting;
 // A log whose write may be repeated after each fault of the system but refused memory: it is `WouldBlock` here, with its
 // words. A process that is supervised must not lose lines to a disk that is taken away or a folder that can't be entered.
 #[derive(Drop)]
-struct RepeatedLog<'a, W> {
-    log: &'a mut W,
+struct RepeatedLog<W> {
+    log: W,
 }
 
-impl<'a, W: TeeLog> Write for RepeatedLog<'a, W> {
+impl<W: TeeLog> Write for RepeatedLog<W> {
     fn write(&mut self, bytes: &[u8]) -> io::Result<usize>
         ensures bound { WritesAtMost result bytes.now }
         ensures bytes { WriteAppends None None result bytes.now }
@@ -53,7 +53,7 @@ fn may_be_repeated(fault: &io::Error) -> bool {
 pub struct WaitingLog<R, W> {
     rt: R,
     waits: bool,
-    log: W,
+    log: RepeatedLog<W>,
     // Whether it was reported that lines are lost.
     reported: bool,
 }
@@ -66,7 +66,7 @@ impl<R, W> WaitingLog<R, W> {
         WaitingLog {
             rt,
             waits,
-            log,
+            log: RepeatedLog { log },
             reported: false,
         }
     }
@@ -79,7 +79,7 @@ impl<R: Eprint, W: TeeLog> WaitingLog<R, W> {
             self.reported = true;
             let _ = eprintln!(self.rt; "lines are lost: {fault}");
         }
-        self.log.give_up();
+        self.log.log.give_up();
     }
 }
 
@@ -91,10 +91,9 @@ impl<R: Wait + Clock + Eprint, W: TeeLog> Write for WaitingLog<R, W> {
     {
         // Each try looks for the log file, so one that is removed to make room is closed.
         let taken = if self.waits {
-            let mut log = RepeatedLog { log: &mut self.log };
-            write_waiting(&self.rt, &mut log, bytes)
+            write_waiting(&self.rt, &mut self.log, bytes)
         } else {
-            self.log.write(bytes)
+            self.log.log.write(bytes)
         };
         match taken {
             Err(fault) if fault.kind() != ErrorKind::Interrupted => {

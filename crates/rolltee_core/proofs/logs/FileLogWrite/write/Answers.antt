@@ -11,11 +11,7 @@ returns-clause-puts g c =
       looks = record {
         found = c.find_file.new.self.log;
         is_found = c.in_ok-find_file.ensures.found;
-        moment = c.check_clock.ensures.looks.0;
-        reading = c.check_clock.ensures.looks.2;
-        switch = c.check_clock.ensures.looks.1;
-        looks = c.check_clock.ensures.looks.3;
-        clock = c.check_clock.ensures.clock;
+        looks = elim c.check_clock.ensures.looks [ inl checks ↦ inl checks | inr same ↦ inr (c.find_file.ensures.short same.0, same.1) ];
       };
       ended = c.end_part.new.self.log;
       ends = c.in_ok-end_part.ensures.ends;
@@ -28,11 +24,7 @@ returns-clause-fails g c = if_err c.append.result (λ error is. inr (inr (record
   looks = record {
     found = c.find_file.new.self.log;
     is_found = c.in_ok-find_file.ensures.found;
-    moment = c.check_clock.ensures.looks.0;
-    reading = c.check_clock.ensures.looks.2;
-    switch = c.check_clock.ensures.looks.1;
-    looks = c.check_clock.ensures.looks.3;
-    clock = c.check_clock.ensures.clock;
+    looks = elim c.check_clock.ensures.looks [ inl checks ↦ inl checks | inr same ↦ inr (c.find_file.ensures.short same.0, same.1) ];
   };
   ended = c.end_part.new.self.log;
   ends = c.in_ok-end_part.ensures.ends;
@@ -45,11 +37,7 @@ returns-in_err-end_part-clause-fails g c = if_err c.from_residual-in_err-end_par
   record {
     found = c.find_file.new.self.log;
     is_found = c.in_ok-find_file.ensures.found;
-    moment = c.check_clock.ensures.looks.0;
-    reading = c.check_clock.ensures.looks.2;
-    switch = c.check_clock.ensures.looks.1;
-    looks = c.check_clock.ensures.looks.3;
-    clock = c.check_clock.ensures.clock;
+    looks = elim c.check_clock.ensures.looks [ inl checks ↦ inl checks | inr same ↦ inr (c.find_file.ensures.short same.0, same.1) ];
   },
   c.in_err-end_part.ensures.stays,
 )))
