@@ -156,8 +156,14 @@ fn a_folder_in_memory(rt: HostRuntime) -> Result<(), Fail> {
     let Some(folder) = memory_folder::log_two_days(rt.alloc()) else {
         return Err(Fail::from(io::Error::other("no log")));
     };
-    assert_eq!(rt; folder.bytes("1970-01-01"), Some(b"first\n".as_slice()));
-    assert_eq!(rt; folder.bytes("1970-01-02"), Some(b"second\n".as_slice()));
+    assert_eq!(rt;
+        folder.bytes("1970-01-01").expect(&rt, "a file"),
+        b"first\n".as_slice()
+    );
+    assert_eq!(rt;
+        folder.bytes("1970-01-02").expect(&rt, "a file"),
+        b"second\n".as_slice()
+    );
     Ok(())
 }
 
