@@ -10,11 +10,11 @@ INNER_VIEW = ("view", "invariant", "inverse")
 
 HEAD = """# API
 
-Each public item has its signature, its contract (`requires` before a call, `ensures` after it) and the first sentence of
-its documentation. Left out are bodies, private fields, proofs, and functions of a trait's `impl` without a contract or
-documentation of their own. In a clause `x.now` is what a reference leads to, and `x.old` and `x.new` are what a `&mut`
-leads to before and after the call. The names in it are defined in `specs/` of the crate in the table:
-[PROMISES](PROMISES.md) explains the main ones, and [CALLING](CALLING.md) shows how to name them.
+Each public item has its documentation, its signature, and its contract (`requires` before a call, `ensures` after it). Left
+out are bodies, private fields, proofs, and functions of a trait's `impl` without a contract or documentation of their own.
+In a clause `x.now` is what a reference leads to, and `x.old` and `x.new` are what a `&mut` leads to before and after the
+call. The names in it are defined in `specs/` of the crate in the table: [PROMISES](PROMISES.md) explains the main ones, and
+[CALLING](CALLING.md) shows how to name them.
 """
 TAIL = "`tests/api/run.py --write` makes this page from the sources, and `.ci/run` compares it with them."
 
@@ -42,7 +42,7 @@ def entry(item, text, column=None):
     column = item.column if column is None else column
     indent = " " * column
     attributes = [indent + it for it in item.attributes if re.match(r"#\[(derive|must_use|error)\b", it)]
-    return wrapped(first_sentence(item.docs), indent + "/// ") + attributes + (indent + text).split("\n")
+    return [f"{indent}/// {it}".rstrip() for it in item.docs] + attributes + (indent + text).split("\n")
 
 
 def fields(members, column):
@@ -130,7 +130,7 @@ def section(library, path):
     """All that a module has."""
     module, items = library.pages[path]
     own = {name: it for name, it in sorted(items.items()) if library.main_path(it) == (path, name)}
-    lines = [f"## `{path}`", ""] + wrapped(first_sentence(module.docs)) + [""]
+    lines = [f"## `{path}`", ""] + module.docs + [""]
     for name, it in own.items():
         if it.kind in TYPES:
             lines += type_section(library, it, name)
@@ -146,23 +146,19 @@ def section(library, path):
     return lines
 
 
-def table(library):
-    """The modules, each with its crate and the number of types and of functions that are described under it."""
-    rows = ["| Module | Crate | Types and traits | Functions |", "|---|---|---|---|"]
+def index(library):
+    """The modules with their crates, and a line for each type, trait, function and constant that is described under them."""
+    lines = []
     for path in sorted(library.pages, key=page_order):
-        items = [it for it in library.described() if library.main_path(it)[0] == path]
-        types = sum(it.kind in TYPES for it in items)
-        functions = sum(it.kind == "fn" for it in items) + sum(
-            it.kind == "fn" for item in items if item.kind in TYPES for it in library.members_of(item)
-        )
-        link = f"[`{path}`](#{path.replace(':', '')})"
-        rows.append(f"| {link} | `{library.pages[path][0].crate}` | {types} | {functions} |")
-    return rows + ["", TAIL, ""]
+        lines += [f"**[`{path}`](#{path.replace(':', '')})**, in `{library.pages[path][0].crate}`", ""]
+        items = {library.main_path(it)[1]: it for it in library.described() if library.main_path(it)[0] == path}
+        lines += [f"- `{name}`: {first_sentence(it.docs)}" for name, it in sorted(items.items())] + [""]
+    return lines + [TAIL, ""]
 
 
 def page(library):
     """The parts of the page, each under the text of its heading."""
-    parts = {"API": HEAD.split("\n") + table(library)}
+    parts = {"API": HEAD.split("\n") + index(library)}
     for path in sorted(library.pages, key=page_order):
         parts[f"`{path}`"] = section(library, path)
     return {name: "\n".join(lines) for name, lines in parts.items()}

@@ -32,7 +32,7 @@ import tempfile
 sys.dont_write_bytecode = True
 
 HERE = pathlib.Path(__file__).resolve().parent
-CRATES = ["acceptance_schedules", "acceptance_threads", "acceptance_counted", "acceptance_folder", "appender_log"]
+CRATES = ["acceptance_schedules", "acceptance_threads", "acceptance_folder", "appender_log"]
 # Their tests hold however slow threads are: time may pass also while a thread can go on.
 OF_SLOW_THREADS = {"acceptance_schedules"}
 # These write hundreds or thousands of lines, so that one schedule has tens of thousands of steps. Small tests of
@@ -43,8 +43,6 @@ TOO_LONG = {
         "crowds::a_guard_without_a_place_leaves_no_sender_asleep",
         "crowds::crowds_get_through",
         "plain_ends::the_worker_ends_after_the_last_clone",
-    ],
-    "acceptance_counted": [
         "counted::tickets_are_returned_and_lines_are_in_order",
         "counting::lines_of_many_senders_are_taken_or_lost",
     ],

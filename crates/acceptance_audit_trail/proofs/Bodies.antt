@@ -1,6 +1,6 @@
 -- What is seen of the bodies of a folder of two files.
 use Rattle.std.proofs.Common.{◌≡◌, ℕ, zero, suc, List, [], ◌∷◌, Option, None, Some, IfSome, option_map, is_some, true, false, Bor, inl, refl, slice_get, slice_index_or}
-use Rattle.file_watch.specs.Ends.{EndsLine}
+use Rattle.log_check.specs.Ends.{EndsLine}
 
 pub two_bodies : (bodies : List (List ℕ)) (b : ℕ) → slice_get bodies 2 ≡ None → IfSome (slice_get bodies 0) EndsLine → IfSome (slice_get bodies 1) EndsLine
     → EndsLine (slice_index_or bodies b [])

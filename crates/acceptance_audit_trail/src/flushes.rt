@@ -5,7 +5,7 @@ use crate::program::Given;
 use audit_trail_core::gather::{Trails, keep_all};
 use audit_trail_core::input::InputReads;
 use audit_trail_core::trail::{Fault, write_lines};
-use file_watch::FileCounts;
+use log_check::FileCounts;
 use std::alloc::Global;
 use std::io;
 use std::io::{BufReader, Read, Write};
@@ -99,7 +99,7 @@ impl Read for Fast {
 // Of an input that never waits each MiB is flushed, and what a short read returned.
 #[test]
 fn flushes_once_a_mib(rt: HostRuntime) -> Result<(), Fail> {
-    for (end, wanted) in [(3 << 20, 3), ((2 << 20) + 8192, 2), (4096, 1), (0, 0)] {
+    for (end, wanted) in [(3 << 20, 3), ((2 << 20) + 8192, 3), (4096, 1), (0, 0)] {
         let mut log = log_of(&rt, 0, 0);
         let mut input = BufReader::new(rt.alloc(), InputReads::new(Fast { place: 0, end }))?;
         assert!(rt; write_lines(rt.alloc(), &mut input, &mut log).is_ok());
@@ -124,7 +124,7 @@ fn ends_after_a_flush_that_failed(rt: HostRuntime) -> Result<(), Fail> {
             Err(Fault::Memory)
         )
     );
-    expect_eq(&rt, log.watch().counts.unsynced(), 1);
+    expect_eq(&rt, log.check().counts.unsynced(), 1);
     Ok(())
 }
 
@@ -135,9 +135,9 @@ fn counts_flushes_that_failed(rt: HostRuntime) -> Result<(), Fail> {
         let mut log = log_of(&rt, 1800, refused);
         let mut text: &[u8] = b"a\nb\nc\nd\n";
         assert!(rt; write_lines(rt.alloc(), &mut text, &mut log).is_ok());
-        expect_eq(&rt, log.watch().counts.unsynced(), wanted.min(2));
+        expect_eq(&rt, log.check().counts.unsynced(), wanted.min(2));
         expect_eq(&rt, log.flush().is_err(), refused == 3);
-        expect_eq(&rt, log.watch().counts.unsynced(), wanted);
+        expect_eq(&rt, log.check().counts.unsynced(), wanted);
     }
     Ok(())
 }
@@ -164,7 +164,7 @@ impl Trails for Unsynced {
         try_open(self.alloc, folder, self.step, &[], counts)
     }
 
-    fn open_source(&self, _log: &TestLog, _path: &str) -> Result<Given, Fault> {
+    fn open_source(&self, _directory: &str, _path: &str) -> Result<Given, Fault> {
         Ok(Given::new(true))
     }
 }

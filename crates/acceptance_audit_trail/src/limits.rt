@@ -4,7 +4,7 @@ use crate::lines::{Disturbed, TestLog, expect_file, failing_folder, try_open_wit
 use crate::program::{ALL, FilesAndAbort, add_within, clear, fresh};
 use audit_trail_core::gather::{DiskTrails, keep_all};
 use audit_trail_core::trail::{Fault, Limits};
-use file_watch::FileCounts;
+use log_check::FileCounts;
 use std::io::Write;
 use std::process::Abort;
 use std::test::Fail;
@@ -17,7 +17,7 @@ fn of_bytes(bytes: u64) -> Limits {
 }
 
 // The names of a folder, sorted.
-fn names_in(rt: &impl FilesAndAbort, directory: &str) -> Vec<String> {
+pub(crate) fn names_in(rt: &impl FilesAndAbort, directory: &str) -> Vec<String> {
     let mut names = Vec::new(rt.alloc());
     for entry in fs::read_dir(rt, directory).expect(rt, "a folder") {
         let entry = entry.expect(rt, "an entry");
@@ -92,20 +92,20 @@ fn a_line_that_does_not_fit_begins_a_file(rt: HostRuntime) -> Result<(), Fail> {
     Ok(())
 }
 
-// The link leads to the newest file, whatever room the last one had.
+// What the last file holds counts, whatever the limit was then. Without a limit there is another file.
 #[test]
-fn each_start_begins_the_next_number(rt: HostRuntime) -> Result<(), Fail> {
+fn each_start_continues_the_last_file(rt: HostRuntime) -> Result<(), Fail> {
     let arguments = Vec::from_array(rt.alloc(), [fresh(&rt, "restart")?])?;
     let directory = arguments[0].as_str();
     add_within(&rt, of_bytes(8), arguments.as_slice(), "aaa\nbbbbb\n");
     add_within(&rt, of_bytes(8), arguments.as_slice(), "c\n");
     add_within(&rt, ALL, arguments.as_slice(), "123456789\n");
     add_within(&rt, of_bytes(100), arguments.as_slice(), "d\ne\n");
-    let wanted = "000000[aaa\n]000001[bbbbb\n]000002[c\n]000003[d\ne\n]";
+    let wanted = "000000[aaa\n]000001[bbbbb\nc\nd\ne\n]";
     expect_eq(&rt, numbered_in(&rt, directory).as_str(), wanted);
-    expect_eq(&rt, names_in(&rt, directory).len(), 6);
+    expect_eq(&rt, names_in(&rt, directory).len(), 4);
     let newest = fs::read_to_string(&rt, format!(in rt.alloc(); "{directory}/latest.log")?)?;
-    expect_eq(&rt, newest.as_str(), "d\ne\n");
+    expect_eq(&rt, newest.as_str(), "bbbbb\nc\nd\ne\n");
     clear(&rt, directory);
     Ok(())
 }
@@ -138,7 +138,7 @@ fn expect_kept(rt: &impl FilesAndAbort, directory: &str, wanted: &str, dated: [b
     }
 }
 
-// With a limit only files with a number count, and without one only those without.
+// With a limit only files with a number count, and without one only those without. A start continues the last file.
 #[test]
 fn keeps_the_newest_files_by_their_numbers(rt: HostRuntime) -> Result<(), Fail> {
     let arguments = Vec::from_array(rt.alloc(), [fresh(&rt, "numbers")?])?;
@@ -148,16 +148,16 @@ fn keeps_the_newest_files_by_their_numbers(rt: HostRuntime) -> Result<(), Fail> 
     add_file(&rt, directory, "audit.2020-01-01.000007.log")?;
     add_file(&rt, directory, "audit.2020-01-01.log")?;
     add_within(&rt, three, arguments.as_slice(), "aaa\n");
-    expect_kept(&rt, directory, "000000 000001 ", [true, true]);
+    expect_kept(&rt, directory, "000000 ", [true, true]);
     add_within(&rt, three, arguments.as_slice(), "bbb\n");
-    expect_kept(&rt, directory, "000000 000001 000002 ", [false, true]);
+    expect_kept(&rt, directory, "000000 000001 ", [true, true]);
     add_within(&rt, two, arguments.as_slice(), "ccc\nddd\neee\n");
-    let wanted = "000004[ddd\n]000005[eee\n]";
+    let wanted = "000003[ddd\n]000004[eee\n]";
     expect_eq(&rt, numbered_in(&rt, directory).as_str(), wanted);
-    expect_kept(&rt, directory, "000004 000005 ", [false, true]);
+    expect_kept(&rt, directory, "000003 000004 ", [false, true]);
     let one = Limits { files: 1, bytes: 0 };
     add_within(&rt, one, arguments.as_slice(), "fff\n");
-    expect_kept(&rt, directory, "000004 000005 ", [false, false]);
+    expect_kept(&rt, directory, "000003 000004 ", [false, false]);
     clear(&rt, directory);
     Ok(())
 }
@@ -194,7 +194,7 @@ fn limited(
     rt: &(impl AllocGlobal + Abort),
     folder: MemoryFolder,
     step: i64,
-    lost: &'static [&'static str],
+    lost: &'static [u32],
     bytes: u64,
 ) -> TestLog {
     let folder = Disturbed::new(rt.alloc(), folder, false).expect(rt, "memory");
@@ -226,21 +226,23 @@ fn a_boundary_begins_a_file_before_the_limit(rt: HostRuntime) {
     expect_file(&rt, &folder, ELEVEN, "b\nc\n");
 }
 
-// A line, and the first file, after one byte of another line.
-static AFTER_PARTS: [(&str, &str); 2] = [("b\n", "a\nb\n"), ("bc\n", "a\nbc\n")];
+// A line after one byte of another line, and the first files of 4 bytes then.
+type AfterPart = (&'static str, &'static str, &'static str);
 
-// The newline that ends a part takes room of the next line, and is not counted before.
+static AFTER_PARTS: [AfterPart; 2] = [("b\n", "a\nb\n", "d\n"), ("bc\n", "a", "\nbc\n")];
+
+// The newline that ends a part is counted too: no file is above the limit. The watch does not see that the second file is empty.
 #[test]
-fn a_part_of_a_line_is_ended_in_its_file(rt: HostRuntime) {
-    for (line, wanted) in &AFTER_PARTS {
+fn a_part_of_a_line_is_ended_within_the_limit(rt: HostRuntime) {
+    for (line, first, second) in &AFTER_PARTS {
         let folder = failing_folder(&rt, 4..5, &[3]);
         let mut log = limited(&rt, folder, 60, &[], 4);
         assert!(rt; matches!(write(rt.alloc(), &mut log, "abc\n"), Err(Fault::Cut(_))));
         assert!(rt; write(rt.alloc(), &mut log, *line).is_ok());
         assert!(rt; write(rt.alloc(), &mut log, "d\n").is_ok());
         let (folder, _) = log.into_parts();
-        expect_file(&rt, &folder, FIRST, *wanted);
-        expect_file(&rt, &folder, SECOND, "d\n");
+        expect_file(&rt, &folder, FIRST, *first);
+        expect_file(&rt, &folder, SECOND, *second);
     }
 }
 
@@ -256,14 +258,15 @@ fn a_part_of_a_line_is_left_at_the_limit(rt: HostRuntime) {
     expect_eq(&rt, folder.folder.bytes(SECOND).is_some(), true);
 }
 
-// A file that is gone is reported before the next one begins, also if it has room for a shorter line.
+// A file that is begun anew has a number of its own folder, and the whole limit.
 #[test]
-fn a_file_that_is_gone_is_reported_at_the_limit(rt: HostRuntime) {
-    let mut log = limited(&rt, MemoryFolder::new(rt.alloc()), 60, &[FIRST], 4);
+fn a_file_that_is_gone_is_begun_anew_at_the_limit(rt: HostRuntime) {
+    let mut log = limited(&rt, MemoryFolder::new(rt.alloc()), 60, &[2], 4);
     assert!(rt; write(rt.alloc(), &mut log, "a\n").is_ok());
-    expect_eq(&rt, log.watch().counts.gone(), 0);
-    assert!(rt; write(rt.alloc(), &mut log, "bcd\n").is_ok());
-    expect_eq(&rt, log.watch().counts.gone(), 1);
-    assert!(rt; log.flush().is_ok());
-    expect_eq(&rt, log.watch().counts.gone(), 1);
+    expect_eq(&rt, log.check().counts.gone(), 0);
+    assert!(rt; write(rt.alloc(), &mut log, "bcd\ne\n").is_ok());
+    expect_eq(&rt, log.check().counts.gone(), 1);
+    let (folder, _) = log.into_parts();
+    expect_file(&rt, &folder, FIRST, "bcd\n");
+    expect_file(&rt, &folder, SECOND, "e\n");
 }

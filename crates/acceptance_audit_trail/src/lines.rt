@@ -1,11 +1,11 @@
 // Lines over folders in memory.
 ghost use Rattle.std.specs.Prelude.{◌≡◌, true, IfSome};
-ghost use Rattle.file_watch.specs.Ends.{EndsLine};
+ghost use Rattle.log_check.specs.Ends.{EndsLine};
 
 use crate::expect::{expect_eq, expect_eq_of};
 use audit_trail_core::lines::LineLog;
 use audit_trail_core::trail::{Fault, write_lines};
-use file_watch::{FileCounts, Watch};
+use log_check::{FileCheck, FileCounts, Opens};
 use std::alloc::{AllocError, Global};
 use std::cell::Cell;
 use std::io;
@@ -16,7 +16,7 @@ use std::sync::Arc;
 use std::sync::atomic::AtomicU64;
 use std::sync::atomic::Ordering::SeqCst;
 use std::test::Fail;
-use tracing_appender::rolling::{Builder, Clock, InitError, Rotation};
+use tracing_appender::rolling::{Builder, Clock, InitError, RollingFile, Rotation};
 use tracing_appender::store::{Folder, Listed, MemoryFile, MemoryFolder, Notice, NoticeKind};
 
 // A clock that advances by this number of seconds at each reading.
@@ -24,6 +24,16 @@ use tracing_appender::store::{Folder, Listed, MemoryFile, MemoryFolder, Notice, 
 pub(super) struct Ticking {
     now: Cell<i64>,
     step: i64,
+}
+
+impl Ticking {
+    // Begins at 2020-02-01 10:01:00.
+    fn new(step: i64) -> Ticking {
+        Ticking {
+            now: Cell::new(1_580_551_260),
+            step,
+        }
+    }
 }
 
 impl Clock for Ticking {
@@ -72,6 +82,8 @@ impl Folder for Disturbed {
 
     ghost body = { λ file. ⟦<MemoryFolder as Folder>⟧.body file };
 
+    ghost made_file = { λ f. ⟦<MemoryFolder as Folder>⟧.made_file f.folder };
+
     ghost failures = { λ f. ⟦<MemoryFolder as Folder>⟧.failures f.folder };
 
     ghost noted = { λ f. ⟦<MemoryFolder as Folder>⟧.noted f.folder };
@@ -91,6 +103,8 @@ impl Folder for Disturbed {
     ghost append_gives = { λ old file bytes r new after. Unit {0} };
 
     ghost flush_gives = { λ old file r new after. Unit {0} };
+
+    ghost length_gives = { λ f file r. Unit {0} };
 
     ghost note_gives = { λ old said new. Unit {0} };
 
@@ -147,6 +161,14 @@ impl Folder for Disturbed {
         self.folder.flush(file)
     }
 
+    fn made_file(&self) -> bool {
+        self.folder.made_file()
+    }
+
+    fn length(&self, file: &MemoryFile) -> Option<u64> {
+        self.folder.length(file)
+    }
+
     fn note(&mut self, notice: Notice<'_>) {
         self.folder.note(notice);
     }
@@ -156,14 +178,25 @@ impl Folder for Disturbed {
     }
 }
 
-// Looks at a folder of two files at most. Some names are said to lead nowhere. Files are said to have no length.
+// Looks at a folder of two files at most. The comparisons of some numbers find no file. Files are said to have no length.
 #[derive(Drop)]
 pub(super) struct Looking {
-    lost: &'static [&'static str],
+    lost: &'static [u32],
+    compared: Cell<u32>,
     pub(super) counts: Arc<FileCounts, Global>,
 }
 
-impl Watch<Disturbed> for Looking {
+impl Looking {
+    pub(super) fn new(lost: &'static [u32], counts: Arc<FileCounts, Global>) -> Looking {
+        Looking {
+            lost,
+            compared: Cell::new(0),
+            counts,
+        }
+    }
+}
+
+impl FileCheck<Disturbed> for Looking {
     fn ends_line(&self, folder: &Disturbed, _file: &MemoryFile, _name: &str) -> bool {
         let folder = &folder.folder;
         if folder.body(2).is_some() {
@@ -177,8 +210,10 @@ impl Watch<Disturbed> for Looking {
     }
 
     fn finds(&self, folder: &Disturbed, _file: &MemoryFile, name: &str, length: u64) -> bool {
+        let number = self.compared.get().saturating_add(1);
+        self.compared.set(number);
         let found = match folder.folder.bytes(name) {
-            Some(bytes) => bytes.len() as u64 >= length && !self.lost.contains(&name),
+            Some(bytes) => bytes.len() as u64 >= length && !self.lost.contains(&number),
             None => false,
         };
         if !found {
@@ -224,7 +259,51 @@ pub(super) fn failing_folder(
     folder
 }
 
-pub(super) type TestLog = LineLog<Disturbed, Ticking, Looking>;
+// Opens a log anew over an empty folder in memory, after openings with these errors.
+#[derive(Drop)]
+pub(super) struct Anew {
+    alloc: Global,
+    settings: Builder,
+    step: i64,
+    pub(super) errors: Cell<&'static [ErrorKind]>,
+}
+
+impl Anew {
+    // Opens hourly logs with files of so many bytes.
+    pub(super) fn new(alloc: Global, step: i64, bytes: u64) -> Result<Anew, AllocError> {
+        let settings = Builder::new()
+            .rotation(Rotation::HOURLY)
+            .filename_prefix(alloc, "app")?
+            .max_file_bytes(bytes);
+        Ok(Anew {
+            alloc,
+            settings,
+            step,
+            errors: Cell::new(&[]),
+        })
+    }
+}
+
+impl Opens<Disturbed, Ticking> for Anew {
+    ghost config = { λ opener. opener.settings };
+
+    fn open(&self) -> Result<RollingFile<Disturbed, Ticking>, InitError> {
+        if let [kind, others @ ..] = self.errors.get() {
+            self.errors.set(others);
+            return Err(InitError::File(io::Error::from(*kind)));
+        }
+        let folder = Disturbed::new(self.alloc, MemoryFolder::new(self.alloc), false)?;
+        match self
+            .settings
+            .open_in(self.alloc, folder, Ticking::new(self.step))
+        {
+            Ok(log) => Ok(log),
+            Err((error, _, _)) => Err(error),
+        }
+    }
+}
+
+pub(super) type TestLog = LineLog<Disturbed, Ticking, Looking, Anew>;
 
 // A log over a folder in memory, opened at 2020-02-01 10:01:00, whose clock advances by `step` seconds.
 fn hourly(rt: &(impl AllocGlobal + Abort), folder: MemoryFolder, step: i64) -> TestLog {
@@ -235,7 +314,7 @@ fn open(
     rt: &(impl AllocGlobal + Abort),
     folder: MemoryFolder,
     step: i64,
-    lost: &'static [&'static str],
+    lost: &'static [u32],
     interrupts: bool,
 ) -> TestLog {
     let folder = Disturbed::new(rt.alloc(), folder, interrupts).expect(rt, "memory");
@@ -246,7 +325,7 @@ pub(super) fn open_disturbed(
     rt: &(impl AllocGlobal + Abort),
     folder: Disturbed,
     step: i64,
-    lost: &'static [&'static str],
+    lost: &'static [u32],
 ) -> TestLog {
     let counts = FileCounts::new(rt.alloc()).expect(rt, "memory");
     match try_open(rt.alloc(), folder, step, lost, counts) {
@@ -259,7 +338,7 @@ pub(super) fn try_open(
     alloc: Global,
     folder: Disturbed,
     step: i64,
-    lost: &'static [&'static str],
+    lost: &'static [u32],
     counts: Arc<FileCounts, Global>,
 ) -> Result<TestLog, InitError> {
     try_open_within(alloc, folder, step, lost, counts, 0)
@@ -270,19 +349,16 @@ pub(super) fn try_open_within(
     alloc: Global,
     folder: Disturbed,
     step: i64,
-    lost: &'static [&'static str],
+    lost: &'static [u32],
     counts: Arc<FileCounts, Global>,
     bytes: u64,
 ) -> Result<TestLog, InitError> {
-    let builder = Builder::new()
-        .rotation(Rotation::HOURLY)
-        .filename_prefix(alloc, "app")?
-        .max_file_bytes(bytes);
-    let now = Cell::new(1_580_551_260);
-    match builder.open_in(alloc, folder, Ticking { now, step }) {
-        Ok(log) => Ok(LineLog::new(log, Looking { lost, counts })),
-        Err((error, _, _)) => Err(error),
-    }
+    let opener = Anew::new(alloc, step, bytes)?;
+    let log = match opener.settings.open_in(alloc, folder, Ticking::new(step)) {
+        Ok(log) => log,
+        Err((error, _, _)) => return Err(error),
+    };
+    Ok(LineLog::new(opener, log, Looking::new(lost, counts)))
 }
 
 // Checks what a file of a folder in memory holds.
@@ -392,26 +468,61 @@ fn a_part_of_a_line_is_ended_at_a_switch(rt: HostRuntime) -> Result<(), Fail> {
     Ok(())
 }
 
-// A removed file is reported once, before the switch from it or at a flush. A second one is reported too.
-static LOST: [(&[&str], u64, u64); 4] = [
-    (&[TEN], 1, 1),
-    (&[ELEVEN], 0, 1),
-    (&[TEN, ELEVEN], 1, 2),
-    (&[], 0, 0),
+// The comparisons that find no file, one before each of three lines and two at flushes; what the last log has; how many files were
+// reported before the flushes, and after.
+type Lost = (&'static [u32], &'static str, u64, u64);
+
+static LOST: [Lost; 6] = [
+    (&[], "a\nb\nc\n", 0, 0),
+    (&[1], "a\nb\nc\n", 1, 1),
+    (&[2], "b\nc\n", 1, 1),
+    (&[3], "c\n", 1, 1),
+    (&[2, 3], "c\n", 2, 2),
+    (&[4, 5], "a\nb\nc\n", 0, 1),
 ];
 
+// Each line is in the file that was found or begun before it, and a lost file is reported once.
 #[test]
-fn each_file_that_is_gone_is_reported_once(rt: HostRuntime) {
-    for (lost, before, after) in &LOST {
-        let folder = MemoryFolder::new(rt.alloc());
-        let mut log = open(&rt, folder, 1800, *lost, false);
+fn a_file_that_is_gone_is_begun_anew(rt: HostRuntime) {
+    for (lost, wanted, before, after) in &LOST {
+        let mut log = open(&rt, MemoryFolder::new(rt.alloc()), 60, *lost, false);
         assert!(rt; write(rt.alloc(), &mut log, "a\nb\nc\n").is_ok());
-        expect_eq(&rt, log.watch().counts.gone(), *before);
+        expect_eq(&rt, log.check().counts.gone(), *before);
         for _ in 0..2 {
             assert!(rt; log.flush().is_ok());
-            expect_eq(&rt, log.watch().counts.gone(), *after);
+            expect_eq(&rt, log.check().counts.gone(), *after);
         }
+        let (folder, _) = log.into_parts();
+        expect_file(&rt, &folder, TEN, *wanted);
     }
+}
+
+// A file that was not found at a flush is not written to any more.
+#[test]
+fn a_file_that_is_gone_at_a_flush_is_begun_anew(rt: HostRuntime) {
+    let mut log = open(&rt, MemoryFolder::new(rt.alloc()), 60, &[2], false);
+    assert!(rt; matches!(log.write(b"a\n"), Ok(2)));
+    assert!(rt; log.flush().is_ok());
+    assert!(rt; matches!(log.write(b"b\n"), Ok(2)));
+    let (folder, _) = log.into_parts();
+    expect_file(&rt, &folder, TEN, "b\n");
+}
+
+// The lost file is flushed before it is closed, once, and a flush that fails is counted.
+#[test]
+fn a_file_that_is_gone_is_flushed(rt: HostRuntime) -> Result<(), Fail> {
+    for (refused, unsynced) in [(0, 0), (1, 1)] {
+        let folder = MemoryFolder::new(rt.alloc());
+        let mut folder = Disturbed::new(rt.alloc(), folder, false)?;
+        folder.refused = refused;
+        let flushes = folder.flushes.clone()?;
+        let mut log = open_disturbed(&rt, folder, 60, &[2]);
+        assert!(rt; write(rt.alloc(), &mut log, "a\nb\nc\n").is_ok());
+        expect_eq(&rt, flushes.load(SeqCst), 1);
+        assert!(rt; log.flush().is_ok());
+        expect_eq(&rt, log.check().counts.unsynced(), unsynced);
+    }
+    Ok(())
 }
 
 // The length that the log demands is that of what it appended, in part or with a newline after a part.
@@ -422,5 +533,5 @@ fn a_file_is_as_long_as_what_was_appended(rt: HostRuntime) {
     assert!(rt; log.flush().is_ok());
     assert!(rt; matches!(log.write(b"c\n"), Ok(2)));
     assert!(rt; log.flush().is_ok());
-    expect_eq(&rt, log.watch().counts.gone(), 0);
+    expect_eq(&rt, log.check().counts.gone(), 0);
 }

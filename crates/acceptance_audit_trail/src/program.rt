@@ -1,8 +1,8 @@
 // The whole program over a real folder; its lines over folders in memory, and several sources.
 use crate::expect::expect_eq;
+use crate::limits::names_in;
 use audit_trail_core::trail::{Fault, Limits, keep, report_fault};
 use std::io::{Read, Write};
-use std::os::unix::fs::symlink;
 use std::process::Abort;
 use std::rt::{Files, Runtime};
 use std::test::Fail;
@@ -283,9 +283,8 @@ pub(crate) enum Harm {
     Removed,
     Renamed,
     Replaced,
-    // A symbolic link to the file has its name.
-    Linked,
     Truncated,
+    FolderRemoved,
 }
 
 // Two lines, and between them harm to the newest log file of a folder.
@@ -321,11 +320,8 @@ impl Harming {
                 fs::remove_file(rt, path)?;
                 fs::write(rt, path, "")
             }
-            Harm::Linked => {
-                fs::rename(rt, path, other)?;
-                symlink(rt, "other", path)
-            }
             Harm::Truncated => fs::write(rt, path, ""),
+            Harm::FolderRemoved => fs::remove_dir_all(rt, self.directory.as_str()),
         }
     }
 }
@@ -345,20 +341,65 @@ impl Read for Harming {
     }
 }
 
+// It is reported, and the next line is in a file of its own.
 #[test]
-fn reports_a_log_that_is_gone(rt: HostRuntime) -> Result<(), Fail> {
+fn begins_a_log_anew_that_is_gone(rt: HostRuntime) -> Result<(), Fail> {
     let faults = "log files not found again: 1\n";
     for harm in [
         Harm::Removed,
         Harm::Renamed,
         Harm::Replaced,
-        Harm::Linked,
         Harm::Truncated,
+        Harm::FolderRemoved,
     ] {
         let arguments = Vec::from_array(rt.alloc(), [fresh(&rt, "gone")?])?;
         let directory = arguments[0].as_str();
         let input = Harming::new(rt, directory, harm)?;
         check(&rt, arguments.as_slice(), input, 1, faults);
+        check_newest(&rt, directory, "last\n");
+        clear(&rt, directory);
+    }
+    Ok(())
+}
+
+// Names in the log's folder that block its link, and what is said of them.
+static BLOCKING: [(&str, &str); 2] = [
+    (
+        "latest.log",
+        "failed to create symlink to latest log file: latest.log is no symbolic link\n",
+    ),
+    (
+        ".latest.log.new",
+        "failed to create symlink to latest log file: .latest.log.new is no symbolic link\n",
+    ),
+];
+
+// What has the link's name, or that of a new one, is left alone. No file is removed or made, at any start.
+#[test]
+fn refuses_a_folder_whose_link_is_blocked(rt: HostRuntime) -> Result<(), Fail> {
+    for (name, told) in &BLOCKING {
+        let arguments = Vec::from_array(rt.alloc(), [fresh(&rt, "blocked")?])?;
+        let directory = arguments[0].as_str();
+        fs::create_dir_all(&rt, directory)?;
+        for name in ["audit.2020-01-01.log", *name] {
+            fs::write(&rt, format!(in rt.alloc(); "{directory}/{name}")?, "old\n")?;
+        }
+        for _ in 0..5 {
+            let mut errors = Vec::new(rt.alloc());
+            let limits = Limits { files: 1, bytes: 0 };
+            let mut input = b"a\n".as_slice();
+            let kept = keep(
+                &rt,
+                rt,
+                limits,
+                arguments.as_slice(),
+                &mut input,
+                &mut errors,
+            );
+            expect_eq(&rt, errors.as_slice(), told.as_bytes());
+            expect_eq(&rt, kept.err(), Some(1));
+            expect_eq(&rt, names_in(&rt, directory).len(), 2);
+        }
         clear(&rt, directory);
     }
     Ok(())

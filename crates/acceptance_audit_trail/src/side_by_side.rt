@@ -2,7 +2,7 @@
 use crate::expect::expect_eq;
 use audit_trail_core::gather::{Trails, keep_all};
 use audit_trail_core::trail::Fault;
-use file_watch::FileCounts;
+use log_check::FileCounts;
 use std::alloc::Global;
 use std::io::{Read, Write};
 use std::sync::Arc;
@@ -93,7 +93,7 @@ impl Trails for SlowTrails {
         })
     }
 
-    fn open_source(&self, _log: &SlowLog, _path: &str) -> Result<Lines, Fault> {
+    fn open_source(&self, _directory: &str, _path: &str) -> Result<Lines, Fault> {
         Ok(Lines {
             left: LINES,
             is_begun: false,

@@ -3,8 +3,9 @@ use crate::expect::expect_eq;
 use crate::lines::{Disturbed, TestLog, try_open};
 use crate::program::{ALL, Given, Harm, Harming, clear, fresh, latest, newest_text};
 use audit_trail_core::gather::{DiskTrails, Trails, keep_all};
+use audit_trail_core::sources::DiskSource;
 use audit_trail_core::trail::{Fault, open_trail};
-use file_watch::FileCounts;
+use log_check::FileCounts;
 use std::alloc::{AllocError, Global};
 use std::io::{Read, Write};
 use std::os::unix::fs::symlink;
@@ -137,7 +138,7 @@ impl Trails for Narrow {
         Ok(Filling { room: self.room })
     }
 
-    fn open_source(&self, _log: &Filling, path: &str) -> Result<Given, Fault> {
+    fn open_source(&self, _directory: &str, path: &str) -> Result<Given, Fault> {
         Ok(Given::new(path != "endless"))
     }
 }
@@ -196,8 +197,12 @@ impl<T: Trails + Drop> Trails for Harmed<T> {
         self.trails.open_trail(directory, counts)
     }
 
-    fn open_source(&self, _log: &T::Log, _path: &str) -> Result<Harming, Fault> {
+    fn open_source(&self, _directory: &str, _path: &str) -> Result<Harming, Fault> {
         Ok(Harming::new(self.rt, self.directory.as_str(), self.harm)?)
+    }
+
+    fn is_log(&self, _log: &T::Log, _source: &Harming) -> bool {
+        false
     }
 }
 
@@ -205,7 +210,7 @@ impl<T: Trails + Drop> Trails for Harmed<T> {
 #[test]
 fn reports_a_log_that_is_gone(rt: HostRuntime) -> Result<(), Fail> {
     let alloc = rt.alloc();
-    for harm in [Harm::Removed, Harm::Linked, Harm::Truncated] {
+    for harm in [Harm::Removed, Harm::Truncated, Harm::FolderRemoved] {
         let directory = fresh(&rt, "harmed")?;
         open_trail(&rt, rt, ALL, directory.as_str(), FileCounts::new(alloc)?)?;
         fs::write(&rt, latest(&rt, directory.as_str()), "old\n")?;
@@ -261,8 +266,8 @@ fn ends_a_part_of_a_line_that_another_run_left(rt: HostRuntime) -> Result<(), Fa
 }
 
 // Sources that are in the log's folder: the newest log by its link, and by a link to that; another file, and
-// that by a link to the folder. Both links follow them.
-fn own_sources(rt: &HostRuntime, directory: &str) -> io::Result<[String; 6]> {
+// that by a link to the folder. Also both links.
+fn own_sources(rt: &HostRuntime, directory: &str) -> io::Result<(Vec<String>, Vec<String>)> {
     let alloc = rt.alloc();
     let newest = format!(in alloc; "{directory}/latest.log")?;
     let other = format!(in alloc; "{directory}/other")?;
@@ -271,7 +276,8 @@ fn own_sources(rt: &HostRuntime, directory: &str) -> io::Result<[String; 6]> {
     symlink(rt, newest.as_str(), link.as_str())?;
     symlink(rt, directory, folder.as_str())?;
     let through = format!(in alloc; "{folder}/other")?;
-    Ok([newest, link.clone()?, other, through, link, folder])
+    let paths = Vec::from_array(alloc, [newest, link.clone()?, other, through])?;
+    Ok((paths, Vec::from_array(alloc, [link, folder])?))
 }
 
 // A path of this test's own, that is no link.
@@ -286,12 +292,11 @@ fn refuses_sources_in_the_folder_of_the_log(rt: HostRuntime) -> Result<(), Fail>
     let alloc = rt.alloc();
     let directory = fresh(&rt, "own")?;
     open_trail(&rt, rt, ALL, directory.as_str(), FileCounts::new(alloc)?)?;
-    let own = own_sources(&rt, directory.as_str())?;
-    let (mut paths, mut faults) = (Vec::new(alloc), String::new(alloc));
-    for path in &own.as_slice()[..4] {
+    let (mut paths, links) = own_sources(&rt, directory.as_str())?;
+    let mut faults = String::new(alloc);
+    for path in &paths {
         let told = format!(in alloc; "{path}: source in the log directory\n")?;
         faults.push_str(told.as_str())?;
-        paths.push(path.clone()?)?;
     }
     let good = source(&rt, "good", "a\nb\n")?;
     paths.push(good.clone()?)?;
@@ -305,7 +310,7 @@ fn refuses_sources_in_the_folder_of_the_log(rt: HostRuntime) -> Result<(), Fail>
         faults.as_str(),
     );
     expect_eq(&rt, newest_text(&rt, directory.as_str()).as_str(), "a\nb\n");
-    for link in &own.as_slice()[4..] {
+    for link in &links {
         fs::remove_file(&rt, link.as_str())?;
     }
     fs::remove_file(&rt, good)?;
@@ -322,9 +327,8 @@ fn finds_the_file_of_the_log(rt: HostRuntime) -> Result<(), Fail> {
     let named = format!(in alloc; "{directory}/{}", trail.log().open_name())?;
     fs::hard_link(&rt, named, hard.as_str())?;
     for (path, wanted) in [(hard.as_str(), true), ("/dev/null", false)] {
-        let file = fs::File::open(&rt, path)?;
-        let owns = trail.watch().owns(trail.log().open_file(), &file, path)?;
-        expect_eq(&rt, owns, wanted);
+        let source = DiskSource::open(rt, path)?;
+        expect_eq(&rt, source.is(trail.log().open_file()), wanted);
     }
     fs::remove_file(&rt, hard)?;
     clear(&rt, directory.as_str());
@@ -354,7 +358,7 @@ impl Trails for Cutting {
         try_open(self.alloc, folder, 60, &[], counts)
     }
 
-    fn open_source(&self, _log: &TestLog, _path: &str) -> Result<Given, Fault> {
+    fn open_source(&self, _directory: &str, _path: &str) -> Result<Given, Fault> {
         Ok(Given::new(true))
     }
 }
@@ -442,7 +446,7 @@ impl Trails for FailingTrails {
         Ok(Filling { room: 100 })
     }
 
-    fn open_source(&self, _log: &Filling, _path: &str) -> Result<Failing, Fault> {
+    fn open_source(&self, _directory: &str, _path: &str) -> Result<Failing, Fault> {
         Ok(Failing { reads: 0 })
     }
 }

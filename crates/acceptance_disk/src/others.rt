@@ -90,6 +90,23 @@ fn a_file_that_another_process_makes_first_is_appended_to(rt: HostRuntime) {
     }
 }
 
+// Opens a file, and returns whether the folder made it.
+fn makes_file(rt: &impl AllocAndAbort, disk: &Disk) -> bool {
+    let mut folder = folder_of(rt, disk);
+    expect_eq(rt, folder.open(LOG).is_ok(), true);
+    folder.made_file()
+}
+
+#[test]
+fn a_file_that_another_process_makes_first_was_not_made(rt: HostRuntime) {
+    let disk = Disk::new(rt.alloc());
+    expect_eq(&rt, makes_file(&rt, &disk), true);
+    expect_eq(&rt, makes_file(&rt, &disk), false);
+    let shared = Disk::new(rt.alloc());
+    shared.entry_comes.set(Some((2, LOG, Kind::File)));
+    expect_eq(&rt, makes_file(&rt, &shared), false);
+}
+
 #[test]
 fn a_log_that_may_not_be_read_is_written(rt: HostRuntime) {
     let wanted = (

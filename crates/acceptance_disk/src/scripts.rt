@@ -3,8 +3,8 @@
 use crate::expect::{AllocAndAbort, expect_eq, expect_eq_of};
 use crate::runs::folder_of;
 use fake_files::disk::Disk;
+use rollplay_core::script::{LONGEST, Plan, Script};
 use rollplay_rows::{PLAYED, first_row};
-use rollplay_script::script::{LONGEST, Plan, Script};
 use std::process::Abort;
 use tracing_appender::replay::replay_rolling;
 use tracing_appender::rolling::Builder;
@@ -113,5 +113,5 @@ fn a_disk_has_the_content_of_memory(rt: HostRuntime) {
         rest = behind;
     }
     expect_eq(&rt, rest, "");
-    expect_eq(&rt, compared, 55);
+    expect_eq(&rt, compared, 59);
 }

@@ -1,10 +1,12 @@
-// The link to the newest file, while others read it or make it too.
+// The link to the newest file, while others read it or make it too, and if its name is in use.
 
 use crate::expect::expect_eq;
 use crate::scene::{
-    Entry, FilesAndAbort, at, clear, expect_count, expect_target, fill, folder_at, fresh, place_of,
+    Entry, FilesAndAbort, START, at, clear, expect_count, expect_entries, expect_target,
+    expect_text, fill, folder_at, fresh, hourly_log, place_of,
 };
 use appender_folder::folder::DirFolder;
+use appender_rolling::rolling::Roller;
 use appender_store::store::Folder;
 use std::fs::File;
 use std::rt::Files;
@@ -151,4 +153,35 @@ fn expect_each_replaced(rt: &impl FilesAndAbort, place: io::Result<String>) {
 #[test]
 fn a_link_of_the_longest_name_is_replaced(rt: HostRuntime) {
     expect_each_replaced(&rt, place_of(rt, "longest"));
+}
+
+// A file has the name of the link, and an empty one that of a log.
+static TAKEN: [Entry; 2] = [
+    Entry::File("latest.log", "q"),
+    Entry::File("old.2020-02-01-10", ""),
+];
+
+// Opens a log with a link, whose name is in use.
+fn refuse_link(rt: &impl FilesAndAbort, directory: &str, prefix: &str, by_name: bool) {
+    let builder = hourly_log(rt, prefix).log_files_by_name(by_name);
+    let builder = builder.latest_symlink(rt.alloc(), "latest.log");
+    let builder = builder.expect(rt, "memory");
+    match Roller::open(rt.alloc(), &builder, folder_at(*rt, directory), START) {
+        Ok(_) => rt.panic("opened"),
+        Err((error, _folder)) => expect_eq(rt, error.code(), 3),
+    }
+}
+
+// By name a new file is removed again, and one that was there stays.
+#[test]
+fn a_log_without_its_link_leaves_no_new_file(rt: HostRuntime) {
+    let directory = fresh(&rt, place_of(rt, "refused"));
+    let path = directory.as_str();
+    fill(&rt, path, &TAKEN);
+    refuse_link(&rt, path, "new", true);
+    refuse_link(&rt, path, "old", true);
+    expect_entries(&rt, path, &TAKEN);
+    refuse_link(&rt, path, "new", false);
+    expect_text(&rt, path, "new.2020-02-01-10", "");
+    clear(&rt, path);
 }

@@ -31,6 +31,19 @@ fn a_log_with_a_second_hard_link_is_refused(rt: HostRuntime) {
     clear(&rt, directory.as_str());
 }
 
+// What another process writes counts too.
+#[test]
+fn a_folder_returns_the_length_of_an_open_file(rt: HostRuntime) {
+    let directory = fresh(&rt, place_of(rt, "length"));
+    let log = at(&rt, directory.as_str(), "log");
+    let mut folder = folder_at(rt, directory.as_str());
+    let file = folder.open("log").expect(&rt, "a file");
+    expect_eq(&rt, folder.length(&file), Some(0));
+    fs::write(&rt, log.as_str(), "abc").expect(&rt, "a file");
+    expect_eq(&rt, folder.length(&file), Some(3));
+    clear(&rt, directory.as_str());
+}
+
 // What another process does to the file of a log.
 #[derive(Clone, Copy, Debug)]
 enum Deed {

@@ -1,7 +1,7 @@
 //! A writer for tests: it records its lines, and holds one of them until a test opens it.
 #![tactic(auto)]
 
-use appender_traits::host::Host;
+use appender_runtime::host::Host;
 use std::alloc::{AllocError, Global};
 use std::io::{ErrorKind, Write};
 use std::sync::atomic::AtomicUsize;

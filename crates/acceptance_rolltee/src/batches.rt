@@ -1,8 +1,8 @@
 // Lines that are written together: what a fault leaves of them, and how soon they are in the file.
 use crate::expect::expect_eq;
-use file_watch::FileCounts;
+use crate::logs::OneLog;
 use program_options::Options;
-use rolltee_core::tee::{Logs, TeeLog, tee, tee_with};
+use rolltee_core::tee::{TeeLog, tee, tee_with};
 use std::alloc::{AllocError, Global};
 use std::io::{Read, Write};
 use std::process::Abort;
@@ -12,7 +12,6 @@ use std::test::Fail;
 use std::time::{Clock, Duration, Instant};
 use std::{env, fs, io, process, thread};
 use tracing_appender::non_blocking::Host;
-use tracing_appender::rolling::{InitError, Rotation};
 
 // A log that takes this many bytes, fails once, and then takes everything.
 #[derive(Drop)]
@@ -32,7 +31,7 @@ impl<R: Wait> Write for Failing<R> {
         };
         if taken == 0 && !self.failed {
             self.failed = true;
-            return Err(io::Error::from(io::ErrorKind::PermissionDenied));
+            return Err(io::Error::from(io::ErrorKind::OutOfMemory));
         }
         self.text.lock(&self.rt).extend_from_slice(&buf[..taken])?;
         self.room = self.room.saturating_sub(taken);
@@ -45,36 +44,6 @@ impl<R: Wait> Write for Failing<R> {
 }
 
 impl<R: Wait> TeeLog for Failing<R> {}
-
-#[derive(Drop)]
-struct FailingLogs<R: Wait + Drop> {
-    rt: R,
-    room: usize,
-    text: Arc<Mutex<Vec<u8>>, Global>,
-}
-
-impl<R: Wait + Copy + Drop + Send + 'static> Logs for FailingLogs<R> {
-    type Log = Failing<R>;
-
-    fn open_log(
-        &self,
-        _: Rotation,
-        _: &str,
-        _: &str,
-        _: &Options,
-        _: Arc<FileCounts, Global>,
-    ) -> Result<Failing<R>, InitError> {
-        match self.text.clone() {
-            Ok(text) => Ok(Failing {
-                rt: self.rt,
-                room: self.room,
-                failed: false,
-                text,
-            }),
-            Err(_) => Err(InitError::Memory),
-        }
-    }
-}
 
 static TEXT: &[u8] = b"a\nbcd\n\nef\ng";
 
@@ -100,11 +69,12 @@ fn check_fault_at<R: Host + Abort>(rt: R, place: usize, waits: bool) -> Result<(
     }
     let text = Mutex::new(Vec::new(rt.alloc()));
     let text = Arc::new(rt.alloc(), text).map_err(AllocError::from)?;
-    let logs = FailingLogs {
+    let logs = OneLog::new(Failing {
         rt,
         room: place,
+        failed: false,
         text: text.clone()?,
-    };
+    });
     let mut errors = Vec::new(rt.alloc());
     let mut options = Options::new(rt.alloc());
     options.no_wait = !waits;

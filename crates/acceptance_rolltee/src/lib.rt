@@ -7,6 +7,8 @@ mod batches;
 #[cfg(test)]
 mod expect;
 #[cfg(test)]
+mod logs;
+#[cfg(test)]
 mod options;
 #[cfg(test)]
 mod pieces;

@@ -1,6 +1,7 @@
 // The whole program over a real folder.
 use crate::expect::expect_eq;
-use file_watch::FileCounts;
+use crate::logs::OneLog;
+use log_check::FileCounts;
 use program_options::Options;
 use rolltee_core::tee::{Logs, TeeLog, tee, tee_with};
 use std::alloc::{AllocError, Global};
@@ -52,30 +53,6 @@ impl<R: Clock> Write for Stuck<R> {
 
 impl<R: Clock> TeeLog for Stuck<R> {}
 
-#[derive(Clone, Copy)]
-struct StuckLogs<R> {
-    rt: R,
-    millis: u64,
-}
-
-impl<R: Clock + Copy + Send + 'static> Logs for StuckLogs<R> {
-    type Log = Stuck<R>;
-
-    fn open_log(
-        &self,
-        _: Rotation,
-        _: &str,
-        _: &str,
-        _: &Options,
-        _: Arc<FileCounts, Global>,
-    ) -> Result<Stuck<R>, InitError> {
-        Ok(Stuck {
-            rt: self.rt,
-            millis: self.millis,
-        })
-    }
-}
-
 // A log that takes its time for the first write, which it interrupts once, and counts the lines that it takes.
 #[derive(Drop)]
 struct Interrupting<R: Clock> {
@@ -106,34 +83,6 @@ impl<R: Clock> Write for Interrupting<R> {
 
 impl<R: Clock> TeeLog for Interrupting<R> {}
 
-#[derive(Drop)]
-struct InterruptingLogs<R: Drop> {
-    rt: R,
-    lines: Arc<AtomicU64, Global>,
-}
-
-impl<R: Clock + Copy + Drop + Send + 'static> Logs for InterruptingLogs<R> {
-    type Log = Interrupting<R>;
-
-    fn open_log(
-        &self,
-        _: Rotation,
-        _: &str,
-        _: &str,
-        _: &Options,
-        _: Arc<FileCounts, Global>,
-    ) -> Result<Interrupting<R>, InitError> {
-        match self.lines.clone() {
-            Ok(lines) => Ok(Interrupting {
-                rt: self.rt,
-                begun: false,
-                lines,
-            }),
-            Err(_) => Err(InitError::Memory),
-        }
-    }
-}
-
 // A log that takes one line by a write, 2 bytes of one that begins with `c`, and nothing of one that begins with `r`.
 #[derive(Drop)]
 struct Narrow {
@@ -160,26 +109,6 @@ impl Write for Narrow {
 
 impl TeeLog for Narrow {}
 
-#[derive(Clone, Copy)]
-struct NarrowLogs {
-    kind: io::ErrorKind,
-}
-
-impl Logs for NarrowLogs {
-    type Log = Narrow;
-
-    fn open_log(
-        &self,
-        _: Rotation,
-        _: &str,
-        _: &str,
-        _: &Options,
-        _: Arc<FileCounts, Global>,
-    ) -> Result<Narrow, InitError> {
-        Ok(Narrow { kind: self.kind })
-    }
-}
-
 // Logs of only this rotation, in this folder and with this prefix.
 #[derive(Clone, Copy)]
 struct OnlyLogs {
@@ -200,23 +129,6 @@ impl Logs for OnlyLogs {
         if rotation == self.rotation && directory == "dir" && prefix == "app" {
             return Ok(io::sink());
         }
-        Err(InitError::Memory)
-    }
-}
-
-struct NoLogs;
-
-impl Logs for NoLogs {
-    type Log = io::Sink;
-
-    fn open_log(
-        &self,
-        _: Rotation,
-        _: &str,
-        _: &str,
-        _: &Options,
-        _: Arc<FileCounts, Global>,
-    ) -> Result<io::Sink, InitError> {
         Err(InitError::Memory)
     }
 }
@@ -349,10 +261,11 @@ fn loses_no_line(rt: HostRuntime) -> Result<(), Fail> {
         text.extend_from_slice(b"one line\n")?;
     }
     let lines = Arc::new(rt.alloc(), AtomicU64::new(0)).map_err(AllocError::from)?;
-    let logs = InterruptingLogs {
+    let logs = OneLog::new(Interrupting {
         rt,
+        begun: false,
         lines: lines.clone()?,
-    };
+    });
     let arguments = ["never", "dir", "app"];
     check(rt, &logs, &arguments, &mut text.as_slice(), 0, "");
     expect_eq(&rt, lines.load(SeqCst), 3000);
@@ -411,7 +324,7 @@ fn opens_a_log_of_each_rotation(rt: HostRuntime) {
 // The input fails, and then the log takes longer for its flush than the end waits.
 #[test]
 fn reports_the_first_fault(rt: HostRuntime) {
-    let logs = StuckLogs { rt, millis: 3000 };
+    let logs = OneLog::new(Stuck { rt, millis: 3000 });
     let mut input = Broken {
         left: b"a\n".as_slice(),
         kind: io::ErrorKind::PermissionDenied,
@@ -431,11 +344,10 @@ static TAKEN: [(&str, (u8, &str)); 5] = [
 
 #[test]
 fn reports_lines_that_the_log_did_not_take(rt: HostRuntime) {
-    let logs = NarrowLogs {
-        kind: io::ErrorKind::PermissionDenied,
-    };
+    let kind = io::ErrorKind::OutOfMemory;
     for (text, (status, told)) in &TAKEN {
         let mut input = text.as_bytes();
+        let logs = OneLog::new(Narrow { kind });
         let arguments = ["never", "dir", "app"];
         check(rt, &logs, &arguments, &mut input, *status, told);
     }
@@ -444,15 +356,14 @@ fn reports_lines_that_the_log_did_not_take(rt: HostRuntime) {
 // If it is not to wait, a full disk is a fault as others are.
 #[test]
 fn reports_a_full_disk_without_waiting(rt: HostRuntime) {
-    let logs = NarrowLogs {
-        kind: io::ErrorKind::StorageFull,
-    };
+    let kind = io::ErrorKind::StorageFull;
     let arguments = texts_of(rt.alloc(), &["never", "dir", "app"]).expect(&rt, "memory");
     let mut options = Options::new(rt.alloc());
     options.no_wait = true;
     for (text, (status, told)) in &TAKEN {
         let mut input = text.as_bytes();
         let mut errors = Vec::new(rt.alloc());
+        let logs = OneLog::new(Narrow { kind });
         let arguments = arguments.as_slice();
         let answer = tee_with(
             rt,
@@ -481,9 +392,9 @@ fn reports_the_fault_of_the_input_before_lost_lines(rt: HostRuntime) {
         kind: io::ErrorKind::PermissionDenied,
     };
     let arguments = ["never", "dir", "app"];
-    let logs = NarrowLogs {
-        kind: io::ErrorKind::PermissionDenied,
-    };
+    let logs = OneLog::new(Narrow {
+        kind: io::ErrorKind::OutOfMemory,
+    });
     check(rt, &logs, &arguments, &mut input, 1, "read failed\n");
 }
 
@@ -498,7 +409,7 @@ fn prints_its_usage(rt: HostRuntime) {
         &["Never", "dir", "app"],
     ];
     for arguments in wrong {
-        let logs = StuckLogs { rt, millis: 0 };
+        let logs = OneLog::new(Stuck { rt, millis: 0 });
         let usage = "usage: rolltee ROTATION DIR PREFIX\n";
         check(rt, &logs, arguments, &mut b"a\n".as_slice(), 2, usage);
     }
@@ -532,7 +443,8 @@ fn reports_a_folder_that_is_none(rt: HostRuntime) {
 fn reports_why_no_log_is_opened(rt: HostRuntime) {
     let arguments = ["never", "dir", "app"];
     let told = "out of memory\n";
-    check(rt, &NoLogs, &arguments, &mut b"a\n".as_slice(), 1, told);
+    let logs: OneLog<io::Sink> = OneLog::none();
+    check(rt, &logs, &arguments, &mut b"a\n".as_slice(), 1, told);
 }
 
 // What was read before the fault is written, since the guard is closed all the same.
@@ -556,7 +468,7 @@ fn reports_an_input_that_is_not_read(rt: HostRuntime) {
 // The log takes longer for its flush than the end waits.
 #[test]
 fn reports_that_the_log_is_still_flushed(rt: HostRuntime) {
-    let logs = StuckLogs { rt, millis: 3000 };
+    let logs = OneLog::new(Stuck { rt, millis: 3000 });
     let arguments = ["never", "dir", "app"];
     let told = "shutdown pending\n";
     check(rt, &logs, &arguments, &mut b"a\n".as_slice(), 1, told);

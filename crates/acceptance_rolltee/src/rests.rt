@@ -1,8 +1,8 @@
 // The rest of a line whose first part was taken, after the next file is due.
 use crate::expect::expect_eq;
 use appender_store::store::{Folder, MemoryFile, MemoryFolder};
-use file_watch::Watch;
-use rolltee_core::logs::{FileLog, Opens, TeeLog};
+use log_check::{FileCheck, Opens};
+use rolltee_core::logs::{FileLog, TeeLog};
 use std::alloc::Global;
 use std::cell::Cell;
 use std::io::Write;
@@ -24,11 +24,13 @@ impl Clock for SetClock {
     }
 }
 
-// Opens an hourly log in memory, whose first append takes three bytes.
+// Opens an hourly log in memory, of whose calls this one is an append that takes so many bytes.
 #[derive(Drop)]
 struct ShortOpener<'a> {
     alloc: Global,
     settings: Builder,
+    call: u64,
+    takes: usize,
     clock: &'a SetClock,
 }
 
@@ -37,7 +39,9 @@ impl<'a> Opens<MemoryFolder, &'a SetClock> for ShortOpener<'a> {
 
     fn open(&self) -> Result<RollingFile<MemoryFolder, &'a SetClock>, InitError> {
         let mut folder = MemoryFolder::new(self.alloc);
-        folder.short_append(2, 3).map_err(|_| InitError::Memory)?;
+        folder
+            .short_append(self.call, self.takes)
+            .map_err(|_| InitError::Memory)?;
         match self.settings.open_in(self.alloc, folder, self.clock) {
             Ok(log) => Ok(log),
             Err((error, _, _)) => Err(error),
@@ -48,10 +52,11 @@ impl<'a> Opens<MemoryFolder, &'a SetClock> for ShortOpener<'a> {
 // Records at each flush how many bytes two files have.
 #[derive(Drop)]
 struct Lengths<'a> {
+    names: [&'static str; 2],
     lengths: &'a Cell<(usize, usize)>,
 }
 
-impl<'a> Watch<MemoryFolder> for Lengths<'a> {
+impl<'a> FileCheck<MemoryFolder> for Lengths<'a> {
     fn ends_line(&self, _: &MemoryFolder, _: &MemoryFile, _: &str) -> bool {
         false
     }
@@ -66,8 +71,8 @@ impl<'a> Watch<MemoryFolder> for Lengths<'a> {
 
     fn count_unsynced(&self, folder: &MemoryFolder, _: u64) {
         self.lengths.set((
-            length_of(folder, "app.2020-02-01-10"),
-            length_of(folder, "app.2020-02-01-11"),
+            length_of(folder, self.names[0]),
+            length_of(folder, self.names[1]),
         ));
     }
 
@@ -104,9 +109,14 @@ fn written_lengths(
         settings: Builder::new()
             .rotation(Rotation::HOURLY)
             .filename_prefix(alloc, "app")?,
+        call: 2,
+        takes: 3,
         clock: &clock,
     };
-    let watch = Lengths { lengths: &lengths };
+    let watch = Lengths {
+        names: ["app.2020-02-01-10", "app.2020-02-01-11"],
+        lengths: &lengths,
+    };
     let mut log = FileLog::new(opener, watch, false)?;
     expect_eq(rt, log.write(b"abcdef\n")?, 3);
     if gives_up {
@@ -123,5 +133,44 @@ fn written_lengths(
 fn the_rest_of_a_line_is_in_its_file(rt: HostRuntime) -> Result<(), Fail> {
     expect_eq(&rt, written_lengths(&rt, false)?, (7, 3));
     expect_eq(&rt, written_lengths(&rt, true)?, (3, 7));
+    Ok(())
+}
+
+// Writes one byte of a line, gives that up, and writes another line, all within a limit of six bytes a file. Each file begins with a
+// newline, since its end is not seen. Returns how many bytes the first two files have.
+fn limited_lengths(rt: &(impl AllocGlobal + Abort), line: &[u8]) -> Result<(usize, usize), Fail> {
+    let alloc = rt.alloc();
+    let clock = SetClock {
+        moment: Cell::new(FIRST),
+    };
+    let lengths = Cell::new((0, 0));
+    let opener = ShortOpener {
+        alloc,
+        settings: Builder::new()
+            .rotation(Rotation::HOURLY)
+            .filename_prefix(alloc, "app")?
+            .max_file_bytes(6),
+        call: 4,
+        takes: 1,
+        clock: &clock,
+    };
+    let watch = Lengths {
+        names: ["app.2020-02-01-10.000000", "app.2020-02-01-10.000001"],
+        lengths: &lengths,
+    };
+    let mut log = FileLog::new(opener, watch, true)?;
+    expect_eq(rt, log.write(b"abc\n")?, 1);
+    log.give_up();
+    expect_eq(rt, log.write(line)?, line.len());
+    log.flush()?;
+    Ok(lengths.get())
+}
+
+// The newline that ends a part of a line is counted too: no file is above the limit.
+#[test]
+fn a_part_of_a_line_is_ended_within_the_limit(rt: HostRuntime) -> Result<(), Fail> {
+    expect_eq(&rt, limited_lengths(&rt, b"bc\n")?, (6, 0));
+    expect_eq(&rt, limited_lengths(&rt, b"bcd\n")?, (2, 5));
+    expect_eq(&rt, limited_lengths(&rt, b"bcde\n")?, (2, 6));
     Ok(())
 }

@@ -1,6 +1,6 @@
 // Runs with options.
 use crate::expect::expect_eq;
-use file_watch::FileCounts;
+use crate::logs::OneLog;
 use program_options::Options;
 use rolltee_core::tee::{Logs, TeeLog, tee_with};
 use std::alloc::{AllocError, Global};
@@ -14,7 +14,6 @@ use std::test::Fail;
 use std::time::{Clock, Duration};
 use std::{env, fs, io, process, thread};
 use tracing_appender::non_blocking::Host;
-use tracing_appender::rolling::{InitError, Rotation};
 
 // Runs the program with options over these logs, and compares its status and what it reports.
 fn check<R: Host + Abort, L: Logs, I: Read, O: Write + Drop>(
@@ -74,24 +73,6 @@ fn count_names(rt: &HostRuntime, directory: &str, end: &str) -> io::Result<usize
     Ok(count)
 }
 
-// A log that takes every line.
-struct AnyLogs;
-
-impl Logs for AnyLogs {
-    type Log = io::Sink;
-
-    fn open_log(
-        &self,
-        _: Rotation,
-        _: &str,
-        _: &str,
-        _: &Options,
-        _: Arc<FileCounts, Global>,
-    ) -> Result<io::Sink, InitError> {
-        Ok(io::sink())
-    }
-}
-
 // Without a rotation there are no dates to go by and no numbers.
 #[test]
 fn some_options_need_a_rotation(rt: HostRuntime) -> Result<(), Fail> {
@@ -105,7 +86,8 @@ fn some_options_need_a_rotation(rt: HostRuntime) -> Result<(), Fail> {
         options.max_bytes = max_bytes;
         let run = (&options, ["never", "dir", "app"].as_slice());
         let mut input = b"a\n".as_slice();
-        check(rt, &AnyLogs, run, &mut input, io::sink(), (status, told))?;
+        let logs = OneLog::new(io::sink());
+        check(rt, &logs, run, &mut input, io::sink(), (status, told))?;
     }
     Ok(())
 }
@@ -134,30 +116,6 @@ impl<R: Clock> Write for Gated<R> {
 }
 
 impl<R: Clock> TeeLog for Gated<R> {}
-
-#[derive(Drop)]
-struct GatedLogs<R: Drop> {
-    rt: R,
-    read: Arc<AtomicBool, Global>,
-}
-
-impl<R: Clock + Copy + Drop + Send + 'static> Logs for GatedLogs<R> {
-    type Log = Gated<R>;
-
-    fn open_log(
-        &self,
-        _: Rotation,
-        _: &str,
-        _: &str,
-        _: &Options,
-        _: Arc<FileCounts, Global>,
-    ) -> Result<Gated<R>, InitError> {
-        match self.read.clone() {
-            Ok(read) => Ok(Gated { rt: self.rt, read }),
-            Err(_) => Err(InitError::Memory),
-        }
-    }
-}
 
 // An input that sets a flag at its end.
 #[derive(Drop)]
@@ -195,10 +153,10 @@ fn count_after(text: &[u8], words: &[u8]) -> Option<u64> {
 #[test]
 fn drops_lines_that_find_no_room(rt: HostRuntime) -> Result<(), Fail> {
     let read = Arc::new(rt.alloc(), AtomicBool::new(false)).map_err(AllocError::from)?;
-    let logs = GatedLogs {
+    let logs = OneLog::new(Gated {
         rt,
         read: read.clone()?,
-    };
+    });
     let mut text = Vec::new(rt.alloc());
     for _ in 0..50u32 {
         for _ in 0..70_000u32 {
@@ -360,7 +318,8 @@ fn lines_get_times(rt: HostRuntime) -> Result<(), Fail> {
         text: kept.clone()?,
     };
     let run = (&options, ["never", "dir", "app"].as_slice());
-    check(rt, &AnyLogs, run, &mut text.as_slice(), output, (0, ""))?;
+    let logs = OneLog::new(io::sink());
+    check(rt, &logs, run, &mut text.as_slice(), output, (0, ""))?;
     let kept = kept.lock(&rt);
     let mut lines = kept.as_slice().split(|byte| *byte == b'\n');
     for wanted in [
@@ -546,6 +505,76 @@ fn parts_of_other_runs_are_ended(rt: HostRuntime) -> Result<(), Fail> {
         let content = fs::read(&rt, path.as_str())?;
         expect_eq(&rt, content.as_slice(), after.as_bytes());
     }
+    fs::remove_dir_all(&rt, directory)?;
+    Ok(())
+}
+
+// What has the link's name, or that of a new one, is left alone. No file is removed or made, at any start.
+#[test]
+fn a_folder_whose_link_is_blocked_is_refused(rt: HostRuntime) -> Result<(), Fail> {
+    let directory = fresh(&rt, "blocked")?;
+    let directory = directory.as_str();
+    let options = named_options(&rt)?;
+    for (name, told) in [
+        (
+            "latest",
+            "failed to create symlink to latest log file: latest is no symbolic link\n",
+        ),
+        (
+            ".latest.new",
+            "failed to create symlink to latest log file: .latest.new is no symbolic link\n",
+        ),
+    ] {
+        fs::create_dir_all(&rt, directory)?;
+        for number in 0..3u32 {
+            let path = format!(in rt.alloc(); "{directory}/app.2020-02-01.00000{number}.log")?;
+            fs::write(&rt, path.as_str(), "old\n")?;
+        }
+        let path = format!(in rt.alloc(); "{directory}/{name}")?;
+        fs::write(&rt, path.as_str(), "mine\n")?;
+        for _ in 0..5u32 {
+            let arguments = ["daily", directory, "app"];
+            let run = (&options, arguments.as_slice());
+            check_files(rt, &rt, run, &mut b"a\n".as_slice(), (1, told))?;
+            expect_eq(&rt, count_names(&rt, directory, "")?, 4);
+        }
+        fs::remove_dir_all(&rt, directory)?;
+    }
+    Ok(())
+}
+
+// A last file with a second link, as a copy of the folder by links leaves it, is left as it is. The next number is begun.
+#[test]
+fn a_file_with_a_second_link_is_left(rt: HostRuntime) -> Result<(), Fail> {
+    let directory = fresh(&rt, "linked")?;
+    let directory = directory.as_str();
+    let mut options = named_options(&rt)?;
+    options.max_bytes = 100;
+    let copy = format!(in rt.alloc(); "{directory}/copy")?;
+    for (line, text) in [
+        ("one\n", "one\n"),
+        ("two\n", "two\n"),
+        ("three\n", "two\nthree\n"),
+    ] {
+        let arguments = ["daily", directory, "app"];
+        let run = (&options, arguments.as_slice());
+        check_files(rt, &rt, run, &mut line.as_bytes(), (0, ""))?;
+        let newest = format!(in rt.alloc(); "{directory}/latest")?;
+        expect_eq(
+            &rt,
+            fs::read_to_string(&rt, newest.as_str())?.as_str(),
+            text,
+        );
+        if line == "one\n" {
+            let first = fs::canonicalize(&rt, newest)?;
+            fs::hard_link(&rt, first.as_str(), copy.as_str())?;
+        }
+    }
+    expect_eq(
+        &rt,
+        fs::read_to_string(&rt, copy.as_str())?.as_str(),
+        "one\n",
+    );
     fs::remove_dir_all(&rt, directory)?;
     Ok(())
 }

@@ -1,9 +1,9 @@
 // Logs that are slow or full for a while, and inputs that do not block.
 use crate::expect::expect_eq;
-use file_watch::FileCounts;
+use crate::logs::OneLog;
 use program_options::Options;
 use rolltee_core::feed::{Feed, WatchedLog};
-use rolltee_core::tee::{Logs, TeeLog, tee};
+use rolltee_core::tee::{TeeLog, tee};
 use std::alloc::{AllocError, Global};
 use std::io::{Read, Write};
 use std::process::Abort;
@@ -14,7 +14,6 @@ use std::test::Fail;
 use std::time::{Clock, Duration};
 use std::{io, thread};
 use tracing_appender::non_blocking::{Host, non_blocking};
-use tracing_appender::rolling::{InitError, Rotation};
 
 // How a log behaves.
 #[derive(Clone, Copy)]
@@ -60,36 +59,6 @@ impl<R: Clock> Write for Slow<R> {
 
 impl<R: Clock> TeeLog for Slow<R> {}
 
-#[derive(Drop)]
-struct SlowLogs<R: Drop> {
-    rt: R,
-    manner: Manner,
-    bytes: Arc<AtomicU64, Global>,
-}
-
-impl<R: Clock + Copy + Drop + Send + 'static> Logs for SlowLogs<R> {
-    type Log = Slow<R>;
-
-    fn open_log(
-        &self,
-        _: Rotation,
-        _: &str,
-        _: &str,
-        _: &Options,
-        _: Arc<FileCounts, Global>,
-    ) -> Result<Slow<R>, InitError> {
-        match self.bytes.clone() {
-            Ok(bytes) => Ok(Slow {
-                rt: self.rt,
-                manner: self.manner,
-                begun: false,
-                bytes,
-            }),
-            Err(_) => Err(InitError::Memory),
-        }
-    }
-}
-
 // Runs the program over a log of this manner, and compares its status, what it reports, and how many bytes the log took.
 fn check<R: Host + Abort, I: Read>(
     rt: R,
@@ -104,11 +73,12 @@ fn check<R: Host + Abort, I: Read>(
         arguments.push(word.to_string(rt.alloc())?)?;
     }
     let bytes = Arc::new(rt.alloc(), AtomicU64::new(0)).map_err(AllocError::from)?;
-    let logs = SlowLogs {
+    let logs = OneLog::new(Slow {
         rt,
         manner,
+        begun: false,
         bytes: bytes.clone()?,
-    };
+    });
     let mut errors = Vec::new(rt.alloc());
     let answer = tee(rt, &logs, arguments.as_slice(), input, &mut errors);
     expect_eq(&rt, errors.as_slice(), told.as_bytes());

@@ -1,9 +1,17 @@
-//! Tests of the non-blocking writer and its worker's thread. They end by themselves, and pass however the threads are
-//! scheduled.
+//! Tests of the non-blocking writer with its worker's thread, and of what counts lines: counted senders with their account, and
+//! a counting writer. They end by themselves, and pass however the threads are scheduled.
 #![tactic(auto)]
 
 #[cfg(test)]
 mod closing;
+#[cfg(test)]
+mod counted;
+#[cfg(test)]
+mod counted_crowd;
+#[cfg(test)]
+mod counted_ends;
+#[cfg(test)]
+mod counting;
 #[cfg(test)]
 mod crowds;
 #[cfg(test)]
@@ -22,3 +30,5 @@ mod plain_ends;
 mod scene;
 #[cfg(test)]
 mod whole_lines;
+#[cfg(test)]
+mod work;

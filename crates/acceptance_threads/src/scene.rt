@@ -5,7 +5,7 @@ use acceptance_gate::{Seen, new_gate};
 use appender_non_blocking::non_blocking::{
     Closing, ErrorCounter, Host, NonBlocking, NonBlockingBuilder, WorkerGuard,
 };
-use appender_traits::make_writer::MakeWriter;
+use appender_runtime::make_writer::MakeWriter;
 use std::alloc::{AllocError, Global};
 use std::io::{ErrorKind, Write};
 use std::process::Abort;

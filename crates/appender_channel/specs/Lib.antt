@@ -1,5 +1,5 @@
-pub mod Cases
-pub mod Held
+pub mod TakeCases
+pub mod Locked
 pub mod Offers
-pub mod Quiet
+pub mod EmptyQueue
 pub mod Tally

@@ -3,7 +3,7 @@
 ghost use Rattle.std.specs.Prelude.{◌≡◌};
 
 use appender_queue::queue::LineQueue;
-use appender_sync::yield_for;
+use appender_runtime::backoff::yield_for;
 use std::thread;
 
 /// How often the worker looks again at an empty queue, and a sender at a full one, before it sleeps.

@@ -85,9 +85,9 @@ pub struct State<B: Books> {
 // Contracts see who sleeps or waits too. With the queue only, a step that wakes nobody would be proved.
 impl<B: Books> Model for State<B> {
     ghost use Rattle.std.specs.Prelude.{◌≡◌, ◌<◌, true, false, not, ◌&&◌};
-    ghost use Rattle.appender_channel.specs.Quiet.{HasNothingToTake};
+    ghost use Rattle.appender_channel.specs.EmptyQueue.{HasNothingToTake};
     ghost use Rattle.appender_channel.specs.Tally.{tally_of};
-    ghost use Rattle.appender_channel.specs.Held.{LockedState};
+    ghost use Rattle.appender_channel.specs.Locked.{LockedState};
     ghost use Rattle.appender_queue.specs.Queue.{IsLawful, has_room};
 
     ghost Value = { LockedState };
@@ -169,10 +169,10 @@ fn offer_at(queue: &mut LineQueue, place: Option<usize>, line: Vec<u8>) -> Resul
 
 impl<B: Books> State<B> {
     ghost use Rattle.std.specs.Prelude.{◌+◌, ◌^◌, ◌≢◌, min, IsSome, IsNone, OnOk, OnErr, IfOk};
-    ghost use Rattle.appender_channel.specs.Held.{after_waiting, DecidesSenderWakeup, DecidesWakeups};
+    ghost use Rattle.appender_channel.specs.Locked.{after_waiting, DecidesSenderWakeup, DecidesWakeups};
     ghost use Rattle.appender_channel.specs.Offers.{OffersWithPace};
     ghost use Rattle.appender_channel.specs.Tally.{new_tally};
-    ghost use Rattle.appender_channel.specs.Cases.{IfLine, IfEnd, IfEmpty};
+    ghost use Rattle.appender_channel.specs.TakeCases.{IfLine, IfEnd, IfEmpty};
     ghost use Rattle.appender_queue.specs.Queue.{new_queue_with, has_room, left_of};
     ghost use Rattle.appender_queue.specs.QueueCalls.{Shuts, Takes, AddsSender, DropsSender};
 

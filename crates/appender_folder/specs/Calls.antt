@@ -1,5 +1,5 @@
 -- What the calls of a folder of the file system count.
-use Rattle.std.specs.Prelude.{◌≡◌, ℕ, List, [], Result, MatchResult, OnOk, false}
+use Rattle.std.specs.Prelude.{◌≡◌, ℕ, Bool, List, [], Result, MatchResult, OnOk, false}
 use Rattle.std.specs.FinMap as map
 use Rattle.std.specs.declared.io.Error.{Error}
 use Rattle.appender_names.specs.Name.{IsEntry}
@@ -7,8 +7,10 @@ use Rattle.appender_store.specs.Content.{Content}
 use Rattle.appender_store.specs.Folder.{next_count}
 use Rattle.appender_store.specs.declared.store.notices.NoticeCounts.{NoticeCounts}
 
--- What is seen of a folder of the file system: how many calls of it failed, and how often each kind of notice was noted.
+-- What is seen of a folder of the file system: whether the last opening that succeeded made its file, how many calls of it failed,
+-- and how often each kind of notice was noted.
 pub record DirFolderState : Type 0 where
+  pub made_file : Bool
   pub failures : ℕ
   pub noted : NoticeCounts
 

@@ -6,8 +6,9 @@ mod entries;
 mod files;
 mod links;
 
+use appender_runtime::policy::{NoRetry, Retries, RetryPolicy};
+use appender_runtime::waiting::Faults;
 use appender_store::store::{Folder, Listed, Notice, NoticeCounts, NoticeKind};
-use appender_wait::policy::{NoWait, Waits, WritePolicy};
 use entries::list_entries;
 use files::{is_named, open_plain, remove_plain};
 use links::{check_link, make_link};
@@ -28,7 +29,7 @@ impl<R: Files + AllocGlobal + Eprint + Clone + Drop> FilesHost for R {}
 /// a link that is absent). Every call rejects a name that is not a single path component with
 /// `InvalidInput`, so that no call leaves the folder. Notices are lines on standard error.
 #[derive(Drop)]
-pub struct DirFolder<R = HostRuntime, P = NoWait> {
+pub struct DirFolder<R = HostRuntime, P = NoRetry> {
     rt: R,
     // Ends with a slash.
     path: String,
@@ -36,6 +37,8 @@ pub struct DirFolder<R = HostRuntime, P = NoWait> {
     syncs: bool,
     // How an append is made.
     policy: P,
+    // Whether the last opening that succeeded made its file.
+    made_file: bool,
     failures: u64,
     noted: NoticeCounts,
 }
@@ -45,7 +48,7 @@ impl<R, P> Model for DirFolder<R, P> {
 
     ghost Value = { DirFolderState };
 
-    ghost view = { λ f. record { failures = f.failures; noted = f.noted } };
+    ghost view = { λ f. record { made_file = f.made_file; failures = f.failures; noted = f.noted } };
 }
 
 impl<R: FilesHost> DirFolder<R> {
@@ -71,16 +74,17 @@ impl<R: FilesHost> DirFolder<R> {
             rt,
             path: base,
             syncs: false,
-            policy: NoWait,
+            policy: NoRetry,
+            made_file: false,
             failures: 0,
             noted: NoticeCounts::new(),
         })
     }
 
-    /// Makes each append wait while the disk is full or has another fault that may pass, by the clock of `waiter`, which
-    /// prints that on standard error. `failures` counts the faults that were returned.
+    /// Makes each append wait while the disk has one of these faults, by the clock of `waiter`, which prints that on
+    /// standard error. `failures` counts the faults that were returned.
     #[must_use]
-    pub fn waiting<T>(self, waiter: T) -> DirFolder<R, Waits<T>>
+    pub fn waiting<T>(self, waiter: T, faults: Faults) -> DirFolder<R, Retries<T>>
         ensures failures { result.failures ≡ self.failures }
         ensures notices { result.noted ≡ self.noted }
     {
@@ -89,6 +93,7 @@ impl<R: FilesHost> DirFolder<R> {
             path,
             syncs,
             policy: _,
+            made_file,
             failures,
             noted,
         } = self;
@@ -96,14 +101,15 @@ impl<R: FilesHost> DirFolder<R> {
             rt,
             path,
             syncs,
-            policy: Waits::new(waiter),
+            policy: Retries::new(waiter, faults),
+            made_file,
             failures,
             noted,
         }
     }
 }
 
-impl<R: FilesHost, P: WritePolicy> DirFolder<R, P> {
+impl<R: FilesHost, P: RetryPolicy> DirFolder<R, P> {
     ghost use Rattle.std.specs.Prelude.{◌≡◌, ◌%◌, ◌^◌};
     ghost use Rattle.appender_store.specs.MemoryState.{notice_count};
     ghost use Rattle.appender_store.specs.NoticeCounts.{notice_counts_of};
@@ -119,6 +125,7 @@ impl<R: FilesHost, P: WritePolicy> DirFolder<R, P> {
             path,
             syncs: _,
             policy,
+            made_file,
             failures,
             noted,
         } = self;
@@ -127,6 +134,7 @@ impl<R: FilesHost, P: WritePolicy> DirFolder<R, P> {
             path,
             syncs: true,
             policy,
+            made_file,
             failures,
             noted,
         }
@@ -182,7 +190,7 @@ fn flush_file<F: Write + OpenFile>(file: &mut F, syncs: bool) -> io::Result<()>
     if syncs { file.sync_data() } else { Ok(()) }
 }
 
-impl<R: FilesHost, P: WritePolicy> Folder for DirFolder<R, P> {
+impl<R: FilesHost, P: RetryPolicy> Folder for DirFolder<R, P> {
     ghost use Rattle.std.specs.Prelude.{◌≡◌, ◌%◌, ◌^◌, false};
     ghost use Rattle.std.specs.Io.KnownBytes.{Keeps, WriteAppends};
     ghost use Rattle.appender_store.specs.Folder.{after_note, notice_kind_of};
@@ -196,6 +204,8 @@ impl<R: FilesHost, P: WritePolicy> Folder for DirFolder<R, P> {
     ghost content = { λ _. unknown_content };
 
     ghost body = { λ _. 0 };
+
+    ghost made_file = { λ f. f.made_file };
 
     ghost failures = { λ f. f.failures % 2 ^ 64 };
 
@@ -220,6 +230,8 @@ impl<R: FilesHost, P: WritePolicy> Folder for DirFolder<R, P> {
     ghost flush_gives = { λ old file r new after.
         CountsFailure (old.failures % 2 ^ 64) (new.failures % 2 ^ 64) r
         × Keeps (R.File.contents file) (R.File.contents after) };
+
+    ghost length_gives = { λ f file r. Unit {0} };
 
     ghost note_gives = { λ old said new.
         notice_counts_of new.noted ≡ after_note (notice_kind_of said) (notice_counts_of old.noted) };
@@ -248,7 +260,13 @@ impl<R: FilesHost, P: WritePolicy> Folder for DirFolder<R, P> {
     }
 
     fn open(&mut self, name: &str) -> io::Result<R::File> {
-        let answer = open_plain(&self.rt, self.path.as_str(), name);
+        let answer = match open_plain(&self.rt, self.path.as_str(), name) {
+            Ok((file, made)) => {
+                self.made_file = made;
+                Ok(file)
+            }
+            Err(fault) => Err(fault),
+        };
         self.count_failure(answer)
     }
 
@@ -281,6 +299,17 @@ impl<R: FilesHost, P: WritePolicy> Folder for DirFolder<R, P> {
     fn flush(&mut self, file: &mut R::File) -> io::Result<()> {
         let answer = flush_file(file, self.syncs);
         self.count_failure(answer)
+    }
+
+    fn made_file(&self) -> bool {
+        self.made_file
+    }
+
+    fn length(&self, file: &R::File) -> Option<u64> {
+        match file.metadata() {
+            Ok(metadata) => Some(metadata.len()),
+            Err(_) => None,
+        }
     }
 
     fn note(&mut self, notice: Notice<'_>) {

@@ -33,9 +33,9 @@ ghost use Rattle.appender_log.specs.Written.{
   ending,
 };
 
-use appender_clock::Clock;
-use appender_sync::{Backoff, lock};
-use appender_traits::make_writer::MakeWriter;
+use appender_runtime::backoff::{Backoff, lock};
+use appender_runtime::clock::Clock;
+use appender_runtime::make_writer::MakeWriter;
 use appender_worker::worker::{LineFault, run_line};
 use log::kv::Source;
 use log::span::Spans;

@@ -1,6 +1,6 @@
 use crate::{LogSink, write_record, write_record_at};
-use appender_clock::{Clock, SystemClock};
-use appender_traits::make_writer::MakeWriter;
+use appender_runtime::clock::{Clock, SystemClock};
+use appender_runtime::make_writer::MakeWriter;
 use log::{Level, Log, Logged, Record, info, warn};
 use std::alloc::{AllocError, Global};
 use std::cell::{Cell, RefCell};

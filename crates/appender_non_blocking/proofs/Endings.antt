@@ -1,7 +1,7 @@
 -- A worker may take until a take tells it of the end.
 use Rattle.std.proofs.Common.{◌≡◌, ◌+◌, ℕ, List, [], ◌∷◌, Bool, true, false, ◌==◌, length, drop, refl}
 use Rattle.std.specs.Prelude.{if◌then◌else◌, nat_le, nat_lt}
-use Rattle.appender_channel.specs.Cases.{IfLine, IfEnd, IfEmpty}
+use Rattle.appender_channel.specs.TakeCases.{IfLine, IfEnd, IfEmpty}
 use Rattle.appender_worker.specs.Core.{Core, Taking, Writing, Flushing, Ending, Over, Answer, Wrote, Interrupted, Failed, Line as FoundLine, is_taking, is_writing, is_flushing, after_took, after_wrote, after_flushed}
 use Rattle.appender_worker.specs.CoreReplies.{found_in}
 use Rattle.appender_queue.specs.declared.queue.Taken.{Taken}

@@ -16,7 +16,7 @@ mod worker;
 
 pub use account::{Account, Blanks, CountedGuard, Settled, Unsettled};
 pub use appender_queue::queue::Shut;
-pub use appender_traits::host::{GuardHost, Host};
+pub use appender_runtime::host::{GuardHost, Host};
 pub use builder::{DEFAULT_BUFFERED_LINES_LIMIT, NonBlockingBuilder, non_blocking};
 pub use counted::CountedSender;
 pub use guard::{Closing, WorkerGuard};

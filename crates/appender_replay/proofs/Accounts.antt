@@ -15,7 +15,7 @@ use Rattle.appender_rolling.specs.Config.{Config}
 use Rattle.appender_rolling.specs.Roller.{written_count}
 use Rattle.appender_rolling.specs.declared.rolling.Switch.{Switch}
 use Rattle.appender_rolling.specs.declared.rolling.Switch.TheVariants.{None as Stayed}
-use Rattle.appender_rolling.specs.declared.rolling.setup.Stamp.{Stamp}
+use Rattle.appender_replay.specs.Start.{Start}
 use Rattle.appender_replay.specs.Record.{StepWithReply, Offered, accepted_lines, handed_lines, lines_left, is_closed, shutdown_place, senders_after, last_take_waits, worker_after, with_ticket, queue_after}
 use Rattle.appender_replay.specs.Answers.{IsStepReply, IsWorkReply, AreRunReplies, run_offer_reply, run_take_reply, rest_of}
 use Rattle.appender_replay.specs.Headline as head
@@ -371,6 +371,6 @@ module _ (limit : ℕ) (lossy : Bool) (c : Config) (past : List StepWithReply) (
   step_gets (DropSender, reply) ans due = ans ∙ ap (λ (n : ℕ). Senders (one_less n)) so.senders
   step_gets (Work m, reply) ans due = work_gets (worker_after past) m reply so.core ans due
 
-pub same_all : (limit : ℕ) (lossy : Bool) (c : Config) (start : Stamp) (past : List StepWithReply) → AreRunReplies limit lossy past → Same past (account c start past)
+pub same_all : (limit : ℕ) (lossy : Bool) (c : Config) (start : Start) (past : List StepWithReply) → AreRunReplies limit lossy past → Same past (account c start past)
 same_all limit lossy c start [] all = record { lines = refl; handed = refl; shutdown = refl; closed = refl; senders = refl; idle = refl; core = (refl, refl, refl, refl) }
 same_all limit lossy c start (t ∷ past) all = same_step limit lossy c past (account c start past) (same_all limit lossy c start past all.0) t all.1

@@ -7,6 +7,7 @@ use Rattle.appender_rolling.specs.Roller.{room_needed}
 use Rattle.appender_rolling.specs.declared.rolling.setup.Stamp.{Stamp}
 use Rattle.appender_rolling.specs.declared.rolling.Switch.{Switch}
 use Rattle.appender_rolling.specs.declared.rolling.Switch.TheVariants.{None as Stayed, Opened as Switched, Failed as SwitchFailed}
+use Rattle.appender_replay.specs.Start.{Start, start_stamp}
 use Rattle.appender_replay.specs.Run.{Event, Attempt, AttemptTime, time_of, attempt_times, with_time, stamp_at, arrives, is_full_step, latest_moment, last_stamp, last_step, count_since, pieces_since, carrier, bytes_of_attempt, is_switch, is_opened, SwitchesAtAttempts, NoneFailed, EachWriteReadsClock, pieces_of_attempt, meets_test, IsWithinLimit, EachOf}
 use Rattle.appender_replay.proofs.Clocks.{since_now}
 use Rattle.appender_replay.proofs.Owners.{each_map, pieces_before}
@@ -72,7 +73,7 @@ no_pieces j attempts (e ∷ h) none =
         let no : nat_lt 0 (length e.piece) ≡ false = grind (arith, nat_tests) in
         rw (so, no) refl
 
-module _ (c : Config) (first : Stamp) (limited : is_limited c ≡ true) where
+module _ (c : Config) (first : Start) (limited : is_limited c ≡ true) where
   -- What is known of the attempts of a history: each keeps to the limit, was made and succeeded, and the last one, a, carries all that
   -- was written since.
   pub record IsBounded (a : Attempt) (rest : List Attempt) (h : List Event) : Type 0 where
@@ -85,7 +86,7 @@ module _ (c : Config) (first : Stamp) (limited : is_limited c ≡ true) where
     pub step_is : a.step ≡ last_step (attempt_times c first h)
 
   -- one piece more of a file that isn't full: it keeps to the limit, or held nothing, and the piece is not empty
-  more : (bytes : List ℕ) (e : Event) (max count : ℕ) → max ≡ c.max_bytes → length bytes ≡ count → length e.piece ≤ e.offered
+  more : (bytes : List ℕ) (e : Event) (max count : ℕ) → max ≡ c.max_bytes → length bytes ≤ count → length e.piece ≤ e.offered
       → (nat_lt 0 count && nat_lt max (count + room_needed e.offered)) ≡ false
       → (length (bytes ++ e.piece) ≤ c.max_bytes) ⊎ ((bytes ≡ []) × (nat_lt 0 (length e.piece) ≡ true))
   more bytes e max count is counted fits room = by (nat_lt 0 count) refl
@@ -97,7 +98,7 @@ module _ (c : Config) (first : Stamp) (limited : is_limited c ≡ true) where
           inl (omega (arith, length-append bytes e.piece, low, most, fits, counted, is))
       by false none =
           let zero : count ≡ 0 = grind (arith, nat_tests, none) in
-          let empty : bytes ≡ [] = empty_list bytes (counted ∙ zero) in
+          let empty : bytes ≡ [] = empty_list bytes (omega (arith, counted, zero)) in
           elim (some_list e.piece c.max_bytes) [
             | inl small ↦ inl (omega (arith, length-append bytes e.piece, ap length empty, small))
             | inr some ↦ inr (empty, some)
@@ -133,7 +134,7 @@ module _ (c : Config) (first : Stamp) (limited : is_limited c ≡ true) where
     own_pieces : pieces_of_attempt a.step (a ∷ rest) (e ∷ h) ≡ pieces_of_attempt a.step (a ∷ rest) h + (if nat_lt 0 (length e.piece) then 1 else 0)
     own_pieces = let t : (a.step == a.step) ≡ true = grind arith in rw (here, t) refl
 
-    not_full : e.read ≢ None → a.stamp.number < 999999 → (nat_lt 0 (count_since (attempt_times c first h) h) && nat_lt c.max_bytes (count_since (attempt_times c first h) h + room_needed e.offered)) ≡ false
+    not_full : e.read ≢ None → a.stamp.number < 999999 → (nat_lt 0 (count_since first (attempt_times c first h) h) && nat_lt c.max_bytes (count_since first (attempt_times c first h) h + room_needed e.offered)) ≡ false
     not_full read low = by (arrives c.rotation first.moment e h) (is_full_step c first (attempt_times c first h) e h) refl refl none
       where
         some : (o : Option ℤ) → o ≢ None → is_some o ≡ true
@@ -142,7 +143,7 @@ module _ (c : Config) (first : Stamp) (limited : is_limited c ≡ true) where
 
         by : (came full : Bool) → arrives c.rotation first.moment e h ≡ came → is_full_step c first (attempt_times c first h) e h ≡ full
             → (if came then Some (stamp (latest_moment first.moment (e ∷ h)) 0) else if full then Some (stamp (last_stamp first (attempt_times c first h)).moment ((last_stamp first (attempt_times c first h)).number + 1)) else None) ≡ None
-            → (nat_lt 0 (count_since (attempt_times c first h) h) && nat_lt c.max_bytes (count_since (attempt_times c first h) h + room_needed e.offered)) ≡ false
+            → (nat_lt 0 (count_since first (attempt_times c first h) h) && nat_lt c.max_bytes (count_since first (attempt_times c first h) h + room_needed e.offered)) ≡ false
         by true full is f never = absurd (let both : true ≡ false = ap (λ (o : Option Stamp). is_some o) never in cc)
         by false true is f never = absurd (let both : true ≡ false = ap (λ (o : Option Stamp). is_some o) never in cc)
         by false false is f it =
@@ -153,8 +154,8 @@ module _ (c : Config) (first : Stamp) (limited : is_limited c ≡ true) where
     newest : IsWithinLimit c (a ∷ rest) (e ∷ h) a
     newest low = by e.read refl
       where
-        counted : length (pieces_since a.step h) ≡ count_since (attempt_times c first h) h
-        counted = ap (λ j. length (pieces_since j h)) k.step_is
+        counted : length (pieces_since a.step h) ≤ count_since first (attempt_times c first h) h
+        counted = let same : length (pieces_since a.step h) ≡ length (pieces_since (last_step (attempt_times c first h)) h) = ap (λ j. length (pieces_since j h)) k.step_is in omega (arith, same)
 
         by : (read : Option ℤ) → e.read ≡ read → (length (bytes_of_attempt a.step (a ∷ rest) (e ∷ h)) ≤ c.max_bytes) ⊎ (pieces_of_attempt a.step (a ∷ rest) (e ∷ h) ≡ 1)
         by None is =
@@ -163,7 +164,7 @@ module _ (c : Config) (first : Stamp) (limited : is_limited c ≡ true) where
             let none_more : pieces_of_attempt a.step (a ∷ rest) (e ∷ h) ≡ pieces_of_attempt a.step (a ∷ rest) h = own_pieces ∙ rw no (omega arith) in
             keeps_on (a ∷ rest) (a ∷ rest) e h a nothing none_more k.each.0 low
         by (Some m) is =
-            elim (more (pieces_since a.step h) e c.max_bytes (count_since (attempt_times c first h) h) refl counted fits (not_full (λ never. let both : ◌≡◌ {A = Option ℤ} (Some m) None = sym is ∙ never in cc) low)) [
+            elim (more (pieces_since a.step h) e c.max_bytes (count_since first (attempt_times c first h) h) refl counted fits (not_full (λ never. let both : ◌≡◌ {A = Option ℤ} (Some m) None = sym is ∙ never in cc) low)) [
               | inl small ↦ inl (omega (arith, ap length own, small))
               | inr alone ↦
                   let before : pieces_of_attempt a.step (a ∷ rest) h ≡ 0 = no_pieces a.step (a ∷ rest) h (k.carries ∙ alone.0) in
@@ -246,10 +247,10 @@ module _ (c : Config) (first : Stamp) (limited : is_limited c ≡ true) where
       step_is = at ∙ ap (λ o. last_step (with_time o (suc (length h)) (is_opened e.switch) (attempt_times c first h))) (sym some);
     }
 
-  first_attempt : (attempts : List Attempt) → map time_of attempts ≡ (0, first, true) ∷ [] → Known attempts []
+  first_attempt : (attempts : List Attempt) → map time_of attempts ≡ (0, start_stamp first, true) ∷ [] → Known attempts []
   first_attempt [] is = tt
   first_attempt (a ∷ []) is =
-      let t : time_of a ≡ (0, first, true) = same_first (time_of a) (0, first, true) [] [] is in
+      let t : time_of a ≡ (0, start_stamp first, true) = same_first (time_of a) (0, start_stamp first, true) [] [] is in
       record {
         each = ((λ low. inl (omega arith)), tt);
         made = omega (arith, ap (λ (t : AttemptTime). t.0) t);
@@ -259,7 +260,7 @@ module _ (c : Config) (first : Stamp) (limited : is_limited c ≡ true) where
         stamp_is = ap (λ (t : AttemptTime). t.1) t;
         step_is = ap (λ (t : AttemptTime). t.0) t;
       }
-  first_attempt (a ∷ b ∷ rest) is = absurd (let none : ◌≡◌ {A = List AttemptTime} (time_of b ∷ map time_of rest) [] = same_rest (time_of a) (0, first, true) (time_of b ∷ map time_of rest) [] is in cc)
+  first_attempt (a ∷ b ∷ rest) is = absurd (let none : ◌≡◌ {A = List AttemptTime} (time_of b ∷ map time_of rest) [] = same_rest (time_of a) (0, start_stamp first, true) (time_of b ∷ map time_of rest) [] is in cc)
 
   next : (attempts : List Attempt) (e : Event) (h : List Event) → ((some : List Attempt) → map time_of some ≡ attempt_times c first h → Known some h) → map time_of attempts ≡ attempt_times c first (e ∷ h)
       → is_switch e.switch ≡ is_some (stamp_at c first (attempt_times c first h) e h) → e.switch ≢ SwitchFailed → length e.piece ≤ e.offered → (e.read ≡ None → e.piece ≡ []) → Known attempts (e ∷ h)
@@ -281,7 +282,7 @@ module _ (c : Config) (first : Stamp) (limited : is_limited c ≡ true) where
       next attempts e h (λ some same. known_of h past.1 fit.1 fine.1 blind.1 some same) is past.0 fine.0 fit.0 blind.0
 
 -- what the attempts of a history carry keeps to the limit
-pub keeps_to_limit : (c : Config) (first : Stamp) (h : List Event) (attempts : List Attempt) → map time_of attempts ≡ attempt_times c first h → SwitchesAtAttempts c first h → PiecesFit h
+pub keeps_to_limit : (c : Config) (first : Start) (h : List Event) (attempts : List Attempt) → map time_of attempts ≡ attempt_times c first h → SwitchesAtAttempts c first h → PiecesFit h
     → is_limited c ≡ true → NoneFailed h → EachWriteReadsClock h → EachOf (IsWithinLimit c attempts h) attempts
 keeps_to_limit c first h [] is past fit limited fine blind = tt
 keeps_to_limit c first h (a ∷ rest) is past fit limited fine blind = (known_of c first limited h past fit fine blind (a ∷ rest) is).each

@@ -11,7 +11,8 @@ use Rattle.appender_rolling.specs.Roller.{Rolling, is_due, is_full as roller_is_
 use Rattle.std.specs.Prelude.{unwrap_or}
 use Rattle.appender_names.specs.Name.{greatest_number}
 use Rattle.std.proofs.lemmas.Bool.Decides.{nat_tests}
-use Rattle.appender_replay.specs.Run.{Event, latest_moment, greatest, period_at, arrives, is_switch, is_full_step, stamp_at, attempt_times, last_stamp, last_step, with_time, is_opened, count_since, pieces_since, SwitchesAtAttempts}
+use Rattle.appender_replay.specs.Start.{Start, start_stamp}
+use Rattle.appender_replay.specs.Run.{Event, latest_moment, greatest, period_at, arrives, is_switch, is_full_step, stamp_at, attempt_times, last_stamp, last_step, with_time, is_opened, count_since, held_at, pieces_since, SwitchesAtAttempts}
 use Rattle.appender_rolling.specs.declared.rolling.Switch.{Switch}
 use Rattle.appender_rolling.specs.declared.rolling.Switch.TheVariants.{None as Stayed, Opened as Switched, Failed as SwitchFailed}
 use Rattle.appender_names.proofs.Periods.{is_same_is}
@@ -144,14 +145,14 @@ turn r start e h laws g = turn_event r start e.read e.offered e.switch e.piece h
 -- ---- the clock and the count so far
 
 -- What is known of the roller so far.
-pub record ClockSoFar {S F : Type 0} (c : Config) (first : Stamp) (h : List Event) (now : Rolling S F) : Type 0 where
+pub record ClockSoFar {S F : Type 0} (c : Config) (first : Start) (h : List Event) (now : Rolling S F) : Type 0 where
   pub switches : SwitchesAtAttempts c first h
   pub boundary_is : now.boundary ≡ next_of c.rotation (latest_moment first.moment h)
   pub in_range : IsMoment (latest_moment first.moment h)
   pub last_is : now.last ≡ last_stamp first (attempt_times c first h)
   pub stamp_in : IsStamp c now.last
   pub period_is : period_of c.rotation now.last.moment ≡ period_at c.rotation first.moment h
-  pub room_is : now.room ≡ c.max_bytes - count_since (attempt_times c first h) h
+  pub room_is : now.room ≡ c.max_bytes - count_since first (attempt_times c first h) h
 
 -- the room agrees with the count
 full_is : (max count w n room : ℕ) → 0 < w → room ≡ max - count
@@ -161,7 +162,7 @@ full_is max count w n room some is = grind (arith, nat_tests)
 wanted_some : (len : ℕ) → 0 < room_needed len
 wanted_some len = grind (arith, nat_tests)
 
-module _ {S F : Type 0} (c : Config) (first : Stamp) (laws : Laws c.rotation) where
+module _ {S F : Type 0} (c : Config) (first : Start) (laws : Laws c.rotation) where
   -- the roller makes an attempt for the stamp for which the history has one
   stamps_agree : (read : Option ℤ) (offered : ℕ) (switch : Switch) (piece : List ℕ) (h : List Event) (old : Rolling S F) → old.config ≡ c → ClockSoFar c first h old
       → stamp_by old read offered ≡ stamp_at c first (attempt_times c first h) (record { read = read; offered = offered; switch = switch; piece = piece }) h
@@ -171,7 +172,7 @@ module _ {S F : Type 0} (c : Config) (first : Stamp) (laws : Laws c.rotation) wh
       let t = turn c.rotation first.moment e h laws so.in_range in
       let due : is_due old.boundary m ≡ arrives c.rotation first.moment e h = ap (λ b. is_due b m) so.boundary_is ∙ sym t.arrived in
       let full : roller_is_full (schedule_of old) old.room offered ≡ is_full_step c first (attempt_times c first h) e h =
-      rw (same, so.last_is) (full_is c.max_bytes (count_since (attempt_times c first h) h) (room_needed offered) (last_stamp first (attempt_times c first h)).number old.room (wanted_some offered) so.room_is) in
+      rw (same, so.last_is) (full_is c.max_bytes (count_since first (attempt_times c first h) h) (room_needed offered) (last_stamp first (attempt_times c first h)).number old.room (wanted_some offered) so.room_is) in
       by (arrives c.rotation first.moment e h) refl due full (λ came. t.is_it (sym t.arrived ∙ came))
     where
       e : Event
@@ -192,7 +193,7 @@ pub since_now : (h : List Event) (n : ℕ) → length h < n → pieces_since n h
 since_now [] n lt = refl
 since_now (e ∷ h) n lt = let no : nat_le n (suc (length h)) ≡ false = grind arith in rw (since_now h n (omega arith), no) refl
 
-module _ (c : Config) (first : Stamp) where
+module _ (c : Config) (first : Start) where
   -- the last attempt was made at a step of these
   pub step_in : (h : List Event) → last_step (attempt_times c first h) ≤ length h
   step_in [] = omega arith
@@ -203,23 +204,30 @@ module _ (c : Config) (first : Stamp) where
       by (Some s) le = omega arith
 
   -- how the count goes on
-  pub count_stays : (e : Event) (h : List Event) → stamp_at c first (attempt_times c first h) e h ≡ None → count_since (attempt_times c first (e ∷ h)) (e ∷ h) ≡ count_since (attempt_times c first h) h + length e.piece
+  pub count_stays : (e : Event) (h : List Event) → stamp_at c first (attempt_times c first h) e h ≡ None → count_since first (attempt_times c first (e ∷ h)) (e ∷ h) ≡ count_since first (attempt_times c first h) h + length e.piece
   count_stays e h none =
       let n = last_step (attempt_times c first h) in
       let same : last_step (attempt_times c first (e ∷ h)) ≡ n = ap (λ s. last_step (with_time s (suc (length h)) (is_opened e.switch) (attempt_times c first h))) none in
       let le = step_in h in
       let in_time : nat_le n (suc (length h)) ≡ true = grind (arith, le) in
       let split : pieces_since n (e ∷ h) ≡ pieces_since n h ++ e.piece = ap (λ t. pieces_since n h ++ (if t then e.piece else [])) in_time in
-      ap (λ j. length (pieces_since j (e ∷ h))) same ∙ ap length split ∙ length-append (pieces_since n h) e.piece
+      let whole : length (pieces_since (last_step (attempt_times c first (e ∷ h))) (e ∷ h)) ≡ length (pieces_since n h) + length e.piece =
+      ap (λ j. length (pieces_since j (e ∷ h))) same ∙ ap length split ∙ length-append (pieces_since n h) e.piece in
+      let held : held_at first (attempt_times c first (e ∷ h)) ≡ held_at first (attempt_times c first h) = ap (λ (j : ℕ). if j == 0 then first.held else 0) same in
+      omega (arith, whole, held)
 
-  pub count_begins : (e : Event) (h : List Event) (s : Stamp) → stamp_at c first (attempt_times c first h) e h ≡ Some s → count_since (attempt_times c first (e ∷ h)) (e ∷ h) ≡ length e.piece
+  pub count_begins : (e : Event) (h : List Event) (s : Stamp) → stamp_at c first (attempt_times c first h) e h ≡ Some s → count_since first (attempt_times c first (e ∷ h)) (e ∷ h) ≡ length e.piece
   count_begins e h s some =
       let n = suc (length h) in
       let same : last_step (attempt_times c first (e ∷ h)) ≡ n = ap (λ o. last_step (with_time o (suc (length h)) (is_opened e.switch) (attempt_times c first h))) some in
       let in_time : nat_le n (suc (length h)) ≡ true = grind arith in
       let split : pieces_since n (e ∷ h) ≡ pieces_since n h ++ e.piece = ap (λ t. pieces_since n h ++ (if t then e.piece else [])) in_time in
       let none : pieces_since n h ≡ [] = since_now h n (omega arith) in
-      ap (λ j. length (pieces_since j (e ∷ h))) same ∙ ap length (split ∙ ap (λ xs. xs ++ e.piece) none)
+      let whole : length (pieces_since (last_step (attempt_times c first (e ∷ h))) (e ∷ h)) ≡ length e.piece =
+      ap (λ j. length (pieces_since j (e ∷ h))) same ∙ ap length (split ∙ ap (λ xs. xs ++ e.piece) none) in
+      let no : (n == 0) ≡ false = grind arith in
+      let held : held_at first (attempt_times c first (e ∷ h)) ≡ 0 = ap (λ (j : ℕ). if j == 0 then first.held else 0) same ∙ ap (λ (t : Bool). if t then first.held else 0) no in
+      omega (arith, whole, held)
 
   pub full_number : (e : Event) (h : List Event) → is_full_step c first (attempt_times c first h) e h ≡ true → ((last_stamp first (attempt_times c first h)).number < 999999) × (is_limited c ≡ true)
   full_number e h full = (grind (arith, nat_tests), grind (arith, nat_tests))
@@ -227,8 +235,8 @@ module _ (c : Config) (first : Stamp) where
   pub limited_last : is_limited c ≡ true → last_of c ≡ 999999
   limited_last is = ap greatest_number is
 
-module _ {S F : Type 0} (c : Config) (first : Stamp) (laws : Laws c.rotation) where
-  -- What a step comes to: no attempt, and the key stays; or one for this stamp, and the key is the stamp's, and later.
+module _ {S F : Type 0} (c : Config) (first : Start) (laws : Laws c.rotation) where
+  -- A step makes no attempt, and the key is as before; or it makes one for this stamp, whose key is later.
   pub data Comes (e : Event) (h : List Event) (old : Rolling S F) : Type 0 where
     Stays : (none : stamp_at c first (attempt_times c first h) e h ≡ None) → (agrees : stamp_by old e.read e.offered ≡ None) → (same : period_at c.rotation first.moment (e ∷ h) ≡ period_at c.rotation first.moment h) → Comes e h old
     Goes : (s : Stamp) → (some : stamp_at c first (attempt_times c first h) e h ≡ Some s) → (agrees : stamp_by old e.read e.offered ≡ Some s) → (is_stamp : IsStamp c s)
@@ -294,7 +302,7 @@ module _ {S F : Type 0} (c : Config) (first : Stamp) (laws : Laws c.rotation) wh
         room_is = omega (arith, count, room);
       }
 
-  pub clock_begins : (now : Rolling S F) → IsStamp c first → now.last ≡ first → now.boundary ≡ next_of c.rotation first.moment → now.room ≡ c.max_bytes → ClockSoFar c first [] now
+  pub clock_begins : (now : Rolling S F) → IsStamp c (start_stamp first) → now.last ≡ start_stamp first → now.boundary ≡ next_of c.rotation first.moment → now.room ≡ c.max_bytes - first.held → ClockSoFar c first [] now
   clock_begins now is_stamp last boundary room = record {
     switches = tt;
     boundary_is = boundary;

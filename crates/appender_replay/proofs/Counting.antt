@@ -1,5 +1,5 @@
 -- What a folder counts over a run: failed attempts as notices, and errors of writes and flushes as failures.
-use Rattle.std.proofs.Common.{◌≡◌, ◌∙◌, ℕ, ℤ, ◌+◌, ◌-◌, ◌^◌, ◌<◌, ◌≤◌, min, Bool, true, false, List, [], ◌∷◌, length, map, Result, Ok, Err, MatchResult, Vec, inl, inr, refl, ap, arith}
+use Rattle.std.proofs.Common.{◌≡◌, ◌∙◌, ℕ, zero, suc, ℤ, ◌+◌, ◌-◌, ◌^◌, ◌<◌, ◌≤◌, min, Option, None, Some, sym, Bool, true, false, List, [], ◌∷◌, length, map, Result, Ok, Err, MatchResult, Vec, inl, inr, refl, ap, arith}
 use Rattle.std.specs.IoError.{error_kind}
 use Rattle.std.specs.declared.alloc.Global.{Global}
 use Rattle.std.specs.declared.io.Error.{Error}
@@ -12,8 +12,8 @@ use Rattle.appender_store.specs.Notes.{CountsRise, Notes}
 use Rattle.appender_store.specs.declared.store.Folder.{Ghosts}
 use Rattle.appender_store.specs.declared.store.Listed.{Listed}
 use Rattle.appender_store.proofs.Rising.{same_rises, rises_on}
-use Rattle.appender_rolling.specs.Config.{Config, naming_of, is_limited}
-use Rattle.appender_rolling.specs.Opening.{FindsNumber, ListsNumbers, IsFirstNumber, IsListed, FailsToLink, OpensFile, RefusesFile}
+use Rattle.appender_rolling.specs.Config.{Config, is_limited}
+use Rattle.appender_rolling.specs.Opening.{FindsNumber, ListsNumbers, IsFirstNumber, IsListed, FailsToLink, RemovesEmpty, RemovesNewFile, OpensFile, RefusesFile}
 use Rattle.appender_rolling.specs.Roller.{Rolling, ChecksClock, Writes, Puts, Flushes, ClosesLast}
 use Rattle.appender_rolling.specs.declared.rolling.Switch.{Switch}
 use Rattle.appender_rolling.specs.declared.rolling.Switch.TheVariants.{None as Stayed, Opened as Switched, Failed as SwitchFailed}
@@ -51,10 +51,10 @@ module _ {S F : Type 0} (kind : Ghosts S F) (failures_fit : (s : S) → kind.fai
 
   -- ---- the first file
 
-  numbers_note : (config : Config) (m : ℤ) (old : S) (number : ℕ) (new : S) → ListsNumbers kind (naming_of config) m old number new → SameOpens (kind.noted old) (kind.noted new)
+  numbers_note : (config : Config) (m : ℤ) (old : S) (number : ℕ) (new : S) → ListsNumbers kind config m old number new → SameOpens (kind.noted old) (kind.noted new)
   numbers_note config m old number new l = by l.answer l.number_is
     where
-      by : (answer : Result (Vec Listed Global) Error) → MatchResult answer (λ all. IsFirstNumber (naming_of config) m (IsListed (map listed_row all.items)) number × (new ≡ l.listed)) (λ fault. (number ≡ 0) × Notes kind l.listed (NotedList fault) new) → SameOpens (kind.noted old) (kind.noted new)
+      by : (answer : Result (Vec Listed Global) Error) → MatchResult answer (λ all. IsFirstNumber config m (IsListed (map listed_row all.items)) number × (new ≡ l.listed)) (λ fault. (number ≡ 0) × Notes kind l.listed (NotedList fault) new) → SameOpens (kind.noted old) (kind.noted new)
       by (Ok all) is = ap (λ (s : S). (kind.noted s).opens) is.1 ∙ ap (λ (n : NotedCounts). n.opens) l.noted
       by (Err fault) is = ap (λ (n : NotedCounts). n.opens) is.1.noted ∙ ap (λ (n : NotedCounts). n.opens) l.noted
 
@@ -66,20 +66,36 @@ module _ {S F : Type 0} (kind : Ghosts S F) (failures_fit : (s : S) → kind.fai
       by true e = numbers_note config m old number new (finds.calls e)
 
   opening_notes : (config : Config) (name : List ℕ) (old : S) (file : F) (new : S) → OpensFile kind config name old file new → SameOpens (kind.noted old) (kind.noted new)
-  opening_notes config name old file new opens = ap (λ (n : NotedCounts). n.opens) opens.noted ∙ opens.prunes.nothing_else.opens
+  opening_notes config name old file new opens = opens.prunes_last.nothing_else.opens ∙ ap (λ (n : NotedCounts). n.opens) opens.noted ∙ opens.prunes.nothing_else.opens
 
   pub opens_counted : (config : Config) (name : List ℕ) (old : S) (file : F) (new : S) → OpensFile kind config name old file new → Counted 0 0 old new
   opens_counted config name old file new opens = counted_none old new (opening_notes config name old file new opens) (opens_rise kind failures_fit noted_fit config name old file new opens)
 
   -- ---- a check of the clock
 
+  empty_notes : (name : List ℕ) (file : F) (old new : S) → RemovesEmpty kind name file old new → SameOpens (kind.noted old) (kind.noted new)
+  empty_notes name file old new asks = by asks.answer refl
+    where
+      by : (answer : Option ℕ) → asks.answer ≡ answer → SameOpens (kind.noted old) (kind.noted new)
+      by None is = ap (λ (s : S). (kind.noted s).opens) (asks.other (λ same. absurd (let both : ◌≡◌ {A = Option ℕ} None (Some 0) = sym is ∙ same in cc)))
+      by (Some zero) is = ap (λ (n : NotedCounts). n.opens) (asks.empty is).noted
+      by (Some (suc n)) is = ap (λ (s : S). (kind.noted s).opens) (asks.other (λ same. absurd (let both : ◌≡◌ {A = Option ℕ} (Some (suc n)) (Some 0) = sym is ∙ same in cc)))
+
+  new_file_notes : (config : Config) (name : List ℕ) (made : Bool) (file : F) (old new : S) → RemovesNewFile kind config name made file old new → SameOpens (kind.noted old) (kind.noted new)
+  new_file_notes config name made file old new removes = by config.by_name made refl refl
+    where
+      by : (by_name m : Bool) → config.by_name ≡ by_name → made ≡ m → SameOpens (kind.noted old) (kind.noted new)
+      by false m is_by is_made = ap (λ (s : S). (kind.noted s).opens) (removes.other (inl is_by))
+      by true false is_by is_made = ap (λ (s : S). (kind.noted s).opens) (removes.other (inr is_made))
+      by true true is_by is_made = empty_notes name file old new (removes.new_file is_by is_made)
+
   refusal_notes : (config : Config) (name : List ℕ) (old : S) (error : InitError) (new : S) → RefusesFile kind config name old error new → SameOpens (kind.noted old) (kind.noted new)
   refusal_notes config name old (Directory fault) new (pruned, prunes, none) = ap (λ (n : NotedCounts). n.opens) none.noted ∙ prunes.nothing_else.opens
   refusal_notes config name old (File fault) new (pruned, prunes, none) = ap (λ (n : NotedCounts). n.opens) none.noted ∙ prunes.nothing_else.opens
-  refusal_notes config name old (Symlink fault) new (pruned, unlinked, file, prunes, gets, not) =
-      links config.link not ∙ ap (λ (n : NotedCounts). n.opens) gets.noted ∙ prunes.nothing_else.opens
+  refusal_notes config name old (Symlink fault) new (pruned, unlinked, file, left, prunes, gets, not, removes) =
+      new_file_notes config name (kind.made_file unlinked) file left new removes ∙ links config.link not ∙ ap (λ (n : NotedCounts). n.opens) gets.noted ∙ prunes.nothing_else.opens
     where
-      links : (link : List ℕ) → FailsToLink kind link name unlinked fault new → SameOpens (kind.noted unlinked) (kind.noted new)
+      links : (link : List ℕ) → FailsToLink kind link name unlinked fault left → SameOpens (kind.noted unlinked) (kind.noted left)
       links [] never = absurd never
       links (b ∷ bs) not = ap (λ (n : NotedCounts). n.opens) not.noted
   refusal_notes config name old Memory new same = ap (λ (s : S). (kind.noted s).opens) same

@@ -15,6 +15,7 @@ use Rattle.appender_rolling.specs.Roller.{room_needed}
 use Rattle.appender_rolling.specs.declared.rolling.setup.Stamp.{Stamp}
 use Rattle.appender_rolling.specs.declared.rolling.Switch.{Switch}
 use Rattle.appender_rolling.specs.declared.rolling.Switch.TheVariants.{None as Stayed, Opened as Switched, Failed as SwitchFailed}
+use Rattle.appender_replay.specs.Start.{Start}
 use Rattle.appender_replay.specs.Run.{Event, Attempt, AttemptTime, time_of, greatest, latest_moment, is_switch, is_opened, stamp_at, attempt_times, last_stamp, last_opened, count_since, carrier, meets_test, is_number, bytes_to_body, NoneFailed, EachOf, HasItsName, NamesItsBody}
 use Rattle.appender_replay.specs.Headline as head
 use Rattle.appender_replay.specs.Headline.{Files, written_to_name}
@@ -35,17 +36,17 @@ failed_in [] = 0
 failed_in (e ∷ h) = failed_in h + failed_by e.switch
 
 -- the pieces of the steps at which the open file had this name
-abbrev pub bytes_named : Config → Stamp → List ℕ → List Event → List ℕ
+abbrev pub bytes_named : Config → Start → List ℕ → List Event → List ℕ
 bytes_named c start name [] = []
 bytes_named c start name (e ∷ h) =
     bytes_named c start name h ++ (if bytes_eq (file_name_of c (last_opened start (attempt_times c start (e ∷ h)))) name then e.piece else [])
 
 -- The files of the account are those of this history.
-pub record FilesAre (c : Config) (start : Stamp) (h : List Event) (f : Files) : Type 0 where
+pub record FilesAre (c : Config) (start : Start) (h : List Event) (f : Files) : Type 0 where
   pub latest : latest_moment start.moment h ≡ f.latest
   pub stamps : stamps_of (attempt_times c start h) ≡ f.newest ∷ f.earlier
   pub failed : failed_in h ≡ f.failed
-  pub count : count_since (attempt_times c start h) h ≡ f.since
+  pub count : count_since start (attempt_times c start h) h ≡ f.since
   pub file : file_name_of c (last_opened start (attempt_times c start h)) ≡ f.file
   pub text : (name : List ℕ) → bytes_named c start name h ≡ written_to_name name f.writes
 
@@ -53,7 +54,7 @@ abbrev first_stamp : Stamp → List Stamp → Stamp
 first_stamp d [] = d
 first_stamp d (s ∷ ss) = s
 
-last_stamp_is : (start : Stamp) (ts : List AttemptTime) (newest : Stamp) (earlier : List Stamp) → stamps_of ts ≡ newest ∷ earlier → last_stamp start ts ≡ newest
+last_stamp_is : (start : Start) (ts : List AttemptTime) (newest : Stamp) (earlier : List Stamp) → stamps_of ts ≡ newest ∷ earlier → last_stamp start ts ≡ newest
 last_stamp_is start [] newest earlier is = absurd (let both : ◌≡◌ {A = List Stamp} [] (newest ∷ earlier) = is in cc)
 last_stamp_is start ((step, s, ok) ∷ ts) newest earlier is = ap (first_stamp s) is
 
@@ -90,9 +91,9 @@ latest_more start m len switch bytes h = by (is_moment m) (filter is_moment (fil
     by true before = refl
     by false before = refl
 
-module _ (c : Config) (start : Stamp) where
+module _ (c : Config) (start : Start) where
   pub files_begin : FilesAre c start [] (head.files_at_opening c start)
-  files_begin = record { latest = refl; stamps = refl; failed = refl; count = refl; file = refl; text = λ name. refl }
+  files_begin = record { latest = refl; stamps = refl; failed = refl; count = omega arith; file = refl; text = λ name. refl }
 
   -- errors that are counted change nothing else
   pub with_faults : (h : List Event) (f : Files) (n : ℕ) → FilesAre c start h f → FilesAre c start h (record f { faults = n })
@@ -132,9 +133,9 @@ module _ (c : Config) (start : Stamp) where
     pub due_same : (m : ℤ) → stamp_at c start (attempt_times c start h) (event (Some m)) h ≡ head.due_file c f m len
     due_same m =
         let now : latest_moment start.moment (event (Some m) ∷ h) ≡ head.later_moment f.latest m = latest_more start.moment m len switch bytes h ∙ ap (λ (l : ℤ). head.later_moment l m) so.latest in
-        ap (λ (l : ℤ). due_by l (latest_moment start.moment h) (last_stamp start (attempt_times c start h)) (count_since (attempt_times c start h) h) (room_needed len)) now
-        ∙ ap (λ (l : ℤ). due_by (head.later_moment f.latest m) l (last_stamp start (attempt_times c start h)) (count_since (attempt_times c start h) h) (room_needed len)) so.latest
-        ∙ ap (λ (s : Stamp). due_by (head.later_moment f.latest m) f.latest s (count_since (attempt_times c start h) h) (room_needed len)) newest_is
+        ap (λ (l : ℤ). due_by l (latest_moment start.moment h) (last_stamp start (attempt_times c start h)) (count_since start (attempt_times c start h) h) (room_needed len)) now
+        ∙ ap (λ (l : ℤ). due_by (head.later_moment f.latest m) l (last_stamp start (attempt_times c start h)) (count_since start (attempt_times c start h) h) (room_needed len)) so.latest
+        ∙ ap (λ (s : Stamp). due_by (head.later_moment f.latest m) f.latest s (count_since start (attempt_times c start h) h) (room_needed len)) newest_is
         ∙ ap (λ (n : ℕ). due_by (head.later_moment f.latest m) f.latest f.newest n (room_needed len)) so.count
 
     none_fails : is_switch switch ≡ false → failed_in h + failed_by switch ≡ f.failed

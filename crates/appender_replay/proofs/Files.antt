@@ -7,16 +7,16 @@ use Rattle.appender_store.specs.Content.{Content, IsSound, body_at, after_append
 use Rattle.appender_store.specs.Folder.{NotedCounts}
 use Rattle.appender_store.specs.NameLaws.{NameLaws}
 use Rattle.appender_store.proofs.Appends.{after_append_nothing, after_append_twice, after_append_at}
-use Rattle.appender_rolling.specs.Config.{Config, log_files_of, is_limited, IsStamp}
+use Rattle.appender_rolling.specs.Config.{Config, log_files_of, is_limited, IsStamp, max_before, max_after}
 use Rattle.appender_rolling.specs.declared.rolling.setup.Stamp.{Stamp}
 use Rattle.appender_rolling.specs.Kept.{KeepsBodies, AddsNoFile, AddsNoOtherFile, OpeningPartsKeepBodies}
 use Rattle.appender_rolling.specs.Opening.{file_name_of, IsRefusalEffect}
 use Rattle.appender_rolling.specs.declared.rolling.Switch.TheVariants.{Opened as Switched, Failed as SwitchFailed}
+use Rattle.appender_replay.specs.Start.{Start, start_stamp}
 use Rattle.appender_replay.specs.Run.{Event, Attempt, StepState, MatchesItsStep, time_of, attempt_times, carrier, meets_test, bytes_of_attempt, bytes_to_body, is_number, pieces_since, events_before, open_body, Carried, Succeeded, AttemptDoes, OnlyAttemptsChange, FileLaw, FileKey, file_key, key_at, stamp_at, NoneFailed, EachWriteReadsClock, IsWithinLimit, EachOf}
 use Rattle.appender_replay.proofs.NamesLeft.{leads_to}
 use Rattle.appender_replay.proofs.Periods.{Laws, IsLaterKey}
 use Rattle.appender_replay.proofs.Keys.{none_in_later}
-use Rattle.appender_replay.proofs.Unlimited.{carry_their_periods}
 use Rattle.appender_replay.proofs.Owners.{AreOwners, OtherNames, each_holds, each_stamp, each_in_its_number, each_name, each_stands, open_in_its_number, then_later, pieces_before, owners_stay, owners_kept, owners_with_piece, owners_with_failure, owners_with_success, owners_begin}
 
 -- ---- steps before and after an attempt
@@ -60,7 +60,7 @@ newest (a ∷ rest) = a.step
 
 -- What is known after the switches of some events were replied and the pieces of some were written: the two are the same but
 -- within a step, between its attempt and its piece.
-pub record FilesSoFar (c : Config) (start : Stamp) (seen : ℕ → StepState) (past h : List Event) (first now : Content) (noted_first : NotedCounts) (opened : Stamp) (b : ℕ) : Type 0 where
+pub record FilesSoFar (c : Config) (start : Start) (seen : ℕ → StepState) (past h : List Event) (first now : Content) (noted_first : NotedCounts) (opened : Stamp) (b : ℕ) : Type 0 where
   pub attempts : List Attempt
   pub are_times : map time_of attempts ≡ attempt_times c start past
   pub are_seen : EachOf (MatchesItsStep first noted_first seen) attempts
@@ -90,14 +90,13 @@ keeps_on a b c k l = record {
   names = λ x lt m t h. k.names x lt m t (l.names x (k.more x lt) m t h);
 }
 
-module _ (c : Config) (start : Stamp) (seen : ℕ → StepState) where
+module _ (c : Config) (start : Start) (seen : ℕ → StepState) where
   -- ---- after a whole step
 
   module _ (h : List Event) (first last : Content) (noted_first : NotedCounts) (opened : Stamp) (b : ℕ) (so : FilesSoFar c start seen h h first last noted_first opened b) where
-    pub law_so_far : IsStamp c start → (is_limited c ≡ true → NoneFailed h → EachWriteReadsClock h → EachOf (IsWithinLimit c so.attempts h) so.attempts) → FileLaw c start h first last noted_first seen opened b
-    law_so_far starts bound =
+    pub law_so_far : (is_limited c ≡ true → NoneFailed h → EachWriteReadsClock h → EachOf (IsWithinLimit c so.attempts h) so.attempts) → FileLaw c start h first last noted_first seen opened b
+    law_so_far bound =
         let here = so.carries (length h) (omega arith) in
-        let stamps = each_stamp c start h h so.attempts last so.file b so.owners in
         let key = open_in_its_number c start h h so.attempts last so.file b so.owners (length h) here so.body in
         record {
           attempts = so.attempts;
@@ -119,9 +118,8 @@ module _ (c : Config) (start : Stamp) (seen : ℕ → StepState) where
           each = each_holds c start h h so.attempts last so.file b so.owners;
           under_its_name = each_name c start h h so.attempts last so.file b so.owners;
           names_its_body = each_stands c start h h so.attempts last so.file b so.owners;
-          in_its_period = λ unlimited fine. carry_their_periods c start unlimited starts so.attempts h so.attempts stamps (each_in_its_number c start h h so.attempts last so.file b so.owners fine);
           in_its_number = each_in_its_number c start h h so.attempts last so.file b so.owners;
-          stamps = stamps;
+          stamps = each_stamp c start h h so.attempts last so.file b so.owners;
         }
 
   -- where the step makes no attempt
@@ -194,9 +192,11 @@ module _ (c : Config) (start : Stamp) (seen : ℕ → StepState) where
 
     keeps_parts : (a : Attempt) (b : ℕ) (did : Succeeded c a b) → KeepsParts a b did
     keeps_parts a b did =
-        let ready = keeps_on a.before did.pruned (after_make_folder did.pruned) (parts.retention (log_files_of c (Some (file_name_of c a.stamp))) c.max_files a.before did.pruned did.only_old).keeps (parts.folder did.pruned).keeps in
+        let ready = keeps_on a.before did.pruned (after_make_folder did.pruned) (parts.retention (log_files_of c (Some (file_name_of c a.stamp))) (max_before c) a.before did.pruned did.only_old).keeps (parts.folder did.pruned).keeps in
         let opened = parts.opening (file_name_of c a.stamp) (after_make_folder did.pruned) did.unlinked b did.opens in
-        let linked = parts.link c.link (file_name_of c a.stamp) did.unlinked a.after did.links in
+        let made = parts.link c.link (file_name_of c a.stamp) did.unlinked did.linked did.links in
+        let left = parts.retention (log_files_of c (Some (file_name_of c a.stamp))) (max_after c) did.linked a.after did.only_old_last in
+        let linked : AddsNoFile did.unlinked a.after = record { keeps = keeps_on did.unlinked did.linked a.after made.keeps left.keeps; stay = λ other x t h. made.stay other x t (left.stay other x t h) } in
         record {
           ready = ready;
           opened = opened;
@@ -207,7 +207,7 @@ module _ (c : Config) (start : Stamp) (seen : ℕ → StepState) where
     tried : (a : Attempt) (b : ℕ) → a.body ≡ Some b → Succeeded c a b → AttemptDoes c a
     tried a b body did = subst (λ (o : Option ℕ). MatchOption o (IsRefusalEffect c (file_name_of c a.stamp) a.before a.after) (Succeeded c a)) (sym body) did
 
-    pub files_begin : (a : Attempt) (b : ℕ) → a.step ≡ 0 → start ≡ a.stamp → a.body ≡ Some b → IsStamp c a.stamp → Succeeds c a b → MatchesItsStep a.before a.noted_before seen a → FilesSoFar c start seen [] [] a.before a.after a.noted_before a.stamp b
+    pub files_begin : (a : Attempt) (b : ℕ) → a.step ≡ 0 → start_stamp start ≡ a.stamp → a.body ≡ Some b → IsStamp c a.stamp → Succeeds c a b → MatchesItsStep a.before a.noted_before seen a → FilesSoFar c start seen [] [] a.before a.after a.noted_before a.stamp b
     files_begin a b at starts body g did at_step =
         let keeps = keeps_parts a b did.did in
         let ready = after_make_folder did.did.pruned in
@@ -289,5 +289,5 @@ module _ (c : Config) (start : Stamp) (seen : ℕ → StepState) where
             owners = owners_kept c start (a ∷ rest) a x (e ∷ h) h did.did.unlinked a.after keeps.linked.keeps (λ f o. keeps.linked.stay (file_name_of c f.stamp))
                 (owners_with_success c start a x ready did.did.unlinked did.sound body keeps.ready.bytes (rw moment range) did.did.opens (leads_to maps (file_name_of c a.stamp) ready did.did.unlinked x did.did.opens) keeps.opened did.unlinked_there
                 rest e h so.file b others at here later none (none_in_later c start laws starts h (key_at c start (e ∷ h)) later)
-                (owners_kept c start rest so.file b h h a.before ready keeps.ready (λ f o. (parts.retention (log_files_of c (Some (file_name_of c a.stamp))) c.max_files a.before did.did.pruned did.did.only_old).stay (file_name_of c f.stamp)) so.owners));
+                (owners_kept c start rest so.file b h h a.before ready keeps.ready (λ f o. (parts.retention (log_files_of c (Some (file_name_of c a.stamp))) (max_before c) a.before did.did.pruned did.did.only_old).stay (file_name_of c f.stamp)) so.owners));
           }

@@ -7,11 +7,12 @@ use Rattle.appender_queue.specs.Queue.{Queue, has_line, is_sent}
 use Rattle.appender_queue.specs.declared.queue.Shut.TheVariants.{Sent}
 use Rattle.appender_worker.specs.Core.{Core, Taking, Writing, Flushing, Ending, Over}
 use Rattle.appender_store.specs.declared.store.Folder.{Ghosts}
-use Rattle.appender_rolling.specs.Config.{Config, stamp}
+use Rattle.appender_rolling.specs.Config.{Config}
 use Rattle.appender_rolling.specs.Roller.{Rolling, Writes, written_count}
 use Rattle.appender_rolling.specs.declared.rolling.setup.Stamp.{Stamp}
 use Rattle.appender_rolling.specs.declared.rolling.Switch.{Switch}
 use Rattle.appender_rolling.specs.declared.rolling.Switch.TheVariants.{None as Stayed, Opened as Switched, Failed as SwitchFailed}
+use Rattle.appender_replay.specs.Start.{Start, start_of}
 use Rattle.appender_replay.specs.Run.{Event, is_switch, stamp_at, attempt_times, SwitchesAtAttempts}
 use Rattle.appender_replay.specs.Replay.{RollStepWithReply, RollDoes, RollStepDoes, RollerFollows, RunsFrom, LeadsTo, by_kind, events_by, event_of, roll_event}
 use Rattle.appender_replay.specs.Record.{StepWithReply, worker_after, queue_after}
@@ -49,7 +50,7 @@ roll_faults past (Write bytes, RollWrote answer) = faults_in answer
 roll_faults past (Flush, RollFlushed answer) = faults_in answer
 roll_faults past t = 0
 
-module _ (c : Config) (start : Stamp) where
+module _ (c : Config) (start : Start) where
   roll_faults_more : (past : List RollStepWithReply) (f : Files) (t : RollStepWithReply) → f.faults + roll_faults past t ≡ (roll_after c f t).faults
   roll_faults_more past f (See m, Saw switch) = let same = look_faults c m 0 switch f in omega arith
   roll_faults_more past f (Put m bytes, DidPut switch answer) = ap (λ (n : ℕ). n + faults_in answer) (sym (look_faults c m (length bytes.items) switch f))
@@ -120,16 +121,16 @@ module _ (c : Config) (start : Stamp) where
         let more = roll_files (events_by roll_event past) (roll_account c start past) so.files t between new is switches.0 in
         record { follows = (so.follows, more.0); files = more.1 }
 
-pub roll_headline : {S F : Type 0} (kind : Ghosts S F) (c : Config) (grounds : Grounds kind c) (moment : ℤ) (number : ℕ) (folder : S) (past : List RollStepWithReply) (last : Rolling S F)
-    → RunsFrom kind (RollDoes kind) c moment number folder past last → RollerFollows kind (RollDoes kind) roll_event c moment number folder past last
-    → RollHeadline kind c moment number past folder last.folder
-roll_headline kind c grounds moment number folder past last run rolls =
-    let start : Stamp = stamp moment number in
+pub roll_headline : {S F : Type 0} (kind : Ghosts S F) (c : Config) (grounds : Grounds kind c) (moment : ℤ) (number room : ℕ) (folder : S) (past : List RollStepWithReply) (last : Rolling S F)
+    → RunsFrom kind (RollDoes kind) c moment number room folder past last → RollerFollows kind (RollDoes kind) roll_event c moment number room folder past last
+    → RollHeadline kind c moment number room past folder last.folder
+roll_headline kind c grounds moment number room folder past last run rolls =
+    let start : Start = start_of c moment number room in
     let so = roll_known c start kind grounds past run.first last run.runs rolls.switches in
     record {
       replies = so.follows;
       folder = keeps kind grounds.failures_fit grounds.noted_fit (RollDoes kind) roll_event roll_faults (roll_step_counts c start kind grounds) grounds.maps grounds.parts grounds.sound
-          c moment number folder past last run rolls (roll_account c start past) so.files (roll_faults_are c start kind grounds past);
+          c moment number room folder past last run rolls (roll_account c start past) so.files (roll_faults_are c start kind grounds past);
     }
 
 -- ---- a queue, a worker and a roller
@@ -139,7 +140,7 @@ whole_faults past (Work m, Wrote switch answer) = faults_in answer
 whole_faults past (Work m, Flushed answer) = faults_in answer
 whole_faults past t = 0
 
-module _ (c : Config) (start : Stamp) where
+module _ (c : Config) (start : Start) where
   whole_faults_more : (past : List StepWithReply) (a : RunAccount) (t : StepWithReply) → a.files.faults + whole_faults past t ≡ (head.account_after c a t).files.faults
   whole_faults_more past a (Work m, Wrote switch answer) = ap (λ (n : ℕ). n + faults_in answer) (sym (look_faults c m (length a.rest) switch a.files))
   whole_faults_more past a (Work m, Flushed answer) = refl
@@ -255,14 +256,14 @@ module _ (c : Config) (start : Stamp) where
         (flushes_counted kind grounds.failures_fit grounds.noted_fit answer old new flushes)
     rolls_count past core (s, r) old new same = counted_same kind grounds.failures_fit grounds.noted_fit old.folder new.folder (ap (λ (x : Rolling S F). x.folder) same)
 
-pub headline : {S F : Type 0} (kind : Ghosts S F) (c : Config) (grounds : Grounds kind c) (limit : ℕ) (lossy : Bool) (moment : ℤ) (number : ℕ) (folder : S) (past : List StepWithReply) (last : Rolling S F)
-    → AreRunReplies limit lossy past → RunsFrom kind (WorkerDoes kind) c moment number folder past last → RollerFollows kind (WorkerDoes kind) run_event c moment number folder past last
-    → Headline kind limit c moment number past folder last.folder
-headline kind c grounds limit lossy moment number folder past last all run rolls =
-    let start : Stamp = stamp moment number in
+pub headline : {S F : Type 0} (kind : Ghosts S F) (c : Config) (grounds : Grounds kind c) (limit : ℕ) (lossy : Bool) (moment : ℤ) (number room : ℕ) (folder : S) (past : List StepWithReply) (last : Rolling S F)
+    → AreRunReplies limit lossy past → RunsFrom kind (WorkerDoes kind) c moment number room folder past last → RollerFollows kind (WorkerDoes kind) run_event c moment number room folder past last
+    → Headline kind limit c moment number room past folder last.folder
+headline kind c grounds limit lossy moment number room folder past last all run rolls =
+    let start : Start = start_of c moment number room in
     let so = known c start limit lossy past all rolls.switches in
     record {
       replies = so.follows;
       folder = keeps kind grounds.failures_fit grounds.noted_fit (WorkerDoes kind) run_event whole_faults (λ earlier t. rolls_count c start kind grounds earlier (worker_after earlier) t) grounds.maps grounds.parts grounds.sound
-          c moment number folder past last run rolls (account c start past).files so.files (whole_faults_are c start kind grounds past);
+          c moment number room folder past last run rolls (account c start past).files so.files (whole_faults_are c start kind grounds past);
     }

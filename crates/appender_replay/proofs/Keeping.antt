@@ -1,30 +1,39 @@
 -- What a folder contains and counts after a run, by the files of its account.
-use Rattle.std.proofs.Common.{◌≡◌, ◌≢◌, ◌∙◌, ◌⊎◌, ℕ, ℤ, zero, suc, ◌+◌, ◌^◌, ◌<◌, ◌≤◌, nat_le, Bool, true, false, List, [], ◌∷◌, ◌++◌, length, map, Option, None, Some, is_some, Result, Ok, Err, MatchResult, Vec, IsTrue, inl, inr, refl, ap, sym, subst, arith}
+use Rattle.std.proofs.Common.{◌≡◌, ◌≢◌, ◌∙◌, ◌⊎◌, ℕ, ℤ, zero, suc, ◌+◌, ◌^◌, ◌<◌, ◌≤◌, ◌-◌, min, nat_le, Bool, true, false, List, [], ◌∷◌, ◌++◌, length, get_or, map, Option, None, Some, is_some, Result, Ok, Err, MatchResult, Vec, IsTrue, inl, inr, refl, ap, sym, subst, arith}
 use Rattle.std.specs.Prelude.{if◌then◌else◌, ◌==◌, OnOk, IsOk}
+use Rattle.std.specs.Option.{option_map_or}
+use Rattle.std.specs.FinMap as fin
 use Rattle.std.specs.declared.alloc.Global.{Global}
 use Rattle.std.specs.declared.io.Error.{Error}
-use Rattle.appender_store.specs.Content.{Content, Entry, IsSound, body_at}
+use Rattle.appender_store.specs.Content.{Content, Entry, File, IsSound, OpensBody, after_make_folder, body_at}
 use Rattle.appender_store.specs.Folder.{AreNotedCounts, NotedCounts, NotedList, listed_row, next_count}
 use Rattle.appender_store.specs.NameLaws.{NameLaws}
 use Rattle.appender_store.specs.Notes.{Notes}
 use Rattle.appender_store.specs.declared.store.Folder.{Ghosts}
 use Rattle.appender_store.specs.declared.store.Listed.{Listed}
+use Rattle.appender_retain.specs.Rank.{LogFiles}
 use Rattle.appender_retain.specs.Pruning.{IsQuiet}
-use Rattle.appender_rolling.specs.Config.{Config, is_limited, naming_of, stamp}
+use Rattle.appender_retain.specs.Survival.{name_survives}
+use Rattle.appender_rolling.specs.Config.{Config, is_limited, log_files_of, max_before, max_after}
 use Rattle.appender_rolling.specs.Kept.{OpeningPartsKeepBodies}
-use Rattle.appender_rolling.specs.Opening.{IsFirstNumber, IsListed, HasEntry, ListsNumbers}
+use Rattle.appender_rolling.specs.Opening.{file_name_of, IsFirstNumber, IsListed, HasEntry, ListsNumbers, OpensFile}
 use Rattle.appender_rolling.specs.Roller.{Rolling}
 use Rattle.appender_rolling.specs.declared.rolling.setup.Stamp.{Stamp}
 use Rattle.appender_rolling.specs.declared.rolling.Switch.{Switch}
 use Rattle.appender_rolling.specs.declared.rolling.Switch.TheVariants.{None as Stayed, Opened as Switched, Failed as SwitchFailed}
 use Rattle.appender_rolling.proofs.Rising.{finds_rise, opens_rise, absent_finds, absent_opens}
+use Rattle.appender_replay.specs.Start.{Start, start_stamp, start_of}
 use Rattle.appender_replay.specs.Run.{Event, Attempt, AttemptTime, time_of, content_before, counts_before, MatchesItsStep, attempt_times, stamp_at, is_switch, is_opened, with_time, NoneFailed, SwitchesAtAttempts, EachOf}
 use Rattle.appender_replay.specs.Replay.{LeadsTo, RunsFrom, RollerFollows, events_by, step_state_of, step_states_after, run_states}
-use Rattle.appender_replay.specs.Headline.{Files, FolderFollows, NamesAfterOpenings, RetentionSucceeded}
+use Rattle.appender_replay.specs.Headline.{Files, FolderFollows, IsHeld, NamesAfterOpenings, RetentionSucceeded}
 use Rattle.appender_replay.proofs.NamesLeft.{none_of}
 use Rattle.appender_replay.proofs.NamesLead.{PrunesAll, LeavesAll, stamps_in, names_lead, others_stay}
 use Rattle.appender_replay.proofs.FileAccounts.{FilesAre, failed_by, failed_in, stamps_of, none_failed, text_same}
 use Rattle.appender_replay.proofs.Counting.{Counted, counted_same, counted_on, finds_counted, opens_counted}
+
+nothing_beyond : (bodies : List (List ℕ)) → get_or bodies (length bodies) [] ≡ []
+nothing_beyond [] = refl
+nothing_beyond (b ∷ bodies) = nothing_beyond bodies
 
 -- ---- attempts that all succeeded
 
@@ -32,7 +41,7 @@ abbrev AllOpened : List AttemptTime → Type 0
 AllOpened [] = Unit {0}
 AllOpened ((step, s, ok) ∷ ts) = (ok ≡ true) × AllOpened ts
 
-all_opened : (c : Config) (start : Stamp) (h : List Event) → SwitchesAtAttempts c start h → NoneFailed h → AllOpened (attempt_times c start h)
+all_opened : (c : Config) (start : Start) (h : List Event) → SwitchesAtAttempts c start h → NoneFailed h → AllOpened (attempt_times c start h)
 all_opened c start [] switches fine = (refl, tt)
 all_opened c start (e ∷ h) switches fine = by (stamp_at c start (attempt_times c start h) e h) switches.0 (all_opened c start h switches.1 fine.1)
   where
@@ -103,9 +112,9 @@ module _ {S F : Type 0} (kind : Ghosts S F) (failures_fit : (s : S) → kind.fai
             (so.0, record { lists = omega (arith, so.1.lists, now.rise.lists); removes = omega (arith, so.1.removes, now.rise.removes) })
 
     module _ (maps : NameLaws) (parts : OpeningPartsKeepBodies) (sound : (folder : S) → IsTrue kind.is_known → IsSound (kind.content folder))
-        (c : Config) (moment : ℤ) (number : ℕ) (folder : S) (past : List T) (last : Rolling S F) (run : RunsFrom kind does c moment number folder past last) where
-      abbrev start : Stamp
-      start = stamp moment number
+        (c : Config) (moment : ℤ) (number room : ℕ) (folder : S) (past : List T) (last : Rolling S F) (run : RunsFrom kind does c moment number room folder past last) where
+      abbrev start : Start
+      start = start_of c moment number room
 
       all_steps : Counted kind failures_fit noted_fit (failed_in (events_by event past)) (sum_by faults past) run.first.folder last.folder
       all_steps = steps_count past run.first last run.runs
@@ -125,10 +134,10 @@ module _ {S F : Type 0} (kind : Ghosts S F) (failures_fit : (s : S) → kind.fai
 
       module _ (is_known : IsTrue kind.is_known) (fine : RetentionSucceeded c (kind.content folder).there (kind.noted folder) (kind.noted last.folder)) where
         -- the opening of an absent folder noted its listings
-        opened_lists : (there : Bool) → (kind.content folder).there ≡ there → (kind.noted last.folder).lists ≡ (kind.noted folder).lists + (if there then 0 else (if is_limited c then 1 else 0) + (if c.max_files == 0 then 0 else 1))
+        opened_lists : (there : Bool) → (kind.content folder).there ≡ there → (kind.noted last.folder).lists ≡ (kind.noted folder).lists + (if there then 0 else (if is_limited c then 1 else 0) + (if max_before c == 0 then 0 else 1))
             → (kind.noted last.folder).lists ≤ (kind.noted run.first.folder).lists
         opened_lists true is lists = let rise = opening_counts.rise.lists in omega arith
-        opened_lists false is lists = by (is_limited c) (c.max_files == 0) refl refl lists
+        opened_lists false is lists = by (is_limited c) (max_before c == 0) refl refl lists
           where
             found : (kind.noted folder).lists ≤ (kind.noted run.opens.listed).lists
             found = (finds_rise kind failures_fit noted_fit c moment folder run.opens.number run.opens.listed run.opens.finds).lists
@@ -142,10 +151,10 @@ module _ {S F : Type 0} (kind : Ghosts S F) (failures_fit : (s : S) → kind.fai
             by_finds : is_limited c ≡ true → (kind.noted run.opens.listed).lists ≡ next_count (kind.noted folder).lists
             by_finds limited = absent_finds kind c moment folder run.opens.number run.opens.listed run.opens.finds limited is_known is
 
-            by_opens : (c.max_files == 0) ≡ false → (kind.noted run.first.folder).lists ≡ next_count (kind.noted run.opens.listed).lists
+            by_opens : (max_before c == 0) ≡ false → (kind.noted run.first.folder).lists ≡ next_count (kind.noted run.opens.listed).lists
             by_opens some = absent_opens kind c _ run.opens.listed run.first.file run.first.folder run.opens.opens (grind arith) is_known (ap (λ (d : Content). d.there) run.opens.finds.content ∙ is)
 
-            by : (limited none : Bool) → is_limited c ≡ limited → (c.max_files == 0) ≡ none → (kind.noted last.folder).lists ≡ (kind.noted folder).lists + ((if limited then 1 else 0) + (if none then 0 else 1))
+            by : (limited none : Bool) → is_limited c ≡ limited → (max_before c == 0) ≡ none → (kind.noted last.folder).lists ≡ (kind.noted folder).lists + ((if limited then 1 else 0) + (if none then 0 else 1))
                 → (kind.noted last.folder).lists ≤ (kind.noted run.first.folder).lists
             by true true limited none lists = let one = by_finds limited in let below = fine.below.0 in omega (arith, found, opened, later)
             by true false limited none lists = let one = by_finds limited in let two = by_opens none in let below = fine.below.0 in omega (arith, found, opened, later)
@@ -162,7 +171,7 @@ module _ {S F : Type 0} (kind : Ghosts S F) (failures_fit : (s : S) → kind.fai
             (omega (arith, so.0.lists, so.1.lists), omega (arith, so.0.removes, so.1.removes))
 
         -- the opening noted nothing, or the folder was absent
-        opening_quiet : (there : Bool) → (kind.content folder).there ≡ there → (kind.noted last.folder).lists ≡ (kind.noted folder).lists + (if there then 0 else (if is_limited c then 1 else 0) + (if c.max_files == 0 then 0 else 1))
+        opening_quiet : (there : Bool) → (kind.content folder).there ≡ there → (kind.noted last.folder).lists ≡ (kind.noted folder).lists + (if there then 0 else (if is_limited c then 1 else 0) + (if max_before c == 0 then 0 else 1))
             → (after : NotedCounts) → after.lists ≡ (kind.noted last.folder).lists → after.removes ≡ (kind.noted last.folder).removes
             → IsQuiet (kind.noted run.opens.listed) after ⊎ (((kind.content folder).there ≡ false) × IsSound (kind.content folder))
         opening_quiet true is lists after same_lists same_removes =
@@ -195,24 +204,24 @@ module _ {S F : Type 0} (kind : Ghosts S F) (failures_fit : (s : S) → kind.fai
                 }))
 
         -- the first number is by what the folder had
-        first_number : is_limited c ≡ true → IsFirstNumber (naming_of c) moment (HasEntry (kind.content folder)) number
+        first_number : is_limited c ≡ true → IsFirstNumber c moment (HasEntry (kind.content folder)) number
         first_number limited = rw (← run.number_is) (by l.answer (kind.content folder).there refl l.there l.number_is l.number_in fine.lists)
           where
-            l : ListsNumbers kind (naming_of c) moment folder run.opens.number run.opens.listed
+            l : ListsNumbers kind c moment folder run.opens.number run.opens.listed
             l = run.opens.finds.calls limited
 
-            none : (kind.content folder).there ≡ false → IsFirstNumber (naming_of c) moment (HasEntry (kind.content folder)) 0
+            none : (kind.content folder).there ≡ false → IsFirstNumber c moment (HasEntry (kind.content folder)) 0
             none absent = record {
               at_most = omega arith;
-              above = λ name k (e, is) in_it. absurd (let both : ◌≡◌ {A = Option Entry} None (Some e) = sym (none_of _ ((sound folder is_known).absent absent name)) ∙ is in cc);
+              above = λ name which k (e, is, kind_is) in_it. absurd (let both : ◌≡◌ {A = Option Entry} None (Some e) = sym (none_of _ ((sound folder is_known).absent absent name)) ∙ is in cc);
               least = inl refl;
             }
 
             by : (answer : Result (Vec Listed Global) Error) (there : Bool) → (kind.content folder).there ≡ there → OnOk answer (IsTrue kind.is_known → (kind.content folder).there ≡ true)
-                → MatchResult answer (λ all. IsFirstNumber (naming_of c) moment (IsListed (map listed_row all.items)) run.opens.number × (run.opens.listed ≡ l.listed)) (λ fault. (run.opens.number ≡ 0) × Notes kind l.listed (NotedList fault) run.opens.listed)
-                → (IsOk answer → IsTrue kind.is_known → IsFirstNumber (naming_of c) moment (HasEntry (kind.content folder)) run.opens.number)
-                → (kind.noted last.folder).lists ≡ (kind.noted folder).lists + (if there then 0 else (if is_limited c then 1 else 0) + (if c.max_files == 0 then 0 else 1))
-                → IsFirstNumber (naming_of c) moment (HasEntry (kind.content folder)) run.opens.number
+                → MatchResult answer (λ all. IsFirstNumber c moment (IsListed (map listed_row all.items)) run.opens.number × (run.opens.listed ≡ l.listed)) (λ fault. (run.opens.number ≡ 0) × Notes kind l.listed (NotedList fault) run.opens.listed)
+                → (IsOk answer → IsTrue kind.is_known → IsFirstNumber c moment (HasEntry (kind.content folder)) run.opens.number)
+                → (kind.noted last.folder).lists ≡ (kind.noted folder).lists + (if there then 0 else (if is_limited c then 1 else 0) + (if max_before c == 0 then 0 else 1))
+                → IsFirstNumber c moment (HasEntry (kind.content folder)) run.opens.number
             by (Ok all) there is on_ok number_is number_in lists = number_in refl is_known
             by (Err fault) false is on_ok number_is number_in lists = rw number_is.0 (none is)
             by (Err fault) true is on_ok number_is number_in lists =
@@ -220,6 +229,65 @@ module _ {S F : Type 0} (kind : Ghosts S F) (failures_fit : (s : S) → kind.fai
                 let opened = opens_rise kind failures_fit noted_fit c _ run.opens.listed run.first.file run.first.folder run.opens.opens in
                 let below = fine.below.0 in
                 absurd (omega (arith, opened.lists, all_steps.rise.lists))
+
+      -- ---- what the first file held
+
+      abbrev first_name : List ℕ
+      first_name = file_name_of c (start_stamp start)
+
+      held : IsTrue kind.is_known → c.continues ≡ true → IsHeld c start (kind.content folder)
+      held is_known continues = by (opens.gets.opens is_known)
+        where
+          log : LogFiles
+          log = log_files_of c (Some first_name)
+
+          opens : OpensFile kind c first_name run.opens.listed run.first.file run.first.folder
+          opens = rw (← run.number_is) run.opens.opens
+
+          body : ℕ
+          body = kind.body run.first.file
+
+          listed : kind.content run.opens.listed ≡ kind.content folder
+          listed = run.opens.finds.content
+
+          -- no part of the opening changes the bytes of a body
+          bytes : body_at (kind.content run.first.folder) body ≡ body_at (kind.content folder) body
+          bytes =
+              (parts.retention log (max_after c) (kind.content opens.linked) (kind.content run.first.folder) (opens.prunes_last.only_old is_known)).keeps.bytes body
+              ∙ (parts.link c.link first_name (kind.content opens.unlinked) (kind.content opens.linked) (opens.changes_link is_known)).keeps.bytes body
+              ∙ (parts.opening first_name (after_make_folder (kind.content opens.pruned)) (kind.content opens.unlinked) body (opens.gets.opens is_known)).keeps.bytes body
+              ∙ (parts.folder (kind.content opens.pruned)).keeps.bytes body
+              ∙ (parts.retention log (max_before c) (kind.content run.opens.listed) (kind.content opens.pruned) (opens.prunes.only_old is_known)).keeps.bytes body
+              ∙ ap (λ (d : Content). body_at d body) listed
+
+          is_held : start.held ≡ min c.max_bytes (length (body_at (kind.content folder) body))
+          is_held =
+              let asks = run.opens.room.continued continues in
+              let left : run.first.room ≡ c.max_bytes - length (body_at (kind.content run.first.folder) body) = asks.room_is ∙ ap (λ (o : Option ℕ). option_map_or (λ (n : ℕ). c.max_bytes - n) o 0) (asks.known is_known) in
+              let long : length (body_at (kind.content run.first.folder) body) ≡ length (body_at (kind.content folder) body) = ap length bytes in
+              let room_is = run.room_is in
+              omega (arith, left, long, room_is)
+
+          pruned : (fin.get (kind.content opens.pruned).names first_name ≡ fin.get (kind.content folder).names first_name)
+              ⊎ ((fin.get (kind.content opens.pruned).names first_name ≡ None) × (name_survives log (max_before c) (kind.content folder).names first_name ≡ false))
+          pruned = subst
+              (λ (d : Content). (fin.get (kind.content opens.pruned).names first_name ≡ fin.get d.names first_name)
+              ⊎ ((fin.get (kind.content opens.pruned).names first_name ≡ None) × (name_survives log (max_before c) d.names first_name ≡ false))) listed
+              ((opens.prunes.only_old is_known).names first_name)
+
+          by : OpensBody first_name (after_make_folder (kind.content opens.pruned)) (kind.content opens.unlinked) body → IsHeld c start (kind.content folder)
+          by (there, inl (t, own, same)) = elim pruned [
+            | inl still ↦ inl (body, t, sym still ∙ own, is_held)
+            | inr gone ↦ absurd (let both : ◌≡◌ {A = Option Entry} None (Some (File body t)) = sym gone.0 ∙ own in cc)
+          ]
+          by (there, inr (t, free, number, after)) =
+              let same : (kind.content opens.pruned).bodies ≡ (kind.content folder).bodies = (opens.prunes.only_old is_known).bodies ∙ ap (λ (d : Content). d.bodies) listed in
+              let none : body_at (kind.content folder) body ≡ [] = ap (λ (b : ℕ). get_or (kind.content folder).bodies b []) (number ∙ ap length same) ∙ nothing_beyond (kind.content folder).bodies in
+              let zero : start.held ≡ 0 = omega (arith, is_held, ap length none) in
+              elim pruned [
+                | inl still ↦ inr (zero, inl (sym still ∙ free))
+                | inr gone ↦ inr (zero, inr gone.1)
+              ]
 
       -- ---- all of it
 
@@ -232,17 +300,19 @@ module _ {S F : Type 0} (kind : Ghosts S F) (failures_fit : (s : S) → kind.fai
       each_prunes [] at all = tt
       each_prunes (a ∷ rest) at all = (all a at.0, each_prunes rest at.1 all)
 
-      pub keeps : RollerFollows kind does event c moment number folder past last → (f : Files) → FilesAre c start (events_by event past) f → sum_by faults past ≡ f.faults → FolderFollows kind c start f folder last.folder
+      pub keeps : RollerFollows kind does event c moment number room folder past last → (f : Files) → FilesAre c start (events_by event past) f → sum_by faults past ≡ f.faults → FolderFollows kind c start f folder last.folder
       keeps rolls f so all =
           let counts = run_counts f.failed f.faults so.failed all in
           record {
             failed = counts.opens;
             faults = counts.failures;
+            anew = λ afresh. omega (arith, run.room_is, run.opens.room.anew afresh);
             unnumbered = λ unlimited. sym run.number_is ∙ (run.opens.finds.none unlimited).0;
             content = λ is_known.
                 let law = rolls.files is_known run in
                 let stamps : stamps_in law.attempts ≡ f.newest ∷ f.earlier = stamps_same law.attempts ∙ ap stamps_of law.are_times ∙ so.stamps in
                 record {
+                  held = λ continues. held is_known continues;
                   bytes = λ name b t at. law.bodies b ∙ ap (λ (xs : List ℕ). body_at (kind.content folder) b ++ xs)
                       (text_same c start (kind.content last.folder) name b t at law.attempts (events_by event past) f law.are_times law.under_its_name law.names_its_body so);
                   others = λ name others not_link. others_stay maps c name not_link law.attempts (events_by event past) (kind.content folder) (kind.content last.folder) law.leads (rw stamps others);

@@ -3,11 +3,12 @@ use Rattle.std.proofs.Common.{◌≡◌, ◌⊎◌, inl, inr, ℕ, ℤ, Bool, tr
 use Rattle.appender_names.specs.Rotation.{IsMoment}
 use Rattle.appender_rolling.specs.Config.{Config}
 use Rattle.appender_rolling.specs.declared.rolling.setup.Stamp.{Stamp}
+use Rattle.appender_replay.specs.Start.{Start}
 use Rattle.appender_replay.specs.Run.{Event, AttemptTime, FileKey, latest_moment, period_at, arrives, is_full_step, with_time, attempt_times, last_stamp, key_at, bytes_under}
 use Rattle.appender_replay.proofs.Periods.{Laws, IsLaterKey, later_key_differs, later_key_still}
 use Rattle.appender_replay.proofs.Clocks.{turn}
 
-module _ (c : Config) (first : Stamp) (laws : Laws c.rotation) (starts : IsMoment first.moment) where
+module _ (c : Config) (first : Start) (laws : Laws c.rotation) (starts : IsMoment first.moment) where
   pub latest_in_range : (h : List Event) → IsMoment (latest_moment first.moment h)
   latest_in_range [] = starts
   latest_in_range (e ∷ h) = (turn c.rotation first.moment e h laws (latest_in_range h)).in_range

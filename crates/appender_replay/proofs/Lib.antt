@@ -3,7 +3,6 @@ pub mod Periods
 pub mod Turns
 pub mod Clocks
 pub mod Owners
-pub mod Unlimited
 pub mod Files
 pub mod Runs
 pub mod Records

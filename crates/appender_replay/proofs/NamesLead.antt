@@ -11,14 +11,14 @@ use Rattle.appender_store.specs.Folder.{entry_row}
 use Rattle.appender_store.specs.NameLaws.{NameLaws}
 use Rattle.appender_retain.specs.Pruning.{IsQuiet}
 use Rattle.appender_retain.specs.Rank.{LogFiles, Rank, key_by_name, candidate_key, log_files_by_parts, rank_of}
-use Rattle.appender_retain.specs.Survival.{RemovesOnlyOld, name_rank, name_survives}
-use Rattle.appender_rolling.specs.Config.{Config, naming_of, log_files_of}
+use Rattle.appender_retain.specs.Survival.{RemovesOnlyOld, KeepsSurvivors, name_rank, name_survives}
+use Rattle.appender_rolling.specs.Config.{Config, naming_of, log_files_of, max_before, max_after}
 use Rattle.appender_rolling.specs.Kept.{OpeningPartsKeepBodies}
 use Rattle.appender_rolling.specs.declared.rolling.setup.Stamp.{Stamp}
 use Rattle.appender_rolling.specs.Opening.{file_name_of, IsRefusalEffect}
 use Rattle.appender_replay.specs.Run.{Event, Attempt, pieces_since, events_before, open_body, Carried, OnlyAttemptsChange, Succeeded, AttemptDoes, EachOf}
 use Rattle.appender_replay.specs.Headline.{NamesAfterOpening, NamesAfterOpenings, kept_entry}
-use Rattle.appender_replay.proofs.NamesLeft.{nothing_survives, leads_to, opened_other, freed_other, linked_other, linked_name, apart_from_link}
+use Rattle.appender_replay.proofs.NamesLeft.{nothing_survives, nothing_survives_last, unlimited_keep, either_leaves, left_by, leads_to, opened_other, freed_other, unremoved_other, linked_other, linked_name, apart_from_link}
 
 abbrev pub stamps_in : List Attempt → List Stamp
 stamps_in = map (λ (a : Attempt). a.stamp)
@@ -44,9 +44,10 @@ module _ (parts : OpeningPartsKeepBodies) (c : Config) where
       by : (o : Option ℕ) → MatchOption o (IsRefusalEffect c (file_name_of c a.stamp) a.before a.after) (Succeeded c a) → HasAll a.before a.after
       by None did = (parts.refusal c (file_name_of c a.stamp) a.before a.after did).keeps.more
       by (Some b) did = λ x lt.
-          (parts.link c.link (file_name_of c a.stamp) did.unlinked a.after did.links).keeps.more x
+          (parts.retention (log_files_of c (Some (file_name_of c a.stamp))) (max_after c) did.linked a.after did.only_old_last).keeps.more x
+          ((parts.link c.link (file_name_of c a.stamp) did.unlinked did.linked did.links).keeps.more x
           ((parts.opening (file_name_of c a.stamp) (after_make_folder did.pruned) did.unlinked b did.opens).keeps.more x
-          ((parts.folder did.pruned).keeps.more x ((parts.retention (log_files_of c (Some (file_name_of c a.stamp))) c.max_files a.before did.pruned did.only_old).keeps.more x lt)))
+          ((parts.folder did.pruned).keeps.more x ((parts.retention (log_files_of c (Some (file_name_of c a.stamp))) (max_before c) a.before did.pruned did.only_old).keeps.more x lt))))
 
   pub leads_bodies : (attempts : List Attempt) (h : List Event) (first last : Content) → OnlyAttemptsChange c attempts h first last → HasAll first last
   leads_bodies [] h first last leads x lt = rw leads lt
@@ -67,16 +68,29 @@ module _ (maps : NameLaws) (c : Config) where
   abbrev pub PrunesAll : Attempt → Type 0
   PrunesAll a = (c.max_files ≡ 0) ⊎ (IsQuiet a.noted_before a.noted_after ⊎ ((a.before.there ≡ false) × IsSound a.before))
 
-  all_survive : c.max_files ≡ 0 → (log : LogFiles) (names : NameMap) (name : List ℕ) → name_survives log c.max_files names name ≡ true
-  all_survive none log names name = rw none refl
+  none_before : c.max_files ≡ 0 → max_before c ≡ 0
+  none_before none = by c.by_name
+    where
+      by : (t : Bool) → (if t then 0 else c.max_files) ≡ 0
+      by true = refl
+      by false = none
 
-  pruned_is : (a : Attempt) (b : ℕ) (did : Succeeded c a b) → PrunesAll a → (name : List ℕ) → fin.get did.pruned.names name ≡ kept_entry c a.stamp a.before.names name
-  pruned_is a b did (inl none) name = elim (did.only_old.names name) [
-    | inl same ↦ same ∙ ap (λ (t : Bool). if t then fin.get a.before.names name else None) (sym (all_survive none (log_files_of c (Some (file_name_of c a.stamp))) a.before.names name))
-    | inr gone ↦ absurd (let both : true ≡ false = sym (all_survive none (log_files_of c (Some (file_name_of c a.stamp))) a.before.names name) ∙ gone.1 in cc)
-  ]
-  pruned_is a b did (inr (inl quiet)) name = did.survivors quiet name
-  pruned_is a b did (inr (inr absent)) name = nothing_survives (log_files_of c (Some (file_name_of c a.stamp))) c.max_files a.before did.pruned absent.1 absent.0 did.only_old name
+  none_after : c.max_files ≡ 0 → max_after c ≡ 0
+  none_after none = by c.by_name
+    where
+      by : (t : Bool) → (if t then c.max_files else 0) ≡ 0
+      by true = none
+      by false = refl
+
+  pruned_is : (a : Attempt) (b : ℕ) (did : Succeeded c a b) → PrunesAll a → KeepsSurvivors (log_files_of c (Some (file_name_of c a.stamp))) (max_before c) a.before did.pruned
+  pruned_is a b did (inl none) = unlimited_keep (log_files_of c (Some (file_name_of c a.stamp))) (max_before c) a.before did.pruned (none_before none) did.only_old
+  pruned_is a b did (inr (inl quiet)) = did.survivors quiet
+  pruned_is a b did (inr (inr absent)) = nothing_survives (log_files_of c (Some (file_name_of c a.stamp))) (max_before c) a.before did.pruned absent.1 absent.0 did.only_old
+
+  left_is : (a : Attempt) (b : ℕ) (did : Succeeded c a b) → PrunesAll a → KeepsSurvivors (log_files_of c (Some (file_name_of c a.stamp))) (max_after c) did.linked a.after
+  left_is a b did (inl none) = unlimited_keep (log_files_of c (Some (file_name_of c a.stamp))) (max_after c) did.linked a.after (none_after none) did.only_old_last
+  left_is a b did (inr (inl quiet)) = did.survivors_last quiet
+  left_is a b did (inr (inr absent)) = nothing_survives_last c (file_name_of c a.stamp) a.before did.linked a.after absent.1 absent.0 did.spares did.only_old_last
 
   module _ (n : ℕ) (a : Attempt) (b : ℕ) (did : Succeeded c a b) (all : PrunesAll a) (more : (x : ℕ) → x < n → x < length a.before.bodies) where
     abbrev own : List ℕ
@@ -85,16 +99,32 @@ module _ (maps : NameLaws) (c : Config) where
     abbrev Own : Type 0
     Own = (b : ℕ) × (t : Option ℤ) × (fin.get a.after.names own ≡ Some (File b t)) × ((kept_entry c a.stamp a.before.names own ≡ Some (File b t)) ⊎ ((kept_entry c a.stamp a.before.names own ≡ None) × (n ≤ b)))
 
+    abbrev log : LogFiles
+    log = log_files_of c (Some own)
+
     stays : (x : ℕ) (t : Option ℤ) → fin.get did.unlinked.names own ≡ Some (File x t) → fin.get a.after.names own ≡ Some (File x t)
-    stays x t at = linked_other maps c.link own did.unlinked a.after own did.links (apart_from_link maps c.link own did.unlinked a.after own x t did.links at) ∙ at
+    stays x t at = did.spares.file ∙ linked_other maps c.link own did.unlinked did.linked own did.links (apart_from_link maps c.link own did.unlinked did.linked own x t did.links at) ∙ at
+
+    -- what was removed last was not the file
+    own_survives : (x : ℕ) (t : Option ℤ) → fin.get did.unlinked.names own ≡ Some (File x t) → name_survives log (max_after c) a.before.names own ≡ true
+    own_survives x t at = sym (did.spares.same own) ∙ by (name_survives log (max_after c) did.linked.names own) refl
+      where
+        by : (s : Bool) → name_survives log (max_after c) did.linked.names own ≡ s → s ≡ true
+        by true e = refl
+        by false e = absurd (
+            let now : fin.get a.after.names own ≡ None = left_is a b did all own ∙ ap (λ (s : Bool). if s then fin.get did.linked.names own else None) e in
+            let both : ◌≡◌ {A = Option Entry} None (Some (File x t)) = sym now ∙ stays x t at in cc)
+
+    own_is : (x : ℕ) (t : Option ℤ) → fin.get did.unlinked.names own ≡ Some (File x t) → fin.get did.pruned.names own ≡ kept_entry c a.stamp a.before.names own
+    own_is x t at =
+        pruned_is a b did all own
+        ∙ sym (ap (λ (s : Bool). if s then (if name_survives log (max_before c) a.before.names own then fin.get a.before.names own else None) else None) (own_survives x t at))
+        ∙ either_leaves c log a.before.names own (fin.get a.before.names own)
 
     own_name : OpensBody own (after_make_folder did.pruned) did.unlinked b → Own
-    own_name (there, inl (t, at, same)) = (
-      b,
-      t,
-      stays b t (subst (λ (d : Content). fin.get d.names own ≡ Some (File b t)) (sym same) at),
-      inl (sym (pruned_is a b did all own) ∙ at),
-    )
+    own_name (there, inl (t, at, same)) =
+        let now : fin.get did.unlinked.names own ≡ Some (File b t) = subst (λ (d : Content). fin.get d.names own ≡ Some (File b t)) (sym same) at in
+        (b, t, stays b t now, inl (sym (own_is b t now) ∙ at))
     own_name (there, inr (t, free, number, after)) =
         let to = leads_to maps own (after_make_folder did.pruned) did.unlinked b (there, inr (t, free, number, after)) in
         let size : length did.pruned.bodies ≡ length a.before.bodies = ap length did.only_old.bodies in
@@ -102,16 +132,17 @@ module _ (maps : NameLaws) (c : Config) where
           b,
           to.0,
           stays b to.0 to.1,
-          inr (sym (pruned_is a b did all own) ∙ free, omega arith),
+          inr (sym (own_is b to.0 to.1) ∙ free, omega arith),
         )
 
     leaves : NamesAfterOpening c n a.stamp a.before.names a.after.names
     leaves = record {
       own = own_name did.opens;
-      link = linked_name maps c.link own did.unlinked a.after did.links;
+      link = λ is_set. did.spares.link is_set ∙ linked_name maps c.link own did.unlinked did.linked did.links is_set;
       others = λ name not_own not_link.
-          linked_other maps c.link own did.unlinked a.after name did.links (λ same. absurd (not_link same)) ∙ opened_other maps own (after_make_folder did.pruned) did.unlinked b name did.opens not_own
-          ∙ pruned_is a b did all name;
+          left_by c log a.before.names did.linked.names a.after.names name (left_is a b did all name) (did.spares.same name)
+          (linked_other maps c.link own did.unlinked did.linked name did.links (λ same. absurd (not_link same)) ∙ opened_other maps own (after_make_folder did.pruned) did.unlinked b name did.opens not_own
+          ∙ pruned_is a b did all name);
     }
 
   -- the attempt succeeded, and left exactly the survivors
@@ -183,12 +214,18 @@ module _ (maps : NameLaws) (c : Config) where
         by (Some (Link target)) none = none
         by (Some Folder) none = none
 
-    pruned_may : (file : List ℕ) (old new : Content) → RemovesOnlyOld (log_files_of c (Some file)) c.max_files old new → MayGo old.names new.names
-    pruned_may file old new only = elim (only.names name) [
+    before_set : max_before c ≢ 0 → c.max_files ≢ 0
+    before_set some none = some (none_before none)
+
+    after_set : max_after c ≢ 0 → c.max_files ≢ 0
+    after_set some none = some (none_after none)
+
+    pruned_may : (file : List ℕ) (max : ℕ) (old new : Content) → (max ≢ 0 → c.max_files ≢ 0) → RemovesOnlyOld (log_files_of c (Some file)) max old new → MayGo old.names new.names
+    pruned_may file max old new is_set only = elim (only.names name) [
       | inl same ↦ inl same
       | inr gone ↦
-          let was = candidate (c.max_files == 0) (name_rank (log_files_of c (Some file)) old.names name) _ gone.1 in
-          let set : c.max_files ≢ 0 = λ e. let zero : (c.max_files == 0) ≡ true = grind arith in let both : true ≡ false = sym zero ∙ was.0 in cc in
+          let was = candidate (max == 0) (name_rank (log_files_of c (Some file)) old.names name) _ gone.1 in
+          let set : c.max_files ≢ 0 = is_set (λ e. let zero : (max == 0) ≡ true = grind arith in let both : true ≡ false = sym zero ∙ was.0 in cc) in
           inr (gone.0, set, any_rank file old.names was.1)
     ]
 
@@ -196,23 +233,26 @@ module _ (maps : NameLaws) (c : Config) where
       abbrev file : List ℕ
       file = file_name_of c s
 
-      opened_may : (old pruned unlinked : Content) (b : ℕ) → RemovesOnlyOld (log_files_of c (Some file)) c.max_files old pruned → OpensBody file (after_make_folder pruned) unlinked b → MayGo old.names unlinked.names
+      opened_may : (old pruned unlinked : Content) (b : ℕ) → RemovesOnlyOld (log_files_of c (Some file)) (max_before c) old pruned → OpensBody file (after_make_folder pruned) unlinked b → MayGo old.names unlinked.names
       opened_may old pruned unlinked b only opens =
-          then_same old.names pruned.names unlinked.names (pruned_may file old pruned only) (opened_other maps file (after_make_folder pruned) unlinked b name opens not_own)
+          then_same old.names pruned.names unlinked.names (pruned_may file (max_before c) old pruned before_set only) (opened_other maps file (after_make_folder pruned) unlinked b name opens not_own)
 
       little_may : (old new : Content) → IsRefusalEffect c file old new → MayGo old.names new.names
       little_may old new little = elim little.rest [
-        | inl same ↦ then_same old.names little.pruned.names new.names (pruned_may file old little.pruned little.only_old) (ap (λ (d : Content). fin.get d.names name) same)
-        | inr (inl same) ↦ then_same old.names little.pruned.names new.names (pruned_may file old little.pruned little.only_old) (ap (λ (d : Content). fin.get d.names name) same)
-        | inr (inr (unlinked, b, opens, frees)) ↦
-            then_same old.names unlinked.names new.names (opened_may old little.pruned unlinked b little.only_old opens) (freed_other maps c.link unlinked new name frees not_link)
+        | inl same ↦ then_same old.names little.pruned.names new.names (pruned_may file (max_before c) old little.pruned before_set little.only_old) (ap (λ (d : Content). fin.get d.names name) same)
+        | inr (inl same) ↦ then_same old.names little.pruned.names new.names (pruned_may file (max_before c) old little.pruned before_set little.only_old) (ap (λ (d : Content). fin.get d.names name) same)
+        | inr (inr (unlinked, b, left, opens, frees, removes)) ↦
+            then_same old.names unlinked.names new.names (opened_may old little.pruned unlinked b little.only_old opens)
+            (unremoved_other maps c file old left new name removes not_own ∙ freed_other maps c.link unlinked left name frees not_link)
       ]
 
       succeeded_may : (a : Attempt) (b : ℕ) → a.stamp ≡ s → Succeeded c a b → MayGo a.before.names a.after.names
       succeeded_may a b is did =
-          then_same a.before.names did.unlinked.names a.after.names
-          (opened_may a.before did.pruned did.unlinked b (subst (λ (x : Stamp). RemovesOnlyOld (log_files_of c (Some (file_name_of c x))) c.max_files a.before did.pruned) is did.only_old) (subst (λ (x : Stamp). OpensBody (file_name_of c x) (after_make_folder did.pruned) did.unlinked b) is did.opens))
-          (linked_other maps c.link (file_name_of c a.stamp) did.unlinked a.after name did.links (λ same. absurd (not_link same)))
+          may_go_on a.before.names did.linked.names a.after.names
+          (then_same a.before.names did.unlinked.names did.linked.names
+          (opened_may a.before did.pruned did.unlinked b (subst (λ (x : Stamp). RemovesOnlyOld (log_files_of c (Some (file_name_of c x))) (max_before c) a.before did.pruned) is did.only_old) (subst (λ (x : Stamp). OpensBody (file_name_of c x) (after_make_folder did.pruned) did.unlinked b) is did.opens))
+          (linked_other maps c.link (file_name_of c a.stamp) did.unlinked did.linked name did.links (λ same. absurd (not_link same))))
+          (pruned_may (file_name_of c a.stamp) (max_after c) did.linked a.after after_set did.only_old_last)
 
     tried_may : (a : Attempt) → AttemptDoes c a → name ≢ file_name_of c a.stamp → MayGo a.before.names a.after.names
     tried_may a did not_own = by a.body did

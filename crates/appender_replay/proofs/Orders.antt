@@ -1,21 +1,15 @@
 -- Lines are handed in the order in which they were accepted.
-use Rattle.std.proofs.Common.{◌≡◌, ℕ, ◌+◌, ◌-◌, ◌<◌, ◌≤◌, Bool, true, false, ◌&&◌, List, [], ◌∷◌, ◌++◌, length, map, drop, take, get_or, refl, ap, sym, ◌∙◌, arith, length-append}
-use Rattle.std.specs.Prelude.{if◌then◌else◌, ◌==◌, nat_lt, filter}
-use Rattle.std.proofs.lemmas.List.{map-append, take-append-le, take-append-drop, take_more}
-use Rattle.std.proofs.lemmas.List.Elements.{filter-append}
+use Rattle.std.proofs.Common.{◌≡◌, ℕ, ◌+◌, ◌-◌, ◌<◌, Bool, true, false, ◌&&◌, List, [], ◌∷◌, ◌++◌, length, take, get_or, refl, ap, sym, ◌∙◌, arith, length-append}
+use Rattle.std.specs.Prelude.{if◌then◌else◌, ◌==◌, nat_lt}
+use Rattle.std.proofs.lemmas.List.{take-append-le, take_more}
 use Rattle.appender_worker.specs.Core.{Core, Taking, Writing, Flushing, Ending, Over, is_taking}
 use Rattle.appender_queue.specs.Queue.{Queue, has_line, is_before, is_sent}
 use Rattle.appender_replay.specs.Record.{StepWithReply, Offered, accepted_lines, handed_lines, shutdown_place, with_ticket, worker_after, queue_after}
 use Rattle.appender_replay.specs.Answers.{IsWorkReply, AreRunReplies}
-use Rattle.appender_replay.specs.Whole.{HandsLabelInOrder, lines_of_label}
+use Rattle.appender_replay.specs.Whole.{HandsInOrder}
 use Rattle.appender_replay.specs.declared.replay.whole.Step.TheVariants.{Offer, Work}
 use Rattle.appender_replay.specs.declared.replay.whole.Reply.{Reply}
 use Rattle.appender_replay.specs.declared.replay.whole.Reply.TheVariants.{Accepted, Took, TookShutdown, TookGone, TookEmpty}
-
--- the handed lines are the first of the accepted ones
-pub record InOrder (past : List StepWithReply) : Type 0 where
-  pub most : length (handed_lines past) ≤ length (accepted_lines past)
-  pub first : handed_lines past ≡ take (length (handed_lines past)) (accepted_lines past)
 
 -- What the reply that a line was taken says of the queue before it.
 pub record TakesNext (q : Queue) (core : Core) (k : ℕ) : Type 0 where
@@ -44,7 +38,7 @@ takes_next q Over k a = absurd (let no = a in cc)
 is_less : (a b : ℕ) (c : Bool) → (nat_lt a b && c) ≡ true → a < b
 is_less a b c e = grind arith
 
-pub in_order : (limit : ℕ) (lossy : Bool) (past : List StepWithReply) → AreRunReplies limit lossy past → InOrder past
+pub in_order : (limit : ℕ) (lossy : Bool) (past : List StepWithReply) → AreRunReplies limit lossy past → HandsInOrder past
 in_order limit lossy [] a = record { most = omega arith; first = refl }
 in_order limit lossy ((Offer label line, Accepted k) ∷ past) a =
     let so = in_order limit lossy past a.0 in
@@ -69,14 +63,3 @@ in_order limit lossy ((Work m, Took k) ∷ past) a =
       first = rw count (ap (λ xs. xs ++ o ∷ []) so.first ∙ ap (λ (n : ℕ). take h (accepted_lines past) ++ get_or (accepted_lines past) n (0, []) ∷ []) (sym place) ∙ sym longer);
     }
 in_order limit lossy ((s, r) ∷ past) a = let so = in_order limit lossy past a.0 in record { most = so.most; first = so.first }
-
-pub labels : (limit : ℕ) (lossy : Bool) (past : List StepWithReply) (label : ℕ) → InOrder past → HandsLabelInOrder past label
-labels limit lossy past label so =
-    let rest : List Offered = drop (length (handed_lines past)) (accepted_lines past) in
-    let first : accepted_lines past ≡ handed_lines past ++ rest = sym (take-append-drop (length (handed_lines past)) (accepted_lines past)) ∙ ap (λ xs. xs ++ rest) (sym so.first) in
-    record {
-      rest = lines_of_label label rest;
-      first = ap (lines_of_label label) first
-          ∙ ap (map (λ (o : Offered). o.1)) (filter-append (λ (o : Offered). o.0 == label) (handed_lines past) rest)
-          ∙ map-append (λ (o : Offered). o.1) (filter (λ (o : Offered). o.0 == label) (handed_lines past)) (filter (λ (o : Offered). o.0 == label) rest);
-    }

@@ -9,6 +9,7 @@ use Rattle.appender_rolling.specs.declared.rolling.setup.Stamp.{Stamp}
 use Rattle.appender_rolling.specs.Kept.{KeepsBodies, AddsNoOtherFile, HadFile}
 use Rattle.appender_rolling.specs.Opening.{file_name_of}
 use Rattle.appender_rolling.specs.declared.rolling.Switch.TheVariants.{Failed as SwitchFailed}
+use Rattle.appender_replay.specs.Start.{Start, start_stamp}
 use Rattle.appender_replay.specs.Run.{Event, Attempt, FileKey, is_same_key, file_key, key_at, carrier, meets_test, bytes_where, bytes_of_attempt, bytes_under, NoneFailed, OpensNoneOf, OpenDistinctBodies, ContainsItsPieces, HasItsName, NamesItsBody, CarriesItsNumber, EachOf}
 use Rattle.appender_names.specs.Rotation.{is_same_start}
 use Rattle.appender_names.proofs.Periods.{is_same_to}
@@ -82,7 +83,7 @@ opens_nothing a (e ∷ rest) none = ((λ b is other. nothing_opened a b none is)
 abbrev pub OtherNames : Config → Type 0
 OtherNames c = (s t : Stamp) → IsStamp c s → IsStamp c t → IsLaterKey (file_key c s) (file_key c t) → file_name_of c t ≢ file_name_of c s
 
-module _ (c : Config) (start : Stamp) where
+module _ (c : Config) (start : Start) where
   -- Of an attempt, after the switches of some events were replied and the pieces of some were written: when it was made, and that
   -- what it opened is there, has no other name than the attempt's, is what has that name if a file does, is the open
   -- body exactly if the attempt is the carrier, and holds its own; and, unless a switch failed, that it is the carrier exactly
@@ -262,7 +263,7 @@ module _ (c : Config) (start : Stamp) where
     }
 
     -- the opening
-    pub owners_begin : start ≡ a.stamp → a.step ≡ 0 → AreOwners [] [] (a ∷ []) new a x
+    pub owners_begin : start_stamp start ≡ a.stamp → a.step ≡ 0 → AreOwners [] [] (a ∷ []) new a x
     owners_begin same at = record {
       apart = (tt, tt);
       owners = (owner [] [] (a ∷ []) (ap (file_key c) (sym same)) (rw at (omega arith)) refl refl, tt);

@@ -1,4 +1,4 @@
--- One more step: what it did to queue and worker is what the told steps come to.
+-- After each step queue and worker are those that follow from the steps and replies.
 use Rattle.std.proofs.Common.{◌≡◌, ℕ, ℤ, Some, ◌+◌, ◌-◌, ◌^◌, ◌≤◌, Bool, true, false, not, ◌&&◌, List, [], ◌∷◌, ◌++◌, length, map, drop, get_or, min, inl, inr, refl, ap, sym, ◌∙◌, arith, length-append, subst, Vec}
 use Rattle.std.specs.Prelude.{if◌then◌else◌, ◌==◌, slice_index_or}
 use Rattle.std.specs.declared.alloc.Global.{Global}

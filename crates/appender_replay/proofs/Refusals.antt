@@ -25,28 +25,28 @@ ticket_of (Took k) = k
 ticket_of r = 0
 
 pub writes_twice : {S F : Type 0} (kind : Ghosts S F) → WritesTwice kind
-writes_twice kind line items limit first last holds law =
+writes_twice kind line items limit room first last holds law =
     let all : ◌≡◌ {A = List ℕ} (120 ∷ 121 ∷ 120 ∷ 121 ∷ []) (120 ∷ 121 ∷ []) = sym holds.now ∙ (law.folder.content holds.is_known).bytes _ holds.body holds.created holds.at ∙ rw (holds.empty, items) refl in
     let both : ◌≡◌ {A = List ℕ} (120 ∷ 121 ∷ 120 ∷ 121 ∷ []) (120 ∷ 121 ∷ []) = all in
     cc
 
 pub loses_byte : {S F : Type 0} (kind : Ghosts S F) → LosesByte kind
-loses_byte kind line items limit first last holds law =
+loses_byte kind line items limit room first last holds law =
     let all : ◌≡◌ {A = List ℕ} (120 ∷ []) (120 ∷ 121 ∷ []) = sym holds.now ∙ (law.folder.content holds.is_known).bytes _ holds.body holds.created holds.at ∙ rw (holds.empty, items) refl in
     let both : ◌≡◌ {A = List ℕ} (120 ∷ []) (120 ∷ 121 ∷ []) = all in
     cc
 
 pub writes_out_of_order : {S F : Type 0} (kind : Ghosts S F) → WritesOutOfOrder kind
-writes_out_of_order kind x y is_x is_y limit first last holds law =
+writes_out_of_order kind x y is_x is_y limit room first last holds law =
     let all : ◌≡◌ {A = List ℕ} (121 ∷ 120 ∷ []) (120 ∷ 121 ∷ []) = sym holds.now ∙ (law.folder.content holds.is_known).bytes _ holds.body holds.created holds.at ∙ simp (holds.empty, is_x, is_y) refl in
     let head : ◌≡◌ {A = ℕ} 121 120 = ap first_byte all in
     absurd (omega arith)
 
 pub takes_out_of_order : {S F : Type 0} (kind : Ghosts S F) → TakesOutOfOrder kind
-takes_out_of_order kind limit c number x y first last law = let same : ◌≡◌ {A = ℕ} 2 1 = ap ticket_of law.replies.1.2 in absurd (omega arith)
+takes_out_of_order kind limit c number room x y first last law = let same : ◌≡◌ {A = ℕ} 2 1 = ap ticket_of law.replies.1.2 in absurd (omega arith)
 
 pub shutdown_takes_no_place : {S F : Type 0} (kind : Ghosts S F) → ShutdownTakesNoPlace kind
-shutdown_takes_no_place kind c number line first last law = elim law.replies.1 [
+shutdown_takes_no_place kind c number room line first last law = elim law.replies.1 [
   | inl none ↦ let both : ◌≡◌ {A = Reply} (Accepted 1) NoMemory = none.0 in cc
   | inr is ↦ let both : ◌≡◌ {A = Reply} (Accepted 1) Full = is in cc
 ]
@@ -58,7 +58,7 @@ too_many : (n : ℕ) → nat_le (n + 2) 1 ≡ false
 too_many n = grind arith
 
 pub never_prunes : {S F : Type 0} (kind : Ghosts S F) → NeverPrunes kind
-never_prunes kind limit first last b created is_known there lists removes few_lists few_removes was is law =
+never_prunes kind limit room first last b created is_known there lists removes few_lists few_removes was is law =
     let gone : name_survives (log_files_of (one_file 1) (Some (file_name_of (one_file 1) (stamp_at (pos 0))))) 1 (kind.content first).names (97 ∷ 98 ∷ []) ≡ false = rw was (too_many _) in
     let names = (law.folder.content is_known).names refl (inr (record { lists = rw there (omega (arith, lists)); removes = removes; below = (few_lists, few_removes) })) in
     let none : fin.get (kind.content last).names (97 ∷ 98 ∷ []) ≡ None =
@@ -78,7 +78,7 @@ names_differ law = by (bytes_eq (file_name_of hourly (stamp_at (pos 3600))) (fil
         absurd (omega (arith, ints))
 
 pub follows_clock_back : {S F : Type 0} (kind : Ghosts S F) → NamesArePeriods (naming_of hourly) → FollowsClockBack kind
-follows_clock_back kind law x y is_x is_y limit first last holds head =
+follows_clock_back kind law x y is_x is_y limit room first last holds head =
     let apart = names_differ law in
     let all : ◌≡◌ {A = List ℕ} (121 ∷ []) [] = sym holds.now ∙ (head.folder.content holds.is_known).bytes _ holds.body holds.created holds.at ∙ simp (holds.empty, apart) refl in
     let both : ◌≡◌ {A = List ℕ} (121 ∷ []) [] = all in
@@ -94,7 +94,7 @@ same_body : (b c : ℕ) (t u : Option ℤ) → ◌≡◌ {A = Option Entry} (Som
 same_body b c t u e = cc
 
 pub changes_other_names : {S F : Type 0} (kind : Ghosts S F) → ChangesOtherNames kind
-changes_other_names kind limit first last b c t u is_known was is differs law =
+changes_other_names kind limit room first last b c t u is_known was is differs law =
     let file : Stamp = record { moment = pos 0; number = 0 } in
     let apart : Stamp → Type 0 = λ s. 98 ∷ [] ≢ file_name_of (one_file 1) s in
     elim ((law.folder.content is_known).others (98 ∷ []) (All-cons apart file [] other_byte (All-nil apart)) some_byte) [

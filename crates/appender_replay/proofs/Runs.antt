@@ -1,6 +1,6 @@
 -- A run of steps over a roller keeps to the laws of the clock and of the files.
 use Rattle.std.proofs.lemmas.Int.{ints}
-use Rattle.std.proofs.Common.{◌≡◌, ◌≢◌, ◌⊎◌, ◌^◌, ◌<◌, ◌≤◌, nat_le, Bool, ℕ, ℤ, true, false, inl, inr, List, [], ◌∷◌, ◌++◌, length, Option, None, Some, IsTrue, arith, refl, ap, sym, ◌∙◌, subst, suc}
+use Rattle.std.proofs.Common.{◌-◌, ◌≡◌, ◌≢◌, ◌⊎◌, ◌^◌, ◌<◌, ◌≤◌, nat_le, Bool, ℕ, ℤ, true, false, inl, inr, List, [], ◌∷◌, ◌++◌, length, Option, None, Some, IsTrue, arith, refl, ap, sym, ◌∙◌, subst, suc}
 use Rattle.appender_names.specs.Name.{NamesArePeriods}
 use Rattle.appender_names.specs.Rotation.{IsMoment, period_of}
 use Rattle.appender_store.specs.declared.store.Folder.{Ghosts}
@@ -9,7 +9,7 @@ use Rattle.appender_store.proofs.Appends.{after_append_nothing}
 use Rattle.appender_store.specs.Folder.{AreNotedCounts, NotedCounts}
 use Rattle.appender_store.specs.NameLaws.{NameLaws}
 use Rattle.appender_retain.specs.Pruning.{IsQuiet}
-use Rattle.appender_rolling.specs.Config.{Config, naming_of, log_files_of, IsStamp, MayLimit, is_limited, last_of, stamp}
+use Rattle.appender_rolling.specs.Config.{Config, naming_of, log_files_of, IsStamp, MayLimit, is_limited, max_before, max_after, last_of, stamp}
 use Rattle.appender_names.specs.Name.{greatest_number}
 use Rattle.appender_names.specs.Rotation.{period_of_kind}
 use Rattle.appender_names.specs.declared.rotation.RotationKind.{RotationKind}
@@ -17,20 +17,21 @@ use Rattle.appender_names.specs.declared.rotation.RotationKind.TheVariants.{Minu
 use Rattle.appender_rolling.specs.declared.rolling.setup.Stamp.{Stamp}
 use Rattle.std.specs.Prelude.{unwrap_or}
 use Rattle.appender_rolling.specs.Kept.{OpeningPartsKeepBodies}
-use Rattle.appender_rolling.specs.Opening.{file_name_of, OpensFile, IsRefusalEffect}
+use Rattle.appender_retain.specs.Survival.{RemovesOnlyOld, KeepsSurvivors}
+use Rattle.appender_rolling.specs.Opening.{file_name_of, OpensFile, IsRefusalEffect, SparesOpened}
 use Rattle.appender_rolling.specs.Roller.{Rolling, OpensRoller}
 use Rattle.appender_rolling.specs.declared.rolling.Switch.{Switch}
 use Rattle.appender_rolling.specs.declared.rolling.Switch.TheVariants.{None as Stayed, Opened as Switched, Failed as SwitchFailed}
+use Rattle.appender_replay.specs.Start.{Start, start_stamp, start_of}
 use Rattle.appender_replay.specs.Run.{Event, Attempt, period_at, stamp_at, last_stamp, last_opened, attempt_times, file_key, key_at, StepState, NotedAtAttempts}
 use Rattle.appender_replay.specs.Replay.{RollStepWithReply, RollerFollows, LeadsTo, RunsFrom, RollDoes, roll_event, events_by, with_replies_onto, step_state_of, step_states_after, run_states}
 use Rattle.appender_replay.proofs.Periods.{Laws, IsLater, IsLaterKey}
 use Rattle.appender_replay.proofs.Turns.{LooksBy, Turns, step_turns}
 use Rattle.appender_replay.proofs.Clocks.{ClockSoFar, Comes, Stays, Goes, comes, stamp_by, clock_begins, clock_goes_on, turn_decides, turn_keeps}
 use Rattle.appender_replay.proofs.Owners.{OtherNames}
-use Rattle.appender_replay.proofs.NamesLeft.{names_after, nothing_survives}
+use Rattle.appender_replay.proofs.NamesLeft.{names_after, nothing_survives, nothing_survives_last}
 use Rattle.appender_replay.proofs.Files.{FilesSoFar, Succeeds, no_attempt, a_failure, a_success, a_piece, files_begin, law_so_far}
 use Rattle.appender_replay.proofs.Bounds.{PiecesFit, keeps_to_limit}
-use Rattle.appender_replay.proofs.Unlimited.{switch_at_arrivals}
 
 same_moment : (a b : ℤ) → ◌≡◌ {A = Option ℤ} (Some a) (Some b) → a ≡ b
 same_moment a b e = cc
@@ -75,7 +76,7 @@ is_seen kind does event turn seen (t ∷ past) old new (between, runs, is) agree
       is_seen kind does event turn seen past old between runs (λ n le. agree n (omega arith) ∙ (let no : nat_le (suc (length past)) n ≡ false = grind arith in rw no refl)),
     )
 
-module _ {S F : Type 0} (kind : Ghosts S F) (config : Config) (start : Stamp) (first : S) (begin : NotedCounts) (seen : ℕ → StepState) where
+module _ {S F : Type 0} (kind : Ghosts S F) (config : Config) (start : Start) (first : S) (begin : NotedCounts) (seen : ℕ → StepState) where
   -- the law of the files for a roller
   abbrev pub Holds : List Event → List Event → Rolling S F → Type 0
   Holds past h now =
@@ -84,7 +85,7 @@ module _ {S F : Type 0} (kind : Ghosts S F) (config : Config) (start : Stamp) (f
   -- What is known after a run.
   pub record RunSoFar (h : List Event) (now : Rolling S F) : Type 0 where
     pub config_is : now.config ≡ config
-    pub is_stamp : IsStamp config start
+    pub is_stamp : IsStamp config (start_stamp start)
     pub clock : ClockSoFar config start h now
     pub files : IsTrue kind.is_known → Holds h h now
     pub opened_is : now.opened ≡ last_opened start (attempt_times config start h)
@@ -110,20 +111,32 @@ module _ {S F : Type 0} (kind : Ghosts S F) (config : Config) (start : Stamp) (f
     succeeds : (step : ℕ) (m : Stamp) (old ready new : S) (file : F) → IsTrue kind.is_known → OpensFile kind config (file_name_of config m) old file ready → kind.content new ≡ kind.content ready → (IsQuiet (kind.noted old) (kind.noted new) → IsQuiet (kind.noted old) (kind.noted ready)) → Succeeds config (attempted step m old new file) (kind.body file)
     succeeds step m old ready new file is_known o same quieter =
         let only_old = o.prunes.only_old is_known in
-        let survivors = λ (quiet : IsQuiet (kind.noted old) (kind.noted new)). o.prunes.survivors (subst (λ (n : NotedCounts). IsQuiet (kind.noted old) n) o.noted (quieter quiet)) is_known in
+        let only_old_last : RemovesOnlyOld (log_files_of config (Some (file_name_of config m))) (max_after config) (kind.content o.linked) (kind.content new) = rw same (o.prunes_last.only_old is_known) in
+        let spares : SparesOpened config (file_name_of config m) (kind.content old) (kind.content o.linked) (kind.content new) = rw same (o.spares is_known) in
+        let survivors = λ (quiet : IsQuiet (kind.noted old) (kind.noted new)). o.prunes.survivors (o.quiet (quieter quiet)).0 is_known in
+        let survivors_last : IsQuiet (kind.noted old) (kind.noted new) → KeepsSurvivors (log_files_of config (Some (file_name_of config m))) (max_after config) (kind.content o.linked) (kind.content new) =
+        λ quiet. rw same (o.prunes_last.survivors (o.quiet (quieter quiet)).1 is_known) in
         record {
           did = record {
             pruned = kind.content o.pruned;
             unlinked = kind.content o.unlinked;
+            linked = kind.content o.linked;
             only_old = only_old;
             survivors = survivors;
-            names = names_after grounds.maps config (attempted step m old new file) (kind.body file) (kind.content o.pruned) (kind.content o.unlinked) only_old
+            names = names_after grounds.maps config (attempted step m old new file) (kind.body file) (kind.content o.pruned) (kind.content o.unlinked) (kind.content o.linked) only_old
                 (λ quiet. elim quiet [
                   | inl q ↦ survivors q
-                  | inr gone ↦ nothing_survives (log_files_of config (Some (file_name_of config m))) config.max_files (kind.content old) (kind.content o.pruned) (grounds.sound old is_known) gone only_old
-                ]) (o.gets.opens is_known) (rw same (o.linked is_known));
+                  | inr gone ↦ nothing_survives (log_files_of config (Some (file_name_of config m))) (max_before config) (kind.content old) (kind.content o.pruned) (grounds.sound old is_known) gone only_old
+                ]) (o.gets.opens is_known) (o.changes_link is_known) only_old_last
+                (λ quiet. elim quiet [
+                  | inl q ↦ survivors_last q
+                  | inr gone ↦ nothing_survives_last config (file_name_of config m) (kind.content old) (kind.content o.linked) (kind.content new) (grounds.sound old is_known) gone spares only_old_last
+                ]) spares;
             opens = o.gets.opens is_known;
-            links = rw same (o.linked is_known);
+            links = o.changes_link is_known;
+            only_old_last = only_old_last;
+            survivors_last = survivors_last;
+            spares = spares;
             at_most = λ quiet some. rw same (o.at_most (quieter quiet) is_known some);
           };
           sound = grounds.sound o.unlinked is_known;
@@ -131,17 +144,17 @@ module _ {S F : Type 0} (kind : Ghosts S F) (config : Config) (start : Stamp) (f
           there = rw same (o.body_is_there is_known);
         }
 
-    run_begins : (now : Rolling S F) → (o : OpensRoller kind config start.moment first now) → o.number ≡ start.number → kind.noted o.listed ≡ begin → seen 0 ≡ step_state_of kind [] now → RunSoFar [] now
-    run_begins now o number counts is_seen_now =
-        let same : stamp start.moment o.number ≡ start = rw number refl in
-        let is_stamp : IsStamp config start = record { in_range = o.may_open.in_range; number_is = rw (← number) o.finds.number_is } in
-        let opens : OpensFile kind config (file_name_of config start) o.listed now.file now.folder = rw (← number) o.opens in
+    run_begins : (now : Rolling S F) → (o : OpensRoller kind config start.moment first now) → o.number ≡ start.number → now.room ≡ config.max_bytes - start.held → kind.noted o.listed ≡ begin → seen 0 ≡ step_state_of kind [] now → RunSoFar [] now
+    run_begins now o number left counts is_seen_now =
+        let same : stamp start.moment o.number ≡ start_stamp start = rw number refl in
+        let is_stamp : IsStamp config (start_stamp start) = record { in_range = o.may_open.in_range; number_is = rw (← number) o.finds.number_is } in
+        let opens : OpensFile kind config (file_name_of config (start_stamp start)) o.listed now.file now.folder = rw (← number) o.opens in
         record {
           config_is = o.config_is;
           is_stamp = is_stamp;
-          clock = clock_begins config start grounds.laws now is_stamp (o.last ∙ same) o.boundary o.room;
+          clock = clock_begins config start grounds.laws now is_stamp (o.last ∙ same) o.boundary left;
           files = λ is_known. subst (λ (x : Stamp). FilesSoFar config start seen [] [] (kind.content first) (kind.content now.folder) begin x (kind.body now.file)) (sym (o.opened ∙ same))
-              (rw (← o.finds.content, ← counts) (files_begin config start seen grounds.parts grounds.maps (attempted 0 start o.listed now.folder now.file) (kind.body now.file) refl refl refl is_stamp (succeeds 0 start o.listed now.folder now.folder now.file is_known opens refl (λ quiet. quiet))
+              (rw (← o.finds.content, ← counts) (files_begin config start seen grounds.parts grounds.maps (attempted 0 (start_stamp start) o.listed now.folder now.file) (kind.body now.file) refl refl refl is_stamp (succeeds 0 (start_stamp start) o.listed now.folder now.folder now.file is_known opens refl (λ quiet. quiet))
               (record { before = refl; noted_before = refl; after = rw is_seen_now (sym (after_append_nothing (kind.content now.folder) (kind.body now.file))); noted_after = sym (ap (λ (s : StepState). s.noted) is_seen_now) })));
           opened_is = o.opened ∙ same;
           noted = tt;
@@ -253,33 +266,32 @@ module _ {S F : Type 0} (kind : Ghosts S F) (config : Config) (start : Stamp) (f
           }
 
     -- any run keeps to the laws
-    pub turns_law : (h : List Event) (opened now : Rolling S F) → (o : OpensRoller kind config start.moment first opened) → o.number ≡ start.number → kind.noted o.listed ≡ begin → (runs : TurnsFrom kind h opened now) → IsSeen kind seen h opened now runs → RunSoFar h now
-    turns_law [] opened now o number counts runs is = rw runs (run_begins opened o number counts is)
-    turns_law (e ∷ h) opened now o number counts (between, earlier, turns) is = turn_goes_on o.may_open.in_range e h between now (turns_law h opened between o number counts earlier is.1) turns is.0
+    pub turns_law : (h : List Event) (opened now : Rolling S F) → (o : OpensRoller kind config start.moment first opened) → o.number ≡ start.number → opened.room ≡ config.max_bytes - start.held → kind.noted o.listed ≡ begin → (runs : TurnsFrom kind h opened now) → IsSeen kind seen h opened now runs → RunSoFar h now
+    turns_law [] opened now o number left counts runs is = rw runs (run_begins opened o number left counts is)
+    turns_law (e ∷ h) opened now o number left counts (between, earlier, turns) is = turn_goes_on o.may_open.in_range e h between now (turns_law h opened between o number left counts earlier is.1) turns is.0
 
 -- any run whose steps are turns of a roller does
-pub run_law : {S F T : Type 0} (kind : Ghosts S F) (does : List T → T → Rolling S F → Rolling S F → Type 0) (event : List T → T → Event) (config : Config) (start : ℤ) (number : ℕ) (folder : S) (past : List T) (last : Rolling S F) → ((earlier : List T) (t : T) (old new : Rolling S F) → does earlier t old new → Turns kind (event earlier t) old new) → Grounds kind config → (run : RunsFrom kind does config start number folder past last) → RunSoFar kind config (stamp start number) folder (kind.noted run.opens.listed) (run_states event run) (events_by event past) last
-run_law kind does event config start number folder past last turn grounds run =
-    turns_law kind config (stamp start number) folder (kind.noted run.opens.listed) (run_states event run) grounds (events_by event past) run.first last run.opens run.number_is refl (turns_from kind does event turn past run.first last run.runs)
+pub run_law : {S F T : Type 0} (kind : Ghosts S F) (does : List T → T → Rolling S F → Rolling S F → Type 0) (event : List T → T → Event) (config : Config) (start : ℤ) (number room : ℕ) (folder : S) (past : List T) (last : Rolling S F) → ((earlier : List T) (t : T) (old new : Rolling S F) → does earlier t old new → Turns kind (event earlier t) old new) → Grounds kind config → (run : RunsFrom kind does config start number room folder past last) → RunSoFar kind config (start_of config start number room) folder (kind.noted run.opens.listed) (run_states event run) (events_by event past) last
+run_law kind does event config start number room folder past last turn grounds run =
+    turns_law kind config (start_of config start number room) folder (kind.noted run.opens.listed) (run_states event run) grounds (events_by event past) run.first last run.opens run.number_is (omega (arith, run.room_is, run.opens.room.at_most)) refl (turns_from kind does event turn past run.first last run.runs)
     (is_seen kind does event turn (run_states event run) past run.first last run.runs (λ n le. refl))
 
 -- and so does a run of a roller's own steps
-pub roll_law : {S F : Type 0} (kind : Ghosts S F) (config : Config) (start : ℤ) (number : ℕ) (folder : S) (past : List RollStepWithReply) (last : Rolling S F) → Grounds kind config → (run : RunsFrom kind (RollDoes kind) config start number folder past last) → RunSoFar kind config (stamp start number) folder (kind.noted run.opens.listed) (run_states roll_event run) (events_by roll_event past) last
-roll_law kind config start number folder past last = run_law kind (RollDoes kind) roll_event config start number folder past last (λ earlier. step_turns kind)
+pub roll_law : {S F : Type 0} (kind : Ghosts S F) (config : Config) (start : ℤ) (number room : ℕ) (folder : S) (past : List RollStepWithReply) (last : Rolling S F) → Grounds kind config → (run : RunsFrom kind (RollDoes kind) config start number room folder past last) → RunSoFar kind config (start_of config start number room) folder (kind.noted run.opens.listed) (run_states roll_event run) (events_by roll_event past) last
+roll_law kind config start number room folder past last = run_law kind (RollDoes kind) roll_event config start number room folder past last (λ earlier. step_turns kind)
 
 -- what a run that keeps to the laws says of its roller
-pub follows : {S F T : Type 0} (kind : Ghosts S F) (does : List T → T → Rolling S F → Rolling S F → Type 0) (event : List T → T → Event) (config : Config) (start : ℤ) (number : ℕ) (folder : S) (past : List T) (last : Rolling S F)
-    → ((run : RunsFrom kind does config start number folder past last) → RunSoFar kind config (stamp start number) folder (kind.noted run.opens.listed) (run_states event run) (events_by event past) last)
-    → RunsFrom kind does config start number folder past last → RollerFollows kind does event config start number folder past last
-follows kind does event config start number folder past last law run =
+pub follows : {S F T : Type 0} (kind : Ghosts S F) (does : List T → T → Rolling S F → Rolling S F → Type 0) (event : List T → T → Event) (config : Config) (start : ℤ) (number room : ℕ) (folder : S) (past : List T) (last : Rolling S F)
+    → ((run : RunsFrom kind does config start number room folder past last) → RunSoFar kind config (start_of config start number room) folder (kind.noted run.opens.listed) (run_states event run) (events_by event past) last)
+    → RunsFrom kind does config start number room folder past last → RollerFollows kind does event config start number room folder past last
+follows kind does event config start number room folder past last law run =
     let so = law run in
     record {
       config_is = so.config_is;
       switches = so.clock.switches;
-      arrivals = λ unlimited. switch_at_arrivals config _ unlimited _ so.clock.switches;
       boundary_is = so.clock.boundary_is;
       opened_is = so.opened_is;
-      files = λ known run. law_so_far _ _ _ _ _ _ _ _ _ ((law run).files known) (law run).is_stamp (keeps_to_limit config _ _ _ ((law run).files known).are_times (law run).clock.switches (law run).fit);
+      files = λ known run. law_so_far _ _ _ _ _ _ _ _ _ ((law run).files known) (keeps_to_limit config _ _ _ ((law run).files known).are_times (law run).clock.switches (law run).fit);
       notices = λ run. (law run).noted;
     }
 

@@ -8,6 +8,7 @@ use Rattle.appender_store.proofs.Appends.{after_append_nothing}
 use Rattle.appender_rolling.specs.Config.{Config}
 use Rattle.appender_rolling.specs.Roller.{Rolling, OpensRoller, KeepsOpenFile}
 use Rattle.appender_rolling.specs.declared.rolling.Switch.TheVariants.{None as Stayed}
+use Rattle.appender_replay.specs.Start.{start_of}
 use Rattle.appender_replay.specs.Run.{Event}
 use Rattle.appender_replay.specs.Replay.{RunsFrom, run_states}
 use Rattle.appender_replay.specs.Record.{StepWithReply, worker_after, queue_after}
@@ -18,16 +19,15 @@ use Rattle.appender_replay.specs.declared.replay.whole.Reply.{Reply}
 use Rattle.appender_replay.specs.declared.replay.whole.Reply.TheVariants.{Took, TookShutdown, TookGone, TookEmpty, Wrote, Flushed}
 use Rattle.appender_replay.proofs.Turns.{Turns, stays_same, count_by_kind, written_piece, written_room, written_fits}
 use Rattle.appender_replay.proofs.Runs.{Grounds, RunSoFar, run_law}
-use Rattle.appender_rolling.specs.Config.{stamp}
 use Rattle.appender_rolling.specs.declared.rolling.setup.Stamp.{Stamp}
 use Rattle.appender_replay.proofs.Records.{Stands, stands_on}
 use Rattle.appender_replay.proofs.Orders.{in_order}
 
 -- What is known after these steps.
-pub record GoesFrom {S F : Type 0} (kind : Ghosts S F) (config : Config) (limit : ℕ) (lossy : Bool) (start : ℤ) (number : ℕ) (folder : S) (past : List StepWithReply) (q : Queue) (core : Core) (roller : Rolling S F) : Type 0 where
+pub record GoesFrom {S F : Type 0} (kind : Ghosts S F) (config : Config) (limit : ℕ) (lossy : Bool) (start : ℤ) (number room : ℕ) (folder : S) (past : List StepWithReply) (q : Queue) (core : Core) (roller : Rolling S F) : Type 0 where
   pub stands : Stands limit lossy past q core
   pub answers : AreRunReplies limit lossy past
-  pub runs : RunsFrom kind (WorkerDoes kind) config start number folder past roller
+  pub runs : RunsFrom kind (WorkerDoes kind) config start number room folder past roller
 
 -- ---- as a run of files
 
@@ -68,9 +68,9 @@ roller_turns kind core (Work m, Flushed shown) old new does = record {
 roller_turns kind core (s, r) old new does = quiet_turn kind old new does
 
 -- a run keeps to the laws of the clock and of the files
-pub whole_law : {S F : Type 0} (kind : Ghosts S F) (config : Config) (start : ℤ) (number : ℕ) (folder : S) (past : List StepWithReply) (last : Rolling S F) → Grounds kind config → (run : RunsFrom kind (WorkerDoes kind) config start number folder past last) → RunSoFar kind config (stamp start number) folder (kind.noted run.opens.listed) (run_states run_event run) (events past) last
-whole_law kind config start number folder past last =
-    run_law kind (WorkerDoes kind) run_event config start number folder past last (λ earlier. roller_turns kind (worker_after earlier))
+pub whole_law : {S F : Type 0} (kind : Ghosts S F) (config : Config) (start : ℤ) (number room : ℕ) (folder : S) (past : List StepWithReply) (last : Rolling S F) → Grounds kind config → (run : RunsFrom kind (WorkerDoes kind) config start number room folder past last) → RunSoFar kind config (start_of config start number room) folder (kind.noted run.opens.listed) (run_states run_event run) (events past) last
+whole_law kind config start number room folder past last =
+    run_law kind (WorkerDoes kind) run_event config start number room folder past last (λ earlier. roller_turns kind (worker_after earlier))
 
 -- ---- what a step does to the roller
 
@@ -125,22 +125,22 @@ step_answers kind (Work m, reply) old new does = work_answers kind old.worker m 
 
 -- ---- one step after another
 
-pub goes_begins : {S F : Type 0} (kind : Ghosts S F) (config : Config) (limit : ℕ) (lossy : Bool) (start : ℤ) (number : ℕ) (folder : S) (q : Queue) (core : Core) (roller : Rolling S F)
-    → q ≡ new_queue limit lossy → core ≡ Taking true → OpensRoller kind config start folder roller → number ≡ roller.opened.number → GoesFrom kind config limit lossy start number folder [] q core roller
-goes_begins kind config limit lossy start number folder q core roller empty begins opens is = record {
+pub goes_begins : {S F : Type 0} (kind : Ghosts S F) (config : Config) (limit : ℕ) (lossy : Bool) (start : ℤ) (number room : ℕ) (folder : S) (q : Queue) (core : Core) (roller : Rolling S F)
+    → q ≡ new_queue limit lossy → core ≡ Taking true → OpensRoller kind config start folder roller → number ≡ roller.opened.number → room ≡ roller.room → GoesFrom kind config limit lossy start number room folder [] q core roller
+goes_begins kind config limit lossy start number room folder q core roller empty begins opens is left = record {
   stands = record { queue = empty ∙ fresh_is lossy; worker = begins };
   answers = tt;
-  runs = record { first = roller; opens = opens; number_is = sym (is ∙ ap (λ (s : Stamp). s.number) opens.opened); runs = refl };
+  runs = record { first = roller; opens = opens; number_is = sym (is ∙ ap (λ (s : Stamp). s.number) opens.opened); room_is = sym left; runs = refl };
 }
   where
     fresh_is : (b : Bool) → new_queue limit b ≡ queue_after limit b []
     fresh_is true = refl
     fresh_is false = refl
 
-pub goes_on : {S F : Type 0} (kind : Ghosts S F) (config : Config) (limit : ℕ) (lossy : Bool) (start : ℤ) (number : ℕ) (folder : S) (past : List StepWithReply) (t : StepWithReply) (old new : Parts S F)
-    → GoesFrom kind config limit lossy start number folder past old.queue old.worker old.roller → RunStepDoes kind t old new
-    → GoesFrom kind config limit lossy start number folder (t ∷ past) new.queue new.worker new.roller
-goes_on kind config limit lossy start number folder past t old new so does =
+pub goes_on : {S F : Type 0} (kind : Ghosts S F) (config : Config) (limit : ℕ) (lossy : Bool) (start : ℤ) (number room : ℕ) (folder : S) (past : List StepWithReply) (t : StepWithReply) (old new : Parts S F)
+    → GoesFrom kind config limit lossy start number room folder past old.queue old.worker old.roller → RunStepDoes kind t old new
+    → GoesFrom kind config limit lossy start number room folder (t ∷ past) new.queue new.worker new.roller
+goes_on kind config limit lossy start number room folder past t old new so does =
     let order = in_order limit lossy past so.answers in
     let does_roll : RollerDoes kind (worker_after past) t old.roller new.roller =
     subst (λ (c : Core). RollerDoes kind c t old.roller new.roller) so.stands.worker (step_rolls kind t old new does) in
@@ -149,5 +149,5 @@ goes_on kind config limit lossy start number folder past t old new so does =
     record {
       stands = stands_on limit lossy past kind t old new order.most so.stands does;
       answers = (so.answers, subst (λ (c : Core). IsStepReply (queue_after limit lossy past) c t) so.stands.worker by_queue);
-      runs = record { first = so.runs.first; opens = so.runs.opens; number_is = so.runs.number_is; runs = (old.roller, so.runs.runs, does_roll) };
+      runs = record { first = so.runs.first; opens = so.runs.opens; number_is = so.runs.number_is; room_is = so.runs.room_is; runs = (old.roller, so.runs.runs, does_roll) };
     }

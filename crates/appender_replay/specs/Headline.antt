@@ -11,8 +11,8 @@ use Rattle.appender_store.specs.Content.{Content, NameMap, Entry, File, Link, bo
 use Rattle.appender_store.specs.declared.store.Folder.{Ghosts}
 use Rattle.appender_store.specs.Folder.{NotedCounts}
 use Rattle.appender_retain.specs.Survival.{name_rank, name_survives}
-use Rattle.appender_rolling.specs.Config.{Config, is_limited, naming_of, log_files_of}
-use Rattle.appender_rolling.specs.Opening.{file_name_of, IsFirstNumber}
+use Rattle.appender_rolling.specs.Config.{Config, is_limited, max_before, log_files_of}
+use Rattle.appender_rolling.specs.Opening.{file_name_of, IsFirstNumber, HasEntry}
 use Rattle.appender_rolling.specs.Roller.{written_count}
 use Rattle.appender_rolling.specs.declared.rolling.setup.Stamp.{Stamp}
 use Rattle.appender_worker.specs.CoreReplies.{is_interruption}
@@ -20,13 +20,14 @@ use Rattle.appender_queue.specs.Queue.{saturating_next, one_less}
 use Rattle.appender_queue.specs.declared.queue.Shut.TheVariants.{Sent, Already, Full as ShutFull, Closed as ShutClosed}
 use Rattle.appender_rolling.specs.declared.rolling.Switch.{Switch}
 use Rattle.appender_rolling.specs.declared.rolling.Switch.TheVariants.{None as Stayed, Opened as Switched}
+use Rattle.appender_replay.specs.Start.{Start, start_stamp, start_of}
 use Rattle.appender_replay.specs.declared.replay.whole.Step.{Step}
 use Rattle.appender_replay.specs.declared.replay.whole.Step.TheVariants.{Offer, Shut, AddSender, DropSender, Work}
 use Rattle.appender_replay.specs.declared.replay.whole.Reply.{Reply}
 use Rattle.appender_replay.specs.declared.replay.whole.Reply.TheVariants.{Accepted, Full, Closed, NoMemory, Shut as DidShut, Senders, Took, TookShutdown, TookGone, TookEmpty, Wrote, Flushed, Ended}
 
 -- The files: the latest moment that was read; the attempts to open one, the newest, the earlier ones, newest first, and how many failed; the bytes
--- written since; the open file's name; what each write took, newest first; how many writes and flushes failed, but for want of memory.
+-- that count since, which are those that were written, and those that the first file held if the log continues it; the open file's name; what each write took, newest first; how many writes and flushes failed, but for want of memory.
 pub record Files : Type 0 where
   pub latest : ℤ
   pub newest : Stamp
@@ -55,8 +56,8 @@ pub record RunAccount : Type 0 where
   pub files : Files
 
 -- after the opening of the first file
-abbrev pub files_at_opening : Config → Stamp → Files
-files_at_opening c s = record { latest = s.moment; newest = s; earlier = []; failed = 0; since = 0; file = file_name_of c s; writes = []; faults = 0 }
+abbrev pub files_at_opening : Config → Start → Files
+files_at_opening c s = record { latest = s.moment; newest = start_stamp s; earlier = []; failed = 0; since = s.held; file = file_name_of c (start_stamp s); writes = []; faults = 0 }
 
 -- ---- the reply to a step
 
@@ -85,7 +86,7 @@ abbrev pub later_moment : ℤ → ℤ → ℤ
 later_moment latest m = if is_moment m then int_max m latest else latest
 
 -- The file that is due at m, if one is: the first of another period, if the latest moment is in one with m; under a limit of bytes the next of the
--- same period, if what was written since the newest attempt and the bytes to write, at least one, are more than the limit.
+-- same period, if what counts since the newest attempt and the bytes to write, at least one, are more than the limit.
 abbrev pub due_file : Config → Files → ℤ → ℕ → Option Stamp
 due_file c f m len =
     if not (is_same_start (period_of c.rotation (later_moment f.latest m)) (period_of c.rotation f.latest)) then Some (record { moment = later_moment f.latest m; number = 0 })
@@ -143,11 +144,11 @@ account_after c a (Work m, Wrote switch answer) = record (account_after_write an
 account_after c a t = a
 
 -- a run: its steps with their replies, the newest first
-abbrev pub account : Config → Stamp → List (Step × Reply) → RunAccount
+abbrev pub account : Config → Start → List (Step × Reply) → RunAccount
 account c start [] = record { accepted = []; handed = 0; shutdown = None; closed = false; senders = 1; idle = false; rest = []; interrupted = 0; whole = false; flushes = 0; files = files_at_opening c start }
 account c start (t ∷ past) = account_after c (account c start past) t
 
-abbrev pub Follows : ℕ → Config → Stamp → List (Step × Reply) → Type 0
+abbrev pub Follows : ℕ → Config → Start → List (Step × Reply) → Type 0
 Follows limit c start [] = Unit {0}
 Follows limit c start (t ∷ past) = Follows limit c start past × Replies limit c (account c start past) t
 
@@ -175,14 +176,22 @@ abbrev pub NamesAfterOpenings : Config → ℕ → List Stamp → NameMap → Na
 NamesAfterOpenings c bodies [] first last = last ≡ first
 NamesAfterOpenings c bodies (s ∷ earlier) first last = (between : NameMap) × NamesAfterOpenings c bodies earlier first between × NamesAfterOpening c bodies s between last
 
--- Every listing and every removal succeeded, except the listings of an absent folder at the opening. Counts at their greatest don't show it.
+-- Every listing and every removal succeeded, except the listings of an absent folder before the opening. Counts at their greatest don't show it.
 pub record RetentionSucceeded (c : Config) (there : Bool) (old new : NotedCounts) : Type 0 where
-  pub lists : new.lists ≡ old.lists + (if there then 0 else (if is_limited c then 1 else 0) + (if c.max_files == 0 then 0 else 1))
+  pub lists : new.lists ≡ old.lists + (if there then 0 else (if is_limited c then 1 else 0) + (if max_before c == 0 then 0 else 1))
   pub removes : new.removes ≡ old.removes
   pub below : (new.lists < 2 ^ 64 - 1) × (new.removes < 2 ^ 64 - 1)
 
+-- How many bytes the first file held, up to the limit. It held none if its name led to nothing, or if retention removed it first.
+abbrev pub IsHeld : Config → Start → Content → Type 0
+IsHeld c start first =
+    ((b : ℕ) × (t : Option ℤ) × (fin.get first.names (file_name_of c (start_stamp start)) ≡ Some (File b t)) × (start.held ≡ min c.max_bytes (length (body_at first b))))
+    ⊎ ((start.held ≡ 0)
+    × ((fin.get first.names (file_name_of c (start_stamp start)) ≡ None)
+    ⊎ (name_survives (log_files_of c (Some (file_name_of c (start_stamp start)))) (max_before c) first.names (file_name_of c (start_stamp start)) ≡ false)))
+
 -- What a folder with known content contains after a run whose first file was this.
-pub record Contains (c : Config) (start : Stamp) (f : Files) (first last : Content) (noted_first noted_last : NotedCounts) : Type 0 where
+pub record Contains (c : Config) (start : Start) (f : Files) (first last : Content) (noted_first noted_last : NotedCounts) : Type 0 where
   -- A file holds what it held at first, which is nothing if it is new, and then exactly what was written while it was the open one.
   pub bytes : (name : List ℕ) (b : ℕ) (t : Option ℤ) → fin.get last.names name ≡ Some (File b t) → body_at last b ≡ body_at first b ++ written_to_name name f.writes
   -- Whatever fails, no other name changes, except that log files may be removed if there is a maximum of them.
@@ -191,16 +200,19 @@ pub record Contains (c : Config) (start : Stamp) (f : Files) (first last : Conte
   -- If each attempt succeeded, and each listing and removal, the names are exactly these. Without a maximum nothing is listed for retention.
   pub names : f.failed ≡ 0 → ((c.max_files ≡ 0) ⊎ RetentionSucceeded c first.there noted_first noted_last)
       → NamesAfterOpenings c (length first.bodies) (f.newest ∷ f.earlier) first.names last.names
-  -- With a limit of bytes the first number is the next after those that the folder had in that period.
-  pub number : is_limited c ≡ true → RetentionSucceeded c first.there noted_first noted_last → IsFirstNumber (naming_of c) start.moment (λ name. (e : Entry) × (fin.get first.names name ≡ Some e)) start.number
+  -- If the log continues its last file, what the first file held counts.
+  pub held : c.continues ≡ true → IsHeld c start first
+  -- With a limit of bytes the first number is the next after those that the folder had in that period, or that of the file that is continued.
+  pub number : is_limited c ≡ true → RetentionSucceeded c first.there noted_first noted_last → IsFirstNumber c start.moment (HasEntry first) start.number
 
 -- The folder after a run: it noted each attempt that failed, and counted each write and each flush that failed.
-pub record FolderFollows {S F : Type 0} (kind : Ghosts S F) (c : Config) (start : Stamp) (f : Files) (first last : S) : Type 0 where
+pub record FolderFollows {S F : Type 0} (kind : Ghosts S F) (c : Config) (start : Start) (f : Files) (first last : S) : Type 0 where
   pub failed : (kind.noted last).opens ≡ min ((kind.noted first).opens + f.failed) (2 ^ 64 - 1)
   pub faults : min (kind.failures first + f.faults) (2 ^ 64 - 1) ≤ kind.failures last
   pub unnumbered : is_limited c ≡ false → start.number ≡ 0
+  pub anew : c.continues ≡ false → start.held ≡ 0
   pub content : IsTrue kind.is_known → Contains c start f (kind.content first) (kind.content last) (kind.noted first) (kind.noted last)
 
-pub record Headline {S F : Type 0} (kind : Ghosts S F) (limit : ℕ) (c : Config) (moment : ℤ) (number : ℕ) (past : List (Step × Reply)) (first last : S) : Type 0 where
-  pub replies : Follows limit c (record { moment = moment; number = number }) past
-  pub folder : FolderFollows kind c (record { moment = moment; number = number }) (account c (record { moment = moment; number = number }) past).files first last
+pub record Headline {S F : Type 0} (kind : Ghosts S F) (limit : ℕ) (c : Config) (moment : ℤ) (number room : ℕ) (past : List (Step × Reply)) (first last : S) : Type 0 where
+  pub replies : Follows limit c (start_of c moment number room) past
+  pub folder : FolderFollows kind c (start_of c moment number room) (account c (start_of c moment number room) past).files first last

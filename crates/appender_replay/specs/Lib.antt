@@ -1,3 +1,4 @@
+pub mod Start
 pub mod Run
 pub mod Replay
 pub mod Record

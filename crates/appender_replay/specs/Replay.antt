@@ -1,15 +1,16 @@
 -- What a replay of steps over a roller returns, and how it reads as a run.
-use Rattle.std.specs.Prelude.{◌≡◌, ◌<◌, nat_le, suc, if◌then◌else◌, ℕ, ℤ, false, IsTrue, List, [], ◌∷◌, length, take, Option, None, Some, Result, Ok, Err}
+use Rattle.std.specs.Prelude.{◌≡◌, ◌<◌, nat_le, suc, if◌then◌else◌, ℕ, ℤ, IsTrue, List, [], ◌∷◌, length, take, Option, None, Some, Result, Ok, Err}
 use Rattle.std.specs.IoError.{error_kind}
 use Rattle.std.specs.declared.io.Error.{Error}
 use Rattle.std.specs.declared.io.ErrorKind.{ErrorKind}
 use Rattle.appender_store.specs.declared.store.Folder.{Ghosts}
 use Rattle.appender_names.specs.Rotation.{next_of}
-use Rattle.appender_rolling.specs.Config.{Config, stamp, is_limited}
+use Rattle.appender_rolling.specs.Config.{Config}
 use Rattle.appender_rolling.specs.Roller.{Rolling, OpensRoller, OpensNoRoller, ChecksClockOnly, Writes, Puts, Flushes, written_count}
-use Rattle.appender_replay.specs.Run.{Event, StepState, FileLaw, NotedAtAttempts, SwitchesAtAttempts, SwitchesAtArrivals, latest_moment, last_opened, attempt_times}
+use Rattle.appender_replay.specs.Run.{Event, StepState, FileLaw, NotedAtAttempts, SwitchesAtAttempts, latest_moment, last_opened, attempt_times}
 use Rattle.appender_rolling.specs.declared.rolling.Switch.{Switch}
 use Rattle.appender_rolling.specs.declared.rolling.Switch.TheVariants.{None as Stayed}
+use Rattle.appender_replay.specs.Start.{start_of}
 use Rattle.appender_replay.specs.declared.replay.RollStep.{RollStep}
 use Rattle.appender_replay.specs.declared.replay.RollStep.TheVariants.{See, Put, Write, Flush}
 use Rattle.appender_replay.specs.declared.replay.RollReply.{RollReply}
@@ -73,11 +74,12 @@ abbrev pub events_by : {T : Type 0} → (List T → T → Event) → List T → 
 events_by event [] = []
 events_by event (t ∷ earlier) = event earlier t ∷ events_by event earlier
 
--- a roller was opened over the folder, for its first file with this number, and the steps lead from it to this one
-pub record RunsFrom {S F T : Type 0} (kind : Ghosts S F) (does : List T → T → Rolling S F → Rolling S F → Type 0) (config : Config) (start : ℤ) (number : ℕ) (folder : S) (past : List T) (last : Rolling S F) : Type 0 where
+-- a roller was opened over the folder, for its first file with this number and this room, and the steps lead from it to this one
+pub record RunsFrom {S F T : Type 0} (kind : Ghosts S F) (does : List T → T → Rolling S F → Rolling S F → Type 0) (config : Config) (start : ℤ) (number room : ℕ) (folder : S) (past : List T) (last : Rolling S F) : Type 0 where
   pub first : Rolling S F
   pub opens : OpensRoller kind config start folder first
   pub number_is : opens.number ≡ number
+  pub room_is : first.room ≡ room
   pub runs : LeadsTo does past first last
 
 -- what is seen of a roller after a step with this piece
@@ -91,28 +93,27 @@ step_states_after kind event does (t ∷ past) old new (between, runs, is) n =
     if nat_le (suc (length past)) n then step_state_of kind (event past t).piece new else step_states_after kind event does past old between runs n
 
 -- what was seen of a run
-abbrev pub run_states : {S F T : Type 0} {kind : Ghosts S F} {does : List T → T → Rolling S F → Rolling S F → Type 0} {config : Config} {start : ℤ} {number : ℕ} {folder : S} {past : List T} {last : Rolling S F} → (List T → T → Event) → RunsFrom kind does config start number folder past last → ℕ → StepState
-run_states {S} {F} {T} {kind} {does} {config} {start} {number} {folder} {past} {last} event run = step_states_after kind event does past run.first last run.runs
+abbrev pub run_states : {S F T : Type 0} {kind : Ghosts S F} {does : List T → T → Rolling S F → Rolling S F → Type 0} {config : Config} {start : ℤ} {number : ℕ} {room : ℕ} {folder : S} {past : List T} {last : Rolling S F} → (List T → T → Event) → RunsFrom kind does config start number room folder past last → ℕ → StepState
+run_states {S} {F} {T} {kind} {does} {config} {start} {number} {room} {folder} {past} {last} event run = step_states_after kind event does past run.first last run.runs
 
 -- The laws of a run, of whatever rollers its steps lead through. Notices are counted from the listing that finds the first number.
-module _ {S F T : Type 0} (kind : Ghosts S F) (does : List T → T → Rolling S F → Rolling S F → Type 0) (event : List T → T → Event) (config : Config) (start : ℤ) (number : ℕ) (folder : S) (past : List T) (last : Rolling S F) where
+module _ {S F T : Type 0} (kind : Ghosts S F) (does : List T → T → Rolling S F → Rolling S F → Type 0) (event : List T → T → Event) (config : Config) (start : ℤ) (number room : ℕ) (folder : S) (past : List T) (last : Rolling S F) where
   abbrev pub FilesFollow : Type 0
-  FilesFollow = (run : RunsFrom kind does config start number folder past last)
-      → FileLaw config (stamp start number) (events_by event past) (kind.content folder) (kind.content last.folder) (kind.noted run.opens.listed)
+  FilesFollow = (run : RunsFrom kind does config start number room folder past last)
+      → FileLaw config (start_of config start number room) (events_by event past) (kind.content folder) (kind.content last.folder) (kind.noted run.opens.listed)
       (run_states event run) last.opened (kind.body last.file)
 
   abbrev pub NoticesFollow : Type 0
-  NoticesFollow = (run : RunsFrom kind does config start number folder past last)
-      → NotedAtAttempts config (stamp start number) (run_states event run) (events_by event past)
+  NoticesFollow = (run : RunsFrom kind does config start number room folder past last)
+      → NotedAtAttempts config (start_of config start number room) (run_states event run) (events_by event past)
 
   -- What the events of a run say of its roller: its configuration, when it switched, its boundary, the file that is open, and the
   -- laws of files and notices. Files follow if the folder's content is known.
   pub record RollerFollows : Type 0 where
     pub config_is : last.config ≡ config
-    pub switches : SwitchesAtAttempts config (stamp start number) (events_by event past)
-    pub arrivals : is_limited config ≡ false → SwitchesAtArrivals config.rotation start (events_by event past)
+    pub switches : SwitchesAtAttempts config (start_of config start number room) (events_by event past)
     pub boundary_is : last.boundary ≡ next_of config.rotation (latest_moment start (events_by event past))
-    pub opened_is : last.opened ≡ last_opened (stamp start number) (attempt_times config (stamp start number) (events_by event past))
+    pub opened_is : last.opened ≡ last_opened (start_of config start number room) (attempt_times config (start_of config start number room) (events_by event past))
     pub files : IsTrue kind.is_known → FilesFollow
     pub notices : NoticesFollow
 

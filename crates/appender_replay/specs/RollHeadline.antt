@@ -3,8 +3,8 @@ use Rattle.std.specs.Prelude.{◌≡◌, ◌↔◌, ℕ, ◌+◌, ◌≤◌, ℤ
 use Rattle.appender_store.specs.declared.store.Folder.{Ghosts}
 use Rattle.appender_rolling.specs.Config.{Config}
 use Rattle.appender_rolling.specs.Roller.{written_count}
-use Rattle.appender_rolling.specs.declared.rolling.setup.Stamp.{Stamp}
 use Rattle.appender_rolling.specs.declared.rolling.Switch.TheVariants.{None as Stayed}
+use Rattle.appender_replay.specs.Start.{Start, start_of}
 use Rattle.appender_replay.specs.Headline.{Files, FolderFollows, files_at_opening, due_file, files_after_check, files_after_write, faults_in}
 use Rattle.appender_replay.specs.declared.replay.RollStep.{RollStep}
 use Rattle.appender_replay.specs.declared.replay.RollStep.TheVariants.{See, Put, Write, Flush}
@@ -27,14 +27,14 @@ roll_after c f (Write bytes, Wrote answer) = files_after_write bytes.items answe
 roll_after c f (Flush, Flushed answer) = record f { faults = f.faults + faults_in answer }
 roll_after c f t = f
 
-abbrev pub roll_account : Config → Stamp → List (RollStep × RollReply) → Files
+abbrev pub roll_account : Config → Start → List (RollStep × RollReply) → Files
 roll_account c start [] = files_at_opening c start
 roll_account c start (t ∷ past) = roll_after c (roll_account c start past) t
 
-abbrev pub RollFollows : Config → Stamp → List (RollStep × RollReply) → Type 0
+abbrev pub RollFollows : Config → Start → List (RollStep × RollReply) → Type 0
 RollFollows c start [] = Unit {0}
 RollFollows c start (t ∷ past) = RollFollows c start past × RollReplies c (roll_account c start past) t
 
-pub record RollHeadline {S F : Type 0} (kind : Ghosts S F) (c : Config) (moment : ℤ) (number : ℕ) (past : List (RollStep × RollReply)) (first last : S) : Type 0 where
-  pub replies : RollFollows c (record { moment = moment; number = number }) past
-  pub folder : FolderFollows kind c (record { moment = moment; number = number }) (roll_account c (record { moment = moment; number = number }) past) first last
+pub record RollHeadline {S F : Type 0} (kind : Ghosts S F) (c : Config) (moment : ℤ) (number room : ℕ) (past : List (RollStep × RollReply)) (first last : S) : Type 0 where
+  pub replies : RollFollows c (start_of c moment number room) past
+  pub folder : FolderFollows kind c (start_of c moment number room) (roll_account c (start_of c moment number room) past) first last

@@ -10,10 +10,11 @@ use Rattle.appender_store.specs.Content.{Content, File, Link, OpensBody, after_a
 use Rattle.appender_store.specs.Folder.{NotedCounts}
 use Rattle.appender_retain.specs.Survival.{RemovesOnlyOld, KeepsSurvivors, name_survives, candidates_in}
 use Rattle.appender_retain.specs.Pruning.{IsQuiet}
-use Rattle.appender_rolling.specs.Config.{Config, log_files_of, is_limited, IsStamp, stamp}
+use Rattle.appender_rolling.specs.Config.{Config, log_files_of, is_limited, IsStamp, stamp, max_before, max_after}
 use Rattle.appender_rolling.specs.Roller.{room_needed}
 use Rattle.appender_rolling.specs.declared.rolling.setup.Stamp.{Stamp}
-use Rattle.appender_rolling.specs.Opening.{file_name_of, ChangesLink, IsRefusalEffect}
+use Rattle.appender_rolling.specs.Opening.{file_name_of, ChangesLink, IsRefusalEffect, SparesOpened}
+use Rattle.appender_replay.specs.Start.{Start, start_stamp}
 use Rattle.appender_rolling.specs.declared.rolling.Switch.{Switch}
 use Rattle.appender_rolling.specs.declared.rolling.Switch.TheVariants.{None as Stayed, Opened as Switched, Failed as SwitchFailed}
 
@@ -110,25 +111,29 @@ abbrev pub last_step : List AttemptTime → ℕ
 last_step [] = 0
 last_step ((step, s, succeeded) ∷ before) = step
 
-abbrev pub last_stamp : Stamp → List AttemptTime → Stamp
-last_stamp first [] = first
+abbrev pub last_stamp : Start → List AttemptTime → Stamp
+last_stamp first [] = start_stamp first
 last_stamp first ((step, s, succeeded) ∷ before) = s
 
--- how many bytes were written since the last attempt, whether it succeeded or not, with those of its own step
-abbrev pub count_since : List AttemptTime → List Event → ℕ
-count_since before h = length (pieces_since (last_step before) h)
+-- what the first file held counts until the next attempt
+abbrev pub held_at : Start → List AttemptTime → ℕ
+held_at first before = if last_step before == 0 then first.held else 0
 
--- A step is full, under a limit of bytes, where it reads the clock, something was written since the last attempt, what it offers, or
+-- how many bytes count since the last attempt, whether it succeeded or not: those that were written, with those of its own step
+abbrev pub count_since : Start → List AttemptTime → List Event → ℕ
+count_since first before h = held_at first before + length (pieces_since (last_step before) h)
+
+-- A step is full, under a limit of bytes, where it reads the clock, something counts since the last attempt, what it offers, or
 -- one byte, would be more than the limit with that, and the last attempt's number isn't the greatest.
-abbrev pub is_full_step : Config → Stamp → List AttemptTime → Event → List Event → Bool
+abbrev pub is_full_step : Config → Start → List AttemptTime → Event → List Event → Bool
 is_full_step c first before e earlier =
     is_some e.read && is_limited c && nat_lt (last_stamp first before).number 999999
-    && nat_lt 0 (count_since before earlier)
-    && nat_lt c.max_bytes (count_since before earlier + room_needed e.offered)
+    && nat_lt 0 (count_since first before earlier)
+    && nat_lt c.max_bytes (count_since first before earlier + room_needed e.offered)
 
 -- The stamp for which a step makes an attempt, if it makes one: an arrival for the latest moment with the number 0; else a full step
 -- for the last attempt's moment, in whose period the latest moment lies, with the number after its own.
-abbrev pub stamp_at : Config → Stamp → List AttemptTime → Event → List Event → Option Stamp
+abbrev pub stamp_at : Config → Start → List AttemptTime → Event → List Event → Option Stamp
 stamp_at c first before e earlier =
     if arrives c.rotation first.moment e earlier then Some (stamp (latest_moment first.moment (e ∷ earlier)) 0)
     else if is_full_step c first before e earlier then Some (stamp (last_stamp first before).moment ((last_stamp first before).number + 1))
@@ -140,25 +145,20 @@ with_time (Some s) step succeeded before = (step, s, succeeded) ∷ before
 
 -- When attempts are made, and which succeed, the newest first: the opening, whose stamp is the first, one at each arrival and one at
 -- each full step.
-abbrev pub attempt_times : Config → Stamp → List Event → List AttemptTime
-attempt_times c first [] = (0, first, true) ∷ []
+abbrev pub attempt_times : Config → Start → List Event → List AttemptTime
+attempt_times c first [] = (0, start_stamp first, true) ∷ []
 attempt_times c first (e ∷ earlier) =
     with_time (stamp_at c first (attempt_times c first earlier) e earlier) (suc (length earlier)) (is_opened e.switch) (attempt_times c first earlier)
 
 -- a switch is replied exactly if a step makes an attempt
-abbrev pub SwitchesAtAttempts : Config → Stamp → List Event → Type 0
+abbrev pub SwitchesAtAttempts : Config → Start → List Event → Type 0
 SwitchesAtAttempts c first [] = Unit {0}
 SwitchesAtAttempts c first (e ∷ earlier) =
     (is_switch e.switch ≡ is_some (stamp_at c first (attempt_times c first earlier) e earlier)) × SwitchesAtAttempts c first earlier
 
--- Without a limit of bytes it is replied exactly at the arrivals.
-abbrev pub SwitchesAtArrivals : Rotation → ℤ → List Event → Type 0
-SwitchesAtArrivals r start [] = Unit {0}
-SwitchesAtArrivals r start (e ∷ earlier) = (is_switch e.switch ≡ arrives r start e earlier) × SwitchesAtArrivals r start earlier
-
 -- the stamp of the last attempt that succeeded
-abbrev pub last_opened : Stamp → List AttemptTime → Stamp
-last_opened first [] = first
+abbrev pub last_opened : Start → List AttemptTime → Stamp
+last_opened first [] = start_stamp first
 last_opened first ((step, s, succeeded) ∷ earlier) = if succeeded then s else last_opened first earlier
 
 -- what distinguishes the files of a run: a period, and a number in it
@@ -172,7 +172,7 @@ abbrev pub is_same_key : FileKey → FileKey → Bool
 is_same_key a b = is_same_start a.0 b.0 && (a.1 == b.1)
 
 -- the period of the latest moment, and the number that was the last begun there
-abbrev pub key_at : Config → Stamp → List Event → FileKey
+abbrev pub key_at : Config → Start → List Event → FileKey
 key_at c first h = (period_at c.rotation first.moment h, (last_stamp first (attempt_times c first h)).number)
 
 -- neither the name of the attempt for this stamp nor that of the link, if one is set
@@ -193,14 +193,19 @@ pub record NamesAfter (c : Config) (a : Attempt) (b : ℕ) : Type 0 where
       → fin.get a.after.names name ≡ (if name_survives (log_files_of c (Some (file_name_of c a.stamp))) c.max_files a.before.names name then fin.get a.before.names name else None)
 
 -- What an attempt that opened a body did. It removed only log files that don't survive, and, if it noted neither List nor
--- Remove, all of them. In the folder, which is there now, it opened the file of its moment's name, and let the link lead to it.
+-- Remove, all of them: by name last, else first. In the folder, which is there now, it opened the file of its moment's name, and let the link
+-- lead to it.
 pub record Succeeded (c : Config) (a : Attempt) (b : ℕ) : Type 0 where
   pub pruned : Content
   pub unlinked : Content
-  pub only_old : RemovesOnlyOld (log_files_of c (Some (file_name_of c a.stamp))) c.max_files a.before pruned
-  pub survivors : IsQuiet a.noted_before a.noted_after → KeepsSurvivors (log_files_of c (Some (file_name_of c a.stamp))) c.max_files a.before pruned
+  pub linked : Content
+  pub only_old : RemovesOnlyOld (log_files_of c (Some (file_name_of c a.stamp))) (max_before c) a.before pruned
+  pub survivors : IsQuiet a.noted_before a.noted_after → KeepsSurvivors (log_files_of c (Some (file_name_of c a.stamp))) (max_before c) a.before pruned
   pub opens : OpensBody (file_name_of c a.stamp) (after_make_folder pruned) unlinked b
-  pub links : ChangesLink c.link (file_name_of c a.stamp) unlinked a.after
+  pub links : ChangesLink c.link (file_name_of c a.stamp) unlinked linked
+  pub only_old_last : RemovesOnlyOld (log_files_of c (Some (file_name_of c a.stamp))) (max_after c) linked a.after
+  pub survivors_last : IsQuiet a.noted_before a.noted_after → KeepsSurvivors (log_files_of c (Some (file_name_of c a.stamp))) (max_after c) linked a.after
+  pub spares : SparesOpened c (file_name_of c a.stamp) a.before linked a.after
   pub names : NamesAfter c a b
   pub at_most : IsQuiet a.noted_before a.noted_after → 0 < c.max_files → candidates_in (log_files_of c None) a.after ≤ c.max_files
 
@@ -237,14 +242,9 @@ is_number n (Some m) = m == n
 abbrev pub bytes_to_body : ℕ → List Attempt → List Event → List ℕ
 bytes_to_body b = bytes_where (λ a. is_number b a.body)
 
--- the pieces of the steps at which the latest moment was in this period
-abbrev pub bytes_in_period : Rotation → ℤ → Option ℤ → List Event → List ℕ
-bytes_in_period r start period [] = []
-bytes_in_period r start period (e ∷ earlier) =
-    bytes_in_period r start period earlier ++ (if is_same_start (period_at r start (e ∷ earlier)) period then e.piece else [])
-
--- those at which it also was the last number that was begun there
-abbrev pub bytes_under : Config → Stamp → FileKey → List Event → List ℕ
+-- The pieces of the steps at which the latest moment was in this period, and this number was the last begun there. Without a limit of
+-- bytes the number is 0.
+abbrev pub bytes_under : Config → Start → FileKey → List Event → List ℕ
 bytes_under c first key [] = []
 bytes_under c first key (e ∷ earlier) =
     bytes_under c first key earlier ++ (if is_same_key (key_at c first (e ∷ earlier)) key then e.piece else [])
@@ -276,7 +276,7 @@ OnlyAttemptsChange c (a ∷ rest) h first last =
     × Carried (open_body (a ∷ rest)) (pieces_since a.step h) a.after last
 
 -- Notices are noted only at attempts, for any kind of folder: a step that makes none leaves the counts as the step before it did.
-abbrev pub NotedAtAttempts : Config → Stamp → (ℕ → StepState) → List Event → Type 0
+abbrev pub NotedAtAttempts : Config → Start → (ℕ → StepState) → List Event → Type 0
 NotedAtAttempts c start seen [] = Unit {0}
 NotedAtAttempts c start seen (e ∷ earlier) =
     (stamp_at c start (attempt_times c start earlier) e earlier ≡ None → (seen (suc (length earlier))).noted ≡ (seen (length earlier)).noted)
@@ -289,7 +289,7 @@ NoneFailed (e ∷ earlier) = (e.switch ≢ SwitchFailed) × NoneFailed earlier
 
 -- The law of the file that is open at the end: it holds what it held at its opening, followed by exactly the pieces that it
 -- carries.
-pub record OpenFileLaw (c : Config) (first : Stamp) (h : List Event) (attempts : List Attempt) (last : Content) (opened : Stamp) (b : ℕ) : Type 0 where
+pub record OpenFileLaw (c : Config) (first : Start) (h : List Event) (attempts : List Attempt) (last : Content) (opened : Stamp) (b : ℕ) : Type 0 where
   pub file : Attempt
   pub is_carrier : carrier attempts (length h) ≡ Some file
   pub stamp_is : file.stamp ≡ opened
@@ -313,13 +313,8 @@ abbrev pub ContainsItsPieces : List Attempt → List Event → Content → Attem
 ContainsItsPieces attempts h last a =
     (b : ℕ) → a.body ≡ Some b → body_at last b ≡ body_at a.before b ++ bytes_of_attempt a.step attempts h
 
--- what the attempt carries are the pieces of the steps at which the latest moment was in its period
-abbrev pub CarriesItsPeriod : Rotation → ℤ → List Attempt → List Event → Attempt → Type 0
-CarriesItsPeriod r start attempts h a =
-    (b : ℕ) → a.body ≡ Some b → bytes_of_attempt a.step attempts h ≡ bytes_in_period r start (period_of r a.stamp.moment) h
-
--- they are those at which its number also was the last begun there
-abbrev pub CarriesItsNumber : Config → Stamp → List Attempt → List Event → Attempt → Type 0
+-- what the attempt carries are the pieces of the steps at which the latest moment was in its period, and its number the last begun there
+abbrev pub CarriesItsNumber : Config → Start → List Attempt → List Event → Attempt → Type 0
 CarriesItsNumber c first attempts h a =
     (b : ℕ) → a.body ≡ Some b → bytes_of_attempt a.step attempts h ≡ bytes_under c first (file_key c a.stamp) h
 
@@ -358,9 +353,9 @@ IsWithinLimit c attempts h a =
 
 -- The law of the files of a run: every body, whether or not a name leads to it, holds what it held at first, followed by
 -- exactly what was written to it. What each attempt opened holds what it held then, followed by what the attempt carries,
--- which is, unless a switch failed, exactly what was written while the latest moment was in its period; with a limit of bytes, while
--- its number also was the last begun there. Contents and counts of the attempts are those that were seen at their steps.
-pub record FileLaw (c : Config) (start : Stamp) (h : List Event) (first last : Content) (noted_first : NotedCounts) (seen : ℕ → StepState) (opened : Stamp) (b : ℕ) : Type 0 where
+-- which is, unless a switch failed, exactly what was written while the latest moment was in its period, and its number the last begun
+-- there. Contents and counts of the attempts are those that were seen at their steps.
+pub record FileLaw (c : Config) (start : Start) (h : List Event) (first last : Content) (noted_first : NotedCounts) (seen : ℕ → StepState) (opened : Stamp) (b : ℕ) : Type 0 where
   pub attempts : List Attempt
   pub are_times : map time_of attempts ≡ attempt_times c start h
   pub are_seen : EachOf (MatchesItsStep first noted_first seen) attempts
@@ -371,7 +366,6 @@ pub record FileLaw (c : Config) (start : Stamp) (h : List Event) (first last : C
   pub each : EachOf (ContainsItsPieces attempts h last) attempts
   pub under_its_name : EachOf (HasItsName c last) attempts
   pub names_its_body : EachOf (NamesItsBody c last) attempts
-  pub in_its_period : is_limited c ≡ false → NoneFailed h → EachOf (CarriesItsPeriod c.rotation start.moment attempts h) attempts
   pub in_its_number : NoneFailed h → EachOf (CarriesItsNumber c start attempts h) attempts
   pub stamps : EachOf (λ a. IsStamp c a.stamp) attempts
   pub keeps_to_limit : is_limited c ≡ true → NoneFailed h → EachWriteReadsClock h → EachOf (IsWithinLimit c attempts h) attempts

@@ -1,5 +1,5 @@
 -- What follows of a whole run: which lines were handed, and what the worker wrote of them.
-use Rattle.std.specs.Prelude.{◌≡◌, ◌⊎◌, ℕ, ◌<◌, ◌==◌, List, [], ◌∷◌, ◌++◌, Bool, true, false, All, length, map, take, filter}
+use Rattle.std.specs.Prelude.{◌≡◌, ◌⊎◌, ℕ, ◌<◌, ◌≤◌, List, [], ◌∷◌, Bool, true, false, All, length, map, take}
 use Rattle.appender_worker.specs.Core.{Core, is_writing}
 use Rattle.appender_queue.specs.Queue.{Queue}
 use Rattle.appender_replay.specs.Record.{StepWithReply, Offered, WrittenLine, accepted_lines, handed_lines, queue_after, worker_after, written_lines, text_of_lines, whole_lines}
@@ -7,14 +7,10 @@ use Rattle.appender_replay.specs.Answers.{AreRunReplies, events, text_of_events}
 
 -- ---- lines
 
--- the lines with this label, in order
-abbrev pub lines_of_label : ℕ → List Offered → List (List ℕ)
-lines_of_label label lines = map (λ (o : Offered). o.1) (filter (λ (o : Offered). o.0 == label) lines)
-
--- The lines of one label are handed in the order in which they were accepted.
-pub record HandsLabelInOrder (past : List StepWithReply) (label : ℕ) : Type 0 where
-  pub rest : List (List ℕ)
-  pub first : lines_of_label label (accepted_lines past) ≡ lines_of_label label (handed_lines past) ++ rest
+-- The handed lines are the first of the accepted ones, those of each label in its order too.
+pub record HandsInOrder (past : List StepWithReply) : Type 0 where
+  pub most : length (handed_lines past) ≤ length (accepted_lines past)
+  pub first : handed_lines past ≡ take (length (handed_lines past)) (accepted_lines past)
 
 -- ---- the worker's text
 
@@ -41,10 +37,10 @@ pub record TextLaw (past : List StepWithReply) : Type 0 where
   pub done : AreDone (is_writing (worker_after past)) (written_lines past)
 
 -- What follows of the lines: each reply is the one that the steps before it demand, and these lead to this queue and this worker; the
--- lines of each label were handed in order; and what the worker wrote is of these lines.
+-- lines were handed in order; and what the worker wrote is of these lines.
 pub record LinesFollow (limit : ℕ) (lossy : Bool) (past : List StepWithReply) (queue : Queue) (worker : Core) : Type 0 where
   pub answers : AreRunReplies limit lossy past
   pub queue_is : queue ≡ queue_after limit lossy past
   pub worker_is : worker ≡ worker_after past
-  pub labels : (label : ℕ) → HandsLabelInOrder past label
+  pub order : HandsInOrder past
   pub text : TextLaw past

@@ -50,6 +50,8 @@ pub struct RollRun<S: Folder> {
     pub roller: Roller<S>,
     /// The number in the name of the file that was opened first. 0 if no limit of bytes is set.
     pub number: u32,
+    /// How many bytes of the limit were left of that file when it was opened. 0 if no limit is set.
+    pub room: u64,
 }
 
 /// Why a run failed before its first step. Each case returns the folder.
@@ -96,13 +98,13 @@ pub fn replay_rolling<S: Folder>(
     start: i64,
     steps: &[RollStep],
 ) -> Result<RollRun<S>, ReplayError<S>>
-    ensures headline { IfOk result (λ run. RollHeadline S.Folder builder.now start run.number
+    ensures headline { IfOk result (λ run. RollHeadline S.Folder builder.now start run.number run.room
         (with_replies_onto [] steps.now run.replies.items) folder run.roller.folder) }
     ensures one_each { IfOk result (λ run. length run.replies.items ≡ length steps.now) }
-    ensures runs { IfOk result (λ run. RunsFrom S.Folder (RollDoes S.Folder) builder.now start run.number folder
-        (with_replies steps.now run.replies.items) run.roller) }
+    ensures runs { IfOk result (λ run. RunsFrom S.Folder (RollDoes S.Folder) builder.now start run.number run.room
+        folder (with_replies steps.now run.replies.items) run.roller) }
     ensures roller { IfOk result (λ run. RollerFollows S.Folder (RollDoes S.Folder) roll_event builder.now start
-        run.number folder (with_replies steps.now run.replies.items) run.roller) }
+        run.number run.room folder (with_replies steps.now run.replies.items) run.roller) }
     ensures err { IfErr result (λ error. IsNotRun S.Folder builder.now start folder error) }
     ensures memory { IfErr result (HasSteps (length steps.now)) }
 {
@@ -119,6 +121,7 @@ pub fn replay_rolling<S: Folder>(
         Err((error, folder)) => return Err(ReplayError::Init(error, folder)),
     };
     let number = roller.number();
+    let room = roller.room();
     for step in steps {
         let reply = run_step(&mut roller, step);
         replies.push_reserved(reply);
@@ -127,5 +130,6 @@ pub fn replay_rolling<S: Folder>(
         replies,
         roller,
         number,
+        room,
     })
 }

@@ -1,5 +1,5 @@
 -- Log files that are known by their names.
-use Rattle.std.proofs.Common.{◌≡◌, ◌∙◌, ◌||◌, ◌&&◌, ◌⊎◌, ℕ, ◌≤◌, ◌<◌, ℤ, pos, negsuc, ◌+ℤ◌, ◌*ℤ◌, ◌<ℤ◌, Bool, true, false, if◌then◌else◌, List, Option, None, Some, refl, sym, ap, subst, arith, inl, inr}
+use Rattle.std.proofs.Common.{◌≡◌, ◌∙◌, ◌||◌, ◌&&◌, ℕ, ◌≤◌, ◌<◌, ℤ, pos, negsuc, ◌+ℤ◌, ◌*ℤ◌, ◌<ℤ◌, Bool, true, false, if◌then◌else◌, List, Option, None, Some, refl, sym, ap, subst, arith, inl, inr}
 use Rattle.std.specs.Prelude.{◌==◌}
 use Rattle.std.specs.Str.{bytes_eq}
 use Rattle.std.specs.Option.{option_map, option_map_or, option_and_then}
@@ -11,8 +11,8 @@ use Rattle.appender_names.specs.Rotation.{is_moment, is_same_start, period_of}
 use Rattle.appender_names.proofs.Reading.{reading_reads}
 use Rattle.appender_store.specs.Content.{Entry, NameMap, File, Link, Folder}
 use Rattle.appender_store.specs.Folder.{entry_row}
-use Rattle.appender_retain.specs.Rank.{LogFiles, Rank, key_by_name, candidate_key, rank_of}
-use Rattle.appender_retain.specs.Survival.{NamesAreKept, KeysRise, name_rank, name_survives}
+use Rattle.appender_retain.specs.Rank.{LogFiles, key_by_name, candidate_key, rank_of}
+use Rattle.appender_retain.specs.Survival.{NamesAreKept, KeysRise, name_survives}
 
 -- what is read without numbers has the number 0
 pub read_unnumbered : (n : Naming) (name : List ℕ) (s : ℤ) → n.numbered ≡ false → reading n name ≡ Some s → reading_at n name ≡ Some (s, 0)
@@ -41,11 +41,15 @@ keyless_survives log name keyless max names = rw (no_rank (fin.get names name)) 
     no_rank (Some (Link target)) = refl
     no_rank (Some Folder) = refl
 
+-- by name the file that is opened next has no key
+pub opened_keyless : (log : LogFiles) (name : List ℕ) → log.by_name ≡ true → log.opened ≡ Some name → (created : Option ℤ) → candidate_key log name created ≡ None
+opened_keyless log name by_name is created =
+    let own : option_map_or (bytes_eq name) log.opened false ≡ true = ap (λ (o : Option (List ℕ)). option_map_or (bytes_eq name) o false) is ∙ (bytes_eq-Decides name name).1 refl in
+    rw (by_name, own) refl
+
 pub spared : (log : LogFiles) → log.by_name ≡ true → NamesAreKept log
 spared log by_name = record {
-  opened = λ name is. keyless_survives log name (λ created.
-      let own : option_map_or (bytes_eq name) log.opened false ≡ true = ap (λ (o : Option (List ℕ)). option_map_or (bytes_eq name) o false) is ∙ (bytes_eq-Decides name name).1 refl in
-      rw (by_name, own) refl);
+  opened = λ name is. keyless_survives log name (opened_keyless log name by_name is);
   others = λ name none. keyless_survives log name (λ created. rw (by_name, none) (either (option_map_or (bytes_eq name) log.opened false)));
 }
   where

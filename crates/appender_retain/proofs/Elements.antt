@@ -67,7 +67,7 @@ filter_map_take h xs i d short = ap (filter_map h) (take_more xs i d short) ∙ 
 pub filter_map_drop : {X Y : Type 0} (h : X → Option Y) (xs : List X) (i : ℕ) (d : X) → i < length xs → filter_map h (drop i xs) ≡ cons_option (h (get_or xs i d)) (filter_map h (drop (i + 1) xs))
 filter_map_drop h xs i d short = rw (add-one, drop-cons xs i d) refl
 
--- Where R of two elements gives S of their values, and R holds of each two elements, S holds of each two values.
+-- If R of two elements implies S of their values, R for all pairs of elements implies S for all pairs of values.
 pub all_pairs_filter_map : {X Y : Type 0} (R : X → X → Type 0) (S : Y → Y → Type 0) (h : X → Option Y) → ((a b : X) (v w : Y) → R a b → h a ≡ Some v → h b ≡ Some w → S v w) → (xs : List X) → AllPairs R xs → AllPairs S (filter_map h xs)
 all_pairs_filter_map R S h keeps [] all = λ i j d less short. absurd (omega arith)
 all_pairs_filter_map {X} {Y} R S h keeps (x ∷ xs) all = by (h x) refl (all_pairs_filter_map R S h keeps xs (λ i j d less short. all (suc i) (suc j) d (omega arith) (omega arith)))

@@ -9,3 +9,4 @@ pub mod Removals
 pub mod Planned
 pub mod Rising
 pub mod ByName
+pub mod Same

@@ -20,7 +20,7 @@ use Rattle.appender_store.specs.Content.{Content, NameMap, Entry, File, Link, Fo
 use Rattle.appender_store.specs.Folder.{entry_row}
 use Rattle.appender_store.specs.NameLaws.{NameLaws}
 use Rattle.appender_retain.specs.Rank.{LogFiles, Rank, candidate_key, rank_cmp, rank_of}
-use Rattle.appender_retain.specs.Survival.{KeepsSurvivors, LinksAddNone, OpeningsAddOne, name_survives, name_ranks, candidates_in}
+use Rattle.appender_retain.specs.Survival.{KeepsSurvivors, LinksAddNone, OpeningsAddOne, OpenedIsOne, name_survives, name_ranks, candidates_in}
 use Rattle.appender_retain.proofs.Elements.{filter_map_Contains, Contains_filter_map, all_pairs_filter_map}
 use Rattle.appender_retain.proofs.Entries.{entries_rise, entry_there, there_entry}
 use Rattle.appender_retain.proofs.Order.{few}
@@ -85,7 +85,7 @@ module _ (log : LogFiles) where
             ap (λ (o : Option Entry). stays (option_and_then (λ (e : Entry). entry_rank (w.0.0, e)) o)) s.1 ∙ ap stays w.2 in
             (Contains_filter_map entry_rank (fin.entries old.names) w.0 b (there_entry exact_bytes old.names w.0.0 w.0.1 s.1) w.2, at_most (how_many_above b + 2) (sym value ∙ s.0))
 
--- Where each candidate of one kind is one of some ranks or was one of another kind before, only as many more stand.
+-- If each candidate has one of these ranks or was a candidate before, there are at most as many more as there are ranks.
 no_more_stand : (log its : LogFiles) (old new : Content) (some : List Rank) → ((name : List ℕ) (v : Entry) (r : Rank) → fin.get new.names name ≡ Some v → entry_rank its (name, v) ≡ Some r → Contains some r ⊎ ((fin.get old.names name ≡ Some v) × (entry_rank log (name, v) ≡ Some r))) → candidates_in its new ≤ length some + candidates_in log old
 no_more_stand log its old new some stood =
     let fits : length (name_ranks its new.names) ≤ length (some ++ name_ranks log old.names) =
@@ -145,6 +145,30 @@ module _ (maps : NameLaws) (log : LogFiles) where
       by (File b t) = ap (λ (k : Option ℤ). option_map (λ (key : ℤ). (key, other, 0)) k) (same_key t)
       by (Link target) = refl
       by Folder = refl
+
+  -- the file that is opened is at most one beside the others
+  pub opened_stands_one : OpenedIsOne log
+  opened_stands_one name c next =
+      omega (arith, at_most_one own, no_more_stand log (all_of log) c c (cons_option own []) stood)
+    where
+      all : List ℕ × Entry → Option Rank
+      all e = entry_rank (all_of log) e
+
+      own : Option Rank
+      own = option_and_then (λ (e : Entry). all (name, e)) (fin.get c.names name)
+
+      at_most_one : (o : Option Rank) → length (cons_option o []) ≤ 1
+      at_most_one None = omega arith
+      at_most_one (Some r) = omega arith
+
+      only : (o : Option Rank) (r : Rank) → o ≡ Some r → Contains (cons_option o []) r
+      only o r is = rw is (0, omega arith, refl)
+
+      stood : (other : List ℕ) (v : Entry) (r : Rank) → fin.get c.names other ≡ Some v → all (other, v) ≡ Some r → Contains (cons_option own []) r ⊎ ((fin.get c.names other ≡ Some v) × (entry_rank log (other, v) ≡ Some r))
+      stood other v r now is = elim (maps.additions c.names name Folder other) [
+        | inl w ↦ inl (only own r (ap (option_and_then (λ (e : Entry). all (name, e))) (ap (fin.get c.names) (sym w.0) ∙ now) ∙ ap (λ (n : List ℕ). all (n, v)) (sym w.0) ∙ is))
+        | inr w ↦ inr (now, same_rank name other v next w.0 ∙ is)
+      ]
 
   -- a file that is opened is at most one
   pub openings_stand_one : OpeningsAddOne log

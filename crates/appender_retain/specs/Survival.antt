@@ -37,6 +37,10 @@ KeepsSurvivors log max old new =
 abbrev pub OpeningsAddOne : LogFiles → Type 0
 OpeningsAddOne log = (name : List ℕ) (old new : Content) (b : ℕ) → log.opened ≡ Some name → OpensBody name old new b → candidates_in (record log { opened = None }) new ≤ candidates_in log old + 1
 
+-- The file that is opened is at most one candidate beside the others.
+abbrev pub OpenedIsOne : LogFiles → Type 0
+OpenedIsOne log = (name : List ℕ) (c : Content) → log.opened ≡ Some name → candidates_in (record log { opened = None }) c ≤ candidates_in log c + 1
+
 -- neither a link that is made nor one that is removed is a candidate more
 pub record LinksAddNone (log : LogFiles) : Type 0 where
   pub made : (link target : List ℕ) (old new : Content) → MakesLink link target old new → candidates_in log new ≤ candidates_in log old
@@ -46,6 +50,17 @@ pub record LinksAddNone (log : LogFiles) : Type 0 where
 pub record NamesAreKept (log : LogFiles) : Type 0 where
   pub opened : (name : List ℕ) → log.opened ≡ Some name → (max : ℕ) (names : NameMap) → name_survives log max names name ≡ true
   pub others : (name : List ℕ) → key_by_name log.naming name ≡ None → (max : ℕ) (names : NameMap) → name_survives log max names name ≡ true
+
+-- the same names survive in both
+abbrev pub SameSurvive : LogFiles → Content → Content → Type 0
+SameSurvive log old new = (max : ℕ) (name : List ℕ) → name_survives log max new.names name ≡ name_survives log max old.names name
+
+-- Neither the file that is opened next, nor a link, changes which names survive. So by name retention removes the same before the opening and
+-- after it.
+pub record SurvivorsStay (log : LogFiles) : Type 0 where
+  pub opened : (name : List ℕ) (old new : Content) (b : ℕ) → log.opened ≡ Some name → OpensBody name old new b → SameSurvive log old new
+  pub made : (link target : List ℕ) (old new : Content) → MakesLink link target old new → SameSurvive log old new
+  pub removed : (link : List ℕ) (old new : Content) → RemovesLink link old new → SameSurvive log old new
 
 -- a name that reads as a later period has a greater key, and in one period one with a greater number
 abbrev pub KeysRise : Naming → Type 0

@@ -3,13 +3,20 @@
 ghost use Rattle.std.specs.Prelude.{◌≡◌, true};
 ghost use Rattle.appender_names.specs.Name.{Naming};
 ghost use Rattle.appender_retain.specs.Rank.{LogFiles};
-ghost use Rattle.appender_retain.specs.Survival.{OpeningsAddOne, LinksAddNone, NamesAreKept, KeysRise};
+ghost use Rattle.appender_retain.specs.Survival.{OpeningsAddOne, OpenedIsOne, LinksAddNone, NamesAreKept, SurvivorsStay, KeysRise};
 
 use appender_store::laws::names_change_one_at_a_time;
 
 /// One file more is at most one candidate more.
 pub fn openings_add_one()
     ensures { (log : LogFiles) → OpeningsAddOne log }
+{
+    names_change_one_at_a_time();
+}
+
+/// The file that is opened is at most one candidate beside the others.
+pub fn opened_is_one()
+    ensures { (log : LogFiles) → OpenedIsOne log }
 {
     names_change_one_at_a_time();
 }
@@ -25,6 +32,13 @@ pub fn links_add_none()
 pub fn names_are_spared()
     ensures { (log : LogFiles) → log.by_name ≡ true → NamesAreKept log }
 {}
+
+/// By name, neither the file that is opened next nor a link changes which names survive.
+pub fn survivors_stay()
+    ensures { (log : LogFiles) → log.by_name ≡ true → SurvivorsStay log }
+{
+    names_change_one_at_a_time();
+}
 
 /// By name, log files rank by period, and in one period by number.
 pub fn keys_rise()

@@ -6,7 +6,7 @@ use Rattle.appender_rolling.specs.declared.rolling.setup.Stamp.{Stamp}
 use Rattle.appender_rolling.specs.Config.{is_limited, stamp}
 use Rattle.appender_rolling.specs.Roller.{Scheduled, is_due, is_full, next_with}
 use Rattle.appender_rolling.specs.Appender.{SomeRollerIsDue, NoFileIsDueNow}
-use Rattle.appender_clock.specs.declared.Clock.{Ghosts as Readings}
+use Rattle.appender_runtime.specs.declared.clock.Clock.{Ghosts as Readings}
 
 module _ (s : Scheduled) (room : ℕ) (m : ℤ) (len : ℕ) where
   -- without a limit no file is full

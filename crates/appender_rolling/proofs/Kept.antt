@@ -5,8 +5,8 @@ use Rattle.appender_retain.specs.Rank.{LogFiles}
 use Rattle.appender_store.specs.Content.{Content, NameMap, Entry, File, Link, after_make_folder, OpensBody, MakesLink}
 use Rattle.appender_store.specs.NameLaws.{NameLaws, RemovalsTakeOneName, AdditionsAddOneName}
 use Rattle.appender_retain.specs.Survival.{RemovesOnlyOld}
-use Rattle.appender_rolling.specs.Config.{Config, log_files_of}
-use Rattle.appender_rolling.specs.Opening.{MayRemoveLink, ChangesLink, IsRefusalEffect}
+use Rattle.appender_rolling.specs.Config.{Config, log_files_of, max_before}
+use Rattle.appender_rolling.specs.Opening.{MayRemoveLink, ChangesLink, MayRemoveNew, IsRefusalEffect}
 use Rattle.appender_rolling.specs.Kept.{KeepsBodies, HadFile, AddsNoFile, AddsNoOtherFile, OpeningPartsKeepBodies}
 
 same_file : (a b : ℕ) (t u : Option ℤ) → File a t ≡ File b u → a ≡ b
@@ -119,15 +119,22 @@ module _ (maps : NameLaws) where
   keeps_linked [] name old new same = rw same (keeps_all old)
   keeps_linked (b ∷ bs) name old new (freed, frees, makes) = files_on old freed new (keeps_freed (b ∷ bs) old freed frees) (keeps_link (b ∷ bs) name freed new makes)
 
+  keeps_removed : (config : Config) (name : List ℕ) (old left new : Content) → MayRemoveNew config name old left new → AddsNoFile left new
+  keeps_removed config name old left new (inl same) = rw same (keeps_all left)
+  keeps_removed config name old left new (inr (by_name, free, removes)) =
+      rw removes.after (names_alone left (record left { names = fin.remove left.names name }) refl (λ m x t h. was_there left.names name m (File x t) h))
+
   pub keeps_little : (config : Config) (name : List ℕ) (old new : Content) → IsRefusalEffect config name old new → AddsNoOtherFile name old new
   keeps_little config name old new little =
-      let pruned = keeps_pruned (log_files_of config (Some name)) config.max_files old little.pruned little.only_old in
+      let pruned = keeps_pruned (log_files_of config (Some name)) (max_before config) old little.pruned little.only_old in
       let made = files_on old little.pruned (after_make_folder little.pruned) pruned (keeps_made little.pruned) in
       elim little.rest [
         | inl same ↦ rw same (and_others name old little.pruned pruned)
         | inr (inl is) ↦ rw is (and_others name old (after_make_folder little.pruned) made)
-        | inr (inr w) ↦ others_on name old (after_make_folder little.pruned) new (and_others name old (after_make_folder little.pruned) made)
-            (others_on name (after_make_folder little.pruned) w.0 new (keeps_opened name (after_make_folder little.pruned) w.0 w.1 w.2) (and_others name w.0 new (keeps_freed config.link w.0 new w.3)))
+        | inr (inr (unlinked, b, left, opens, frees, removes)) ↦
+            others_on name old (after_make_folder little.pruned) new (and_others name old (after_make_folder little.pruned) made)
+            (others_on name (after_make_folder little.pruned) unlinked new (keeps_opened name (after_make_folder little.pruned) unlinked b opens)
+            (and_others name unlinked new (files_on unlinked left new (keeps_freed config.link unlinked left frees) (keeps_removed config name old left new removes))))
       ]
 
   pub parts_keep : OpeningPartsKeepBodies

@@ -1,16 +1,16 @@
 -- The parts of an opening make the whole.
-use Rattle.std.proofs.Common.{◌≡◌, ◌≢◌, ◌∙◌, ◌⊎◌, ℕ, ◌≤◌, Bool, true, false, List, [], ◌∷◌, Option, None, Some, Result, Ok, Err, IsTrue, arith, ap, inl, inr, refl, sym, subst}
-use Rattle.std.specs.Prelude.{IsSome, OnErr, OnOk, IfErr}
+use Rattle.std.proofs.Common.{◌≡◌, ◌≢◌, ◌∙◌, ◌⊎◌, ◌||◌, ℕ, ◌-◌, ◌^◌, ◌<◌, ◌≤◌, if◌then◌else◌, Bool, true, false, List, [], ◌∷◌, Option, None, Some, Result, Ok, Err, IsTrue, arith, ap, inl, inr, refl, sym, subst}
+use Rattle.std.specs.Prelude.{◌==◌, IsSome, OnErr, OnOk, IfErr, option_and_then}
 use Rattle.std.specs.declared.io.Error.{Error}
 use Rattle.std.specs.FinMap as fin
-use Rattle.appender_retain.specs.Rank.{LogFiles}
+use Rattle.appender_retain.specs.Rank.{LogFiles, rank_of, rank_survives}
 use Rattle.appender_store.specs.declared.store.Folder.{Ghosts}
-use Rattle.appender_store.specs.Content.{Content, Entry, File, Link, Folder, RemovesLink, after_make_folder, IsLink, ForbidsMakeLink, ForbidsRemoveLink}
-use Rattle.appender_store.specs.Folder.{NotedCounts, HasCause, IsOneMore}
-use Rattle.appender_retain.specs.Survival.{OpeningsAddOne, LinksAddNone, candidates_in}
+use Rattle.appender_store.specs.Content.{Content, NameMap, Entry, File, Link, Folder, RemovesLink, after_make_folder, IsLink, ForbidsMakeLink, ForbidsRemoveLink}
+use Rattle.appender_store.specs.Folder.{NotedCounts, HasCause, IsOneMore, entry_row}
+use Rattle.appender_retain.specs.Survival.{OpeningsAddOne, OpenedIsOne, LinksAddNone, NamesAreKept, SurvivorsStay, SameSurvive, RemovesOnlyOld, candidates_in, name_rank, name_ranks, name_survives}
 use Rattle.appender_retain.specs.Pruning.{Prunes, IsQuiet}
-use Rattle.appender_rolling.specs.Config.{Config, log_files_of}
-use Rattle.appender_rolling.specs.Opening.{OpensNamedFile, MayRemoveLink, TriesRemoveLink, IsFileOrFolder, BlocksLink, ReplacesLink, FailsToReplaceLink, LinksTo, ChangesLink, OpensFile}
+use Rattle.appender_rolling.specs.Config.{Config, log_files_of, max_before, max_after}
+use Rattle.appender_rolling.specs.Opening.{OpensNamedFile, MayRemoveLink, TriesRemoveLink, IsFileOrFolder, BlocksLink, ReplacesLink, FailsToReplaceLink, LinksTo, ChangesLink, OpensFile, KeepsMaximum, SparesOpened}
 use Rattle.appender_store.specs.NameLaws.{NameLaws}
 use Rattle.appender_rolling.proofs.Kept.{removed_name, keeps_linked}
 
@@ -31,6 +31,48 @@ linked_candidates : (log : LogFiles) (link name : List ℕ) (old new : Content) 
 linked_candidates log [] name old new law same = omega (arith, ap (candidates_in log) same)
 linked_candidates log (b ∷ bs) name old new law (freed, inl same, makes) = omega (arith, ap (candidates_in log) same, law.made (b ∷ bs) name freed new makes)
 linked_candidates log (b ∷ bs) name old new law (freed, inr removes, makes) = omega (arith, law.removed (b ∷ bs) old freed removes, law.made (b ∷ bs) name freed new makes)
+
+-- what an opening needs to know of retention
+pub record RetentionLaws (log : LogFiles) : Type 0 where
+  pub one : OpeningsAddOne log
+  pub beside : OpenedIsOne log
+  pub none : LinksAddNone (record log { opened = None })
+  pub kept : log.by_name ≡ true → NamesAreKept log
+  pub stay : log.by_name ≡ true → SurvivorsStay log
+
+-- without a maximum all survive
+pub all_survive : (log : LogFiles) (max : ℕ) → max ≡ 0 → (names : NameMap) (name : List ℕ) → name_survives log max names name ≡ true
+all_survive log max none names name = rw none refl
+
+-- what survives is there
+spared : (log : LogFiles) (max : ℕ) (old new : Content) (name : List ℕ) → RemovesOnlyOld log max old new → name_survives log max old.names name ≡ true → fin.get new.names name ≡ fin.get old.names name
+spared log max old new name took is = elim (took.names name) [
+  | inl same ↦ same
+  | inr gone ↦ absurd (let both : true ≡ false = sym is ∙ gone.1 in cc)
+]
+
+-- a link survives
+link_survives : (log : LogFiles) (max : ℕ) (names : NameMap) (link target : List ℕ) → fin.get names link ≡ Some (Link target) → name_survives log max names link ≡ true
+link_survives log max names link target at =
+    let none : name_rank log names link ≡ None = ap (option_and_then (λ (e : Entry). rank_of log (0, entry_row (link, e)))) at in
+    ap (rank_survives max (name_ranks log names)) none ∙ either (max == 0)
+  where
+    either : (b : Bool) → (b || true) ≡ true
+    either true = refl
+    either false = refl
+
+-- and changes no other name's survival
+linked_same : (log : LogFiles) → SurvivorsStay log → (link name : List ℕ) (old new : Content) → ChangesLink link name old new → SameSurvive log old new
+linked_same log stay [] name old new same max other = ap (λ (c : Content). name_survives log max c.names other) same
+linked_same log stay (b ∷ bs) name old new (freed, inl same, makes) max other = stay.made (b ∷ bs) name freed new makes max other ∙ ap (λ (c : Content). name_survives log max c.names other) same
+linked_same log stay (b ∷ bs) name old new (freed, inr removes, makes) max other = stay.made (b ∷ bs) name freed new makes max other ∙ stay.removed (b ∷ bs) old freed removes max other
+
+linked_name : NameLaws → (link name : List ℕ) (old new : Content) → ChangesLink link name old new → link ≢ [] → fin.get new.names link ≡ Some (Link name)
+linked_name maps [] name old new same is_set = absurd (is_set refl)
+linked_name maps (b ∷ bs) name old new (freed, frees, makes) is_set = ap (λ (d : Content). fin.get d.names (b ∷ bs)) makes.after ∙ added
+  where
+    added : fin.get (fin.insert freed.names (b ∷ bs) (Link name)) (b ∷ bs) ≡ Some (Link name)
+    added = elim (maps.additions freed.names (b ∷ bs) (Link name) (b ∷ bs)) [ inl own ↦ own.1 | inr other ↦ absurd (other.0 refl) ]
 
 module _ {S F : Type 0} (kind : Ghosts S F) where
   -- ---- the link
@@ -101,29 +143,110 @@ module _ {S F : Type 0} (kind : Ghosts S F) where
   links_set [] name old new is_set relinks = absurd (is_set refl)
   links_set (b ∷ bs) name old new is_set relinks = relinks
 
-  linked : (link name : List ℕ) (old new : S) → IsTrue kind.is_known → LinksTo kind link name old new → ChangesLink link name (kind.content old) (kind.content new)
-  linked [] name old new is_known same = ap kind.content same
-  linked (b ∷ bs) name old new is_known relinks = let w = relinks.content is_known in (kind.content relinks.freed, w.0, w.1)
+  linked_to : (link name : List ℕ) (old new : S) → IsTrue kind.is_known → LinksTo kind link name old new → ChangesLink link name (kind.content old) (kind.content new)
+  linked_to [] name old new is_known same = ap kind.content same
+  linked_to (b ∷ bs) name old new is_known relinks = let w = relinks.content is_known in (kind.content relinks.freed, w.0, w.1)
 
   links_noted : (link name : List ℕ) (old new : S) → LinksTo kind link name old new → kind.noted new ≡ kind.noted old
   links_noted [] name old new same = ap kind.noted same
   links_noted (b ∷ bs) name old new relinks = relinks.noted
 
-  pub opens_file : (maps : NameLaws) (config : Config) (name : List ℕ) (old pruned unlinked new : S) (file : F) → OpeningsAddOne (log_files_of config (Some name)) → LinksAddNone (log_files_of config None) → Prunes kind (log_files_of config (Some name)) config.max_files old pruned → OpensNamedFile kind name pruned file unlinked → LinksTo kind config.link name unlinked new → OpensFile kind config name old file new
-  opens_file maps config name old pruned unlinked new file one none prunes gets links =
-      let noted : kind.noted new ≡ kind.noted pruned = links_noted config.link name unlinked new links ∙ gets.noted in
-      record {
-        pruned = pruned;
-        unlinked = unlinked;
-        prunes = prunes;
-        gets = gets;
-        links = links;
-        linked = λ is_known. linked config.link name unlinked new is_known links;
-        body_is_there = λ is_known. (keeps_linked maps config.link name (kind.content unlinked) (kind.content new) (linked config.link name unlinked new is_known links)).keeps.more (kind.body file) (gets.body_is_there is_known);
-        noted = noted;
-        at_most = λ quiet is_known some.
-            let before = prunes.fewer (subst (λ (n : NotedCounts). IsQuiet (kind.noted old) n) noted quiet) is_known some in
-            let more = one name (after_make_folder (kind.content pruned)) (kind.content unlinked) (kind.body file) refl (gets.opens is_known) in
-            let still = linked_candidates (log_files_of config None) config.link name (kind.content unlinked) (kind.content new) none (linked config.link name unlinked new is_known links) in
-            omega arith;
-      }
+  quiet_from : (a b : NotedCounts) → b.lists ≡ a.lists → b.removes ≡ a.removes → b.lists < 2 ^ 64 - 1 → b.removes < 2 ^ 64 - 1 → IsQuiet a b
+  quiet_from a b lists removes low lower = record { lists = lists; removes = removes; below = (low, lower) }
+
+  module _ (maps : NameLaws) (config : Config) (name : List ℕ) (laws : RetentionLaws (log_files_of config (Some name))) (old pruned unlinked linked new : S) (file : F)
+      (prunes : Prunes kind (log_files_of config (Some name)) (max_before config) old pruned) (gets : OpensNamedFile kind name pruned file unlinked)
+      (links : LinksTo kind config.link name unlinked linked) (prunes_last : Prunes kind (log_files_of config (Some name)) (max_after config) linked new) where
+    abbrev log : LogFiles
+    log = log_files_of config (Some name)
+
+    noted : kind.noted linked ≡ kind.noted pruned
+    noted = links_noted config.link name unlinked linked links ∙ gets.noted
+
+    -- by name nothing was removed before the opening, else nothing after it
+    unpruned : config.by_name ≡ true → pruned ≡ old
+    unpruned by_name = prunes.none (ap (λ (t : Bool). if t then 0 else config.max_files) by_name)
+
+    unpruned_last : config.by_name ≡ false → new ≡ linked
+    unpruned_last by_parts = prunes_last.none (ap (λ (t : Bool). if t then config.max_files else 0) by_parts)
+
+    at_most : KeepsMaximum kind config old new
+    at_most quiet is_known some = by config.by_name refl
+      where
+        by : (t : Bool) → config.by_name ≡ t → candidates_in (log_files_of config None) (kind.content new) ≤ config.max_files
+        by false is =
+            let same : new ≡ linked = unpruned_last is in
+            let max : max_before config ≡ config.max_files = ap (λ (t : Bool). if t then 0 else config.max_files) is in
+            let as_pruned : kind.noted new ≡ kind.noted pruned = ap kind.noted same ∙ noted in
+            let before = prunes.fewer (subst (λ (n : NotedCounts). IsQuiet (kind.noted old) n) as_pruned quiet) is_known (omega (arith, max, some)) in
+            let more = laws.one name (after_make_folder (kind.content pruned)) (kind.content unlinked) (kind.body file) refl (gets.opens is_known) in
+            let still = linked_candidates (log_files_of config None) config.link name (kind.content unlinked) (kind.content linked) laws.none (linked_to config.link name unlinked linked is_known links) in
+            rw same (omega (arith, before, more, still, max))
+        by true is =
+            let max : max_after config ≡ config.max_files = ap (λ (t : Bool). if t then config.max_files else 0) is in
+            let as_old : kind.noted linked ≡ kind.noted old = noted ∙ ap kind.noted (unpruned is) in
+            let left = prunes_last.fewer (subst (λ (n : NotedCounts). IsQuiet n (kind.noted new)) (sym as_old) quiet) is_known (omega (arith, max, some)) in
+            let more = laws.beside name (kind.content new) refl in
+            omega (arith, left, more, max)
+
+    quiet_both : IsQuiet (kind.noted old) (kind.noted new) → IsQuiet (kind.noted old) (kind.noted pruned) × IsQuiet (kind.noted linked) (kind.noted new)
+    quiet_both quiet = by config.by_name refl
+      where
+        by : (t : Bool) → config.by_name ≡ t → IsQuiet (kind.noted old) (kind.noted pruned) × IsQuiet (kind.noted linked) (kind.noted new)
+        by false is =
+            let same : kind.noted new ≡ kind.noted linked = ap kind.noted (unpruned_last is) in
+            let as_pruned : kind.noted new ≡ kind.noted pruned = same ∙ noted in
+            (subst (λ (n : NotedCounts). IsQuiet (kind.noted old) n) as_pruned quiet, quiet_from (kind.noted linked) (kind.noted new) (ap (λ (n : NotedCounts). n.lists) same) (ap (λ (n : NotedCounts). n.removes) same) quiet.below.0 quiet.below.1)
+        by true is =
+            let same : kind.noted pruned ≡ kind.noted old = ap kind.noted (unpruned is) in
+            let lists : (kind.noted pruned).lists ≡ (kind.noted old).lists = ap (λ (n : NotedCounts). n.lists) same in
+            let removes : (kind.noted pruned).removes ≡ (kind.noted old).removes = ap (λ (n : NotedCounts). n.removes) same in (
+              quiet_from (kind.noted old) (kind.noted pruned) lists removes (let low = quiet.below.0 in let is = quiet.lists in omega (arith, lists, low, is)) (let low = quiet.below.1 in let is = quiet.removes in omega (arith, removes, low, is)),
+              subst (λ (n : NotedCounts). IsQuiet n (kind.noted new)) (sym (noted ∙ same)) quiet,
+            )
+
+    spares : IsTrue kind.is_known → SparesOpened config name (kind.content old) (kind.content linked) (kind.content new)
+    spares is_known = record {
+      file = spared log (max_after config) (kind.content linked) (kind.content new) name last (own config.by_name refl);
+      link = λ is_set. spared log (max_after config) (kind.content linked) (kind.content new) config.link last
+          (link_survives log (max_after config) (kind.content linked).names config.link name (linked_name maps config.link name (kind.content unlinked) (kind.content linked) changes is_set));
+      same = λ other. same other config.by_name refl;
+    }
+      where
+        last : RemovesOnlyOld log (max_after config) (kind.content linked) (kind.content new)
+        last = prunes_last.only_old is_known
+
+        changes : ChangesLink config.link name (kind.content unlinked) (kind.content linked)
+        changes = linked_to config.link name unlinked linked is_known links
+
+        own : (t : Bool) → config.by_name ≡ t → name_survives log (max_after config) (kind.content linked).names name ≡ true
+        own false is = all_survive log (max_after config) (ap (λ (t : Bool). if t then config.max_files else 0) is) (kind.content linked).names name
+        own true is = (laws.kept is).opened name refl (max_after config) (kind.content linked).names
+
+        same : (other : List ℕ) (t : Bool) → config.by_name ≡ t → name_survives log (max_after config) (kind.content linked).names other ≡ name_survives log (max_after config) (kind.content old).names other
+        same other false is =
+            let none : max_after config ≡ 0 = ap (λ (t : Bool). if t then config.max_files else 0) is in
+            all_survive log (max_after config) none (kind.content linked).names other ∙ sym (all_survive log (max_after config) none (kind.content old).names other)
+        same other true is =
+            let stay = laws.stay is in
+            linked_same log stay config.link name (kind.content unlinked) (kind.content linked) changes (max_after config) other
+            ∙ stay.opened name (after_make_folder (kind.content pruned)) (kind.content unlinked) (kind.body file) refl (gets.opens is_known) (max_after config) other
+            ∙ ap (λ (s : S). name_survives log (max_after config) (kind.content s).names other) (unpruned is)
+
+    pub opens_file : OpensFile kind config name old file new
+    opens_file = record {
+      pruned = pruned;
+      unlinked = unlinked;
+      linked = linked;
+      prunes = prunes;
+      gets = gets;
+      links = links;
+      prunes_last = prunes_last;
+      changes_link = λ is_known. linked_to config.link name unlinked linked is_known links;
+      body_is_there = λ is_known.
+          rw (prunes_last.only_old is_known).bodies ((keeps_linked maps config.link name (kind.content unlinked) (kind.content linked) (linked_to config.link name unlinked linked is_known links)).keeps.more (kind.body file) (gets.body_is_there is_known));
+      spares = spares;
+      noted = noted;
+      quiet = quiet_both;
+      at_most = at_most;
+    }

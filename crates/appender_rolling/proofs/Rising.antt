@@ -1,20 +1,19 @@
 -- No part of a run lowers a count, and an absent folder is noted.
-use Rattle.std.proofs.Common.{Some, ◌≡◌, ◌∙◌, ◌⊎◌, ℕ, ◌^◌, ◌<◌, ℤ, Bool, true, false, List, [], ◌∷◌, length, map, Result, Ok, Err, MatchResult, Vec, IsTrue, arith, ap, inl, inr, refl, sym}
+use Rattle.std.proofs.Common.{Option, None, Some, zero, suc, if◌then◌else◌, ◌≡◌, ◌∙◌, ◌⊎◌, ℕ, ◌^◌, ◌<◌, ℤ, Bool, true, false, List, [], ◌∷◌, length, map, Result, Ok, Err, MatchResult, Vec, IsTrue, arith, ap, inl, inr, refl, sym}
 use Rattle.std.specs.Prelude.{OnOk}
 use Rattle.std.specs.declared.alloc.Global.{Global}
 use Rattle.std.specs.declared.io.Error.{Error}
 use Rattle.appender_names.specs.declared.error.InitError.{InitError}
 use Rattle.appender_names.specs.declared.error.InitError.TheVariants.{Directory, File, Symlink, Moment, Name, Memory, Limit}
-use Rattle.appender_names.specs.Name.{Naming}
-use Rattle.appender_store.specs.Content.{ForbidsList, ForbidsOpen, ForbidsRemoveLink}
+use Rattle.appender_store.specs.Content.{ForbidsList, ForbidsOpen, ForbidsRemove, ForbidsRemoveLink}
 use Rattle.appender_store.specs.Folder.{AreNotedCounts, NotedCounts, NotedList, NotedFlush, NotedOpen, listed_row, next_count}
 use Rattle.appender_store.specs.Notes.{CountsRise, Notes}
 use Rattle.appender_store.specs.declared.store.Folder.{Ghosts}
 use Rattle.appender_store.specs.declared.store.Listed.{Listed}
 use Rattle.appender_store.proofs.Rising.{cause_rises, equal_notes_rise, same_rises, rises_on, call_rises, note_rises, fault_rises}
 use Rattle.appender_retain.proofs.Rising.{prunes_rise}
-use Rattle.appender_rolling.specs.Config.{Config, naming_of, log_files_of, is_limited}
-use Rattle.appender_rolling.specs.Opening.{IsFirstNumber, IsListed, ListsNumbers, FindsNumber, OpensDirectly, RefusesDirectly, MakesFolder, OpensInNewFolder, OpensNamedFile, FailsToOpen, TriesRemoveLink, BlocksLink, LinksTo, FailsToLink, OpensFile, RefusesFile}
+use Rattle.appender_rolling.specs.Config.{Config, log_files_of, is_limited, max_before, max_after}
+use Rattle.appender_rolling.specs.Opening.{IsFirstNumber, IsListed, ListsNumbers, FindsNumber, OpensDirectly, RefusesDirectly, MakesFolder, OpensInNewFolder, OpensNamedFile, FailsToOpen, TriesRemoveLink, BlocksLink, LinksTo, FailsToLink, TriesRemove, RemovesEmpty, RemovesNewFile, OpensFile, RefusesFile}
 use Rattle.appender_rolling.specs.Roller.{Rolling, ClosesLast, ChecksClock, Writes, Puts, Flushes}
 use Rattle.appender_rolling.specs.declared.rolling.Switch.{Switch}
 use Rattle.appender_rolling.specs.declared.rolling.Switch.TheVariants.{None as Stayed, Opened as Switched, Failed as SwitchFailed}
@@ -22,11 +21,11 @@ use Rattle.appender_rolling.specs.declared.rolling.Switch.TheVariants.{None as S
 module _ {S F : Type 0} (kind : Ghosts S F) (failures_fit : (s : S) → kind.failures s < 2 ^ 64) (noted_fit : (s : S) → AreNotedCounts (kind.noted s)) where
   -- ---- the number of the first file
 
-  numbers_rise : (n : Naming) (m : ℤ) (old : S) (number : ℕ) (new : S) → ListsNumbers kind n m old number new → CountsRise kind old new
-  numbers_rise n m old number new l =
+  numbers_rise : (c : Config) (m : ℤ) (old : S) (number : ℕ) (new : S) → ListsNumbers kind c m old number new → CountsRise kind old new
+  numbers_rise c m old number new l =
       rises_on kind old l.listed new (call_rises kind (ForbidsList (kind.content old)) l.answer old l.listed (failures_fit old) l.cause l.noted) (by l.answer l.number_is)
     where
-      by : (answer : Result (Vec Listed Global) Error) → MatchResult answer (λ all. IsFirstNumber n m (IsListed (map listed_row all.items)) number × (new ≡ l.listed)) (λ fault. (number ≡ 0) × Notes kind l.listed (NotedList fault) new) → CountsRise kind l.listed new
+      by : (answer : Result (Vec Listed Global) Error) → MatchResult answer (λ all. IsFirstNumber c m (IsListed (map listed_row all.items)) number × (new ≡ l.listed)) (λ fault. (number ≡ 0) × Notes kind l.listed (NotedList fault) new) → CountsRise kind l.listed new
       by (Ok all) is = same_rises kind l.listed new is.1
       by (Err fault) is = note_rises kind noted_fit l.listed (NotedList fault) new is.1
 
@@ -35,7 +34,7 @@ module _ {S F : Type 0} (kind : Ghosts S F) (failures_fit : (s : S) → kind.fai
     where
       by : (limited : Bool) → is_limited config ≡ limited → CountsRise kind old new
       by false e = same_rises kind old new (finds.none e).1
-      by true e = numbers_rise (naming_of config) m old number new (finds.calls e)
+      by true e = numbers_rise config m old number new (finds.calls e)
 
   -- ---- the file
 
@@ -89,21 +88,45 @@ module _ {S F : Type 0} (kind : Ghosts S F) (failures_fit : (s : S) → kind.fai
       let making = cause_rises {T = Unit {0}} kind.is_known (BlocksLink kind (b ∷ bs) old relinks_not.freed) (kind.failures relinks_not.freed) (kind.failures new) (Err fault) (failures_fit relinks_not.freed) relinks_not.cause in
       equal_notes_rise kind old new (omega (arith, removal.failures, making)) relinks_not.noted
 
+  -- ---- a new file whose link was refused
+
+  removes_rise : (name : List ℕ) (old new : S) → TriesRemove kind name old new → CountsRise kind old new
+  removes_rise name old new removes = call_rises kind (ForbidsRemove name (kind.content old)) removes.answer old new (failures_fit old) removes.cause removes.noted
+
+  empty_rises : (name : List ℕ) (file : F) (old new : S) → RemovesEmpty kind name file old new → CountsRise kind old new
+  empty_rises name file old new asks = by asks.answer refl
+    where
+      by : (answer : Option ℕ) → asks.answer ≡ answer → CountsRise kind old new
+      by None is = same_rises kind old new (asks.other (λ same. absurd (let both : ◌≡◌ {A = Option ℕ} None (Some 0) = sym is ∙ same in cc)))
+      by (Some zero) is = removes_rise name old new (asks.empty is)
+      by (Some (suc n)) is = same_rises kind old new (asks.other (λ same. absurd (let both : ◌≡◌ {A = Option ℕ} (Some (suc n)) (Some 0) = sym is ∙ same in cc)))
+
+  new_file_rises : (config : Config) (name : List ℕ) (made : Bool) (file : F) (old new : S) → RemovesNewFile kind config name made file old new → CountsRise kind old new
+  new_file_rises config name made file old new removes = by config.by_name made refl refl
+    where
+      by : (by_name m : Bool) → config.by_name ≡ by_name → made ≡ m → CountsRise kind old new
+      by false m is_by is_made = same_rises kind old new (removes.other (inl is_by))
+      by true false is_by is_made = same_rises kind old new (removes.other (inr is_made))
+      by true true is_by is_made = empty_rises name file old new (removes.new_file is_by is_made)
+
   -- ---- an opening, and a refused one
 
   pub opens_rise : (config : Config) (name : List ℕ) (old : S) (file : F) (new : S) → OpensFile kind config name old file new → CountsRise kind old new
   opens_rise config name old file new opens =
-      rises_on kind old opens.pruned new (prunes_rise kind failures_fit noted_fit (log_files_of config (Some name)) config.max_files old opens.pruned opens.prunes)
-      (rises_on kind opens.pruned opens.unlinked new (gets_rise name opens.pruned file opens.unlinked opens.gets) (links_rise config.link name opens.unlinked new opens.links))
+      rises_on kind old opens.pruned new (prunes_rise kind failures_fit noted_fit (log_files_of config (Some name)) (max_before config) old opens.pruned opens.prunes)
+      (rises_on kind opens.pruned opens.unlinked new (gets_rise name opens.pruned file opens.unlinked opens.gets)
+      (rises_on kind opens.unlinked opens.linked new (links_rise config.link name opens.unlinked opens.linked opens.links)
+      (prunes_rise kind failures_fit noted_fit (log_files_of config (Some name)) (max_after config) opens.linked new opens.prunes_last)))
 
   pub refuses_rise : (config : Config) (name : List ℕ) (old : S) (error : InitError) (new : S) → RefusesFile kind config name old error new → CountsRise kind old new
   refuses_rise config name old (Directory fault) new (pruned, prunes, none) =
-      rises_on kind old pruned new (prunes_rise kind failures_fit noted_fit (log_files_of config (Some name)) config.max_files old pruned prunes) (gets_no_rise name pruned (Directory fault) new none)
+      rises_on kind old pruned new (prunes_rise kind failures_fit noted_fit (log_files_of config (Some name)) (max_before config) old pruned prunes) (gets_no_rise name pruned (Directory fault) new none)
   refuses_rise config name old (File fault) new (pruned, prunes, none) =
-      rises_on kind old pruned new (prunes_rise kind failures_fit noted_fit (log_files_of config (Some name)) config.max_files old pruned prunes) (gets_no_rise name pruned (File fault) new none)
-  refuses_rise config name old (Symlink fault) new (pruned, unlinked, file, prunes, gets, links_not) =
-      rises_on kind old pruned new (prunes_rise kind failures_fit noted_fit (log_files_of config (Some name)) config.max_files old pruned prunes)
-      (rises_on kind pruned unlinked new (gets_rise name pruned file unlinked gets) (links_not_rise config.link name unlinked fault new links_not))
+      rises_on kind old pruned new (prunes_rise kind failures_fit noted_fit (log_files_of config (Some name)) (max_before config) old pruned prunes) (gets_no_rise name pruned (File fault) new none)
+  refuses_rise config name old (Symlink fault) new (pruned, unlinked, file, left, prunes, gets, links_not, removes) =
+      rises_on kind old pruned new (prunes_rise kind failures_fit noted_fit (log_files_of config (Some name)) (max_before config) old pruned prunes)
+      (rises_on kind pruned unlinked new (gets_rise name pruned file unlinked gets)
+      (rises_on kind unlinked left new (links_not_rise config.link name unlinked fault left links_not) (new_file_rises config name (kind.made_file unlinked) file left new removes)))
   refuses_rise config name old Memory new same = same_rises kind old new same
   refuses_rise config name old Moment new (pruned, prunes, never) = absurd never
   refuses_rise config name old (Name fault) new (pruned, prunes, never) = absurd never
@@ -135,18 +158,28 @@ module _ {S F : Type 0} (kind : Ghosts S F) (failures_fit : (s : S) → kind.fai
   pub flushes_rise : (answer : Result (Unit {0}) Error) (old new : Rolling S F) → Flushes kind answer old new → CountsRise kind old.folder new.folder
   flushes_rise answer old new flushes = call_rises kind ⊥ answer old.folder new.folder (failures_fit old.folder) flushes.cause flushes.stays.noted
 
+-- files are removed before an opening or after it
+none_after : (c : Config) → 0 < max_before c → max_after c ≡ 0
+none_after c some = by c.by_name some
+  where
+    by : (by_name : Bool) → 0 < (if by_name then 0 else c.max_files) → (if by_name then c.max_files else 0) ≡ 0
+    by true some = absurd (omega (arith, some))
+    by false some = refl
+
 module _ {S F : Type 0} (kind : Ghosts S F) where
   -- the listing of an absent folder is noted
   pub absent_finds : (config : Config) (m : ℤ) (old : S) (number : ℕ) (new : S) → FindsNumber kind config m old number new → is_limited config ≡ true → IsTrue kind.is_known → (kind.content old).there ≡ false → (kind.noted new).lists ≡ next_count (kind.noted old).lists
   absent_finds config m old number new finds limited is_known absent = by l.answer l.there l.number_is
     where
-      l : ListsNumbers kind (naming_of config) m old number new
+      l : ListsNumbers kind config m old number new
       l = finds.calls limited
 
-      by : (answer : Result (Vec Listed Global) Error) → OnOk answer (IsTrue kind.is_known → (kind.content old).there ≡ true) → MatchResult answer (λ all. IsFirstNumber (naming_of config) m (IsListed (map listed_row all.items)) number × (new ≡ l.listed)) (λ fault. (number ≡ 0) × Notes kind l.listed (NotedList fault) new) → (kind.noted new).lists ≡ next_count (kind.noted old).lists
+      by : (answer : Result (Vec Listed Global) Error) → OnOk answer (IsTrue kind.is_known → (kind.content old).there ≡ true) → MatchResult answer (λ all. IsFirstNumber config m (IsListed (map listed_row all.items)) number × (new ≡ l.listed)) (λ fault. (number ≡ 0) × Notes kind l.listed (NotedList fault) new) → (kind.noted new).lists ≡ next_count (kind.noted old).lists
       by (Ok all) there is = absurd (let both : true ≡ false = sym (there is_known) ∙ absent in cc)
       by (Err fault) there is = ap (λ (n : NotedCounts). n.lists) is.1.noted ∙ ap (λ (n : NotedCounts). next_count n.lists) l.noted
 
-  -- so is that of retention, if a maximum is set
-  pub absent_opens : (config : Config) (name : List ℕ) (old : S) (file : F) (new : S) → OpensFile kind config name old file new → 0 < config.max_files → IsTrue kind.is_known → (kind.content old).there ≡ false → (kind.noted new).lists ≡ next_count (kind.noted old).lists
-  absent_opens config name old file new opens some is_known absent = ap (λ (n : NotedCounts). n.lists) opens.noted ∙ opens.prunes.absent some is_known absent
+  -- so is that of retention before the opening, if a maximum is set
+  pub absent_opens : (config : Config) (name : List ℕ) (old : S) (file : F) (new : S) → OpensFile kind config name old file new → 0 < max_before config → IsTrue kind.is_known → (kind.content old).there ≡ false → (kind.noted new).lists ≡ next_count (kind.noted old).lists
+  absent_opens config name old file new opens some is_known absent =
+      let last : new ≡ opens.linked = opens.prunes_last.none (none_after config some) in
+      ap (λ (s : S). (kind.noted s).lists) last ∙ ap (λ (n : NotedCounts). n.lists) opens.noted ∙ opens.prunes.absent some is_known absent

@@ -5,7 +5,7 @@ use Rattle.appender_names.specs.declared.error.InitError.{InitError}
 use Rattle.appender_names.specs.declared.error.InitError.TheVariants.{Memory}
 use Rattle.appender_names.specs.declared.rotation.Rotation.{Rotation}
 use Rattle.appender_store.specs.declared.store.Folder.{Ghosts}
-use Rattle.appender_clock.specs.declared.Clock.{Ghosts as Readings}
+use Rattle.appender_runtime.specs.declared.clock.Clock.{Ghosts as Readings}
 use Rattle.appender_rolling.specs.declared.rolling.Switch.{Switch}
 use Rattle.appender_rolling.specs.Config.{Config, defaults, is_limited}
 use Rattle.appender_rolling.specs.Roller.{Rolling, Scheduled, OpenFile, rolling_of, OpensRoller, OpensNoRoller, ChecksClockOnly, Writes, WritesAll, Puts, Flushes, is_due, next_stamp}

@@ -1,5 +1,5 @@
 -- An open log file, and what each call of a roller does to it and to the folder. `kind` has the ghost members of a kind of folder.
-use Rattle.std.specs.Prelude.{◌≡◌, ◌⊎◌, ℕ, ◌+◌, ◌-◌, ◌≤◌, nat_lt, ◌==◌, if◌then◌else◌, ℤ, ◌<ℤ◌, int_lt, Bool, true, false, not, ◌&&◌, List, [], length, take, drop, Option, None, Some, Result, Ok, Err, MatchResult, OnOk, IfErr, IsTrue, ◌++◌, ◌∷◌, ◌≢◌}
+use Rattle.std.specs.Prelude.{◌≡◌, ◌⊎◌, ℕ, ◌+◌, ◌-◌, ◌≤◌, nat_lt, ◌==◌, if◌then◌else◌, ℤ, ◌<ℤ◌, int_lt, Bool, false, not, ◌&&◌, List, [], length, take, drop, Option, None, Some, Result, Ok, Err, MatchResult, OnOk, IfErr, IsTrue, ◌++◌, ◌∷◌, ◌≢◌}
 use Rattle.std.specs.IoError.{error_kind}
 use Rattle.std.specs.declared.io.Error.{Error}
 use Rattle.std.specs.declared.io.ErrorKind.TheVariants.{Interrupted, WriteZero}
@@ -14,7 +14,7 @@ use Rattle.appender_store.specs.Notes.{Notes}
 use Rattle.appender_retain.specs.Pruning.{IsQuiet}
 use Rattle.appender_rolling.specs.Config.{Config, IsStamp, IsLaterStamp, stamp}
 use Rattle.appender_rolling.specs.declared.rolling.setup.Stamp.{Stamp}
-use Rattle.appender_rolling.specs.Opening.{file_name_of, MayOpen, IsNotReady, FindsNumber, KeepsMaximum, OpensFile, RefusesFile, IsRefusalEffect}
+use Rattle.appender_rolling.specs.Opening.{file_name_of, MayOpen, IsNotReady, FindsNumber, IsFirstRoom, KeepsMaximum, OpensFile, RefusesFile, IsRefusalEffect}
 use Rattle.appender_rolling.specs.declared.rolling.Switch.{Switch}
 use Rattle.appender_rolling.specs.declared.rolling.Switch.TheVariants.{None as Stayed, Opened as Switched, Failed as SwitchFailed}
 
@@ -85,7 +85,7 @@ pub record OpensRoller {S F : Type 0} (kind : Ghosts S F) (config : Config) (m :
   pub opened : new.opened ≡ stamp m number
   pub last : new.last ≡ stamp m number
   pub boundary : new.boundary ≡ next_of config.rotation m
-  pub room : new.room ≡ config.max_bytes
+  pub room : IsFirstRoom kind config new.folder new.file new.room
   pub opens : OpensFile kind config (file_name_of config (stamp m number)) listed new.file new.folder
 
 -- The first file was not opened, for this reason.

@@ -1,10 +1,10 @@
 //! What holds of all openings of log files. A caller cites a law by a call: the function does
 //! nothing, and its contract is the law.
-ghost use Rattle.std.specs.Prelude.{◌≡◌, ℕ, List, IsTrue};
+ghost use Rattle.std.specs.Prelude.{◌≡◌, ℕ, List, IsTrue, true};
 ghost use Rattle.appender_names.specs.declared.error.InitError.{InitError};
-ghost use Rattle.appender_rolling.specs.Config.{Config};
+ghost use Rattle.appender_rolling.specs.Config.{Config, max_before};
 ghost use Rattle.appender_rolling.specs.Kept.{OpeningPartsKeepBodies};
-ghost use Rattle.appender_rolling.specs.Limits.{RemovesOnlyOldNames, HasReason};
+ghost use Rattle.appender_rolling.specs.Limits.{RemovesOnlyOldNames, KeepsEachFile, LeavesNames, HasReason};
 ghost use Rattle.appender_rolling.specs.Opening.{OpensFile, RefusesFile};
 
 use appender_store::laws::names_change_one_at_a_time;
@@ -19,14 +19,21 @@ pub fn openings_keep_files()
 }
 
 /// An opening, and a refused one too, removes no name but those that don't survive retention, and a link with
-/// the name of the link that is set.
+/// the name of the link that is set. By name, a refused opening removes no file that was there, so the open one keeps its
+/// name. Nor does it leave a new file, unless the call that removes that again fails by itself or is refused memory.
 pub fn openings_take_little<S: Folder>()
     ensures opened { (config : Config) (name : List ℕ) (old : S) (file : S.File) (new : S)
         → OpensFile S.Folder config name old file new → IsTrue S.is_known
-        → RemovesOnlyOldNames config name (S.content old) (S.content new) }
+        → RemovesOnlyOldNames config config.max_files name (S.content old) (S.content new) }
     ensures refused { (config : Config) (name : List ℕ) (old : S) (error : InitError) (new : S)
         → RefusesFile S.Folder config name old error new → IsTrue S.is_known
-        → RemovesOnlyOldNames config name (S.content old) (S.content new) }
+        → RemovesOnlyOldNames config (max_before config) name (S.content old) (S.content new) }
+    ensures by_name { (config : Config) (name : List ℕ) (old : S) (error : InitError) (new : S)
+        → config.by_name ≡ true → RefusesFile S.Folder config name old error new → IsTrue S.is_known
+        → KeepsEachFile (S.content old) (S.content new) }
+    ensures no_new { (config : Config) (name : List ℕ) (old : S) (error : InitError) (new : S)
+        → config.by_name ≡ true → RefusesFile S.Folder config name old error new → IsTrue S.is_known
+        → LeavesNames S.Folder config name old new }
 {
     names_change_one_at_a_time();
 }

@@ -4,19 +4,19 @@ ghost use Rattle.std.specs.Prelude.{◌≡◌};
 mod appender;
 mod builder;
 mod file;
-mod gated;
 mod log_file;
 mod schedule;
 mod setup;
+mod shared_roller;
 mod writer;
 
 pub use appender::{FileAppender, RollingFileAppender, daily, hourly, minutely, never, weekly};
-pub use appender_clock::{Clock, SystemClock};
 pub use appender_names::error::{InitError, NameFault};
 use appender_names::names::Names;
 pub use appender_names::rotation::{ParseRotationError, Rotation};
+pub use appender_runtime::clock::{Clock, SystemClock};
+pub use appender_runtime::make_writer::MakeWriter;
 use appender_store::store::Folder;
-pub use appender_traits::make_writer::MakeWriter;
 pub use builder::Builder;
 pub use file::RollingFile;
 use log_file::LogFile;
@@ -94,7 +94,7 @@ impl<S: Folder> Roller<S> {
         match setup.open_file(&mut folder, name.as_str()) {
             Err(error) => Err((error, folder)),
             Ok(file) => {
-                let room = setup.max_bytes();
+                let room = setup.first_room(&folder, &file);
                 let boundary = setup.rotation().next_date(moment);
                 Ok(Roller {
                     schedule: Schedule {
@@ -196,6 +196,13 @@ impl<S: Folder> Roller<S> {
         ensures { result ≡ self.now.opened.number }
     {
         self.schedule.opened.number
+    }
+
+    /// Returns how many bytes of the limit are left of the open file; 0 without a limit.
+    pub fn room(&self) -> u64
+        ensures { result ≡ self.now.room }
+    {
+        self.log.room
     }
 
     /// Returns the name of the open file.

@@ -1,8 +1,9 @@
 //! A folder as an appender sees it, and one in memory.
-ghost use Rattle.std.specs.Prelude.{◌≡◌, ◌⊎◌, ◌<◌, ◌≤◌, ◌^◌, ℕ, Bool, true, length, take, IsTrue, IfOk, OnOk, OnErr, List, Result, Vec};
+ghost use Rattle.std.specs.Prelude.{◌≡◌, ◌⊎◌, ◌<◌, ◌≤◌, ◌^◌, ℕ, Bool, true, Some, length, take, is_none, IsTrue, IfOk, OnOk, OnErr, List, Option, Result, Vec};
+ghost use Rattle.std.specs.FinMap as fin;
 ghost use Rattle.std.specs.declared.alloc.Global.{Global};
 ghost use Rattle.std.specs.declared.io.Error.{Error};
-ghost use Rattle.appender_store.specs.Content.{Content, IsSound, OpensBody, Removes, RemovesLink, MakesLink, after_append, after_make_folder, ForbidsOpen, ForbidsRemove, ForbidsRemoveLink, ForbidsMakeLink, ForbidsList};
+ghost use Rattle.appender_store.specs.Content.{Content, IsSound, OpensBody, Removes, RemovesLink, MakesLink, after_append, after_make_folder, body_at, ForbidsOpen, ForbidsRemove, ForbidsRemoveLink, ForbidsMakeLink, ForbidsList};
 ghost use Rattle.appender_store.specs.Folder.{AreNotedCounts, NotedCounts, NoticeMessage, after_note, message_of, notice_kind_of, Lists, HasCause, IsOneMore};
 
 mod calls;
@@ -85,6 +86,9 @@ pub trait Folder: Drop {
     /// The number of the body that an open file writes to.
     ghost body: { Self.File → ℕ };
 
+    /// Whether the last opening that succeeded made its file.
+    ghost made_file: { Self → Bool };
+
     /// The number of calls that failed by themselves: at most `u64::MAX`, where it stays.
     ghost failures: { Self → ℕ };
 
@@ -108,6 +112,8 @@ pub trait Folder: Drop {
     ghost append_gives: { Self → Self.File → List ℕ → Result ℕ Error → Self → Self.File → Type 0 };
 
     ghost flush_gives: { Self → Self.File → Result (Unit {0}) Error → Self → Self.File → Type 0 };
+
+    ghost length_gives: { Self → Self.File → Option ℕ → Type 0 };
 
     ghost note_gives: { Self → NoticeMessage → Self → Type 0 };
 
@@ -140,6 +146,8 @@ pub trait Folder: Drop {
             OpensBody name.now (content self.old) (content self.new) (body file)) }
         ensures there { IfOk result (λ file. IsTrue is_known →
             body file < length (content self.new).bodies) }
+        ensures made { OnOk result (IsTrue is_known →
+            made_file self.new ≡ is_none (fin.get (content self.old).names name.now)) }
         ensures err { OnErr result (content self.new ≡ content self.old) }
         ensures cause { HasCause is_known (ForbidsOpen name.now (content self.old))
             (failures self.old) (failures self.new) result }
@@ -197,6 +205,17 @@ pub trait Folder: Drop {
         ensures file { body file.new ≡ body file.old }
         ensures cause { HasCause is_known ⊥ (failures self.old) (failures self.new) result }
         ensures notices { noted self.new ≡ noted self.old };
+
+    /// Returns whether the last call of `open` that succeeded made the file, whose name was free.
+    fn made_file(&self) -> bool
+        ensures { result ≡ made_file self.now };
+
+    /// Returns the length of an open file of this folder in bytes, if it can be told.
+    fn length(&self, file: &Self::File) -> Option<u64>
+        requires { IsTrue is_known → body file.now < length (content self.now).bodies }
+        ensures call { length_gives self.now file.now result }
+        ensures known { IsTrue is_known →
+            result ≡ Some (length (body_at (content self.now) (body file.now))) };
 
     /// Reports a fault that the appender goes on after.
     fn note(&mut self, notice: Notice<'_>)

@@ -2,9 +2,3 @@ pub mod Written
 pub mod Asking
 pub mod Gathered
 pub mod Batches
-pub mod ByTable
-pub mod TextLaw
-pub mod DoneLaw
-pub mod CutLaw
-pub mod WaitsLaw
-pub mod FlushLaw

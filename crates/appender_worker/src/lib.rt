@@ -4,6 +4,5 @@
 
 mod batching;
 mod counting;
-pub mod laws;
 mod sink;
 pub mod worker;

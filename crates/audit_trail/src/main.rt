@@ -10,9 +10,9 @@ use audit_trail_core::lock::lock_files;
 use audit_trail_core::trail;
 use audit_trail_core::trail::{Fault, Limits};
 use program_io::arguments;
+use program_io::blocking::BlockingInput;
 use program_io::report::print;
 use program_io::streams::fill_streams;
-use program_io::waiting::WaitingInput;
 use program_options::{Request, read_limits};
 use std::fs::File;
 use std::process::ExitCode;
@@ -33,17 +33,17 @@ static HELP: &str = concat!(
     "  --max-bytes N  begins the next file of the day before a line that does not fit\n",
     "                 into N bytes: as 500, 64K, 10M or 2G, where K is 1024 bytes. A\n",
     "                 longer line has a file of its own. A number follows the date in\n",
-    "                 each name, as in audit.2026-11-28.000000.log, and each start\n",
-    "                 begins the next number. --keep counts files with a number only\n",
+    "                 each name, as in audit.2026-11-28.000000.log. A start goes on in\n",
+    "                 the last file of the day. --keep counts files with a number only\n",
     "                 with this option, and files without one only without it\n",
     "  --             ends the options: the words after it are arguments\n",
     "\n",
-    "Status: 0 if every line was written; 1 if no log was opened, an input not read, a line\n",
-    "not written whole, a sync failed, or a log file truncated or not found again: removed,\n",
-    "renamed or replaced while it was written to; 2 if the arguments are wrong; 3 if memory\n",
-    "was refused.\n",
+    "Status: 0 if every line was written; 1 if no log was opened, an input not read, a\n",
+    "line not written whole, a sync failed, or a log file removed, renamed, replaced or\n",
+    "truncated while it was written to (the next line begins another); 2 if the\n",
+    "arguments are wrong; 3 if memory was refused.\n",
     "\n",
-    "While the disk is full, a quota is used up or the disk fails to write, it waits: it\n",
+    "While the disk refuses lines, as when it is full, broken or read only, it waits: it\n",
     "prints 'writes pause' and the reason on standard error at once, tries again within\n",
     "each second, and prints 'writes go on'. No line is lost.\n",
     "\n",
@@ -126,7 +126,7 @@ fn keep<R: Host>(rt: R, host: &HostRuntime, limits: Limits, arguments: &[String]
                 rt,
                 limits,
                 arguments,
-                &mut WaitingInput::new(rt, host.stdin()),
+                &mut BlockingInput::new(rt, host.stdin()),
                 &mut errors,
             );
             kept.err().unwrap_or(0)

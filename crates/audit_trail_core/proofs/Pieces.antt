@@ -1,6 +1,8 @@
 -- A line that is added in pieces.
-use Rattle.std.proofs.Common.{◌≡◌, ◌≢◌, ◌∙◌, ◌==◌, true, false, refl, sym, ap, subst, arith, ℕ, suc, ◌+◌, ◌-◌, ◌<◌, ◌≤◌, List, [], ◌∷◌, length, take, drop, Result, Ok, Err, length-append, length-drop}
+use Rattle.std.proofs.Common.{◌≡◌, ◌≢◌, ◌∙◌, ◌==◌, true, false, refl, sym, ap, subst, arith, ℕ, suc, ◌+◌, ◌-◌, ◌<◌, ◌≤◌, Bool, List, [], ◌∷◌, length, take, drop, Result, Ok, Err, length-append, length-drop}
 use Rattle.std.proofs.Math.Seq.{take-length}
+use Rattle.std.proofs.lemmas.List.{nil_from_length, append-nil}
+use Rattle.std.specs.Io.BufRead.{ends_with_byte}
 use Rattle.std.specs.Prelude.{IfErr, IsErrAnd}
 use Rattle.std.specs.IoError.{error_kind}
 use Rattle.std.specs.declared.io.Error.{Error}
@@ -10,7 +12,11 @@ use Rattle.appender_store.specs.declared.store.Folder.{Ghosts}
 use Rattle.appender_rolling.proofs.Pieces.{one_more_piece}
 use Rattle.appender_rolling.specs.Appender.{Appending, AppendsNow}
 use Rattle.appender_rolling.specs.Roller.{AreContinued, written_count}
-use Rattle.audit_trail_core.specs.Trail.{AppendsPieces, AppendsPart, interruptions}
+use Rattle.log_check.proofs.Ends.{whole_after, whole_after_none}
+use Rattle.log_check.specs.Log.{CheckedState, ChecksEnd, EndsWhole, FindsFile, newline_length}
+use Rattle.appender_runtime.specs.declared.clock.Clock.{Ghosts as Readings}
+use Rattle.appender_rolling.specs.declared.rolling.Switch.{Switch}
+use Rattle.audit_trail_core.specs.Trail.{AppendsPieces, AppendsPart, FindsRoom, interruptions}
 
 module _ {S F C : Type 0} (kind : Ghosts S F) where
   -- What was added so far: appends that all continue, of which this number were interrupted, and before them others.
@@ -90,6 +96,32 @@ module _ {S F C : Type 0} (kind : Ghosts S F) where
         taken_is = omega (arith, all, same);
         some = subst (λ rest. rest ≢ []) (sym rest_is) some;
       }
+
+  -- all bytes were added, and a newline is at their end
+  pub whole_line : (answers : List (Result ℕ Error)) (bytes : List ℕ) (old new : Appending S F C)
+      → AppendsPieces kind answers bytes [] old new → ends_with_byte 10 bytes ≡ true → EndsWhole kind new
+  whole_line answers bytes old new adds ends =
+      let same : adds.so_far.taken ≡ bytes = sym (append-nil adds.so_far.taken) ∙ sym adds.so_far.split in
+      whole_after kind adds.so_far.taken old new adds.so_far.content adds.so_far.stays.file (subst (λ xs. ends_with_byte 10 xs ≡ true) (sym same) ends)
+
+  -- none of them were
+  pub whole_part : (bytes : List ℕ) (taken : ℕ) (old new : Appending S F C)
+      → AppendsPart kind bytes taken old new → taken ≡ 0 → EndsWhole kind old → EndsWhole kind new
+  whole_part bytes taken old new part none =
+      whole_after_none kind part.adds.so_far.taken old new part.adds.so_far.content part.adds.so_far.stays.file
+      (nil_from_length part.adds.so_far.taken (sym part.taken_is ∙ none))
+
+  -- the log was found, and the clock was checked for the line and the newline before it
+  pub room_found : {time : Readings C} {n : ℕ} {cut : Bool} {switch : Switch} {start found : CheckedState S F C} (anew : Bool) (len : ℕ) (old looked : CheckedState S F C)
+      → start ≡ old → FindsFile kind time anew start found → n ≡ len + newline_length cut → cut ≡ found.cut
+      → ChecksEnd kind time n switch found looked → FindsRoom kind time len old looked
+  room_found {time = time} {switch = switch} {found = found} anew len old looked same finds is cut looks = record {
+    anew = anew;
+    found = found;
+    finds = subst (λ start. FindsFile kind time anew start found) same finds;
+    switch = switch;
+    looks = subst (λ n. ChecksEnd kind time n switch found looked) (is ∙ ap (λ b. len + newline_length b) cut) looks;
+  }
 
 -- some bytes have a length
 some_length : (xs : List ℕ) → xs ≢ [] → 0 < length xs

@@ -1,14 +1,14 @@
 //! The lines of several sources in one log, and the account of them.
-ghost use Rattle.std.specs.Prelude.{◌≡◌, ◌⊎◌, ℕ, ◌+◌, ◌-◌, ◌^◌, ◌<◌, ◌≤◌, IfOk, sum_by, vec_len};
+ghost use Rattle.std.specs.Prelude.{◌≡◌, ◌⊎◌, ℕ, ◌+◌, ◌-◌, ◌^◌, ◌<◌, ◌≤◌, IfOk, OnOk, sum_by, vec_len};
 ghost use Rattle.std.specs.Io.KnownBytes.{Appends};
 ghost use Rattle.audit_trail_core.specs.Fault.{account_text, trail_status, ReportsTrailStatus};
 ghost use Rattle.audit_trail_core.specs.Gather.{SendsLines};
 
+use crate::sources::{DiskSource, lies_in};
 use crate::trail::{Fault, Limits, TrailLog, open_trail, report_fault};
-use file_watch::FileCounts;
+use log_check::FileCounts;
 use program_io::{ShortLines, end_line, read_line};
 use std::alloc::{AllocError, Global};
-use std::fs::File;
 use std::io;
 use std::io::{BufRead, BufReader, Read, Write};
 use std::sync::Arc;
@@ -36,8 +36,14 @@ pub trait Trails {
         counts: Arc<FileCounts, Global>,
     ) -> Result<Self::Log, InitError>;
 
-    /// Opens the source of this path. `Fault::Own` if it is a file of the log's folder.
-    fn open_source(&self, log: &Self::Log, path: &str) -> Result<Self::Source, Fault>;
+    /// Opens the source of this path, before the log is opened. `Fault::Own` if it is a file of this folder, which is the
+    /// log's.
+    fn open_source(&self, directory: &str, path: &str) -> Result<Self::Source, Fault>;
+
+    /// Returns whether a source is the open file of the log, by whatever path.
+    fn is_log(&self, _log: &Self::Log, _source: &Self::Source) -> bool {
+        false
+    }
 }
 
 /// The trails and the sources of the file system.
@@ -58,7 +64,7 @@ impl<H: Host> DiskTrails<H> {
 impl<H: Host> Trails for DiskTrails<H> {
     type Log = TrailLog<HostRuntime, H>;
 
-    type Source = File;
+    type Source = DiskSource;
 
     fn open_trail(
         &self,
@@ -68,12 +74,16 @@ impl<H: Host> Trails for DiskTrails<H> {
         open_trail(&self.rt, self.host, self.limits, directory, counts)
     }
 
-    fn open_source(&self, log: &TrailLog<HostRuntime, H>, path: &str) -> Result<File, Fault> {
-        let source = File::open(&self.rt, path)?;
-        if log.watch().owns(log.log().open_file(), &source, path)? {
+    fn open_source(&self, directory: &str, path: &str) -> Result<DiskSource, Fault> {
+        let source = DiskSource::open(self.rt, path)?;
+        if lies_in(&self.rt, directory, path)? {
             return Err(Fault::Own);
         }
         Ok(source)
+    }
+
+    fn is_log(&self, log: &TrailLog<HostRuntime, H>, source: &DiskSource) -> bool {
+        source.is(log.log().open_file())
     }
 }
 
@@ -95,12 +105,35 @@ pub fn keep_all<R: Host, T: Trails, O: Write, E: Write>(
     ensures all_handed { result ≡ 0 → (lines : ℕ) × Appends (O.contents output.old) (O.contents output.new)
         (account_text lines lines 0 0) }
 {
+    let (sources, unopened) = open_sources(rt.alloc(), trails, directory, paths, errors);
+    if sources.inputs.is_empty() && unopened > 0 {
+        // No log is opened for no line.
+        let _ = write_account(0, 0, 0, 0, output);
+        return unopened;
+    }
+    let ended = log_sources(rt, trails, directory, sources, output, errors);
+    unopened.max(ended)
+}
+
+// Opens the log, and writes the lines of the sources to it, and their account. Returns the status of that. The log itself
+// is no source.
+fn log_sources<R: Host, T: Trails, O: Write, E: Write>(
+    rt: R,
+    trails: &T,
+    directory: &str,
+    sources: Sources<'_, T::Source>,
+    output: &mut O,
+    errors: &mut E,
+) -> u8
+    ensures reported { ReportsTrailStatus result (E.contents errors.old) (E.contents errors.new) }
+    ensures all_handed { result ≡ 0 → (lines : ℕ) × Appends (O.contents output.old) (O.contents output.new)
+        (account_text lines lines 0 0) }
+{
     match open_watched(rt, trails, directory) {
-        Ok((log, counts)) => {
-            let (sources, unopened) = open_sources(rt.alloc(), trails, &log, paths, errors);
-            let ended = keep_sources(rt, log, sources, &counts, output, errors);
-            unopened.max(ended)
-        }
+        Ok((log, counts)) => match log_among(trails, &log, &sources) {
+            Some(path) => report_source(path, &Fault::Own, errors),
+            None => keep_sources(rt, log, sources, &counts, output, errors),
+        },
         Err(fault) => report_fault(&fault, errors),
     }
 }
@@ -235,11 +268,25 @@ impl<'a, I: Drop> Sources<'a, I> {
     }
 }
 
+// Returns the path of a source that is the open file of the log, if there is one.
+fn log_among<'a, T: Trails>(
+    trails: &T,
+    log: &T::Log,
+    sources: &Sources<'a, T::Source>,
+) -> Option<&'a str> {
+    for (path, input) in sources.paths.iter().zip(&sources.inputs) {
+        if trails.is_log(log, input) {
+            return Some(*path);
+        }
+    }
+    None
+}
+
 // Opens the sources. The others are reported. Returns also the greatest status of these.
 fn open_sources<'a, T: Trails, E: Write>(
     alloc: Global,
     trails: &T,
-    log: &T::Log,
+    directory: &str,
     paths: &'a [String],
     errors: &mut E,
 ) -> (Sources<'a, T::Source>, u8)
@@ -251,7 +298,7 @@ fn open_sources<'a, T: Trails, E: Write>(
     };
     let mut status = 0u8;
     for path in paths {
-        let reported = open_or_report(trails, log, path.as_str(), &mut sources, errors);
+        let reported = open_or_report(trails, directory, path.as_str(), &mut sources, errors);
         status = status.max(reported);
     }
     (sources, status)
@@ -260,14 +307,14 @@ fn open_sources<'a, T: Trails, E: Write>(
 // Opens one source more and returns 0, or reports why not and returns the status of that.
 fn open_or_report<'a, T: Trails, E: Write>(
     trails: &T,
-    log: &T::Log,
+    directory: &str,
     path: &'a str,
     sources: &mut Sources<'a, T::Source>,
     errors: &mut E,
 ) -> u8
     ensures { ReportsTrailStatus result (E.contents errors.old) (E.contents errors.new) }
 {
-    match open_one(trails, log, path, sources) {
+    match open_one(trails, directory, path, sources) {
         Ok(()) => 0,
         Err(fault) => report_source(path, &fault, errors),
     }
@@ -275,11 +322,11 @@ fn open_or_report<'a, T: Trails, E: Write>(
 
 fn open_one<'a, T: Trails>(
     trails: &T,
-    log: &T::Log,
+    directory: &str,
     path: &'a str,
     sources: &mut Sources<'a, T::Source>,
 ) -> Result<(), Fault> {
-    let source = trails.open_source(log, path)?;
+    let source = trails.open_source(directory, path)?;
     sources.push(path, source)?;
     Ok(())
 }
@@ -314,13 +361,26 @@ fn print_account<O: Write, E: Write>(account: Account, output: &mut O, errors: &
 {
     let (accepted, handed) = (account.accepted(), account.handed());
     let (left, dropped) = (account.left(), account.dropped());
-    match writeln!(
-        output,
-        "accepted {accepted} handed {handed} left {left} dropped {dropped}"
-    ) {
+    match write_account(accepted, handed, left, dropped, output) {
         Ok(()) => 0,
         Err(fault) => report_fault(&Fault::of_account(fault), errors),
     }
+}
+
+fn write_account<O: Write>(
+    accepted: u64,
+    handed: u64,
+    left: u64,
+    dropped: usize,
+    output: &mut O,
+) -> io::Result<()>
+    ensures { OnOk result (Appends (O.contents output.old) (O.contents output.new)
+        (account_text accepted handed left dropped)) }
+{
+    writeln!(
+        output,
+        "accepted {accepted} handed {handed} left {left} dropped {dropped}"
+    )
 }
 
 // Reports the fault of a source on `errors`, and returns its status.

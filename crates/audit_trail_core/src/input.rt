@@ -1,5 +1,4 @@
-//! Inputs of lines that show whether the next line may have to be waited for. A pipe that pauses after all that there was
-//! room for doesn't show it: its lines are synced with the next one.
+//! Inputs of lines that show whether the next line may have to be waited for.
 ghost use Rattle.std.specs.Prelude.{◌≡◌};
 
 use std::io;
@@ -11,8 +10,10 @@ pub trait LineInput: BufRead {
     fn may_wait(&self) -> bool;
 }
 
-/// An input that remembers whether its last read returned less than there was room for. Such a read is a sign that a
-/// pipe is empty, or a terminal's line is at its end.
+/// An input that remembers whether its last read returned less than it asked for. Such a read is a sign that a pipe is
+/// empty, or a terminal's line is at its end. Each read asks for one byte less than there is room for: blocks are mostly
+/// powers of two, so that the last read of one is short, where it would fill the whole of such a buffer. A pause
+/// is not seen if no newline is among the bytes after the last multiple of that number.
 #[derive(Drop)]
 pub struct InputReads<R> {
     input: R,
@@ -42,8 +43,13 @@ impl<R: Read> Read for InputReads<R> {
     ghost remaining = { λ reads. R.remaining reads.input };
 
     fn read(&mut self, buf: &mut [u8]) -> io::Result<usize> {
-        let length = self.input.read(buf)?;
-        self.short = length < buf.len();
+        let most = if buf.len() > 1 {
+            buf.len() - 1
+        } else {
+            buf.len()
+        };
+        let length = self.input.read(&mut buf[..most])?;
+        self.short = length < most;
         Ok(length)
     }
 }

@@ -6,4 +6,5 @@ pub mod gather;
 pub mod input;
 pub mod lines;
 pub mod lock;
+pub mod sources;
 pub mod trail;

@@ -1,46 +1,34 @@
 //! A log that takes lines whole: each is in one file, or there is an error.
 ghost use Rattle.std.specs.Prelude.{◌≡◌, ◌≢◌, ◌≤◌, ℕ, IfOk, IfErr, Ok, OnOk, OnErr, true, false, length};
-ghost use Rattle.std.specs.Io.BufRead.{ends_with_byte};
 ghost use Rattle.std.specs.IoError.{error_kind};
 ghost use Rattle.std.specs.declared.io.ErrorKind.TheVariants.{Interrupted};
-ghost use Rattle.audit_trail_core.specs.Trail.{AppendsPart, EndsWhole};
+ghost use Rattle.audit_trail_core.specs.Trail.{AppendsPart};
+ghost use Rattle.log_check.specs.Log.{EndsWhole};
 ghost use Rattle.audit_trail_core.specs.Inside.Pieces.{AppendsWhole, AppendsOnce, EndsPartWith};
 
-use file_watch::Watch;
+use log_check::{CheckedLog, FileCheck, Opens, cause_of, ends_line, length_with};
 use std::io;
 use std::io::{ErrorKind, Write};
 use std::marker::Model;
-use tracing_appender::rolling::{Clock, RollingFile, Switch};
+use tracing_appender::rolling::{Clock, InitError, RollingFile};
 use tracing_appender::store::Folder;
 
 /// How often the appends of one line may be interrupted and repeated.
 const MOST_REPEATS: u32 = 100;
 
-/// A log that takes lines whole. A line that is cut short is ended by a newline before the next line.
+/// A log that takes lines whole. A line that is cut short is ended by a newline before the next line. If the open file was
+/// removed, renamed, replaced or truncated, the log is opened anew before the next line.
 #[derive(Drop)]
-pub struct LineLog<S: Folder, C: Clock, W: Watch<S>> {
-    log: RollingFile<S, C>,
-    watch: W,
-    // Whether the open file may end with a part of a line, also if that can't be seen: an empty line does less harm than
-    // two lines in one.
-    cut: bool,
-    // The open file's least length in bytes: what it had at its opening, and what was appended.
-    length: u64,
-    // Whether it was reported that the open file was not found again, or was truncated.
-    gone: bool,
-    // The number of flushes that were asked for and failed.
-    unsynced: u64,
+pub struct LineLog<S: Folder, C: Clock, W: FileCheck<S>, O: Opens<S, C>> {
+    checked: CheckedLog<S, C, W, O>,
 }
 
-impl<S: Folder, C: Clock, W: Watch<S>> Model for LineLog<S, C, W> {
-    ghost use Rattle.std.specs.Prelude.{◌≡◌, false};
-    ghost use Rattle.audit_trail_core.specs.Trail.{EndsWhole, TrailState};
+impl<S: Folder, C: Clock, W: FileCheck<S>, O: Opens<S, C>> Model for LineLog<S, C, W, O> {
+    ghost use Rattle.log_check.specs.Log.{CheckedState};
 
-    ghost Value = { TrailState S S.File C };
+    ghost Value = { CheckedState S S.File C };
 
-    ghost view = { λ l. record { log = l.log; cut = l.cut } };
-
-    ghost invariant = { λ l. l.cut ≡ false → EndsWhole S.Folder l.log };
+    ghost view = { λ l. l.checked };
 }
 
 /// Why a line is not whole.
@@ -52,75 +40,44 @@ pub struct TrailLineFault {
     pub error: io::Error,
 }
 
-impl<S: Folder, C: Clock, W: Watch<S>> LineLog<S, C, W> {
+impl<S: Folder, C: Clock, W: FileCheck<S>, O: Opens<S, C>> LineLog<S, C, W, O> {
     ghost use Rattle.std.specs.Prelude.{[], ◌∷◌};
-    ghost use Rattle.audit_trail_core.specs.Trail.{ChecksTrailClock, PutsLine, PutsPart};
+    ghost use Rattle.audit_trail_core.specs.Trail.{PutsLine, PutsPart};
 
-    /// Returns a log that goes on after what is in the open file.
-    pub fn new(log: RollingFile<S, C>, watch: W) -> LineLog<S, C, W>
-        ensures { result.log ≡ log }
+    /// Returns a log that goes on after what is in the open file, and that `opener` opens anew.
+    pub fn new(opener: O, log: RollingFile<S, C>, check: W) -> LineLog<S, C, W, O>
+        ensures log { result.log ≡ log }
+        ensures opening { result.opening ≡ record { config = O.config opener; anew = false } }
+        ensures seen { result.cut ≡ false → EndsWhole S.Folder log }
     {
-        let cut = !ends_whole(&watch, &log);
-        let length = watch.length(log.open_file());
         LineLog {
-            log,
-            watch,
-            cut,
-            length,
-            gone: false,
-            unsynced: 0,
+            checked: CheckedLog::new(opener, log, check),
         }
     }
 
-    /// Checks the clock once, with the line's length, and then adds all of the line to the open file, where it begins a
-    /// line. An interrupted append is repeated, at most 100 times for a line.
+    /// Opens the log anew if its file is not found, checks the clock once, with the line's length and that of a newline
+    /// before it, and then adds all of the line to the open file, where it begins a line. An interrupted append is repeated,
+    /// at most 100 times for a line.
     pub fn write_line(&mut self, line: &[u8]) -> Result<(), TrailLineFault>
         ensures ok { OnOk result (PutsLine S.Folder C.Clock line.now self.old self.new) }
         ensures part { IfErr result (λ fault. PutsPart S.Folder C.Clock line.now fault.taken self.old self.new) }
         ensures err { IfErr result (λ fault. error_kind fault.error ≢ Interrupted) }
     {
-        self.check_clock(line.len());
+        if let Err(error) = self.checked.find_file() {
+            return Err(unopened(&error));
+        }
+        let length = length_with(line, self.checked.is_cut());
+        self.checked.check_clock(length);
         let repeats = self.end_part()?;
-        self.cut = true;
-        match add_all(&mut self.log, line, repeats) {
+        match add_all(&mut self.checked, line, repeats) {
             Ok(_) => {
-                self.length = grown(self.length, line.len());
-                self.cut = !ends_line(line);
+                self.checked.set_cut(!ends_line(line));
                 Ok(())
             }
             Err(fault) => {
-                self.length = grown(self.length, fault.taken);
-                self.cut = fault.taken > 0;
+                self.checked.set_cut(fault.taken > 0);
                 Err(fault)
             }
-        }
-    }
-
-    // Checks the clock before a line of so many bytes, and how a file ends that is opened then.
-    fn check_clock(&mut self, length: usize)
-        ensures { ChecksTrailClock S.Folder C.Clock length self.old self.new }
-    {
-        let moment = self.log.moment();
-        self.compare_before(moment, length);
-        match self.log.see_for(moment, length) {
-            Switch::None => {}
-            Switch::Opened => {
-                self.watch.count_unsynced(self.log.folder(), self.unsynced);
-                self.gone = false;
-                self.length = self.watch.length(self.log.open_file());
-                self.cut = !ends_whole(&self.watch, &self.log);
-            }
-            Switch::Failed => self.cut = !ends_whole(&self.watch, &self.log),
-        }
-    }
-
-    // Compares the open file with what its name leads to, if another file is opened at this moment for a line of so many
-    // bytes.
-    fn compare_before(&mut self, moment: i64, length: usize)
-        ensures { self.new ≡ self.old }
-    {
-        if self.log.due_for(moment, length) {
-            self.compare();
         }
     }
 
@@ -128,51 +85,38 @@ impl<S: Folder, C: Clock, W: Watch<S>> LineLog<S, C, W> {
     // interrupted.
     fn end_part(&mut self) -> Result<u32, TrailLineFault>
         ensures ok { IfOk result (λ repeats. EndsPartWith S.Folder self.old.cut repeats self.old.log self.new.log) }
-        ensures whole { OnOk result (self.new.cut ≡ false) }
+        ensures whole { OnOk result (EndsWhole S.Folder self.new.log) }
         ensures part { IfErr result (λ fault. (fault.taken ≡ 0) × (self.old.cut ≡ true)
             × AppendsPart S.Folder (10 ∷ []) 0 self.old.log self.new.log) }
-        ensures cut { OnErr result (self.new.cut ≡ true) }
+        ensures opening { self.new.opening ≡ self.old.opening }
         ensures err { IfErr result (λ fault. error_kind fault.error ≢ Interrupted) }
     {
-        if !self.cut {
+        if !self.checked.is_cut() {
             return Ok(0);
         }
-        match add_all(&mut self.log, b"\n", 0) {
-            Ok(repeats) => {
-                self.length = grown(self.length, 1);
-                self.cut = false;
-                Ok(repeats)
-            }
+        match add_all(&mut self.checked, b"\n", 0) {
+            Ok(repeats) => Ok(repeats),
             Err(fault) => Err(TrailLineFault { taken: 0, ..fault }),
         }
     }
 
-    // Compares the open file with what its name leads to, and its length, until a difference is reported. Other programs
-    // may make the file longer, so only a shorter one is a difference.
-    fn compare(&mut self)
-        ensures { self.new ≡ self.old }
+    /// Returns whether the log was ever opened anew.
+    pub fn is_anew(&self) -> bool
+        ensures { result ≡ self.now.opening.anew }
     {
-        if !self.gone {
-            let found = self.watch.finds(
-                self.log.folder(),
-                self.log.open_file(),
-                self.log.open_name(),
-                self.length,
-            );
-            self.gone = !found;
-        }
+        self.checked.is_anew()
     }
 
     /// Returns the log.
     pub fn log(&self) -> &RollingFile<S, C>
         ensures { result.now ≡ self.now.log }
     {
-        &self.log
+        self.checked.log()
     }
 
     /// Returns what watches its open file.
-    pub fn watch(&self) -> &W {
-        &self.watch
+    pub fn check(&self) -> &W {
+        self.checked.check()
     }
 
     /// Closes the open file, and returns the folder and the clock.
@@ -180,11 +124,11 @@ impl<S: Folder, C: Clock, W: Watch<S>> LineLog<S, C, W> {
         ensures folder { result.0 ≡ self.log.roller.folder }
         ensures clock { result.1 ≡ self.log.clock }
     {
-        self.log.into_parts()
+        self.checked.into_parts()
     }
 }
 
-impl<S: Folder, C: Clock, W: Watch<S>> Write for LineLog<S, C, W> {
+impl<S: Folder, C: Clock, W: FileCheck<S>, O: Opens<S, C>> Write for LineLog<S, C, W, O> {
     ghost use Rattle.std.specs.Prelude.{[], None};
     ghost use Rattle.std.specs.Io.{WritesAtMost};
     ghost use Rattle.std.specs.Io.KnownBytes.{WriteAppends};
@@ -213,27 +157,23 @@ impl<S: Folder, C: Clock, W: Watch<S>> Write for LineLog<S, C, W> {
     fn flush(&mut self) -> io::Result<()>
         ensures flush { FlushesNow S.Folder result self.old.log self.new.log }
         ensures cut { self.new.cut ≡ self.old.cut }
+        ensures opening { self.new.opening ≡ self.old.opening }
     {
-        let flushed = self.log.flush();
-        if flushed.is_err() {
-            self.unsynced = self.unsynced.saturating_add(1);
-            self.watch.count_unsynced(self.log.folder(), self.unsynced);
-        }
-        self.compare();
-        flushed
+        self.checked.flush()
     }
 }
 
 // Adds bytes to the open file by one append after another, each of what those before it left. So many of the line
 // were interrupted before; returns how many were with these.
-fn add_all<S: Folder, C: Clock>(
-    log: &mut RollingFile<S, C>,
+fn add_all<S: Folder, C: Clock, W: FileCheck<S>, O: Opens<S, C>>(
+    log: &mut CheckedLog<S, C, W, O>,
     bytes: &[u8],
     repeats: u32,
 ) -> Result<u32, TrailLineFault>
     requires { repeats ≤ 100 }
-    ensures ok { IfOk result (λ after. AppendsWhole S.Folder bytes.now repeats after log.old log.new) }
-    ensures err { IfErr result (λ fault. AppendsPart S.Folder bytes.now fault.taken log.old log.new) }
+    ensures ok { IfOk result (λ after. AppendsWhole S.Folder bytes.now repeats after log.old.log log.new.log) }
+    ensures err { IfErr result (λ fault. AppendsPart S.Folder bytes.now fault.taken log.old.log log.new.log) }
+    ensures opening { log.new.opening ≡ log.old.opening }
     ensures kind { IfErr result (λ fault. error_kind fault.error ≢ Interrupted) }
 {
     let (mut rest, mut repeats) = (bytes, repeats);
@@ -259,8 +199,13 @@ enum Step {
 }
 
 // Appends once, after so many interrupted appends of the line.
-fn append_once<S: Folder, C: Clock>(log: &mut RollingFile<S, C>, rest: &[u8], repeats: u32) -> Step
-    ensures { AppendsOnce S.Folder rest.now repeats result log.old log.new }
+fn append_once<S: Folder, C: Clock, W: FileCheck<S>, O: Opens<S, C>>(
+    log: &mut CheckedLog<S, C, W, O>,
+    rest: &[u8],
+    repeats: u32,
+) -> Step
+    ensures once { AppendsOnce S.Folder rest.now repeats result log.old.log log.new.log }
+    ensures opening { log.new.opening ≡ log.old.opening }
 {
     match log.append(rest) {
         Ok(0) => Step::Failed(io::Error::from(ErrorKind::WriteZero)),
@@ -271,22 +216,16 @@ fn append_once<S: Folder, C: Clock>(log: &mut RollingFile<S, C>, rest: &[u8], re
     }
 }
 
-// Returns whether the open file is seen to be empty or to end with a newline.
-fn ends_whole<S: Folder, C: Clock, W: Watch<S>>(watch: &W, log: &RollingFile<S, C>) -> bool
-    ensures { result ≡ true → EndsWhole S.Folder log.now }
+// Returns the fault of a line for which no log was opened.
+fn unopened(error: &InitError) -> TrailLineFault
+    ensures taken { result.taken ≡ 0 }
+    ensures err { error_kind result.error ≢ Interrupted }
 {
-    watch.ends_line(log.folder(), log.open_file(), log.open_name())
-}
-
-// Returns the length of a file after so many bytes were appended.
-fn grown(length: u64, bytes: usize) -> u64 {
-    length.saturating_add(bytes as u64)
-}
-
-// Returns whether there is a newline at the end.
-fn ends_line(bytes: &[u8]) -> bool
-    ensures { result ≡ ends_with_byte 10 bytes.now }
-{
-    let length = bytes.len();
-    length > 0 && bytes[length - 1] == b'\n'
+    let cause = cause_of(error);
+    let error = if cause.kind() == ErrorKind::Interrupted {
+        io::Error::other("opening interrupted")
+    } else {
+        cause
+    };
+    TrailLineFault { taken: 0, error }
 }

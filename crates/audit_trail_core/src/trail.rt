@@ -2,14 +2,15 @@
 ghost use Rattle.std.specs.Prelude.{◌≡◌, ◌≢◌, ◌≤◌, ℕ, List, [], length, false, Some, Ok, Err, OnOk, IfOk, IfErr, IfSome, IsOk};
 ghost use Rattle.std.specs.Io.KnownBytes.{Keeps};
 ghost use Rattle.audit_trail_core.specs.Fault.{line_fault, opening_fault, trail_options_fault, trail_status, trail_fault_unless_memory, trail_fault_words, ReportsTrailFault};
-ghost use Rattle.audit_trail_core.specs.Trail.{EndsWhole, MayFlush, PutsLine, PutsLines, FlushesLines, KeepsLines, trail_config};
-ghost use Rattle.appender_rolling.specs.Appender.{FlushesNow, OpensInSomeFolder};
+ghost use Rattle.log_check.specs.Log.{EndsWhole, OpensLog};
+ghost use Rattle.audit_trail_core.specs.Trail.{MayFlush, PutsLine, PutsLines, FlushesLines, KeepsLines, trail_config};
+ghost use Rattle.appender_rolling.specs.Appender.{FlushesNow};
 ghost use Rattle.std.specs.IoError.{error_kind};
 ghost use Rattle.audit_trail_core.specs.declared.trail.Fault.TheVariants.{Account, Read, Write};
 
 use crate::input::{InputReads, LineInput};
 use crate::lines::{LineLog, TrailLineFault};
-use file_watch::{DirWatch, FileCounts, Watch};
+use log_check::{DirCheck, FileCheck, FileCounts, Opens, WaitingOpener, open_dir};
 use program_io::report::report;
 use program_io::{ShortLines, end_line, read_line};
 use program_options::{OptionError, OptionFault};
@@ -17,15 +18,19 @@ use std::alloc::{AllocError, Global};
 use std::io::{BufReader, ErrorKind, Read, Write};
 use std::rt::Runtime;
 use std::sync::{Arc, Wait};
-use std::{fs, io, time};
+use std::{io, time};
 use thiserror::Error;
 use tracing_appender::folder::DirFolder;
-use tracing_appender::policy::Waits;
+use tracing_appender::policy::Retries;
 use tracing_appender::rolling::{Builder, Clock, InitError, RollingFile, Rotation, SystemClock};
 use tracing_appender::store::{Folder, NoticeKind};
+use tracing_appender::waiting::Faults;
 
 /// The log is flushed whenever this number of bytes was written since the last flush.
 const FLUSHED_BYTES: usize = 1 << 20;
+
+/// The name of the link to the newest file.
+const LINK: &str = "latest.log";
 
 /// How many files a trail keeps, and how many bytes each takes.
 #[derive(Clone, Copy, Debug)]
@@ -33,8 +38,7 @@ pub struct Limits {
     /// The number of files that are kept; 0 is all of them.
     pub files: usize,
     /// The number of bytes of a file; 0 is no limit. The next file of the day begins before a line that does not fit. A
-    /// longer line has a file of its own. A newline that ends a part of a line may be one byte more. If the next file
-    /// can't be opened, the last one takes as many bytes again.
+    /// longer line has a file of its own. If the next file can't be opened, the last one takes as many bytes again.
     pub bytes: u64,
 }
 
@@ -205,21 +209,49 @@ impl From<io::Error> for Fault {
 }
 
 /// A runtime that waits while the disk is full, and says so on its standard error.
-pub trait WaitHost: Wait + time::Clock + Eprint + Drop {}
+pub trait WaitHost: Wait + time::Clock + Eprint + Clone + Drop {}
 
-impl<H: Wait + time::Clock + Eprint + Drop> WaitHost for H {}
+impl<H: Wait + time::Clock + Eprint + Clone + Drop> WaitHost for H {}
 
 /// The folder of a trail. Each append to it waits while the disk is full or has another fault that may pass, and the folder
 /// prints that on standard error.
-pub type TrailFolder<R, H> = DirFolder<R, Waits<H>>;
+pub type TrailFolder<R, H> = DirFolder<R, Retries<H>>;
 
 /// The log of a trail.
-pub type TrailLog<R, H> = LineLog<TrailFolder<R, H>, SystemClock<R>, DirWatch<R>>;
+pub type TrailLog<R, H> = LineLog<
+    TrailFolder<R, H>,
+    SystemClock<R>,
+    DirCheck<R>,
+    WaitingOpener<H, TrailOpener<R, H>>,
+>;
+
+/// Opens the log of a trail.
+#[derive(Drop)]
+pub struct TrailOpener<R, H> {
+    rt: R,
+    host: H,
+    settings: Builder,
+    directory: String,
+}
+
+impl<R: Runtime + AllocGlobal, H: WaitHost> Opens<TrailFolder<R, H>, SystemClock<R>>
+    for TrailOpener<R, H> {
+    ghost config = { λ opener. opener.settings };
+
+    /// Opens the log of the day in the folder, which is made if it is absent. Each flush syncs its file.
+    fn open(&self) -> Result<RollingFile<TrailFolder<R, H>, SystemClock<R>>, InitError> {
+        let directory = self.directory.as_str();
+        let folder = DirFolder::new(self.rt.clone()?, directory)?
+            .synced()
+            .waiting(self.host.clone()?, Faults::Any);
+        open_dir(&self.rt, &self.settings, directory, LINK, folder)
+    }
+}
 
 /// Writes each line of `input` to the log of its day, in the folder that the one argument names, and returns the log,
 /// flushed and synced. Its files are within `limits`. The log is also flushed and synced
-/// after a read that returned less than was asked for, and once a MiB. While the disk is full it waits by
-/// `host`, whose standard error says so. The first fault goes to `errors`, whose own faults are ignored. The error is the status
+/// after a read that returned less than was asked for, and once a MiB. A file that was removed, renamed, replaced or truncated
+/// is begun anew before the next line. While the disk is full, or refuses that, it waits by `host`, whose standard error says so. The first fault goes to `errors`, whose own faults are ignored. The error is the status
 /// of the process: 1 if the log was not opened, the input not read, a line not written whole, a flush failed or a log
 /// file was not found again; 2 if there isn't one argument; 3 if memory was refused.
 pub fn keep<R: Runtime + AllocGlobal, H: WaitHost, I: Read, E: Write>(
@@ -299,11 +331,12 @@ fn log_lines<R: Runtime + AllocGlobal, H: WaitHost, I: LineInput>(
 // Returns a fault if a file was not found again, or a flush at a switch failed. Such a flush does not end the run: the
 // next file was open by then.
 fn check_files<R: Runtime + AllocGlobal, H: WaitHost>(log: &TrailLog<R, H>) -> Result<(), Fault>
-    ensures { OnOk result ((⟦<TrailFolder<R, H> as Folder>⟧.noted log.now.log.roller.folder).flushes ≡ 0) }
+    ensures synced { OnOk result ((⟦<TrailFolder<R, H> as Folder>⟧.noted log.now.log.roller.folder).flushes ≡ 0) }
+    ensures never_anew { OnOk result (log.now.opening.anew ≡ false) }
 {
-    match log.watch().counts().gone() {
-        0 => {}
-        gone => return Err(Fault::Gone(gone)),
+    let gone = log.check().counts().gone();
+    if gone > 0 || log.is_anew() {
+        return Err(Fault::Gone(gone));
     }
     match log.log().folder().notices(NoticeKind::Flush) {
         0 => Ok(()),
@@ -312,10 +345,10 @@ fn check_files<R: Runtime + AllocGlobal, H: WaitHost>(log: &TrailLog<R, H>) -> R
 }
 
 // Writes each line of `input`, and flushes what was written, also after a fault.
-fn write_and_flush<I: LineInput, S: Folder, C: Clock, W: Watch<S>>(
+fn write_and_flush<I: LineInput, S: Folder, C: Clock, W: FileCheck<S>, O: Opens<S, C>>(
     alloc: Global,
     input: &mut I,
-    log: &mut LineLog<S, C, W>,
+    log: &mut LineLog<S, C, W, O>,
 ) -> Result<(), Fault>
     ensures { OnOk result ((text : List ℕ) → I.remaining input.old ≡ Some text →
         FlushesLines S.Folder C.Clock text log.old log.new) }
@@ -329,9 +362,12 @@ fn write_and_flush<I: LineInput, S: Folder, C: Clock, W: Watch<S>>(
     }
 }
 
-fn flush<S: Folder, C: Clock, W: Watch<S>>(log: &mut LineLog<S, C, W>) -> Result<(), Fault>
+fn flush<S: Folder, C: Clock, W: FileCheck<S>, O: Opens<S, C>>(
+    log: &mut LineLog<S, C, W, O>,
+) -> Result<(), Fault>
     ensures flushes { OnOk result (FlushesNow S.Folder (Ok tt) log.old.log log.new.log) }
     ensures cut { OnOk result (log.new.cut ≡ log.old.cut) }
+    ensures opening { OnOk result (log.new.opening ≡ log.old.opening) }
 {
     match log.flush() {
         Ok(()) => Ok(()),
@@ -340,7 +376,7 @@ fn flush<S: Folder, C: Clock, W: Watch<S>>(log: &mut LineLog<S, C, W>) -> Result
 }
 
 /// Opens the trail in a folder, which is made if it is absent, with files within `limits`. `counts` has the faults of its
-/// files.
+/// files. This opening is not waited for.
 pub fn open_trail<R: Runtime + AllocGlobal, H: WaitHost>(
     rt: &R,
     host: H,
@@ -348,36 +384,20 @@ pub fn open_trail<R: Runtime + AllocGlobal, H: WaitHost>(
     directory: &str,
     counts: Arc<FileCounts, Global>,
 ) -> Result<TrailLog<R, H>, InitError>
-    ensures opens { IfOk result (λ trail. OpensInSomeFolder ⟦<TrailFolder<R, H> as Folder>⟧ ⟦<SystemClock<R> as Clock>⟧
+    ensures opens { IfOk result (λ trail. OpensLog ⟦<TrailFolder<R, H> as Folder>⟧ ⟦<SystemClock<R> as Clock>⟧
         (trail_config limits.files limits.bytes) trail.log) }
     ensures seen { IfOk result (λ trail. trail.cut ≡ false → EndsWhole ⟦<TrailFolder<R, H> as Folder>⟧ trail.log) }
+    ensures config { IfOk result (λ trail. trail.opening ≡ record { config = trail_config limits.files limits.bytes; anew = false }) }
 {
-    let watch = DirWatch::new(rt.clone()?, directory, counts)?;
-    Ok(LineLog::new(open_log(rt, host, limits, directory)?, watch))
-}
-
-/// Opens the log of the day in a folder, which is made if it is absent, with files within `limits`. Each flush syncs its
-/// file.
-pub fn open_log<R: Runtime + AllocGlobal, H: WaitHost>(
-    rt: &R,
-    host: H,
-    limits: Limits,
-    directory: &str,
-) -> Result<RollingFile<TrailFolder<R, H>, SystemClock<R>>, InitError>
-    ensures { IfOk result (OpensInSomeFolder ⟦<TrailFolder<R, H> as Folder>⟧ ⟦<SystemClock<R> as Clock>⟧
-        (trail_config limits.files limits.bytes)) }
-{
-    // Retention would note an absent folder.
-    fs::create_dir_all(rt, directory).map_err(InitError::Directory)?;
-    let settings = settings(rt.alloc(), limits)?;
-    let clock = SystemClock::new(rt.clone()?);
-    let folder = DirFolder::new(rt.clone()?, directory)?
-        .synced()
-        .waiting(host);
-    match settings.open_in(rt.alloc(), folder, clock) {
-        Ok(log) => Ok(log),
-        Err((error, _, _)) => Err(error),
-    }
+    let opener = TrailOpener {
+        rt: rt.clone()?,
+        host: host.clone()?,
+        settings: settings(rt.alloc(), limits)?,
+        directory: String::from_str(rt.alloc(), directory)?,
+    };
+    let check = DirCheck::new(rt.clone()?, directory, counts)?;
+    let log = opener.open()?;
+    Ok(LineLog::new(WaitingOpener::new(host, opener), log, check))
 }
 
 fn settings(alloc: Global, limits: Limits) -> Result<Builder, AllocError>
@@ -387,17 +407,20 @@ fn settings(alloc: Global, limits: Limits) -> Result<Builder, AllocError>
         .rotation(Rotation::DAILY)
         .filename_prefix(alloc, "audit")?
         .filename_suffix(alloc, "log")?;
-    let linked = named.latest_symlink(alloc, "latest.log")?;
-    let kept = linked.max_log_files(limits.files).log_files_by_name(true);
+    let linked = named.latest_symlink(alloc, LINK)?;
+    let kept = linked
+        .max_log_files(limits.files)
+        .log_files_by_name(true)
+        .continue_last_file(true);
     Ok(kept.max_file_bytes(limits.bytes))
 }
 
 /// Writes each line of `input` with its newline. A last line without one gets one. Flushes the log after a line if the
 /// next one may have to be waited for, or a MiB was written since the last flush.
-pub fn write_lines<I: LineInput, S: Folder, C: Clock, W: Watch<S>>(
+pub fn write_lines<I: LineInput, S: Folder, C: Clock, W: FileCheck<S>, O: Opens<S, C>>(
     alloc: Global,
     input: &mut I,
-    log: &mut LineLog<S, C, W>,
+    log: &mut LineLog<S, C, W, O>,
 ) -> Result<(), Fault>
     ensures { OnOk result ((text : List ℕ) → I.remaining input.old ≡ Some text →
         (count : ℕ) × (unflushed : ℕ) × PutsLines S.Folder C.Clock count unflushed text log.old [] log.new) }
@@ -417,10 +440,10 @@ pub fn write_lines<I: LineInput, S: Folder, C: Clock, W: Watch<S>>(
 
 // Flushes the log if its input may have to be waited for, or a MiB was written since the last flush. Returns the number
 // of bytes that were written since then. A sync after each read would wait for the disk every 8 KiB.
-fn flush_if_due<S: Folder, C: Clock, W: Watch<S>>(
+fn flush_if_due<S: Folder, C: Clock, W: FileCheck<S>, O: Opens<S, C>>(
     waits: bool,
     unflushed: usize,
-    log: &mut LineLog<S, C, W>,
+    log: &mut LineLog<S, C, W, O>,
 ) -> Result<usize, Fault>
     ensures { IfOk result (λ left. MayFlush S.Folder unflushed left log.old log.new) }
 {
@@ -431,9 +454,9 @@ fn flush_if_due<S: Folder, C: Clock, W: Watch<S>>(
     Ok(unflushed)
 }
 
-fn write_line<S: Folder, C: Clock, W: Watch<S>>(
+fn write_line<S: Folder, C: Clock, W: FileCheck<S>, O: Opens<S, C>>(
     line: &[u8],
-    log: &mut LineLog<S, C, W>,
+    log: &mut LineLog<S, C, W, O>,
 ) -> Result<(), Fault>
     ensures { OnOk result (PutsLine S.Folder C.Clock line.now log.old log.new) }
 {

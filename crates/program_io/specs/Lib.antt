@@ -1,4 +1,3 @@
 pub mod Line
 pub mod Report
-pub mod Options
 pub mod Inside

@@ -1,5 +1,5 @@
-//! What programs have in common: a runtime, arguments, lines of an input. `report` has reports of faults, `options` the
-//! options among arguments, `streams` standard streams that are closed, `waiting` an input that does not block.
+//! What programs have in common: a runtime, arguments, lines of an input. `report` has reports of faults, `streams` standard
+//! streams that are closed, `blocking` an input that does not block.
 #![tactic(auto)]
 
 ghost use Rattle.std.specs.Prelude.{
@@ -33,10 +33,9 @@ ghost use Rattle.program_io.specs.Line.{ended, IsPiece};
 ghost use Rattle.program_io.specs.Inside.Piece.{Extends, IsOpen};
 ghost use Rattle.program_io.specs.Report.{AppendsBeginning};
 
-pub mod options;
+pub mod blocking;
 pub mod report;
 pub mod streams;
-pub mod waiting;
 
 use memchr::memchr;
 use std::alloc::{AllocError, Global};

@@ -25,8 +25,8 @@ fn fill<S: AsFd>(rt: &HostRuntime, stream: &S) -> io::Result<()> {
     Ok(())
 }
 
-// A number that is not open can't be duplicated. One that is open may fail for want of numbers. A program whose streams
-// are open needs no `/dev/null`.
+// A closed descriptor can't be duplicated (`EBADF`). An open one can't if the process has no free descriptor (`EMFILE`). A
+// program whose streams are open needs no `/dev/null`.
 fn is_closed(stream: BorrowedFd<'_>) -> bool {
     match stream.try_clone_to_owned() {
         Ok(_) => false,

@@ -3,7 +3,7 @@ use Rattle.std.proofs.Common.{◌≡◌, ◌≢◌, ◌⊎◌, ℕ, zero, suc, l
 use Rattle.std.proofs.lemmas.List.{map-append}
 use Rattle.std.specs.Prelude.{String}
 use Rattle.std.specs.declared.alloc.Global.{Global}
-use Rattle.program_io.specs.Options.{begins_with_dash}
+use Rattle.program_options.specs.Options.{begins_with_dash}
 use Rattle.program_options.specs.Options.{AddsArgument, AreDefaults, AreUndashed, IsPlain, IsRead, ReadsWords, ReadsWord, ReadsWordAs}
 use Rattle.program_options.specs.declared.Next.{Next}
 use Rattle.program_options.specs.declared.Next.TheVariants.{Any, Value, Argument, Help, Version}

@@ -1,8 +1,7 @@
 -- The options of a command line.
-use Rattle.std.specs.Prelude.{◌≡◌, ◌≢◌, ◌⊎◌, ◌<◌, ◌≤◌, ◌*◌, ◌^◌, ℕ, zero, suc, Bool, true, false, List, [], ◌∷◌, ◌++◌, String, string_bytes, codes, map, nat_lt, Contains, Vec}
+use Rattle.std.specs.Prelude.{◌≡◌, ◌≢◌, ◌==◌, ◌⊎◌, ◌<◌, ◌≤◌, ◌*◌, ◌^◌, ℕ, zero, suc, Bool, true, false, List, [], ◌∷◌, ◌++◌, String, string_bytes, codes, map, nat_lt, Contains, Vec}
 use Rattle.std.specs.Str.Parse.{IsNumeral, digits_value}
 use Rattle.std.specs.declared.alloc.Global.{Global}
-use Rattle.program_io.specs.Options.{begins_with_dash}
 use Rattle.program_options.specs.declared.Options.{Options}
 use Rattle.program_options.specs.declared.Valued.{Valued}
 use Rattle.program_options.specs.declared.Valued.TheVariants.{Keep, MaxBytes, Suffix, Link, Queue}
@@ -17,6 +16,10 @@ use Rattle.program_options.specs.declared.Request.TheVariants.{Help as AsksHelp,
 use Rattle.program_options.specs.declared.Next.{Next}
 use Rattle.program_options.specs.declared.Next.TheVariants.{Any, Value, Argument, Help, Version}
 use Rattle.program_options.specs.declared.Reading.{Reading}
+
+abbrev pub begins_with_dash : List ℕ → Bool
+begins_with_dash [] = false
+begins_with_dash (byte ∷ bytes) = byte == 45
 
 -- ---- values
 

@@ -6,8 +6,7 @@ ghost use Rattle.std.specs.Str.Parse.{IsNumeral};
 ghost use Rattle.program_options.specs.declared.Flag.{Flag};
 ghost use Rattle.program_options.specs.declared.Next.{Next};
 ghost use Rattle.program_options.specs.declared.Valued.{Valued};
-ghost use Rattle.program_io.specs.Options.{begins_with_dash};
-ghost use Rattle.program_options.specs.Options.{flag_word, valued_word, AreUndashed, HasOnlyLimits, HasUnit, IsByteCount, IsPositiveNumber, IsFaultOf, IsNextAfter, IsNumber, IsPlain, IsRead, IsWrong, NamesOtherOption, NamesSomeWord, IsNoByteCount, IsNoPositiveNumber};
+ghost use Rattle.program_options.specs.Options.{begins_with_dash, flag_word, valued_word, AreUndashed, HasOnlyLimits, HasUnit, IsByteCount, IsPositiveNumber, IsFaultOf, IsNextAfter, IsNumber, IsPlain, IsRead, IsWrong, NamesOtherOption, NamesSomeWord, IsNoByteCount, IsNoPositiveNumber};
 
 use std::alloc::{AllocError, Global};
 use thiserror::Error;
@@ -312,7 +311,7 @@ impl Reading {
 impl Options {
     ghost use Rattle.std.specs.Prelude.{◌≡◌, true, IfErr, IfNone, IfSome, OnErr, OnOk};
     ghost use Rattle.std.specs.List.{find};
-    ghost use Rattle.program_options.specs.Options.{flag_word, has_option, has_flag, valued_word, AreLimits, IsOtherOption, IsWrong, IsWrongValue, SetsFlag, SetsOption};
+    ghost use Rattle.program_options.specs.Options.{begins_with_dash, flag_word, has_option, has_flag, valued_word, AreLimits, IsOtherOption, IsWrong, IsWrongValue, SetsFlag, SetsOption};
 
     // Sets the value of an option, which was not set before.
     fn set(&mut self, alloc: Global, option: Valued, value: &str) -> Result<(), OptionFault>
@@ -489,7 +488,7 @@ fn text(alloc: Global, option: Valued, value: &str) -> Result<String, OptionFaul
     Ok(String::from_str(alloc, value)?)
 }
 
-// Returns the value of an option that is a number from 1. To leave the option out says what 0 would say.
+// Returns the value of an option that is a number from 1. 0 is rejected: without the option there is no limit.
 fn count(option: Valued, value: &str) -> Result<usize, OptionFault>
     ensures count { IfOk result (IsPositiveNumber value.now) }
     ensures fault { IfErr result (IsWrong (valued_word option) OptionError.Count) }

@@ -3,9 +3,9 @@
 #![tactic(auto)]
 
 use program_io::arguments;
-use program_io::options::{ProgramRequest, request_of};
 use program_io::report::{print, report};
 use program_io::streams::fill_streams;
+use program_options::{OptionFault, Request, read};
 use rollplay_core::play;
 use std::io::ErrorKind;
 use std::process::ExitCode;
@@ -34,29 +34,31 @@ fn main(rt: HostRuntime) -> ExitCode {
     if fill_streams(&rt).is_err() {
         return ExitCode::FAILURE;
     }
-    let status = match arguments(&rt) {
-        Ok(arguments) => run(rt, request_of(arguments)),
-        Err(fault) if fault.kind() == ErrorKind::OutOfMemory => report_words(rt, b"no memory\n", 3),
+    let request = match arguments(&rt) {
+        Ok(arguments) => read(rt.alloc(), arguments.as_slice()),
+        Err(fault) if fault.kind() == ErrorKind::OutOfMemory => Err(OptionFault::Memory),
         // One of the arguments is not UTF-8. It is ignored, as is any argument that is no option.
-        Err(_) => run(rt, ProgramRequest::Run(Vec::new(rt.alloc()))),
+        Err(_) => read(rt.alloc(), &[]),
     };
-    ExitCode::from(status)
+    ExitCode::from(run(rt, request))
 }
 
 static USAGE: &[u8] = b"usage: rollplay < SCRIPT\n";
 
-fn run(rt: HostRuntime, request: ProgramRequest) -> u8 {
+fn run(rt: HostRuntime, request: Result<Request, OptionFault>) -> u8 {
     let mut output = rt.stdout();
     match request {
-        ProgramRequest::Help => print(&mut output, HELP, 2),
-        ProgramRequest::Version => print(&mut output, VERSION, 2),
-        ProgramRequest::Run(_) => play::play(
-            rt.alloc(),
-            &mut rt.stdin(),
-            &mut output,
-            &mut rt.stderr(),
-        ),
-        ProgramRequest::Unknown => report_words(rt, USAGE, 2),
+        Ok(Request::Help) => print(&mut output, HELP, 2),
+        Ok(Request::Version) => print(&mut output, VERSION, 2),
+        Ok(Request::Run(options, _arguments)) => {
+            if !options.is_plain() {
+                return report_words(rt, USAGE, 2);
+            }
+            play::play(rt.alloc(), &mut rt.stdin(), &mut output, &mut rt.stderr())
+        }
+        Err(OptionFault::Memory) => report_words(rt, b"no memory\n", 3),
+        Err(OptionFault::Unknown(_word)) => report_words(rt, USAGE, 2),
+        Err(OptionFault::Wrong(_option, _error)) => report_words(rt, USAGE, 2),
     }
 }
 

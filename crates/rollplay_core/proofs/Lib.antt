@@ -1,2 +1,5 @@
 pub mod PlayLemmas
 pub mod Written
+pub mod LineLemmas
+pub mod ScriptLemmas
+pub mod TextLemmas

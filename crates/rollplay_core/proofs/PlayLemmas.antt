@@ -14,7 +14,7 @@ use Rattle.rollplay_core.specs.declared.play.Failure.{Failure}
 use Rattle.rollplay_core.specs.declared.play.Opening.{Opening}
 use Rattle.rollplay_core.specs.declared.play.Opening.TheVariants.{Refused}
 use Rattle.rollplay_core.specs.Play.{IsGiven, IsRefusalPage, IsPlayPage}
-use Rattle.rollplay_script.specs.Script.{Plan, rolling, queued}
+use Rattle.rollplay_core.specs.Script.{Plan, rolling, queued}
 
 -- a front shorter than its limit is the whole text
 take_short : (n : ℕ) (xs : List ℕ) → length xs ≤ n → take n xs ≡ xs

@@ -1,2 +1,7 @@
 pub mod Page
 pub mod Play
+pub mod Draft
+pub mod Line
+pub mod Script
+pub mod Text
+pub mod Words

@@ -16,7 +16,7 @@ use Rattle.appender_replay.specs.declared.replay.RollReply.{RollReply}
 use Rattle.appender_replay.specs.declared.replay.RollReply.TheVariants.{Saw, Put, Wrote, Flushed}
 use Rattle.appender_replay.specs.declared.replay.whole.Reply.{Reply}
 use Rattle.appender_replay.specs.declared.replay.whole.Reply.TheVariants.{Accepted, Full, Closed, NoMemory, Shut, Senders, Took, TookShutdown, TookGone, TookEmpty, Wrote as DidWrite, Flushed as DidFlush, Ended}
-use Rattle.rollplay_script.specs.Text.{script_escapes}
+use Rattle.rollplay_core.specs.Text.{script_escapes}
 
 -- a text with its newline
 abbrev pub with_newline : List ℕ → List ℕ

@@ -28,10 +28,10 @@ use Rattle.rollplay_core.specs.declared.play.Opening.TheVariants.{Opened, Refuse
 use Rattle.rollplay_core.specs.declared.play.Failure.{Failure}
 use Rattle.rollplay_core.specs.declared.play.Failure.TheVariants.{Line, Script, Read, Write, Memory}
 use Rattle.program_io.specs.Report.{AppendsBeginning}
-use Rattle.rollplay_script.specs.declared.script.ScriptError.{ScriptError}
-use Rattle.rollplay_script.specs.declared.script.ScriptError.TheVariants.{Fault, Memory as OutOfMemory}
+use Rattle.rollplay_core.specs.declared.script.ScriptError.{ScriptError}
+use Rattle.rollplay_core.specs.declared.script.ScriptError.TheVariants.{Fault, Memory as OutOfMemory}
 use Rattle.rollplay_core.specs.Page.{with_newline, run_page, queued_page, refusal_page}
-use Rattle.rollplay_script.specs.Script.{Plan, rolling, queued, IsScript, HasFirstFault}
+use Rattle.rollplay_core.specs.Script.{Plan, rolling, queued, IsScript, HasFirstFault}
 
 -- the log was opened and all steps were run, and the page has the replies and the folder at the end
 pub record IsRunPage {F : Type 0} (kind : Ghosts MemoryFolder F) (config : Config) (folder : MemoryFolder) (start : ℤ) (steps : List RollStep) (page : List ℕ) : Type 0 where
@@ -39,7 +39,8 @@ pub record IsRunPage {F : Type 0} (kind : Ghosts MemoryFolder F) (config : Confi
   pub one_each : length replies ≡ length steps
   pub last : Rolling MemoryFolder F
   pub number : ℕ
-  pub runs : RunsFrom kind (RollDoes kind) config start number folder (with_replies steps replies) last
+  pub room : ℕ
+  pub runs : RunsFrom kind (RollDoes kind) config start number room folder (with_replies steps replies) last
   pub page_is : page ≡ run_page (file_name_of config (stamp start number)) replies (state_of last.folder).content
 
 -- The log was opened with a queue of this number of lines, and all steps were run with these replies.
@@ -52,7 +53,8 @@ pub record IsQueuedRunPage {F : Type 0} (kind : Ghosts MemoryFolder F) (config :
   pub lines : LinesFollow limit lossy (with_replies steps replies) queue worker
   pub last : Rolling MemoryFolder F
   pub number : ℕ
-  pub runs : RunsFrom kind (WorkerDoes kind) config start number folder (with_replies steps replies) last
+  pub room : ℕ
+  pub runs : RunsFrom kind (WorkerDoes kind) config start number room folder (with_replies steps replies) last
   pub page_is : page ≡ queued_page (file_name_of config (stamp start number)) replies (state_of last.folder).content (queue_counts queue)
 
 -- the log was not opened, and the page has the reason

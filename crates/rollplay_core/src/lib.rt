@@ -2,5 +2,8 @@
 //! It prints each reply, and the contents of the folder at the end.
 #![tactic(auto)]
 
+pub mod line;
 mod page;
 pub mod play;
+pub mod script;
+pub mod words;

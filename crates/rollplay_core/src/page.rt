@@ -8,7 +8,7 @@ ghost use Rattle.rollplay_core.specs.Page.{reply_words, with_newline, entry_word
 ghost use Rattle.rollplay_core.specs.Page.{refusal_page, open_line, reply_lines, queue_reply_words, queue_reply_lines};
 ghost use Rattle.rollplay_core.specs.Page.{counts_words, queued_page};
 ghost use Rattle.appender_queue.specs.QueueReplies.{queue_counts};
-ghost use Rattle.rollplay_script.specs.Text.{script_escape, script_escapes};
+ghost use Rattle.rollplay_core.specs.Text.{script_escape, script_escapes};
 
 use std::alloc::AllocError;
 use std::io::Write;

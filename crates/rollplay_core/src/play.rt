@@ -6,13 +6,13 @@ ghost use Rattle.appender_store.specs.MemoryView.{state_of};
 ghost use Rattle.rollplay_core.specs.Play.{IsPlayPage, IsGiven, Prints, IsOfReading, Fails, Reports, failure_words};
 ghost use Rattle.rollplay_core.specs.Play.{failure_status, IsRefusalPage};
 ghost use Rattle.program_io.specs.Report.{AppendsBeginning};
-ghost use Rattle.rollplay_script.specs.Draft.{plan_of};
-ghost use Rattle.rollplay_script.specs.Script.{rolling, queued};
+ghost use Rattle.rollplay_core.specs.Draft.{plan_of};
+ghost use Rattle.rollplay_core.specs.Script.{rolling, queued};
 
+use crate::line::Queueing;
 use crate::page;
+use crate::script::{LONGEST, Plan, Script, ScriptError};
 use program_io::report::report;
-use rollplay_script::line::Queueing;
-use rollplay_script::script::{LONGEST, Plan, Script, ScriptError};
 use std::alloc::Global;
 use std::fmt::{InlineText, Write as _};
 use std::io;

@@ -19,7 +19,7 @@ pub fn first_row(text: &str) -> Option<(&str, &str, &str)> {
 
 /// Scripts without a queue whose log is opened, and their pages.
 pub static PLAYED: Table = Table {
-    rows: 66,
+    rows: 72,
     text: concat!(
         // Arrivals an hour apart; a clock that is set back keeps the file.
         "rotation hourly\nprefix app\nstart 1580551260\nput 1580554800 a\nput 1580554799 b\n|",
@@ -153,6 +153,21 @@ pub static PLAYED: Table = Table {
         "open app.2020-02-01.000010\nnone ok 1\nopened ok 1\nfile app.2020-02-01.000010 1 a\nfile app.2020-02-01.000011 1 b\n|",
         "rotation hourly\nprefix app\nmax 2\nby-name\nfile app.2020-02-01-09 p\nfile app.2020-02-01-12 q\nstart 1580551260\n|",
         "open app.2020-02-01-10\nfile app.2020-02-01-10 0\nfile app.2020-02-01-12 1 q\n|",
+        // By name old files are removed last: an opening that fails removes none, and the next one removes them.
+        "rotation hourly\nprefix app\nmax 1\nby-name\nfile app.2020-02-01-08 o\nfail 4\nfail 6\nstart 1580551260\nput 1580554800 a\n|",
+        "open app.2020-02-01-10\nfailed ok 1\nfile app.2020-02-01-10 1 a\n|",
+        "rotation hourly\nprefix app\nmax 1\nby-name\nfile app.2020-02-01-08 o\nfail 4\nfail 6\nstart 1580551260\nput 1580554800 a\nput 1580558400 b\n|",
+        "open app.2020-02-01-10\nfailed ok 1\nopened ok 1\nfile app.2020-02-01-12 1 b\n|",
+        // An opening goes on in the last file: what that holds counts. A full one is opened, and the first write begins the next.
+        "rotation daily\nprefix app\nbytes 4\ncontinue\nfile app.2020-02-01.000000 ab\nstart 1580551260\nput 1580551260 cd\nput 1580551261 e\n|",
+        "open app.2020-02-01.000000\nnone ok 2\nopened ok 1\nfile app.2020-02-01.000000 4 abcd\nfile app.2020-02-01.000001 1 e\n|",
+        "rotation daily\nprefix app\nbytes 4\ncontinue\nfile app.2020-02-01.000001 full\nstart 1580551260\nput 1580551260 x\n|",
+        "open app.2020-02-01.000001\nopened ok 1\nfile app.2020-02-01.000001 4 full\nfile app.2020-02-01.000002 1 x\n|",
+        // A link with the greatest number is passed over. Without a limit nothing changes.
+        "rotation daily\nprefix app\nbytes 4\ncontinue\nfile app.2020-02-01.000000 ab\nlink-at app.2020-02-01.000003 t\nstart 1580551260\n|",
+        "open app.2020-02-01.000004\nfile app.2020-02-01.000000 2 ab\nlink app.2020-02-01.000003 t\nfile app.2020-02-01.000004 0\n|",
+        "rotation daily\nprefix app\ncontinue\nfile app.2020-02-01 ab\nstart 1580551260\nput 1580551260 cd\n|",
+        "open app.2020-02-01\nnone ok 2\nfile app.2020-02-01 4 abcd\n|",
         // A listing that fails, and one of three removals.
         "rotation hourly\nprefix app\nmax 1\nfile app.2020-02-01-07\nfile app.2020-02-01-08\nfail 1\nfail 4\nstart 1580551260\nsee 1580554800\n|",
         "open app.2020-02-01-10\nopened\nfile app.2020-02-01-07 0\nfile app.2020-02-01-11 0\n|",

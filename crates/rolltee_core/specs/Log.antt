@@ -1,16 +1,18 @@
 -- The log of a run. `kind` has the ghost members of a kind of folder, and `time` those of a kind of clock.
-use Rattle.std.specs.Prelude.{◌≡◌, ◌≢◌, ◌⊎◌, ℕ, ℤ, List, [], ◌∷◌, length, Ok, Err, Result, Bool, true, string_bytes, nat_lt}
+use Rattle.std.specs.Prelude.{◌≡◌, ◌≢◌, ◌⊎◌, ℕ, ℤ, ◌+◌, List, [], ◌∷◌, length, Ok, Err, Result, Bool, true, false, string_bytes}
 use Rattle.std.specs.declared.io.Error.{Error}
 use Rattle.appender_names.specs.declared.rotation.Rotation.{Rotation}
 use Rattle.appender_store.specs.declared.store.Folder.{Ghosts}
 use Rattle.appender_rolling.specs.declared.rolling.Switch.{Switch}
-use Rattle.appender_clock.specs.declared.Clock.{Ghosts as Readings}
-use Rattle.appender_rolling.specs.Appender.{Appending, AppendsNow, OpensInSomeFolder}
+use Rattle.appender_rolling.specs.declared.rolling.Switch.TheVariants.{Opened as Switched}
+use Rattle.appender_runtime.specs.declared.clock.Clock.{Ghosts as Readings}
+use Rattle.appender_rolling.specs.Appender.{Appending, AppendsNow}
 use Rattle.appender_rolling.specs.Config.{Config}
 use Rattle.appender_rolling.specs.Roller.{ChecksClock}
+use Rattle.log_check.specs.Log.{OpensAnew, newline_length}
 use Rattle.program_options.specs.declared.Options.{Options}
 
--- The configuration that is asked for. Files are kept by their names.
+-- The configuration that is asked for. Files are kept by their names, and an opening continues the last one.
 abbrev pub config_of : Rotation → List ℕ → Options → Config
 config_of rotation prefix o = record {
   rotation = rotation;
@@ -18,8 +20,9 @@ config_of rotation prefix o = record {
   suffix = string_bytes o.suffix;
   link = string_bytes o.link;
   max_files = o.keep;
-  by_name = nat_lt 0 o.keep;
+  by_name = true;
   max_bytes = o.max_bytes;
+  continues = true;
 }
 
 -- A log, and the configuration by which it is opened again.
@@ -28,48 +31,58 @@ pub record ReopenableLog (S F C : Type 0) : Type 0 where
   pub config : Config
   -- whether the last write took a part of a line, whose rest belongs to the same file
   pub short : Bool
+  -- whether a newline is to be written first
+  pub owed : Bool
 
--- The log is the one of before, or was opened again.
+-- The log is the one of before, or was opened again, and the file of before was flushed.
 abbrev pub IsSameOrReopened : {S F C : Type 0} → Ghosts S F → Readings C → ReopenableLog S F C → Appending S F C → Type 0
-IsSameOrReopened kind time old found = (found ≡ old.log) ⊎ OpensInSomeFolder kind time old.config found
+IsSameOrReopened kind time old found = (found ≡ old.log) ⊎ OpensAnew kind time old.config old.log found
 
--- a newline was added, or nothing
-abbrev pub MayEndPart : {S F C : Type 0} → Ghosts S F → Appending S F C → Appending S F C → Type 0
-MayEndPart kind old new = (new ≡ old) ⊎ AppendsNow kind (10 ∷ []) (Ok 1) old new
+-- a newline was added if one was to be, and else nothing
+abbrev pub EndsOwed : {S F C : Type 0} → Ghosts S F → Bool → Appending S F C → Appending S F C → Type 0
+EndsOwed kind true old new = AppendsNow kind (10 ∷ []) (Ok 1) old new
+EndsOwed kind false old new = new ≡ old
 
 -- a newline was not added
 abbrev pub EndsNoPart : {S F C : Type 0} → Ghosts S F → Appending S F C → Appending S F C → Type 0
 EndsNoPart kind old new = (answer : Result ℕ Error) × (answer ≢ Ok 1) × AppendsNow kind (10 ∷ []) answer old new
 
--- The clock was checked once, for this number of bytes.
-pub record ChecksOnce {S F C : Type 0} (kind : Ghosts S F) (time : Readings C) (len : ℕ) (old new : Appending S F C) : Type 0 where
+-- The clock was checked once, for this number of bytes, and a newline before them if one was to be written. Whether one is to be written
+-- then changes only if a file began.
+pub record ChecksOnce {S F C : Type 0} (kind : Ghosts S F) (time : Readings C) (len : ℕ) (old : Appending S F C) (owes : Bool) (new : Appending S F C) (owed : Bool) : Type 0 where
   pub moment : ℤ
   pub reading : time.now_gives old.clock moment
   pub switch : Switch
-  pub looks : ChecksClock kind moment len switch old.roller new.roller
+  pub looks : ChecksClock kind moment (len + newline_length owes) switch old.roller new.roller
   pub clock : new.clock ≡ old.clock
+  pub same : switch ≢ Switched → owed ≡ owes
 
 -- The same, or the bytes are the rest of a line.
-abbrev pub MayCheckOnce : {S F C : Type 0} → Ghosts S F → Readings C → ℕ → ReopenableLog S F C → Appending S F C → Type 0
-MayCheckOnce kind time len old new = ChecksOnce kind time len old.log new ⊎ ((old.short ≡ true) × (new ≡ old.log))
+abbrev pub MayCheckOnce : {S F C : Type 0} → Ghosts S F → Readings C → ℕ → ReopenableLog S F C → ReopenableLog S F C → Type 0
+MayCheckOnce kind time len old new =
+    ChecksOnce kind time len old.log old.owed new.log new.owed
+    ⊎ ((old.short ≡ true) × (new.log ≡ old.log))
 
--- The log was found, and the clock was checked once, unless the bytes are the rest of a line.
-pub record FindsLog {S F C : Type 0} (kind : Ghosts S F) (time : Readings C) (len : ℕ) (old : ReopenableLog S F C) (looked : Appending S F C) : Type 0 where
+-- The log was found, and the clock was checked once, unless the bytes are the rest of a line. It is known then whether a newline is to be
+-- written first.
+pub record FindsLog {S F C : Type 0} (kind : Ghosts S F) (time : Readings C) (len : ℕ) (old : ReopenableLog S F C) (looked : Appending S F C) (owed : Bool) : Type 0 where
   pub found : Appending S F C
   pub is_found : IsSameOrReopened kind time old found
-  pub looks : ChecksOnce kind time len found looked ⊎ ((old.short ≡ true) × (looked ≡ found))
+  pub owes : Bool
+  pub looks : ChecksOnce kind time len found owes looked owed ⊎ ((old.short ≡ true) × (looked ≡ found))
 
--- The bytes were added with this answer by one append, after that check, and at most a newline before them.
+-- The bytes were added with this answer by one append, after that check, and before them a newline if one was to be written.
 pub record PutsBytes {S F C : Type 0} (kind : Ghosts S F) (time : Readings C) (bytes : List ℕ) (answer : Result ℕ Error) (old : ReopenableLog S F C) (new : Appending S F C) : Type 0 where
   pub looked : Appending S F C
-  pub looks : FindsLog kind time (length bytes) old looked
+  pub owed : Bool
+  pub looks : FindsLog kind time (length bytes) old looked owed
   pub ended : Appending S F C
-  pub ends : MayEndPart kind looked ended
+  pub ends : EndsOwed kind owed looked ended
   pub appends : AppendsNow kind bytes answer ended new
 
 -- None of the bytes was added: the log was not opened again, or a newline was not added before them, or their append failed.
 abbrev pub PutsNone : {S F C : Type 0} → Ghosts S F → Readings C → List ℕ → Error → ReopenableLog S F C → Appending S F C → Type 0
 PutsNone {S} {F} {C} kind time bytes error old new =
     (new ≡ old.log)
-    ⊎ ((looked : Appending S F C) × FindsLog kind time (length bytes) old looked × EndsNoPart kind looked new)
+    ⊎ ((looked : Appending S F C) × FindsLog kind time (length bytes) old looked true × EndsNoPart kind looked new)
     ⊎ PutsBytes kind time bytes (Err error) old new

@@ -61,9 +61,14 @@ impl<W: Write + Drop> WatchedLog<W> {
 }
 
 impl<W: Write + Drop> Write for WatchedLog<W> {
-    /// Takes one whole line. It is written and counted by the next flush, or before.
+    /// Takes one whole line. It is written and counted by the next flush, or before. If it is given up, the log is flushed
+    /// here, since a worker that gave up a line does not flush before it sleeps.
     fn write(&mut self, line: &[u8]) -> io::Result<usize> {
-        self.log.write(line)
+        let taken = self.log.write(line);
+        if taken.is_err() {
+            let _ = self.log.flush();
+        }
+        taken
     }
 
     fn flush(&mut self) -> io::Result<()> {
@@ -100,7 +105,7 @@ const LONGEST_MILLIS: u64 = 50;
 // The lines on their way to a log.
 #[derive(Drop)]
 struct Progress {
-    watch: WatchedCounts,
+    check: WatchedCounts,
     dropped: ErrorCounter,
     // The number of lines that the queue took or dropped.
     sent: u64,
@@ -111,7 +116,7 @@ impl Progress {
     fn left(&self) -> u64 {
         self.sent
             .saturating_sub(self.dropped())
-            .saturating_sub(self.watch.done())
+            .saturating_sub(self.check.done())
     }
 
     // Returns the number of lines that a lossy queue dropped.
@@ -147,13 +152,13 @@ pub struct Feed<R, Q, O> {
 }
 
 impl<R: Wait + Clock + AllocGlobal, Q, O> Feed<R, Q, O> {
-    /// Returns a feed by this queue, which counts the lines that it drops, and whose worker has the log of the watch. What
+    /// Returns a feed by this queue, which counts the lines that it drops, and whose worker has the log of the check. What
     /// is done with each line is in the options.
     pub fn new(
         rt: R,
         queue: Q,
         dropped: ErrorCounter,
-        watch: WatchedCounts,
+        check: WatchedCounts,
         options: &Options,
         output: O,
     ) -> Feed<R, Q, O> {
@@ -162,7 +167,7 @@ impl<R: Wait + Clock + AllocGlobal, Q, O> Feed<R, Q, O> {
             rt,
             queue,
             progress: Progress {
-                watch,
+                check,
                 dropped,
                 sent: 0,
             },
@@ -184,7 +189,7 @@ impl<R: Wait + Clock + AllocGlobal, Q, O> Feed<R, Q, O> {
         let mut millis = FIRST_MILLIS;
         for _ in self.rt.forever() {
             // A log that was dropped counts no more.
-            let has_ended = self.progress.watch.has_ended();
+            let has_ended = self.progress.check.has_ended();
             if self.progress.left() == 0 {
                 break;
             }
@@ -206,7 +211,7 @@ impl<R: Wait + Clock + AllocGlobal, Q, O> Feed<R, Q, O> {
     /// Returns the number of lines that the log did not take whole, those that it has not taken yet too.
     pub fn lost(&self) -> u64 {
         self.progress
-            .watch
+            .check
             .lost()
             .saturating_add(self.progress.left())
     }

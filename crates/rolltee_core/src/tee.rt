@@ -9,9 +9,9 @@ use crate::feed::{Feed, WatchedLog};
 pub use crate::logs::{Logs, TeeLog};
 use crate::losses::TeeLosses;
 use crate::waiting::WaitingLog;
-use file_watch::FileCounts;
+use log_check::FileCounts;
+use program_io::blocking::BlockingInput;
 use program_io::report::report;
-use program_io::waiting::WaitingInput;
 use program_io::{CopyFault, copy_lines};
 use program_options::{OptionError, OptionFault, Options};
 use std::alloc::AllocError;
@@ -231,16 +231,27 @@ fn copy_through<R: Host, L: Logs, I: Read, O: Write + Drop>(
     }
     let rotation = rotation_of(rotation.as_str(), options)?;
     let files = FileCounts::new(rt.alloc())?;
+    let mut input = BufReader::new(rt.alloc(), BlockingInput::new(rt, input))?;
+    // The log is opened last, so a start that fails for want of memory or of a thread makes no file.
+    let (log, place) = WaitingLog::new(rt, !options.no_wait)?;
+    let (mut feed, guard) = start(rt, log, options, output)?;
     let (directory, prefix) = (directory.as_str(), prefix.as_str());
     let log = logs
         .open_log(rotation, directory, prefix, options, files.clone()?)
         .map_err(Fault::Open)?;
-    let log = WaitingLog::new(rt, !options.no_wait, log);
-    let lost = copy_to(rt, log, options, input, output)?;
+    place.put(&rt, log);
+    // The lines that were read are waited for also after a fault, and only then counted. The guard waits for a second
+    // only, which loses the lines of a slow disk.
+    let copied = copy_lines(rt.alloc(), &mut input, &mut feed).map_err(Fault::from);
+    feed.settle();
+    let closed = end(guard);
+    copied.and(closed)?;
     let lost = TeeLosses {
+        unwritten: feed.lost(),
+        dropped: feed.dropped(),
+        unechoed: feed.unechoed(),
         gone: files.gone(),
         unsynced: files.unsynced(),
-        ..lost
     };
     all_written(lost, options.is_plain())
 }
@@ -263,31 +274,6 @@ fn rotation_of(word: &str, options: &Options) -> Result<Rotation, Fault>
     Ok(rotation)
 }
 
-// Copies the lines to a log, by the thread of its worker, and returns what was lost. Waits for the lines that were read also
-// after a fault, and only then counts. The guard waits for a second only, which loses the lines of a slow disk.
-fn copy_to<R: Host, W: Write + Send + Drop + 'static, I: Read, O: Write + Drop>(
-    rt: R,
-    log: W,
-    options: &Options,
-    input: &mut I,
-    output: O,
-) -> Result<TeeLosses, Fault> {
-    let (log, watch) = WatchedLog::new(rt.alloc(), log, options.max_bytes)?;
-    let (sender, guard) = start(rt, log, options)?;
-    let dropped = sender.error_counter()?;
-    let mut feed = Feed::new(rt, sender, dropped, watch, options, output);
-    let copied = copy_all(rt, input, &mut feed);
-    feed.settle();
-    let closed = end(guard);
-    copied.and(closed)?;
-    Ok(TeeLosses {
-        unwritten: feed.lost(),
-        dropped: feed.dropped(),
-        unechoed: feed.unechoed(),
-        ..TeeLosses::NONE
-    })
-}
-
 // Returns a fault if something was lost: status 0 says that each line is in the log. A run without options reports lines
 // that the log did not take whole by two words, which programs that call it know.
 fn all_written(lost: TeeLosses, is_plain: bool) -> Result<(), Fault> {
@@ -300,24 +286,31 @@ fn all_written(lost: TeeLosses, is_plain: bool) -> Result<(), Fault> {
     }
 }
 
-// Starts the worker that writes to the log.
-fn start<R: Host, W: Write + Send + Drop + 'static>(
+// Starts the worker that writes to the log, and returns the way to it.
+fn start<R: Host, W: Write + Send + Drop + 'static, O: Write + Drop>(
     rt: R,
     log: W,
     options: &Options,
-) -> Result<(NonBlocking<R>, WorkerGuard<R>), Fault> {
+    output: O,
+) -> Result<(Feed<R, NonBlocking<R>, O>, WorkerGuard<R>), Fault> {
     let limit = if options.queue == 0 {
         LIMIT
     } else {
         options.queue
     };
+    let (log, check) = WatchedLog::new(rt.alloc(), log, options.max_bytes)?;
     let builder = NonBlockingBuilder::default()
         .lossy(options.lossy)
         .buffered_lines_limit(limit);
-    match builder.finish(rt, rt.alloc(), log) {
-        Ok(made) => Ok(made),
-        Err(error) => Err(Fault::Thread.unless_memory(error.kind())),
-    }
+    let (sender, guard) = match builder.finish(rt, rt.alloc(), log) {
+        Ok(made) => made,
+        Err(error) => return Err(Fault::Thread.unless_memory(error.kind())),
+    };
+    let dropped = sender.error_counter()?;
+    Ok((
+        Feed::new(rt, sender, dropped, check, options, output),
+        guard,
+    ))
 }
 
 // Waits until the log is flushed.
@@ -327,9 +320,4 @@ fn end<R: Host>(guard: WorkerGuard<R>) -> Result<(), Fault> {
         Closing::Pending => Err(Fault::Pending),
         Closing::Full => Err(Fault::Full),
     }
-}
-
-fn copy_all<R: Host, I: Read, W: Write>(rt: R, input: &mut I, writer: &mut W) -> Result<(), Fault> {
-    let mut input = BufReader::new(rt.alloc(), WaitingInput::new(rt, input))?;
-    Ok(copy_lines(rt.alloc(), &mut input, writer)?)
 }

@@ -34,6 +34,7 @@ pub use Rattle.appender_non_blocking.specs.Mode
 pub use Rattle.appender_non_blocking.specs.Refusal
 pub use Rattle.appender_non_blocking.specs.Counted
 pub use Rattle.appender_non_blocking.specs.Work
+pub use Rattle.appender_replay.specs.Start
 pub use Rattle.appender_replay.specs.Run
 pub use Rattle.appender_replay.specs.Replay
 pub use Rattle.appender_replay.specs.Headline
@@ -41,7 +42,7 @@ pub use Rattle.appender_replay.specs.RollHeadline
 pub use Rattle.appender_replay.specs.Record
 pub use Rattle.appender_replay.specs.Answers
 pub use Rattle.appender_replay.specs.Whole
-pub use Rattle.appender_wait.specs.Waiting
+pub use Rattle.appender_runtime.specs.Waiting
 pub use Rattle.appender_rolling.specs.Config
 pub use Rattle.appender_rolling.specs.Opening
 pub use Rattle.appender_rolling.specs.Roller

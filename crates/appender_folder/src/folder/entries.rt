@@ -39,7 +39,7 @@ fn list_entry<R: Files + Clone + Drop>(
     }
 }
 
-// Whether std refused a name that is no UTF-8. A fault of the system of the same kind has a number.
+// Returns whether std rejected a name that is not UTF-8: such an error has no number of the system.
 fn is_no_text(fault: &io::Error) -> bool {
     fault.kind() == io::ErrorKind::InvalidFilename && fault.raw_os_error().is_none()
 }

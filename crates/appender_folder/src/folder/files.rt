@@ -10,35 +10,36 @@ use std::os::unix::fs::MetadataExt;
 use std::rt::Files;
 use std::{fs, io};
 
-/// Opens a plain file for appends, or makes an empty one if the name is free.
+/// Opens a plain file for appends, or makes an empty one if the name is free. Returns whether it made the file.
 pub(super) fn open_plain<R: Files + AllocGlobal>(
     rt: &R,
     folder: &str,
     name: &str,
-) -> io::Result<R::File>
-    ensures { IfOk result (λ file. IsEntry name.now) }
+) -> io::Result<(R::File, bool)>
+    ensures { OnOk result (IsEntry name.now) }
 {
     let path = entry_path(rt.alloc(), folder, name)?;
     let path = path.as_str();
     match fs::symlink_metadata(rt, path) {
-        Ok(found) => open_found(rt, path, &found),
+        Ok(found) => Ok((open_found(rt, path, &found)?, false)),
         Err(fault) if fault.kind() == ErrorKind::NotFound => make_plain(rt, path),
         Err(fault) => Err(fault),
     }
 }
 
 // Another program may have made the file since the name was found free: then that one is opened. `create_new`
-// does not follow a link that was made meanwhile.
-fn make_plain<R: Files>(rt: &R, path: &str) -> io::Result<R::File> {
+// fails if the name is in use, and does not follow a link that was made meanwhile.
+fn make_plain<R: Files>(rt: &R, path: &str) -> io::Result<(R::File, bool)> {
     let made = OpenOptions::new()
         .append(true)
         .create_new(true)
         .open(rt, path);
     match made {
         Err(fault) if fault.kind() == ErrorKind::AlreadyExists => {
-            open_found(rt, path, &fs::symlink_metadata(rt, path)?)
+            let found = fs::symlink_metadata(rt, path)?;
+            Ok((open_found(rt, path, &found)?, false))
         }
-        made => made,
+        made => Ok((made?, true)),
     }
 }
 

@@ -26,7 +26,7 @@ use super::shared::Shared;
 use appender_channel::books::{Done, FourBooks};
 use appender_channel::state::Counted;
 use appender_queue::queue::Shut;
-use appender_traits::host::GuardHost;
+use appender_runtime::host::GuardHost;
 use std::alloc::Global;
 use std::fmt;
 use std::fmt::{Debug, Formatter};

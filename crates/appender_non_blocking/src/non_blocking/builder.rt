@@ -5,11 +5,11 @@ ghost use Rattle.appender_non_blocking.specs.Account.{AreBlanksOf, new_senders, 
 use super::account::{Blanks, CountedGuard};
 use super::counted::{CountedSender, make_senders};
 use super::guard::WorkerGuard;
-use super::sender::{Local, NonBlocking};
+use super::sender::{NonBlocking, SenderState};
 use super::shared::Shared;
 use super::worker::serve;
 use appender_channel::books::{Done, FourBooks, NoBooks, Pass};
-use appender_traits::host::Host;
+use appender_runtime::host::Host;
 use std::alloc::{AllocError, Global};
 use std::io::Write;
 use std::marker::Model;
@@ -132,7 +132,7 @@ impl NonBlockingBuilder {
         let guarded = Arc::try_clone(&shared)?;
         let served = Arc::try_clone(&shared)?;
         // A worker that finds no sender ends. A refusal of memory leaves no thread.
-        let sender = NonBlocking::first(rt, alloc, shared, Local::new(alloc, limit, lossy))?;
+        let sender = NonBlocking::first(rt, alloc, shared, SenderState::new(alloc, limit, lossy))?;
         start(rt, name, served, writer)?;
         Ok((sender, WorkerGuard::new(rt, guarded)))
     }
@@ -181,7 +181,7 @@ impl NonBlockingBuilder {
         };
         let shared = Shared::new(alloc, limit, lossy, senders, books)?;
         let served = Arc::try_clone(&shared)?;
-        let local = Local::new(alloc, limit, lossy);
+        let local = SenderState::new(alloc, limit, lossy);
         // A refusal of memory leaves no thread, since the senders are made before it.
         let (made, part) = make_senders(rt, alloc, &shared, &local, share, senders)?;
         let pass = Pass {

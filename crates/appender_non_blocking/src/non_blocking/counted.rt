@@ -5,7 +5,7 @@ ghost use Rattle.appender_non_blocking.specs.Account.{Sums, new_sender, new_send
 ghost use Rattle.appender_non_blocking.specs.Refusal.{IsRefusal};
 ghost use Rattle.appender_non_blocking.specs.Counted.{sums_after_line};
 
-use super::sender::{Local, Sent, copy_of, send};
+use super::sender::{SenderState, Sent, copy_of, send};
 use super::shared::Shared;
 use appender_channel::books::{FourBooks, SenderShare};
 use appender_channel::state::Counted;
@@ -24,7 +24,7 @@ pub struct CountedSender<A: Ledger, H: Ledger, S: Ledger, C: Ledger, R: Wait + D
     alloc: Global,
     shared: Arc<Shared<FourBooks<A, H, S, C>>, Global>,
     counted: Counted,
-    local: Local,
+    local: SenderState,
     mine: SenderShare<A>,
     queued: u64,
     dropped: usize,
@@ -57,7 +57,7 @@ impl<A: Ledger, H: Ledger, S: Ledger, C: Ledger, R: Wait + Drop> CountedSender<A
         rt: R,
         alloc: Global,
         shared: Arc<Shared<FourBooks<A, H, S, C>>, Global>,
-        local: Local,
+        local: SenderState,
         mine: SenderShare<A>,
     ) -> CountedSender<A, H, S, C, R>
         requires share { (mine.share.parts ≡ 1) × (mine.share.amount ≡ 0) }
@@ -190,7 +190,7 @@ pub(super) fn make_senders<A: Ledger, H: Ledger, S: Ledger, C: Ledger, R: Wait +
     rt: R,
     alloc: Global,
     shared: &Arc<Shared<FourBooks<A, H, S, C>>, Global>,
-    local: &Local,
+    local: &SenderState,
     share: Share<A>,
     senders: usize,
 ) -> Result<(Vec<CountedSender<A, H, S, C, R>>, Share<A>), AllocError>

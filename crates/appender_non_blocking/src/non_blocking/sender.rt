@@ -24,8 +24,8 @@ use appender_channel::books::{Books, NoBooks};
 use appender_channel::pace::{FullBackoff, LOOKS, MOST_BYTES};
 use appender_channel::state::Counted;
 use appender_queue::queue::Refused;
-use appender_sync::Backoff;
-use appender_traits::make_writer::MakeWriter;
+use appender_runtime::backoff::Backoff;
+use appender_runtime::make_writer::MakeWriter;
 use std::alloc::{AllocError, Global};
 use std::fmt::{Debug, Formatter};
 use std::io::{ErrorKind, Write};
@@ -45,7 +45,7 @@ pub enum Sent {
 
 /// The state of one sender, which no other thread uses.
 #[derive(Drop)]
-pub(super) struct Local {
+pub(super) struct SenderState {
     /// Whether a line that finds no room is dropped.
     pub(super) lossy: bool,
     /// The buffer for the next line.
@@ -60,27 +60,27 @@ pub(super) struct Local {
 pub struct NonBlocking<R: Wait + Drop> {
     rt: R,
     alloc: Global,
-    crew: Arc<Crew, Global>,
-    local: Local,
+    shared_sender: Arc<SharedSender, Global>,
+    local: SenderState,
 }
 
 // What all clones of a writer share. The queue counts them as one sender, so that making and dropping a
 // clone takes no lock. It can't be dropped: the last clone takes it out of the `Arc`, and ends it.
-struct Crew {
+struct SharedSender {
     shared: Arc<Shared<NoBooks>, Global>,
     counted: Counted,
 }
 
-impl Crew {
+impl SharedSender {
     // Joins the queue.
-    fn new(rt: &impl Wait, shared: Arc<Shared<NoBooks>, Global>) -> Crew {
+    fn new(rt: &impl Wait, shared: Arc<Shared<NoBooks>, Global>) -> SharedSender {
         let counted = shared.add_sender(rt);
-        Crew { shared, counted }
+        SharedSender { shared, counted }
     }
 
     // Leaves the queue.
     fn end(self, rt: &impl Wait) {
-        let Crew { shared, counted } = self;
+        let SharedSender { shared, counted } = self;
         shared.drop_sender(rt, counted);
     }
 }
@@ -93,12 +93,12 @@ impl<R: Wait + Drop> Model for NonBlocking<R> {
     ghost view = { λ s. record { lossy = s.local.lossy } };
 }
 
-impl Local {
+impl SenderState {
     /// Returns the state of the first sender of a queue with this limit of lines: no buffer, and the initial back-offs.
-    pub(super) fn new(alloc: Global, limit: usize, lossy: bool) -> Local
+    pub(super) fn new(alloc: Global, limit: usize, lossy: bool) -> SenderState
         ensures { result.lossy ≡ lossy }
     {
-        Local {
+        SenderState {
             lossy,
             spare: Vec::new(alloc),
             backoff: Backoff::NEW,
@@ -107,10 +107,10 @@ impl Local {
     }
 
     /// Returns the state of one more sender of the same queue. It begins with the back-off of this one at a full queue.
-    pub(super) fn another(&self, alloc: Global) -> Local
+    pub(super) fn another(&self, alloc: Global) -> SenderState
         ensures { result.lossy ≡ self.now.lossy }
     {
-        Local {
+        SenderState {
             lossy: self.lossy,
             spare: Vec::new(alloc),
             backoff: Backoff::NEW,
@@ -125,15 +125,15 @@ impl<R: Wait + Drop> NonBlocking<R> {
         rt: R,
         alloc: Global,
         shared: Arc<Shared<NoBooks>, Global>,
-        local: Local,
+        local: SenderState,
     ) -> Result<NonBlocking<R>, AllocError>
         ensures { IfOk result (λ made. made.lossy ≡ local.lossy) }
     {
-        match Arc::new(alloc, Crew::new(&rt, shared)) {
-            Ok(crew) => Ok(NonBlocking {
+        match Arc::new(alloc, SharedSender::new(&rt, shared)) {
+            Ok(shared_sender) => Ok(NonBlocking {
                 rt,
                 alloc,
-                crew,
+                shared_sender,
                 local,
             }),
             Err(refused) => {
@@ -149,7 +149,7 @@ impl<R: Wait + Drop> NonBlocking<R> {
         ensures { IfOk result (λ counter. counter.lossy ≡ self.now.lossy) }
     {
         Ok(ErrorCounter {
-            shared: Arc::try_clone(&self.crew.shared)?,
+            shared: Arc::try_clone(&self.shared_sender.shared)?,
             lossy: self.local.lossy,
         })
     }
@@ -164,11 +164,11 @@ impl<R: Wait + Drop> NonBlocking<R> {
         let NonBlocking {
             rt,
             alloc,
-            crew,
+            shared_sender,
             local,
         } = self;
         let line = copy_of(*alloc, &mut local.spare, buf)?;
-        match send(rt, &*crew.shared, local, line, &mut ()) {
+        match send(rt, &*shared_sender.shared, local, line, &mut ()) {
             Some(_) => Ok(()),
             None => Err(ErrorKind::Other),
         }
@@ -239,7 +239,7 @@ pub(super) fn copy_of(alloc: Global, spare: &mut Vec<u8>, buf: &[u8]) -> Result<
 pub(super) fn send<B: Books, R: Wait>(
     rt: &R,
     shared: &Shared<B>,
-    local: &mut Local,
+    local: &mut SenderState,
     line: Vec<u8>,
     mine: &mut B::Mine,
 ) -> Option<Sent>
@@ -287,7 +287,7 @@ pub(super) fn send<B: Books, R: Wait>(
 fn send_later<B: Books, R: Wait>(
     rt: &R,
     shared: &Shared<B>,
-    local: &mut Local,
+    local: &mut SenderState,
     line: Vec<u8>,
     mine: &mut B::Mine,
 ) -> Option<Sent>
@@ -352,7 +352,7 @@ impl<R: Wait + Clone> Clone for NonBlocking<R> {
         Ok(NonBlocking {
             rt: self.rt.clone()?,
             alloc: self.alloc,
-            crew: Arc::try_clone(&self.crew)?,
+            shared_sender: Arc::try_clone(&self.shared_sender)?,
             local: self.local.another(self.alloc),
         })
     }
@@ -374,11 +374,11 @@ impl<R: Wait + Drop> Drop for NonBlocking<R> {
         let NonBlocking {
             rt,
             alloc: _,
-            crew,
+            shared_sender,
             local: _,
         } = self;
-        if let Some(crew) = Arc::into_inner(crew) {
-            crew.end(&rt);
+        if let Some(shared_sender) = Arc::into_inner(shared_sender) {
+            shared_sender.end(&rt);
         }
     }
 }

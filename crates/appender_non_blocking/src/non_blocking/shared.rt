@@ -5,7 +5,7 @@ ghost use Rattle.appender_channel.specs.Tally.{new_tally};
 use appender_channel::books::{Books, Done, FourBooks};
 use appender_channel::state::{Counted, State, Wakeups};
 use appender_queue::queue::{Counts, Shut};
-use appender_sync::Backoff;
+use appender_runtime::backoff::Backoff;
 use crossbeam_utils::CachePadded;
 use std::alloc::{AllocError, Global};
 use std::sync::atomic::AtomicUsize;
@@ -52,7 +52,7 @@ impl<B: Books> Shared<B> {
     /// Takes the lock: tries for a while before it sleeps.
     #[inline(always)]
     pub(super) fn lock<R: Wait>(&self, rt: &R, backoff: &mut Backoff) -> MutexGuard<'_, State<B>> {
-        appender_sync::lock(rt, &self.state, backoff)
+        appender_runtime::backoff::lock(rt, &self.state, backoff)
     }
 
     /// Wakes whom a step under the lock says. The lock was released, or will be by a wait.

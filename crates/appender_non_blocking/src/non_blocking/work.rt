@@ -18,7 +18,7 @@ use super::account::{Account, Blanks};
 use super::builder::NonBlockingBuilder;
 use super::counted::CountedSender;
 use super::sender::Sent;
-use appender_traits::host::Host;
+use appender_runtime::host::Host;
 use std::alloc::Global;
 use std::fmt::{Debug, Formatter};
 use std::io::Write;

@@ -1,6 +1,6 @@
 // What the worker's thread does.
 ghost use Rattle.std.specs.Prelude.{◌≡◌, true};
-ghost use Rattle.appender_channel.specs.Cases.{IfLine, IfEnd, IfEmpty};
+ghost use Rattle.appender_channel.specs.TakeCases.{IfLine, IfEnd, IfEmpty};
 ghost use Rattle.appender_worker.specs.Core.{after_flushed, is_flushing};
 
 use super::shared::Shared;
@@ -8,7 +8,7 @@ use appender_channel::books::Books;
 use appender_channel::pace::{EMPTY_TURNS, LOOKS};
 use appender_channel::state::TakeRequest;
 use appender_queue::queue::Taken;
-use appender_sync::{Backoff, yield_for};
+use appender_runtime::backoff::{Backoff, yield_for};
 use appender_worker::worker::{Want, WorkerCore};
 use std::io::Write;
 use std::sync::Wait;

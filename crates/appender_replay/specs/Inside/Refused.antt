@@ -17,11 +17,11 @@ use Rattle.appender_replay.specs.declared.replay.whole.Reply.TheVariants.{Accept
 
 -- one file for all time, whose name is `a`, with a maximum of files
 abbrev pub one_file : ℕ → Config
-one_file max = record { rotation = rotation_of Never; prefix = 97 ∷ []; suffix = []; link = []; max_files = max; by_name = false; max_bytes = 0 }
+one_file max = record { rotation = rotation_of Never; prefix = 97 ∷ []; suffix = []; link = []; max_files = max; by_name = false; max_bytes = 0; continues = false }
 
 -- a file each hour, with the prefix `a`
 abbrev pub hourly : Config
-hourly = record { rotation = rotation_of Hourly; prefix = 97 ∷ []; suffix = []; link = []; max_files = 0; by_name = false; max_bytes = 0 }
+hourly = record { rotation = rotation_of Hourly; prefix = 97 ∷ []; suffix = []; link = []; max_files = 0; by_name = false; max_bytes = 0; continues = false }
 
 -- the file of this name has a body that was empty at first, and these bytes at the end
 pub record FileContains {S F : Type 0} (kind : Ghosts S F) (name bytes : List ℕ) (first last : S) : Type 0 where
@@ -35,7 +35,7 @@ pub record FileContains {S F : Type 0} (kind : Ghosts S F) (name bytes : List �
 -- after these steps the file of this name can't hold these bytes
 abbrev pub NeverContains : {S F : Type 0} → Ghosts S F → Config → List StepWithReply → List ℕ → List ℕ → Type 0
 NeverContains {S} {F} kind c past name bytes =
-    (limit : ℕ) (first last : S) → FileContains kind name bytes first last → Headline kind limit c (pos 0) 0 past first last → ⊥
+    (limit room : ℕ) (first last : S) → FileContains kind name bytes first last → Headline kind limit c (pos 0) 0 room past first last → ⊥
 
 -- The line `xy` is written whole. The file holds it twice, or it lacks a byte.
 abbrev pub one_line_run : Vec ℕ Global → List StepWithReply
@@ -56,21 +56,21 @@ WritesOutOfOrder {S} {F} kind = (x y : Vec ℕ Global) → x.items ≡ 120 ∷ [
 
 -- the second of two lines is taken first
 abbrev pub TakesOutOfOrder : {S F : Type 0} → Ghosts S F → Type 0
-TakesOutOfOrder {S} {F} kind = (limit : ℕ) (c : Config) (number : ℕ) (x y : Vec ℕ Global) (first last : S)
-    → Headline kind limit c (pos 0) number ((Work (pos 0), Took 2) ∷ (Offer 0 y, Accepted 2) ∷ (Offer 0 x, Accepted 1) ∷ []) first last → ⊥
+TakesOutOfOrder {S} {F} kind = (limit : ℕ) (c : Config) (number room : ℕ) (x y : Vec ℕ Global) (first last : S)
+    → Headline kind limit c (pos 0) number room ((Work (pos 0), Took 2) ∷ (Offer 0 y, Accepted 2) ∷ (Offer 0 x, Accepted 1) ∷ []) first last → ⊥
 
 -- a queue of one place accepts a line after the shutdown was sent
 abbrev pub ShutdownTakesNoPlace : {S F : Type 0} → Ghosts S F → Type 0
-ShutdownTakesNoPlace {S} {F} kind = (c : Config) (number : ℕ) (line : Vec ℕ Global) (first last : S)
-    → Headline kind 1 c (pos 0) number ((Offer 0 line, Accepted 1) ∷ (Shut, DidShut Sent) ∷ []) first last → ⊥
+ShutdownTakesNoPlace {S} {F} kind = (c : Config) (number room : ℕ) (line : Vec ℕ Global) (first last : S)
+    → Headline kind 1 c (pos 0) number room ((Offer 0 line, Accepted 1) ∷ (Shut, DidShut Sent) ∷ []) first last → ⊥
 
 -- With a maximum of one file, the log file `ab` is still there, and no listing or removal was noted as failed.
 abbrev pub NeverPrunes : {S F : Type 0} → Ghosts S F → Type 0
-NeverPrunes {S} {F} kind = (limit : ℕ) (first last : S) (b : ℕ) (created : ℤ) → IsTrue kind.is_known → (kind.content first).there ≡ true
+NeverPrunes {S} {F} kind = (limit room : ℕ) (first last : S) (b : ℕ) (created : ℤ) → IsTrue kind.is_known → (kind.content first).there ≡ true
     → (kind.noted last).lists ≡ (kind.noted first).lists → (kind.noted last).removes ≡ (kind.noted first).removes
     → (kind.noted last).lists < 2 ^ 64 - 1 → (kind.noted last).removes < 2 ^ 64 - 1
     → fin.get (kind.content first).names (97 ∷ 98 ∷ []) ≡ Some (File b (Some created)) → fin.get (kind.content last).names (97 ∷ 98 ∷ []) ≡ Some (File b (Some created))
-    → Headline kind limit (one_file 1) (pos 0) 0 [] first last → ⊥
+    → Headline kind limit (one_file 1) (pos 0) 0 room [] first last → ⊥
 
 -- `x` is written at 01:00:00, and `y` at 00:59:59 to the file of 00 o'clock
 abbrev pub FollowsClockBack : {S F : Type 0} → Ghosts S F → Type 0
@@ -81,6 +81,6 @@ FollowsClockBack {S} {F} kind = (x y : Vec ℕ Global) → x.items ≡ 120 ∷ [
 
 -- the file `b`, which is no log's, is replaced by another
 abbrev pub ChangesOtherNames : {S F : Type 0} → Ghosts S F → Type 0
-ChangesOtherNames {S} {F} kind = (limit : ℕ) (first last : S) (b c : ℕ) (t u : Option ℤ) → IsTrue kind.is_known
+ChangesOtherNames {S} {F} kind = (limit room : ℕ) (first last : S) (b c : ℕ) (t u : Option ℤ) → IsTrue kind.is_known
     → fin.get (kind.content first).names (98 ∷ []) ≡ Some (File b t) → fin.get (kind.content last).names (98 ∷ []) ≡ Some (File c u) → (b ≡ c → ⊥)
-    → Headline kind limit (one_file 1) (pos 0) 0 [] first last → ⊥
+    → Headline kind limit (one_file 1) (pos 0) 0 room [] first last → ⊥

@@ -76,6 +76,8 @@ pub struct Run<S: Folder> {
     pub roller: Roller<S>,
     /// The number in the name of the file that was opened first. 0 if no limit of bytes is set.
     pub number: u32,
+    /// How many bytes of the limit were left of that file when it was opened. 0 if no limit is set.
+    pub room: u64,
 }
 
 // The reply to an offer, without the line.
@@ -187,15 +189,15 @@ pub fn replay<S: Folder>(
     start: i64,
     steps: &[Step],
 ) -> Result<Run<S>, ReplayError<S>>
-    ensures headline { IfOk result (λ run. Headline S.Folder limit builder.now start run.number
+    ensures headline { IfOk result (λ run. Headline S.Folder limit builder.now start run.number run.room
         (with_replies_onto [] steps.now run.replies.items) folder run.roller.folder) }
     ensures one_each { IfOk result (λ run. length run.replies.items ≡ length steps.now) }
     ensures lines { IfOk result (λ run. LinesFollow limit lossy (with_replies steps.now run.replies.items)
         run.queue run.worker) }
-    ensures runs { IfOk result (λ run. RunsFrom S.Folder (WorkerDoes S.Folder) builder.now start run.number folder
-        (with_replies steps.now run.replies.items) run.roller) }
+    ensures runs { IfOk result (λ run. RunsFrom S.Folder (WorkerDoes S.Folder) builder.now start run.number run.room
+        folder (with_replies steps.now run.replies.items) run.roller) }
     ensures roller { IfOk result (λ run. RollerFollows S.Folder (WorkerDoes S.Folder) run_event builder.now start
-        run.number folder (with_replies steps.now run.replies.items) run.roller) }
+        run.number run.room folder (with_replies steps.now run.replies.items) run.roller) }
     ensures err { IfErr result (λ error. IsNotRun S.Folder builder.now start folder error) }
 {
     names_change_one_at_a_time();
@@ -215,6 +217,7 @@ pub fn replay<S: Folder>(
         Err((error, folder)) => return Err(ReplayError::Init(error, folder)),
     };
     let number = roller.number();
+    let room = roller.room();
     let mut worker = WorkerCore::new();
     for step in steps {
         let reply = run_step(alloc, &mut queue, &mut worker, &mut roller, step);
@@ -226,5 +229,6 @@ pub fn replay<S: Folder>(
         worker,
         roller,
         number,
+        room,
     })
 }

@@ -5,12 +5,12 @@ ghost use Rattle.appender_names.specs.Rotation.{rotation_of};
 ghost use Rattle.appender_rolling.specs.Config.{defaults};
 ghost use Rattle.appender_rolling.specs.Appender.{plain_config, SharesInSomeFolder, OpensNoneInSomeFolder};
 
-use super::gated::Gated;
+use super::shared_roller::SharedRoller;
 use super::writer::RollingWriter;
 use super::{Builder, Clock, InitError, RollingFile, Rotation, SystemClock};
 use appender_folder::folder::{DirFolder, FilesHost};
+use appender_runtime::make_writer::MakeWriter;
 use appender_store::store::Folder;
-use appender_traits::make_writer::MakeWriter;
 use std::alloc::{AllocError, Global};
 use std::fmt::{Debug, Formatter};
 use std::io::Write;
@@ -37,7 +37,7 @@ pub struct RollingFileAppender<S: Folder, C: Clock, R: Drop = HostRuntime> {
     rt: R,
     // Writers hold it to read, so that no file is opened between the pieces of one of them. A thread that
     // opens the next file holds it alone.
-    gate: RwLock<Gated<S>>,
+    roller: RwLock<SharedRoller<S>>,
     clock: C,
 }
 
@@ -61,7 +61,7 @@ impl<S: Folder, C: Clock> RollingFile<S, C> {
     {
         RollingFileAppender {
             rt,
-            gate: RwLock::new(Gated::new(self.roller)),
+            roller: RwLock::new(SharedRoller::new(self.roller)),
             clock: self.clock,
         }
     }
@@ -73,19 +73,19 @@ impl<S: Folder, C: Clock, R: Wait + Drop> RollingFileAppender<S, C, R> {
     ghost use Rattle.appender_rolling.specs.Roller.{Scheduled};
     ghost use Rattle.appender_rolling.specs.Appender.{SomeRollerIsDue, SomeRollerChecksClock};
 
-    // Enters the gate, unless a file is due: then opens it while no other thread is inside, and the caller
-    // tries again.
-    fn enter_gate(&self, moment: i64) -> Option<RwLockReadGuard<'_, Gated<S>>>
+    // Takes the lock for reading, unless a file is due: then opens that under the lock for writing, and the caller tries
+    // again.
+    fn lock_unless_due(&self, moment: i64) -> Option<RwLockReadGuard<'_, SharedRoller<S>>>
         ensures { MatchOption result
             ((old : Scheduled) × (new : Scheduled) × SomeRollerChecksClock S.Folder moment old new)
-            (λ gate. SomeRollerIsDue S.Folder (read_guard_value gate).schedule moment false) }
+            (λ roller. SomeRollerIsDue S.Folder (read_guard_value roller).schedule moment false) }
     {
-        let gate = self.gate.read(&self.rt);
-        if !gate.due(&self.rt, moment) {
-            return Some(gate);
+        let roller = self.roller.read(&self.rt);
+        if !roller.due(&self.rt, moment) {
+            return Some(roller);
         }
-        drop(gate);
-        self.gate.write(&self.rt).see(moment);
+        drop(roller);
+        self.roller.write(&self.rt).see(moment);
         None
     }
 }
@@ -97,7 +97,7 @@ impl<S: Folder, C: Clock, R: Drop> RollingFileAppender<S, C, R> {
     pub fn into_parts(self) -> (S, C)
         ensures clock { result.1 ≡ self.clock }
     {
-        (self.gate.into_inner().into_folder(), self.clock)
+        (self.roller.into_inner().into_folder(), self.clock)
     }
 }
 
@@ -117,11 +117,14 @@ impl<'a, S: Folder + 'a, C: Clock, R: Wait + Drop + 'a> MakeWriter<'a>
         ensures looks { IfOk result (NoFileIsDueNow S.Folder C.Clock self.now.clock) }
     {
         let moment = self.clock.now();
-        // The gate is left after an opening, and then the check is made again: only so is the boundary that of the gate
-        // that the writer holds. Without a limit of bytes the second check is the last.
+        // A file is opened under the write lock. Then the read lock is taken anew, and the boundary checked under it.
+        // Without a limit of bytes the second check is the last.
         for _ in self.rt.forever() {
-            if let Some(gate) = self.enter_gate(moment) {
-                return Ok(RollingWriter { rt: &self.rt, gate });
+            if let Some(roller) = self.lock_unless_due(moment) {
+                return Ok(RollingWriter {
+                    rt: &self.rt,
+                    roller,
+                });
             }
         }
         unreachable!()
@@ -143,22 +146,22 @@ impl<S: Folder, C: Clock, R: Drop> Write for RollingFileAppender<S, C, R> {
         ensures put { PutsAtClock S.Folder C.Clock self.old.clock bytes.now result }
     {
         let moment = self.clock.now();
-        self.gate.get_mut().put(moment, bytes)
+        self.roller.get_mut().put(moment, bytes)
     }
 
     /// Flushes the open file, and reads no clock.
     fn flush(&mut self) -> io::Result<()>
         ensures { (s : Scheduled) × SomeRollerFlushes S.Folder s result }
     {
-        self.gate.get_mut().flush_alone()
+        self.roller.get_mut().flush_alone()
     }
 }
 
 impl<S: Folder, C: Clock, R: Drop> Debug for RollingFileAppender<S, C, R> {
     fn fmt<W: fmt::Write>(&self, f: &mut Formatter<W>) -> fmt::Result {
         // To wait here could be to wait for a writer of the same thread.
-        match self.gate.try_read() {
-            Some(gate) => gate.fmt(f),
+        match self.roller.try_read() {
+            Some(roller) => roller.fmt(f),
             None => f.pad("RollingFileAppender { .. }"),
         }
     }

@@ -38,6 +38,7 @@ pub struct Builder {
     max_files: usize,
     by_name: bool,
     max_bytes: u64,
+    continues: bool,
 }
 
 impl Model for Builder {
@@ -53,6 +54,7 @@ impl Model for Builder {
       max_files = b.max_files;
       by_name = b.by_name;
       max_bytes = b.max_bytes;
+      continues = b.continues;
     } };
 }
 
@@ -71,6 +73,7 @@ impl Builder {
             max_files: 0,
             by_name: false,
             max_bytes: 0,
+            continues: false,
         }
     }
 
@@ -128,7 +131,8 @@ impl Builder {
 
     /// Sets whether `max_log_files` goes only by names. Then it counts the plain files whose names read as the start of
     /// a period of this log. The oldest is that of the earliest period and lowest number. The file that is opened is
-    /// never removed, and no file with another name is. Under `NEVER`, which has no periods, none is removed.
+    /// never removed, and no file with another name is. Old files are removed last: if the next file can't be opened, or the
+    /// link can't be made, none is. Under `NEVER`, which has no periods, none is removed.
     #[must_use]
     pub fn log_files_by_name(mut self, by_name: bool) -> Builder
         ensures { result ≡ record self { by_name = by_name } }
@@ -138,14 +142,27 @@ impl Builder {
     }
 
     /// Sets how many bytes are written to a log file before the next one of its period is opened; 0 is no
-    /// limit. Bytes that the file held when it was opened don't count, and a longer piece has a file of
-    /// its own. With a limit a dot and a number of six digits follow the date in each name, and the
+    /// limit. Bytes that the file held when it was opened don't count (but see `continue_last_file`), and a longer piece has a
+    /// file of its own. With a limit a dot and a number of six digits follow the date in each name, and the
     /// rotation must not be `NEVER`.
     #[must_use]
     pub fn max_file_bytes(mut self, max: u64) -> Builder
         ensures { result ≡ record self { max_bytes = max } }
     {
         self.max_bytes = max;
+        self
+    }
+
+    /// Sets whether the opening of a log with a limit of bytes continues the last file of its period, as it does without a
+    /// limit: it opens the plain file of the greatest number, and the bytes that the file holds then count. If that is
+    /// full, the first write opens the next one. So a service that is started often does not begin a file each time.
+    ///
+    /// By default each opening begins the next number.
+    #[must_use]
+    pub fn continue_last_file(mut self, continues: bool) -> Builder
+        ensures { result ≡ record self { continues = continues } }
+    {
+        self.continues = continues;
         self
     }
 
@@ -192,6 +209,12 @@ impl Builder {
     {
         self.max_bytes
     }
+
+    pub(crate) fn continues(&self) -> bool
+        ensures { result ≡ self.now.continues }
+    {
+        self.continues
+    }
 }
 
 // A text that may be set.
@@ -201,6 +224,23 @@ fn text(set: &Option<String>) -> &str
     match set {
         Some(text) => text.as_str(),
         None => "",
+    }
+}
+
+impl Clone for Builder {
+    ghost is_clone = { λ x y. y ≡ x };
+
+    fn clone(&self) -> Result<Builder, AllocError> {
+        Ok(Builder {
+            rotation: self.rotation,
+            prefix: self.prefix.clone()?,
+            suffix: self.suffix.clone()?,
+            link: self.link.clone()?,
+            max_files: self.max_files,
+            by_name: self.by_name,
+            max_bytes: self.max_bytes,
+            continues: self.continues,
+        })
     }
 }
 

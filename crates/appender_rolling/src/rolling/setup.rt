@@ -1,18 +1,20 @@
 // The opening of a log file: old ones are removed, the file is opened, and a link is made to it.
-ghost use Rattle.std.specs.Prelude.{◌≡◌, ◌↔◌, ◌≤◌, true, ℤ, IsOk, IfOk, IfErr, OnOk, IsTrue, Err, map, option_and_then};
-ghost use Rattle.appender_names.specs.Rotation.{IsMoment};
+ghost use Rattle.std.specs.Prelude.{◌≡◌, ◌↔◌, ◌<◌, ◌≤◌, true, length, ℤ, Some, IsOk, IfOk, IfErr, OnOk, IsTrue, Err, map, option_and_then};
+ghost use Rattle.appender_names.specs.Rotation.{IsMoment, period_of, is_same_start};
 ghost use Rattle.appender_names.specs.Name.{reading_at};
 ghost use Rattle.appender_store.specs.Folder.{listed_row};
-ghost use Rattle.appender_rolling.specs.Inside.Numbers.{number_after as after_of, number_after_row, first_number as first_of};
-ghost use Rattle.appender_rolling.specs.Opening.{OpensNamedFile, FailsToOpen, ReplacesLink, FailsToReplaceLink};
+ghost use Rattle.appender_rolling.specs.Inside.Numbers.{number_after as after_of, number_after_row, continues_at, first_number as first_of};
+ghost use Rattle.appender_rolling.specs.Opening.{OpensNamedFile, FailsToOpen, ReplacesLink, FailsToReplaceLink, RemovesEmpty};
 
 use super::{Builder, InitError, NameFault};
 use appender_names::names::Names;
 use appender_names::rotation::{Rotation, in_range};
-use appender_retain::laws::{links_add_none, openings_add_one};
+use appender_retain::laws::{
+    links_add_none, names_are_spared, opened_is_one, openings_add_one, survivors_stay,
+};
 use appender_retain::retain::{LogFiles, prune_log_files};
 use appender_store::laws::names_change_one_at_a_time;
-use appender_store::store::{Folder, Listed, Notice};
+use appender_store::store::{Folder, Kind, Listed, Notice};
 use std::alloc::{AllocError, Global};
 use std::io;
 use std::marker::Model;
@@ -26,6 +28,7 @@ pub(super) struct Setup {
     max_files: usize,
     by_name: bool,
     max_bytes: u64,
+    continues: bool,
 }
 
 impl Model for Setup {
@@ -42,6 +45,7 @@ impl Model for Setup {
       max_files = s.max_files;
       by_name = s.by_name;
       max_bytes = s.max_bytes;
+      continues = s.continues;
     } };
 
     ghost invariant = { λ s. s.names.numbered ≡ not (s.max_bytes == 0) };
@@ -65,12 +69,12 @@ pub(super) struct Opened<F: Drop> {
 }
 
 impl Setup {
-    ghost use Rattle.std.specs.Prelude.{◌≢◌, ◌⊎◌, string_bytes, string_len, string_capacity};
+    ghost use Rattle.std.specs.Prelude.{◌≢◌, ◌⊎◌, ◌<◌, length, string_bytes, string_len, string_capacity};
     ghost use Rattle.appender_names.specs.declared.error.InitError.TheVariants.{Memory};
     ghost use Rattle.appender_names.specs.Rotation.{IsNever};
-    ghost use Rattle.appender_rolling.specs.Config.{naming_of, is_limited, MayLimit, IsStamp, stamp, last_of};
+    ghost use Rattle.appender_rolling.specs.Config.{naming_of, log_files_of, is_limited, max_before, max_after, MayLimit, IsStamp, stamp, last_of};
     ghost use Rattle.appender_rolling.specs.Opening.{NamesEntries, ReadsAsDate, LinkClashes, IsReady, IsNotReady, FindsNumber};
-    ghost use Rattle.appender_rolling.specs.Opening.{OpensFile, RefusesFile, file_name_of};
+    ghost use Rattle.appender_rolling.specs.Opening.{IsFirstRoom, LinksTo, FailsToLink, RemovesNewFile, OpensFile, RefusesFile, file_name_of};
 
     // Copies what a builder has set. `Name` if prefix, suffix or link make no names of entries of a folder; else `Limit`
     // if a limit of bytes is set under `NEVER`. The inner error: there is no room for the copies.
@@ -102,6 +106,7 @@ impl Setup {
             max_files: builder.max_files(),
             by_name: builder.by_name(),
             max_bytes: builder.max_bytes(),
+            continues: builder.continues(),
         })
     }
 
@@ -159,7 +164,8 @@ impl Setup {
     }
 
     /// Returns the number of the first file: the one after the greatest that is listed for the moment's
-    /// period, up to 999,999, or 0 if none is listed. A listing that fails is noted, and gives 0. Without
+    /// period, up to 999,999, or 0 if none is listed. If the log continues its last file, that of a plain file with the
+    /// greatest number is that number itself. A listing that fails is noted, and gives 0. Without
     /// a limit of bytes the number is 0, and no call is made.
     pub(super) fn first_number<S: Folder>(&self, folder: &mut S, moment: i64) -> u32
         requires { IsMoment moment }
@@ -169,11 +175,26 @@ impl Setup {
             return 0;
         }
         match folder.list() {
-            Ok(listed) => first_number(&self.names, moment, &listed),
+            Ok(listed) => first_number(&self.names, self.continues, moment, &listed),
             Err(fault) => {
                 folder.note(Notice::List(&fault));
                 0
             }
+        }
+    }
+
+    /// Returns how many bytes of the limit are left of the first file when it is opened. What it holds counts if the log
+    /// continues its last file. If its length can't be told, it is full.
+    pub(super) fn first_room<S: Folder>(&self, folder: &S, file: &S::File) -> u64
+        requires { IsTrue S.is_known → S.body file.now < length (S.content folder.now).bodies }
+        ensures { IsFirstRoom S.Folder self.now folder.now file.now result }
+    {
+        if !self.continues {
+            return self.max_bytes;
+        }
+        match folder.length(file) {
+            Some(length) => self.max_bytes.saturating_sub(length),
+            None => 0,
         }
     }
 
@@ -203,7 +224,8 @@ impl Setup {
         self.names.read(name).is_some()
     }
 
-    /// Removes old log files, opens the file of this name, and makes the link to it.
+    /// Removes old log files, opens the file of this name, and makes the link to it. By name they are removed
+    /// last, so that an opening that fails removes none. If the link is refused, by name a new file is removed.
     pub(super) fn open_file<S: Folder>(
         &self,
         folder: &mut S,
@@ -218,16 +240,67 @@ impl Setup {
         names_change_one_at_a_time();
         openings_add_one();
         links_add_none();
-        let log = LogFiles::new(&self.names, self.by_name, name);
-        prune_log_files(self.alloc, folder, &log, self.max_files);
+        opened_is_one();
+        names_are_spared();
+        survivors_stay();
+        let log = self.log_files(name);
+        prune_log_files(self.alloc, folder, &log, self.max_before());
         let file = open_or_make(folder, name)?;
+        let made = folder.made_file();
+        match self.link_to(folder, name) {
+            Ok(()) => {
+                prune_log_files(self.alloc, folder, &log, self.max_after());
+                Ok(file)
+            }
+            Err(fault) => {
+                self.remove_new(folder, &file, name, made);
+                Err(InitError::Symlink(fault))
+            }
+        }
+    }
+
+    // Returns the log files that are there beside the file of this name, or before it is opened.
+    fn log_files<'a>(&'a self, name: &'a str) -> LogFiles<'a>
+        ensures { result ≡ log_files_of self.now (Some name.now) }
+    {
+        LogFiles::new(self.names(), self.by_name, name)
+    }
+
+    // Returns how many log files are kept when old ones are removed before an opening; 0 is all of them.
+    fn max_before(&self) -> usize
+        ensures { result ≡ max_before self.now }
+    {
+        if self.by_name { 0 } else { self.max_files }
+    }
+
+    // The same after an opening.
+    fn max_after(&self) -> usize
+        ensures { result ≡ max_after self.now }
+    {
+        if self.by_name { self.max_files } else { 0 }
+    }
+
+    // Makes the link to the file of this name, if a link is set.
+    fn link_to<S: Folder>(&self, folder: &mut S, name: &str) -> io::Result<()>
+        requires { IsTrue S.is_known → (S.content folder.old).there ≡ true }
+        ensures ok { OnOk result (LinksTo S.Folder self.now.link name.now folder.old folder.new) }
+        ensures err { IfErr result (λ fault. FailsToLink S.Folder self.now.link name.now
+            folder.old fault folder.new) }
+    {
         let link = self.link.as_str();
         if link.is_empty() {
-            return Ok(file);
+            return Ok(());
         }
-        match relink(folder, link, name) {
-            Ok(()) => Ok(file),
-            Err(fault) => Err(InitError::Symlink(fault)),
+        relink(folder, link, name)
+    }
+
+    // By name, removes the open file of this name if its opening made it and it has no bytes.
+    fn remove_new<S: Folder>(&self, folder: &mut S, file: &S::File, name: &str, made: bool)
+        requires { IsTrue S.is_known → S.body file.now < length (S.content folder.old).bodies }
+        ensures { RemovesNewFile S.Folder self.now name.now made file.now folder.old folder.new }
+    {
+        if self.by_name && made {
+            remove_empty(folder, file, name);
         }
     }
 
@@ -253,30 +326,57 @@ impl Setup {
 
 // The number after the greatest of those listed for the moment's period. Those of folders and links count too, since no
 // file can be opened under their names.
-fn first_number(names: &Names, moment: i64, listed: &[Listed]) -> u32
+fn first_number(names: &Names, continues: bool, moment: i64, listed: &[Listed]) -> u32
     requires moment { IsMoment moment }
     requires numbered { names.now.numbered ≡ true }
-    ensures value { result ≡ first_of names.now moment (map listed_row listed.now) }
+    ensures value { result ≡ first_of names.now continues moment (map listed_row listed.now) }
     ensures bound { result ≤ 999_999 }
 {
     let mut first = 0;
     for entry in listed {
-        first = first.max(number_after_entry(names, moment, entry));
+        first = first.max(number_after_entry(names, continues, moment, entry));
     }
     first
 }
 
-// The number after that of a listed name, if it is one of the moment's period; else 0.
-fn number_after_entry(names: &Names, moment: i64, entry: &Listed) -> u32
+// The number after that of a listed name, if it is one of the moment's period; else 0. The number itself, if the file of
+// this name is continued.
+fn number_after_entry(names: &Names, continues: bool, moment: i64, entry: &Listed) -> u32
     requires moment { IsMoment moment }
     requires numbered { names.now.numbered ≡ true }
-    ensures value { result ≡ number_after_row names.now moment (listed_row entry.now) }
+    ensures value { result ≡ number_after_row names.now continues moment (listed_row entry.now) }
     ensures bound { result ≤ 999_999 }
 {
     match read_entry(names, entry) {
-        Some((second, number)) => number_after(names.rotation(), moment, second, number),
+        Some((second, number)) => {
+            if continues && is_continued(names.rotation(), moment, second, entry.kind) {
+                number.min(LAST_NUMBER)
+            } else {
+                number_after(names.rotation(), moment, second, number)
+            }
+        }
         None => 0,
     }
+}
+
+// Whether a plain file whose name reads as this second has the name that the log itself gives in the moment's period. A
+// weekly name may read as another day of the week.
+fn is_continued(rotation: Rotation, moment: i64, second: i64, kind: Kind) -> bool
+    requires { IsMoment moment }
+    ensures { result ≡ continues_at rotation moment second kind }
+{
+    match kind {
+        Kind::File => is_start(rotation, moment, second),
+        Kind::Folder | Kind::Link | Kind::Other => false,
+    }
+}
+
+// Whether the moment's period begins at this second.
+fn is_start(rotation: Rotation, moment: i64, second: i64) -> bool
+    requires { IsMoment moment }
+    ensures { result ≡ is_same_start (period_of rotation moment) (Some second) }
+{
+    !rotation.is_never() && second == rotation.round_date(moment)
 }
 
 // The number after this one, if its second is in the moment's period; else 0.
@@ -319,6 +419,16 @@ fn open_or_make<S: Folder>(folder: &mut S, name: &str) -> Result<S::File, InitEr
                 Err(fault) => Err(InitError::File(fault)),
             }
         }
+    }
+}
+
+// Removes the open file of this name if it has no bytes. If that fails, the file stays.
+fn remove_empty<S: Folder>(folder: &mut S, file: &S::File, name: &str)
+    requires { IsTrue S.is_known → S.body file.now < length (S.content folder.old).bodies }
+    ensures { RemovesEmpty S.Folder name.now file.now folder.old folder.new }
+{
+    if folder.length(file) == Some(0) {
+        let _ = folder.remove(name);
     }
 }
 

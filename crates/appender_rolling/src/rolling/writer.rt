@@ -3,7 +3,7 @@ ghost use Rattle.std.specs.Prelude.{◌≡◌, None, OnOk};
 ghost use Rattle.std.specs.Io.{WritesAtMost};
 ghost use Rattle.std.specs.Io.KnownBytes.{Appends, WriteAppends};
 
-use super::gated::Gated;
+use super::shared_roller::SharedRoller;
 use appender_store::store::Folder;
 use std::fmt::{Debug, Formatter};
 use std::io::Write;
@@ -14,7 +14,7 @@ use std::{fmt, io};
 /// Writes to the file that was open when it was made: no other file is opened until it is dropped.
 pub struct RollingWriter<'a, S: Folder, R = HostRuntime> {
     pub(super) rt: &'a R,
-    pub(super) gate: RwLockReadGuard<'a, Gated<S>>,
+    pub(super) roller: RwLockReadGuard<'a, SharedRoller<S>>,
 }
 
 impl<'a, S: Folder, R> Model for RollingWriter<'a, S, R> {
@@ -23,13 +23,13 @@ impl<'a, S: Folder, R> Model for RollingWriter<'a, S, R> {
 
     ghost Value = { WriterSchedule };
 
-    ghost view = { λ w. (read_guard_value w.gate).schedule };
+    ghost view = { λ w. (read_guard_value w.roller).schedule };
 }
 
 impl<S: Folder, R> Drop for RollingWriter<'_, S, R> {
     fn drop(self) {
-        let RollingWriter { rt: _, gate } = self;
-        drop(gate);
+        let RollingWriter { rt: _, roller } = self;
+        drop(roller);
     }
 }
 
@@ -43,7 +43,7 @@ impl<'a, S: Folder, R: Wait> Write for RollingWriter<'a, S, R> {
         ensures append { SomeRollerWrites S.Folder self.old bytes.now result }
         ensures same { self.new ≡ self.old }
     {
-        self.gate.write(self.rt, bytes)
+        self.roller.write(self.rt, bytes)
     }
 
     /// Repeats `write` under one lock until all bytes are taken, so that no other piece is between them.
@@ -52,7 +52,7 @@ impl<'a, S: Folder, R: Wait> Write for RollingWriter<'a, S, R> {
         ensures appends { SomeRollerWritesAll S.Folder self.old bytes.now result }
         ensures same { self.new ≡ self.old }
     {
-        self.gate.write_all(self.rt, bytes)
+        self.roller.write_all(self.rt, bytes)
     }
 
     /// Flushes the open file.
@@ -60,7 +60,7 @@ impl<'a, S: Folder, R: Wait> Write for RollingWriter<'a, S, R> {
         ensures flush { SomeRollerFlushes S.Folder self.old result }
         ensures same { self.new ≡ self.old }
     {
-        self.gate.flush(self.rt)
+        self.roller.flush(self.rt)
     }
 }
 

@@ -19,8 +19,9 @@ pub struct MemoryFile {
 }
 
 /// A folder in memory, whose content is known and whose calls can be made to fail or to be short. Its
-/// calls have numbers from 1: all of `Folder` but `note` and `failures`, and refused ones too. An error is
-/// `NotFound` for what is absent, and `AlreadyExists` for a name in use.
+/// calls have numbers from 1: all of `Folder` that change it or can fail, and refused ones too. `made_file`,
+/// `length`, `note` and `failures` have none. An error is `NotFound` for what is absent, and `AlreadyExists`
+/// for a name in use.
 ///
 /// ```
 /// use std::alloc::Global;
@@ -43,6 +44,8 @@ pub struct MemoryFolder {
     bodies: Vec<Vec<u8>>,
     names: BTreeMap<String, Item>,
     created: Option<i128>,
+    // Whether the last opening that succeeded made its file.
+    made_file: bool,
     calls: Calls,
     noted: NoticeCounts,
     ghost sound: { IsSound (content_of there bodies names) },
@@ -82,6 +85,7 @@ impl MemoryFolder {
             bodies: Vec::new(alloc),
             names: BTreeMap::new(alloc),
             created: None,
+            made_file: false,
             calls: Calls::new(alloc),
             noted: NoticeCounts::new(),
         }
@@ -283,6 +287,8 @@ impl Folder for MemoryFolder {
 
     ghost body = { λ f. f.body };
 
+    ghost made_file = { λ f. f.made_file };
+
     ghost failures = { λ f. (state_of f).failures };
 
     ghost noted = { λ f. (state_of f).noted };
@@ -308,6 +314,8 @@ impl Folder for MemoryFolder {
 
     ghost flush_gives = { λ old file r new after.
         NeedsNoMemory (state_of old) None r (state_of new) };
+
+    ghost length_gives = { λ f file r. Unit {0} };
 
     ghost note_gives = { λ old said new.
         state_of new ≡ record (state_of old) { noted = after_note (notice_kind_of said) (state_of old).noted } };
@@ -350,10 +358,14 @@ impl Folder for MemoryFolder {
             return Err(io::Error::from(io::ErrorKind::NotFound));
         }
         match look_up(&self.names, name) {
-            Look::Plain(body) => Ok(MemoryFile { body }),
+            Look::Plain(body) => {
+                self.made_file = false;
+                Ok(MemoryFile { body })
+            }
             Look::Free => {
                 let empty = Vec::new(self.alloc);
                 let body = self.enter_file(name, empty)?;
+                self.made_file = true;
                 Ok(MemoryFile { body })
             }
             _ => Err(io::Error::from(io::ErrorKind::AlreadyExists)),
@@ -402,6 +414,17 @@ impl Folder for MemoryFolder {
     fn flush(&mut self, file: &mut MemoryFile) -> io::Result<()> {
         let _ = file;
         self.calls.count()
+    }
+
+    fn made_file(&self) -> bool {
+        self.made_file
+    }
+
+    fn length(&self, file: &MemoryFile) -> Option<u64> {
+        match self.bodies.get(file.body) {
+            Some(bytes) => Some(bytes.len() as u64),
+            None => None,
+        }
     }
 
     fn note(&mut self, notice: Notice<'_>) {

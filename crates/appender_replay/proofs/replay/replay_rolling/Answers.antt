@@ -15,7 +15,7 @@ loop-step-init g c =
     record {
       one_each = search rules;
       room = search rules;
-      runs = record { first = _; opens = opens; number_is = sym (c.number-number.ensures ∙ ap (λ (s : Stamp). s.number) opens.opened); runs = refl };
+      runs = record { first = _; opens = opens; number_is = sym (c.number-number.ensures ∙ ap (λ (s : Stamp). s.number) opens.opened); room_is = sym c.room-room.ensures; runs = refl };
     }
 
 pub loop-step-preserved : goal.loop-step-preserved
@@ -34,7 +34,7 @@ loop-step-preserved g c =
     record {
       one_each = ap length c.push_reserved.ensures.items ∙ length-append replies (reply ∷ []) ∙ ap (λ n. n + 1) inv.one_each;
       room = rw c.push_reserved.ensures.capacity inv.room;
-      runs = rw past (record { first = inv.runs.first; opens = inv.runs.opens; number_is = inv.runs.number_is; runs = (c.loop-step.roller, inv.runs.runs, c.run_step-reply.ensures) });
+      runs = rw past (record { first = inv.runs.first; opens = inv.runs.opens; number_is = inv.runs.number_is; room_is = inv.runs.room_is; runs = (c.loop-step.roller, inv.runs.runs, c.run_step-reply.ensures) });
     }
 
 pub returns : goal.returns
@@ -53,10 +53,10 @@ returns g c =
       failures_fit = g.met.S.Folder.failures_fit;
       noted_fit = g.met.S.Folder.noted_fit;
     } in
-    let law = roll_law g.S.Folder c.args.builder.now c.args.start c.number-number.result c.args.folder (with_replies c.args.steps.now c.loop-step.replies.items) c.loop-step.roller grounds in
-    let rolls = follows _ _ _ _ _ _ _ _ _ law runs in
+    let law = roll_law g.S.Folder c.args.builder.now c.args.start c.number-number.result c.room-room.result c.args.folder (with_replies c.args.steps.now c.loop-step.replies.items) c.loop-step.roller grounds in
+    let rolls = follows _ _ _ _ _ _ _ _ _ _ law runs in
     record {
-      headline = roll_headline g.S.Folder c.args.builder.now grounds c.args.start c.number-number.result c.args.folder (with_replies c.args.steps.now c.loop-step.replies.items) c.loop-step.roller runs rolls;
+      headline = roll_headline g.S.Folder c.args.builder.now grounds c.args.start c.number-number.result c.room-room.result c.args.folder (with_replies c.args.steps.now c.loop-step.replies.items) c.loop-step.roller runs rolls;
       one_each = one_each;
       runs = runs;
       roller = rolls;

@@ -6,5 +6,5 @@ abbrev pub invariant-loop-step : goal.invariant-loop-step
 invariant-loop-step g l = record {
   one_each : length l.replies.items ≡ l.step-index;
   room : length l.steps ≤ vec_capacity l.replies;
-  runs : RunsFrom g.S.Folder (RollDoes g.S.Folder) l.fn.builder l.fn.start l.number l.fn.folder (with_replies (take l.step-index l.steps) l.replies.items) l.roller;
+  runs : RunsFrom g.S.Folder (RollDoes g.S.Folder) l.fn.builder l.fn.start l.number l.room l.fn.folder (with_replies (take l.step-index l.steps) l.replies.items) l.roller;
 }

@@ -1,4 +1,4 @@
-use Rattle.std.proofs.Common.{rules, FitsSigned, w64, ◌≡◌, ◌∙◌, ℤ, ℕ, Option, Some, ap, sym}
+use Rattle.std.proofs.Common.{rules, FitsSigned, w64, ◌∙◌, ℤ, Some, ap, sym}
 use Rattle.std.proofs.lemmas.Int.{to_z-of_z}
 use Rattle.appender_retain.proofs.ByName.{read_unnumbered}
 use Rattle.appender_retain.proofs.retain.read.Goals as goal

@@ -1,6 +1,6 @@
 -- Adds a byte at a time.
 use Rattle.std.proofs.Common.{◌≡◌, ◌++◌, take}
-use Rattle.rollplay_script.specs.Text.{script_escapes}
+use Rattle.rollplay_core.specs.Text.{script_escapes}
 use Rattle.rollplay_core.proofs.page.push_escapes.Given as goal
 
 abbrev pub invariant-loop-byte : goal.invariant-loop-byte

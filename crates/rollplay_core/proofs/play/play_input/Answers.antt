@@ -1,4 +1,4 @@
-use Rattle.rollplay_script.specs.Draft.{plan_of}
+use Rattle.rollplay_core.specs.Draft.{plan_of}
 use Rattle.rollplay_core.proofs.play.play_input.Goals as goal
 
 pub returns-in-Ok-clause-ok : goal.returns-in-Ok-clause-ok

@@ -1,7 +1,7 @@
 use Rattle.std.proofs.Common.{FitsSigned, rules}
 use Rattle.std.specs.Int.{w64}
 use Rattle.std.proofs.lemmas.Int.{to_z-of_z}
-use Rattle.rollplay_script.specs.Script.{queued}
+use Rattle.rollplay_core.specs.Script.{queued}
 use Rattle.rollplay_core.proofs.PlayLemmas.{refused_page}
 use Rattle.rollplay_core.proofs.play.play_queued.Goals as goal
 
@@ -17,6 +17,7 @@ returns-in-Ok-print_queued_run-clause-ok c =
       lines = c.in-Ok.ensures.lines;
       last = c.in-Ok.run'.roller;
       number = c.in-Ok.run'.number;
+      room = c.in-Ok.run'.room;
       runs = rw start at c.in-Ok.ensures.runs;
       page_is = rw (start, c.in-Ok.ensures.roller.config_is, c.new-page.ensures.items) at c.in-Ok-print_queued_run.ensures;
     }

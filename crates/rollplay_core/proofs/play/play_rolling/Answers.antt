@@ -1,7 +1,7 @@
 use Rattle.std.proofs.Common.{FitsSigned, rules}
 use Rattle.std.specs.Int.{w64}
 use Rattle.std.proofs.lemmas.Int.{to_z-of_z}
-use Rattle.rollplay_script.specs.Script.{rolling}
+use Rattle.rollplay_core.specs.Script.{rolling}
 use Rattle.rollplay_core.proofs.PlayLemmas.{refused_page}
 use Rattle.rollplay_core.proofs.play.play_rolling.Goals as goal
 
@@ -14,6 +14,7 @@ returns-in-Ok-print_run-clause-ok c =
       one_each = c.in-Ok.ensures.one_each;
       last = c.in-Ok.run'.roller;
       number = c.in-Ok.run'.number;
+      room = c.in-Ok.run'.room;
       runs = rw start at c.in-Ok.ensures.runs;
       page_is = rw (start, c.in-Ok.ensures.roller.config_is, c.new-page.ensures.items) at c.in-Ok-print_run.ensures;
     }

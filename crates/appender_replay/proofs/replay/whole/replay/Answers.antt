@@ -5,7 +5,7 @@ use Rattle.std.proofs.lemmas.List.{take_more, take_all}
 use Rattle.appender_replay.specs.Replay.{with_replies}
 use Rattle.appender_replay.specs.Inside.Steps.{parts}
 use Rattle.appender_replay.proofs.Headlines.{headline}
-use Rattle.appender_replay.proofs.Orders.{in_order, labels}
+use Rattle.appender_replay.proofs.Orders.{in_order}
 use Rattle.appender_replay.proofs.Runs.{Grounds, follows, other_names, one_reply_more}
 use Rattle.appender_replay.proofs.Lines.{text_law}
 use Rattle.appender_replay.proofs.Wholes.{GoesFrom, goes_begins, goes_on, whole_law}
@@ -17,7 +17,7 @@ loop-step-init g c =
     record {
       one_each = search rules;
       room = search rules;
-      goes = goes_begins g.S.Folder _ _ _ _ _ _ _ _ _ c.in-Ok-new.ensures.fresh c.new-worker.ensures c.in-Ok-open.ensures.ok c.number-number.ensures;
+      goes = goes_begins g.S.Folder _ _ _ _ _ _ _ _ _ _ c.in-Ok-new.ensures.fresh c.new-worker.ensures c.in-Ok-open.ensures.ok c.number-number.ensures c.room-room.ensures;
     }
 
 pub loop-step-preserved : goal.loop-step-preserved
@@ -36,7 +36,7 @@ loop-step-preserved g c =
     record {
       one_each = ap length c.push_reserved.ensures.items ∙ length-append replies (reply ∷ []) ∙ ap (λ n. n + 1) inv.one_each;
       room = rw c.push_reserved.ensures.capacity inv.room;
-      goes = rw past (goes_on g.S.Folder _ _ _ _ _ _ (with_replies (take i steps) replies) (step, reply)
+      goes = rw past (goes_on g.S.Folder _ _ _ _ _ _ _ (with_replies (take i steps) replies) (step, reply)
           (parts c.loop-step.queue c.loop-step.worker c.loop-step.roller)
           (parts c.run_step-reply.new.queue c.run_step-reply.new.worker c.run_step-reply.new.roller) inv.goes c.run_step-reply.ensures);
     }
@@ -46,7 +46,7 @@ returns g c =
     let fits : FitsSigned w64 c.args.start = c.ranges.start in
     let whole : take c.loop-step.step-index c.args.steps.now ≡ c.args.steps.now = take_all _ _ c.loop-step-test.false in
     let one_each : length c.loop-step.replies.items ≡ length c.args.steps.now = search rules in
-    let goes : GoesFrom g.S.Folder c.args.builder.now c.args.limit c.args.lossy c.args.start c.number-number.result c.args.folder
+    let goes : GoesFrom g.S.Folder c.args.builder.now c.args.limit c.args.lossy c.args.start c.number-number.result c.room-room.result c.args.folder
     (with_replies c.args.steps.now c.loop-step.replies.items) c.loop-step.queue c.loop-step.worker c.loop-step.roller =
     simp (to_z-of_z, whole) at c.loop-step.invariant.goes in
     let past = with_replies c.args.steps.now c.loop-step.replies.items in
@@ -60,16 +60,16 @@ returns g c =
       failures_fit = g.met.S.Folder.failures_fit;
       noted_fit = g.met.S.Folder.noted_fit;
     } in
-    let law = whole_law g.S.Folder c.args.builder.now c.args.start c.number-number.result c.args.folder past c.loop-step.roller grounds in
-    let rolls = follows _ _ _ _ _ _ _ _ _ law goes.runs in
+    let law = whole_law g.S.Folder c.args.builder.now c.args.start c.number-number.result c.room-room.result c.args.folder past c.loop-step.roller grounds in
+    let rolls = follows _ _ _ _ _ _ _ _ _ _ law goes.runs in
     record {
-      headline = headline g.S.Folder c.args.builder.now grounds c.args.limit c.args.lossy c.args.start c.number-number.result c.args.folder past c.loop-step.roller goes.answers goes.runs rolls;
+      headline = headline g.S.Folder c.args.builder.now grounds c.args.limit c.args.lossy c.args.start c.number-number.result c.room-room.result c.args.folder past c.loop-step.roller goes.answers goes.runs rolls;
       one_each = one_each;
       lines = record {
         answers = goes.answers;
         queue_is = goes.stands.queue;
         worker_is = goes.stands.worker;
-        labels = λ label. labels c.args.limit c.args.lossy past label (in_order c.args.limit c.args.lossy past goes.answers);
+        order = in_order c.args.limit c.args.lossy past goes.answers;
         text = text_law c.args.limit c.args.lossy past goes.answers;
       };
       runs = goes.runs;

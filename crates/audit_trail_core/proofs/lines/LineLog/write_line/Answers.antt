@@ -1,61 +1,68 @@
-use Rattle.std.proofs.Common.{◌≡◌, ◌∙◌, inl, inr, sym, ap, subst, arith, not}
+use Rattle.std.proofs.Common.{◌≡◌, ◌∙◌, inl, inr, sym, ap, subst, arith, not, length, [], true}
 use Rattle.std.proofs.lemmas.Bool.Decides.{nat_tests}
-use Rattle.audit_trail_core.specs.Trail.{TrailState, EndsPart, PutsPart}
-use Rattle.audit_trail_core.proofs.Pieces.{on_err}
-use Rattle.audit_trail_core.proofs.Ends.{whole_after, whole_after_none, is_so}
+use Rattle.log_check.specs.Log.{CheckedState, EndsWhole}
+use Rattle.log_check.proofs.Ends.{is_so}
+use Rattle.audit_trail_core.specs.Trail.{AppendsPart, AppendsPieces, EndsPart, PutsPart}
+use Rattle.audit_trail_core.proofs.Pieces.{on_err, room_found, whole_line, whole_part}
 use Rattle.audit_trail_core.proofs.lines.LineLog.write_line.Goals as goal
 
-pub invariant_of-self : goal.invariant_of-self
-invariant_of-self g c = λ ends.
+pub set_cut-requires : goal.set_cut-requires
+set_cut-requires g c = λ ends.
     let whole = c.in-Ok.ensures.ok in
-    whole_after g.S.Folder whole.answers c.args.line.now _ _ whole.adds (sym c.ends_line.ensures ∙ is_so c.ends_line.result ends)
+    whole_line g.S.Folder whole.answers c.args.line.now _ _ whole.adds (sym c.ends_line.ensures ∙ is_so c.ends_line.result ends)
 
-pub invariant_of-self-in-Err : goal.invariant_of-self-in-Err
-invariant_of-self-in-Err g c = λ none.
-    let part = c.in-Err.ensures.err in
-    let nothing : c.in-Err.fault.taken ≡ 0 = grind (arith, nat_tests) in
-    let begun = c.self.invariant (ap (λ (l : TrailState _ _ _). l.cut) c.self.view_is ∙ c.in_ok-repeats.ensures.whole) in
-    whole_after_none g.S.Folder part.answers c.args.line.now part.rest _ _ part.adds (sym part.taken_is ∙ nothing) begun
+pub set_cut-requires-in-Err-add_all : goal.set_cut-requires-in-Err-add_all
+set_cut-requires-in-Err-add_all g c = λ none.
+    let nothing : c.in-Err-add_all.fault.taken ≡ 0 = grind (arith, nat_tests) in
+    let same = sym (ap (λ (l : CheckedState _ _ _). l.log) c.self-2.view_is) in
+    whole_part g.S.Folder c.args.line.now c.in-Err-add_all.fault.taken _ _ c.in-Err-add_all.ensures.err nothing
+    (subst (λ log. EndsWhole g.S.Folder log) same c.in_ok-repeats.ensures.whole)
 
 pub returns-in-Ok-clause-ok : goal.returns-in-Ok-clause-ok
 returns-in-Ok-clause-ok g c =
     let ended = c.in_ok-repeats.ensures.ok in
     let whole = c.in-Ok.ensures.ok in
+    let same = sym (ap (λ (l : CheckedState _ _ _). l.log) c.self-2.view_is) in
     record {
       looked = c.check_clock.new.self;
-      looks = c.check_clock.ensures;
+      room = room_found g.S.Folder c.in_default.field-0 (length c.args.line.now) c.args.self.now c.check_clock.new.self c.self.view_is c.in_default.ensures.found c.length_with-length.ensures c.is_cut.ensures.cut c.check_clock.ensures;
       ending = ended.ending;
-      begun = c.self.inside.log;
-      ends = subst (λ log. EndsPart g.S.Folder c.check_clock.new.self.cut ended.ending c.check_clock.new.self.log log) (sym (ap (λ (l : TrailState _ _ _). l.log) c.self.view_is)) ended.ends;
-      begins = c.self.invariant (ap (λ (l : TrailState _ _ _). l.cut) c.self.view_is ∙ c.in_ok-repeats.ensures.whole);
+      begun = c.self-2.inside.checked.log;
+      ends = subst (λ log. EndsPart g.S.Folder c.check_clock.new.self.cut ended.ending c.check_clock.new.self.log log) same ended.ends;
+      begins = subst (λ log. EndsWhole g.S.Folder log) same c.in_ok-repeats.ensures.whole;
       answers = whole.answers;
-      adds = whole.adds;
+      adds = subst (λ log. AppendsPieces g.S.Folder whole.answers c.args.line.now [] c.self-2.inside.checked.log log) (sym (ap (λ (l : CheckedState _ _ _). l.log) c.set_cut.ensures)) whole.adds;
       few = omega (arith, ended.counts, whole.counts, whole.few);
-      cut = ap not c.ends_line.ensures;
+      cut = ap (λ (l : CheckedState _ _ _). l.cut) c.set_cut.ensures ∙ ap not c.ends_line.ensures;
+      opening = ap (λ (l : CheckedState _ _ _). l.opening) c.set_cut.ensures ∙ c.add_all.ensures.opening ∙ ap (λ (l : CheckedState _ _ _). l.opening) c.self-2.view_is ∙ c.end_part.ensures.opening;
     }
 
 pub returns-in_err-repeats-clause-part : goal.returns-in_err-repeats-clause-part
 returns-in_err-repeats-clause-part g c =
     let (none, cut, part) = c.in_err-repeats.ensures.part in
-    on_err c.from_residual.result _ (λ fault. PutsPart g.S.Folder g.C.Clock c.args.line.now fault.taken c.args.self.now c.end_part.new.self) c.from_residual.ensures.1 (record {
+    on_err c.from_residual.result _ (λ fault. PutsPart g.S.Folder g.C.Clock c.args.line.now fault.taken c.args.self.now c.end_part.new.self) c.from_residual.ensures.1 (inr (record {
       looked = c.check_clock.new.self;
-      looks = c.check_clock.ensures;
+      room = room_found g.S.Folder c.in_default.field-0 (length c.args.line.now) c.args.self.now c.check_clock.new.self c.self.view_is c.in_default.ensures.found c.length_with-length.ensures c.is_cut.ensures.cut c.check_clock.ensures;
       adds = inl (none, cut, part);
       cut = λ some. absurd (some none);
-    })
+      opening = c.end_part.ensures.opening;
+    }))
 
-pub returns-in-Err-clause-part : goal.returns-in-Err-clause-part
-returns-in-Err-clause-part g c =
+pub returns-in-Err-add_all-clause-part : goal.returns-in-Err-add_all-clause-part
+returns-in-Err-add_all-clause-part g c =
     let ended = c.in_ok-repeats.ensures.ok in
-    record {
+    let same = sym (ap (λ (l : CheckedState _ _ _). l.log) c.self-2.view_is) in
+    inr (record {
       looked = c.check_clock.new.self;
-      looks = c.check_clock.ensures;
+      room = room_found g.S.Folder c.in_default.field-0 (length c.args.line.now) c.args.self.now c.check_clock.new.self c.self.view_is c.in_default.ensures.found c.length_with-length.ensures c.is_cut.ensures.cut c.check_clock.ensures;
       adds = inr (
         ended.ending,
-        c.self.inside.log,
-        subst (λ log. EndsPart g.S.Folder c.check_clock.new.self.cut ended.ending c.check_clock.new.self.log log) (sym (ap (λ (l : TrailState _ _ _). l.log) c.self.view_is)) ended.ends,
-        c.self.invariant (ap (λ (l : TrailState _ _ _). l.cut) c.self.view_is ∙ c.in_ok-repeats.ensures.whole),
-        c.in-Err.ensures.err,
+        c.self-2.inside.checked.log,
+        subst (λ log. EndsPart g.S.Folder c.check_clock.new.self.cut ended.ending c.check_clock.new.self.log log) same ended.ends,
+        subst (λ log. EndsWhole g.S.Folder log) same c.in_ok-repeats.ensures.whole,
+        subst (λ log. AppendsPart g.S.Folder c.args.line.now c.in-Err-add_all.fault.taken c.self-2.inside.checked.log log)
+            (sym (ap (λ (l : CheckedState _ _ _). l.log) c.set_cut-in-Err-add_all.ensures)) c.in-Err-add_all.ensures.err,
       );
-      cut = λ some. grind (arith, nat_tests);
-    }
+      cut = λ some. ap (λ (l : CheckedState _ _ _). l.cut) c.set_cut-in-Err-add_all.ensures ∙ grind (arith, nat_tests);
+      opening = ap (λ (l : CheckedState _ _ _). l.opening) c.set_cut-in-Err-add_all.ensures ∙ c.add_all.ensures.opening ∙ ap (λ (l : CheckedState _ _ _). l.opening) c.self-2.view_is ∙ c.end_part.ensures.opening;
+    })

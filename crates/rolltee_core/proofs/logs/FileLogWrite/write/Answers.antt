@@ -1,4 +1,4 @@
-use Rattle.std.proofs.Common.{inl, inr, subst}
+use Rattle.std.proofs.Common.{inl, inr, subst, true, length}
 use Rattle.appender_rolling.specs.Appender.{AppendsNow}
 use Rattle.rolltee_core.specs.Log.{FindsLog, PutsBytes}
 use Rattle.rolltee_core.proofs.Outcome.{if_err, on_ok}
@@ -8,9 +8,11 @@ pub returns-clause-puts : goal.returns-clause-puts
 returns-clause-puts g c =
     let puts : PutsBytes g.S.Folder g.C.Clock c.args.bytes.now c.append.result c.args.self.now c.append.new.self.log = record {
       looked = c.check_clock.new.self.log;
+      owed = c.check_clock.new.self.owed;
       looks = record {
         found = c.find_file.new.self.log;
         is_found = c.in_ok-find_file.ensures.found;
+        owes = c.find_file.new.self.owed;
         looks = elim c.check_clock.ensures.looks [ inl checks ↦ inl checks | inr same ↦ inr (c.find_file.ensures.short same.0, same.1) ];
       };
       ended = c.end_part.new.self.log;
@@ -21,9 +23,11 @@ returns-clause-puts g c =
 pub returns-clause-fails : goal.returns-clause-fails
 returns-clause-fails g c = if_err c.append.result (λ error is. inr (inr (record {
   looked = c.check_clock.new.self.log;
+  owed = c.check_clock.new.self.owed;
   looks = record {
     found = c.find_file.new.self.log;
     is_found = c.in_ok-find_file.ensures.found;
+    owes = c.find_file.new.self.owed;
     looks = elim c.check_clock.ensures.looks [ inl checks ↦ inl checks | inr same ↦ inr (c.find_file.ensures.short same.0, same.1) ];
   };
   ended = c.end_part.new.self.log;
@@ -32,12 +36,15 @@ returns-clause-fails g c = if_err c.append.result (λ error is. inr (inr (record
 })))
 
 pub returns-in_err-end_part-clause-fails : goal.returns-in_err-end_part-clause-fails
-returns-in_err-end_part-clause-fails g c = if_err c.from_residual-in_err-end_part.result (λ error is. inr (inl (
-  c.check_clock.new.self.log,
-  record {
-    found = c.find_file.new.self.log;
-    is_found = c.in_ok-find_file.ensures.found;
-    looks = elim c.check_clock.ensures.looks [ inl checks ↦ inl checks | inr same ↦ inr (c.find_file.ensures.short same.0, same.1) ];
-  },
-  c.in_err-end_part.ensures.stays,
-)))
+returns-in_err-end_part-clause-fails g c =
+    let finds : FindsLog g.S.Folder g.C.Clock (length c.args.bytes.now) c.args.self.now c.check_clock.new.self.log c.check_clock.new.self.owed = record {
+      found = c.find_file.new.self.log;
+      is_found = c.in_ok-find_file.ensures.found;
+      owes = c.find_file.new.self.owed;
+      looks = elim c.check_clock.ensures.looks [ inl checks ↦ inl checks | inr same ↦ inr (c.find_file.ensures.short same.0, same.1) ];
+    } in
+    if_err c.from_residual-in_err-end_part.result (λ error is. inr (inl (
+      c.check_clock.new.self.log,
+      subst (λ owed. FindsLog g.S.Folder g.C.Clock (length c.args.bytes.now) c.args.self.now c.check_clock.new.self.log owed) c.in_err-end_part.ensures.owed finds,
+      c.in_err-end_part.ensures.stays,
+    )))

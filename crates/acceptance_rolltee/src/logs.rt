@@ -1,0 +1,47 @@
+// A log that a test gives to the program.
+use log_check::FileCounts;
+use program_options::Options;
+use rolltee_core::tee::{Logs, TeeLog};
+use std::alloc::Global;
+use std::cell::RefCell;
+use std::sync::Arc;
+use tracing_appender::rolling::{InitError, Rotation};
+
+/// Opens a log once. Every other opening fails for want of memory.
+#[derive(Drop)]
+pub(crate) struct OneLog<L: Drop> {
+    log: RefCell<Option<L>>,
+}
+
+impl<L: Drop> OneLog<L> {
+    pub(crate) fn new(log: L) -> OneLog<L> {
+        OneLog {
+            log: RefCell::new(Some(log)),
+        }
+    }
+
+    /// Opens none.
+    pub(crate) fn none() -> OneLog<L> {
+        OneLog {
+            log: RefCell::new(None),
+        }
+    }
+}
+
+impl<L: TeeLog + Send + Drop + 'static> Logs for OneLog<L> {
+    type Log = L;
+
+    fn open_log(
+        &self,
+        _: Rotation,
+        _: &str,
+        _: &str,
+        _: &Options,
+        _: Arc<FileCounts, Global>,
+    ) -> Result<L, InitError> {
+        match self.log.try_borrow_mut() {
+            Ok(mut log) => log.take().ok_or(InitError::Memory),
+            Err(_) => Err(InitError::Memory),
+        }
+    }
+}

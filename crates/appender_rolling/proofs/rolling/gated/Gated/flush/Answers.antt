@@ -1,8 +1,0 @@
-use Rattle.appender_rolling.proofs.rolling.gated.Gated.flush.Goals as goal
-
-pub returns : goal.returns
-returns g c = record {
-  found = c.lock.result.value;
-  left = c.flush.new.self;
-  flushes = rw (← c.deref_mut.ensures.value) (c.flush.ensures c.args.self.now.schedule);
-}

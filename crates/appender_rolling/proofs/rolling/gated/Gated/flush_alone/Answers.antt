@@ -1,8 +1,0 @@
-use Rattle.appender_rolling.proofs.rolling.gated.Gated.flush_alone.Goals as goal
-
-pub returns-clause-flush : goal.returns-clause-flush
-returns-clause-flush g c = record {
-  found = c.get_mut.result.now;
-  left = c.flush.new.self;
-  flushes = c.flush.ensures c.args.self.now.schedule;
-}

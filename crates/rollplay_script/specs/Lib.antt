@@ -1,5 +1,0 @@
-pub mod Draft
-pub mod Line
-pub mod Script
-pub mod Text
-pub mod Words
