@@ -39,7 +39,7 @@ pub fn open_dir<R: FilesHost + time::Clock, P: RetryPolicy>(
     open_log(rt.alloc(), settings, folder, clock)
 }
 
-// Opens the log with the file that is next if its last one is refused.
+// Opens the log with the file that is next if its last one is refused for more than want of memory or an interruption.
 fn open_log<S: Folder, C: Clock>(
     alloc: Global,
     settings: &Builder,
@@ -50,7 +50,10 @@ fn open_log<S: Folder, C: Clock>(
 {
     match settings.open_in(alloc, folder, clock) {
         Ok(log) => Ok(log),
-        Err((InitError::File(_), folder, clock)) => open_next(alloc, settings, folder, clock),
+        Err((InitError::File(fault), folder, clock)) => match fault.kind() {
+            ErrorKind::OutOfMemory | ErrorKind::Interrupted => Err(InitError::File(fault)),
+            _ => open_next(alloc, settings, folder, clock),
+        },
         Err((error, _, _)) => Err(error),
     }
 }

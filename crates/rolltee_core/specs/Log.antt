@@ -35,8 +35,8 @@ pub record ReopenableLog (S F C : Type 0) : Type 0 where
   pub owed : Bool
 
 -- The log is the one of before, or was opened again, and the file of before was flushed.
-abbrev pub IsSameOrReopened : {S F C : Type 0} → Ghosts S F → Readings C → ReopenableLog S F C → Appending S F C → Type 0
-IsSameOrReopened kind time old found = (found ≡ old.log) ⊎ OpensAnew kind time old.config old.log found
+abbrev pub IsSameOrReopened : {S F C : Type 0} → Ghosts S F → Readings C → ReopenableLog S F C → ReopenableLog S F C → Type 0
+IsSameOrReopened kind time old found = (found ≡ old) ⊎ OpensAnew kind time old.config old.log found.log
 
 -- a newline was added if one was to be, and else nothing
 abbrev pub EndsOwed : {S F C : Type 0} → Ghosts S F → Bool → Appending S F C → Appending S F C → Type 0
@@ -61,15 +61,16 @@ pub record ChecksOnce {S F C : Type 0} (kind : Ghosts S F) (time : Readings C) (
 abbrev pub MayCheckOnce : {S F C : Type 0} → Ghosts S F → Readings C → ℕ → ReopenableLog S F C → ReopenableLog S F C → Type 0
 MayCheckOnce kind time len old new =
     ChecksOnce kind time len old.log old.owed new.log new.owed
-    ⊎ ((old.short ≡ true) × (new.log ≡ old.log))
+    ⊎ ((old.short ≡ true) × (new ≡ old))
 
 -- The log was found, and the clock was checked once, unless the bytes are the rest of a line. It is known then whether a newline is to be
 -- written first.
 pub record FindsLog {S F C : Type 0} (kind : Ghosts S F) (time : Readings C) (len : ℕ) (old : ReopenableLog S F C) (looked : Appending S F C) (owed : Bool) : Type 0 where
-  pub found : Appending S F C
+  pub found : ReopenableLog S F C
   pub is_found : IsSameOrReopened kind time old found
-  pub owes : Bool
-  pub looks : ChecksOnce kind time len found owes looked owed ⊎ ((old.short ≡ true) × (looked ≡ found))
+  pub looks :
+      ChecksOnce kind time len found.log found.owed looked owed
+      ⊎ ((old.short ≡ true) × (looked ≡ found.log) × (owed ≡ found.owed))
 
 -- The bytes were added with this answer by one append, after that check, and before them a newline if one was to be written.
 pub record PutsBytes {S F C : Type 0} (kind : Ghosts S F) (time : Readings C) (bytes : List ℕ) (answer : Result ℕ Error) (old : ReopenableLog S F C) (new : Appending S F C) : Type 0 where

@@ -192,7 +192,7 @@ impl<S: Folder, C: Clock, W: FileCheck<S>, O: Opens<S, C>> FileLog<S, C, W, O> {
 
     // Opens the log again if its file is not found.
     fn find_file(&mut self) -> io::Result<()>
-        ensures found { OnOk result (IsSameOrReopened S.Folder C.Clock self.old self.new.log) }
+        ensures found { OnOk result (IsSameOrReopened S.Folder C.Clock self.old self.new) }
         ensures lost { OnErr result (self.new ≡ self.old) }
         ensures config { self.new.config ≡ self.old.config }
         ensures short { self.new.short ≡ true → self.old.short ≡ true }

@@ -1,6 +1,6 @@
-use Rattle.std.proofs.Common.{inl, inr, subst, true, length}
+use Rattle.std.proofs.Common.{ap, inl, inr, subst, true, length}
 use Rattle.appender_rolling.specs.Appender.{AppendsNow}
-use Rattle.rolltee_core.specs.Log.{FindsLog, PutsBytes}
+use Rattle.rolltee_core.specs.Log.{FindsLog, PutsBytes, ReopenableLog}
 use Rattle.rolltee_core.proofs.Outcome.{if_err, on_ok}
 use Rattle.rolltee_core.proofs.logs.FileLogWrite.write.Goals as goal
 
@@ -10,10 +10,9 @@ returns-clause-puts g c =
       looked = c.check_clock.new.self.log;
       owed = c.check_clock.new.self.owed;
       looks = record {
-        found = c.find_file.new.self.log;
+        found = c.find_file.new.self;
         is_found = c.in_ok-find_file.ensures.found;
-        owes = c.find_file.new.self.owed;
-        looks = elim c.check_clock.ensures.looks [ inl checks ↦ inl checks | inr same ↦ inr (c.find_file.ensures.short same.0, same.1) ];
+        looks = elim c.check_clock.ensures.looks [ inl checks ↦ inl checks | inr same ↦ inr (c.find_file.ensures.short same.0, ap (λ (l : ReopenableLog _ _ _). l.log) same.1, ap (λ (l : ReopenableLog _ _ _). l.owed) same.1) ];
       };
       ended = c.end_part.new.self.log;
       ends = c.in_ok-end_part.ensures.ends;
@@ -25,10 +24,9 @@ returns-clause-fails g c = if_err c.append.result (λ error is. inr (inr (record
   looked = c.check_clock.new.self.log;
   owed = c.check_clock.new.self.owed;
   looks = record {
-    found = c.find_file.new.self.log;
+    found = c.find_file.new.self;
     is_found = c.in_ok-find_file.ensures.found;
-    owes = c.find_file.new.self.owed;
-    looks = elim c.check_clock.ensures.looks [ inl checks ↦ inl checks | inr same ↦ inr (c.find_file.ensures.short same.0, same.1) ];
+    looks = elim c.check_clock.ensures.looks [ inl checks ↦ inl checks | inr same ↦ inr (c.find_file.ensures.short same.0, ap (λ (l : ReopenableLog _ _ _). l.log) same.1, ap (λ (l : ReopenableLog _ _ _). l.owed) same.1) ];
   };
   ended = c.end_part.new.self.log;
   ends = c.in_ok-end_part.ensures.ends;
@@ -38,10 +36,9 @@ returns-clause-fails g c = if_err c.append.result (λ error is. inr (inr (record
 pub returns-in_err-end_part-clause-fails : goal.returns-in_err-end_part-clause-fails
 returns-in_err-end_part-clause-fails g c =
     let finds : FindsLog g.S.Folder g.C.Clock (length c.args.bytes.now) c.args.self.now c.check_clock.new.self.log c.check_clock.new.self.owed = record {
-      found = c.find_file.new.self.log;
+      found = c.find_file.new.self;
       is_found = c.in_ok-find_file.ensures.found;
-      owes = c.find_file.new.self.owed;
-      looks = elim c.check_clock.ensures.looks [ inl checks ↦ inl checks | inr same ↦ inr (c.find_file.ensures.short same.0, same.1) ];
+      looks = elim c.check_clock.ensures.looks [ inl checks ↦ inl checks | inr same ↦ inr (c.find_file.ensures.short same.0, ap (λ (l : ReopenableLog _ _ _). l.log) same.1, ap (λ (l : ReopenableLog _ _ _). l.owed) same.1) ];
     } in
     if_err c.from_residual-in_err-end_part.result (λ error is. inr (inl (
       c.check_clock.new.self.log,
