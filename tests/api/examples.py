@@ -1,9 +1,9 @@
-"""The examples in doc comments, and the modules of the crate `doc_examples` that the gate proves and tests."""
+"""The examples in doc comments, and the modules `examples` of the crate `callers` that the gate proves and tests."""
 import re
 
 from library import ROOTS, TOP
 
-CRATE = TOP / "crates" / "doc_examples" / "src"
+SOURCES = TOP / "crates" / "callers" / "src"
 # The items that a caller meets first. Each has an example.
 SHOWN = {
     "Builder",
@@ -73,10 +73,10 @@ def blocks(lines):
 
 
 def modules(tally):
-    """The code of each module of the crate: what follows a line `//!` and an empty line."""
-    names = set(re.findall(r"^(?:pub )?mod (\w+);", (CRATE / "lib.rt").read_text(), re.M)) - {"tests"}
-    files = {it.stem: it for it in CRATE.rglob("*.rt") if it not in (CRATE / "lib.rt", CRATE / "tests.rt")}
-    tally.check(names == set(files), f"{CRATE.relative_to(TOP)}: lib.rt does not name each file once")
+    """The code of each module of `examples`: what follows a line `//!` and an empty line."""
+    names = set(re.findall(r"^(?:pub )?mod (\w+);", (SOURCES / "examples.rt").read_text(), re.M)) - {"tests"}
+    files = {it.stem: it for it in (SOURCES / "examples").glob("*.rt") if it.stem != "tests"}
+    tally.check(names == set(files), "callers: examples.rt does not name each file once")
     found = {}
     for name, path in files.items():
         head, _, code = path.read_text().partition("\n\n")
@@ -95,10 +95,10 @@ def check_examples(tally):
                 for block in blocks(lines):
                     name = module_name(item)
                     place = f"{path.relative_to(TOP)}:{line}: the example of `{item}`"
-                    tally.check(block == code.get(name), f"{place} is not the code of doc_examples::{name}")
+                    tally.check(block == code.get(name), f"{place} is not the code of examples::{name}")
                     seen.append(item)
     for item in sorted(SHOWN | set(seen)):
         tally.check(seen.count(item) == 1, f"`{item}` has {seen.count(item)} examples in doc comments, not one")
     for name in sorted(code):
         count = [module_name(it) for it in seen].count(name)
-        tally.check(count == 1, f"doc_examples::{name} is in {count} doc comments, not in one")
+        tally.check(count == 1, f"examples::{name} is in {count} doc comments, not in one")

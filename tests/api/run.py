@@ -7,7 +7,7 @@
 The page has what a user of `tracing_appender` and `appender_log` reaches. A comparison also fails if a public item has
 no doc comment, or if a line of the sources that declares one is not on the page. It finds these lines by their form
 alone, without the reader that makes the page. It also fails if an example in a doc comment is not the text of a module
-of `crates/doc_examples`. The last line of a comparison is `N passed, M failed`.
+of `examples` of `crates/callers`. The last line of a comparison is `N passed, M failed`.
 """
 import re
 import sys

@@ -18,7 +18,7 @@ from run import DEFINITION, SPECS, TOP
 TYPE = re.compile(r"^ *pub (?:struct|enum|trait|type) (\w+)", re.M)
 VALUE = re.compile(r"^impl\b[^{]*?\bModel for (\w+)[^{]*\{.*?^ *ghost Value = \{ *(\w+)", re.M | re.S)
 # Crates of tests and measurements.
-TESTS = re.compile(r"acceptance_\w+|bench|callers|doc_examples|dropped_guard|fake_files|refusals|rollplay_rows")
+TESTS = re.compile(r"acceptance_\w+|bench|callers|refusals")
 # Definitions that are what a type of their name is, though not by a `ghost Value`.
 MODELS = {
     "Plan": "the type's steps as lists; `plan_of` leads from the type to the definition",

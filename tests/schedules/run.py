@@ -32,11 +32,11 @@ import tempfile
 sys.dont_write_bytecode = True
 
 HERE = pathlib.Path(__file__).resolve().parent
-CRATES = ["acceptance_schedules", "acceptance_threads", "acceptance_folder", "appender_log"]
-# Their tests hold however slow threads are: time may pass also while a thread can go on.
-OF_SLOW_THREADS = {"acceptance_schedules"}
+CRATES = ["acceptance_threads", "acceptance_disk", "appender_log"]
+# Tests of this module hold however slow threads are: time may pass also while a thread can go on.
+OF_SLOW_THREADS = "schedules::"
 # These write hundreds or thousands of lines, so that one schedule has tens of thousands of steps. Small tests of
-# acceptance_schedules have the same threads, with two lines each.
+# that module have the same threads, with two lines each.
 TOO_LONG = {
     "acceptance_threads": [
         "crowds::a_guard_that_waits_leaves_no_sender_asleep",
@@ -46,10 +46,10 @@ TOO_LONG = {
         "counted::tickets_are_returned_and_lines_are_in_order",
         "counting::lines_of_many_senders_are_taken_or_lost",
     ],
-    "acceptance_folder": [
-        "limited::no_line_of_full_files_is_lost",
-        "links::a_reader_finds_a_file_at_every_moment",
-        "links::three_writers_of_one_link_all_make_it",
+    "acceptance_disk": [
+        "folders::limited::no_line_of_full_files_is_lost",
+        "folders::links::a_reader_finds_a_file_at_every_moment",
+        "folders::links::three_writers_of_one_link_all_make_it",
     ],
     "appender_log": ["tests::times_rise_in_a_long_log_of_threads", "tests::two_threads_share_a_sink"],
 }
@@ -123,7 +123,7 @@ def run_test(library, program, test, folder, **settings):
     env = {"LD_PRELOAD": str(library), "SCHED_LOCKED": str(program.locked), "TMPDIR": str(folder), "PATH": os.defpath}
     # Programs of `rt try` keep their locals on the stack, of which each fiber has its own.
     env["ASAN_OPTIONS"] = "detect_stack_use_after_return=0:detect_leaks=0"
-    env["SCHED_SLOW"] = str(int(program.crate in OF_SLOW_THREADS))
+    env["SCHED_SLOW"] = str(int(test.startswith(OF_SLOW_THREADS)))
     env.update({f"SCHED_{name}".rstrip("_"): str(value) for name, value in settings.items()})
     how = {"capture_output": True, "text": True, "errors": "replace", "timeout": LIMIT_SECONDS}
     return subprocess.run([program.path, test], env=env, cwd=folder, **how)

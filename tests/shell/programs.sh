@@ -706,8 +706,8 @@ fi
 
 # ---- what a guard and a worker print
 
-run "$top/crates/dropped_guard/out/dropped_guard" < /dev/null
-check 'dropped_guard' \
+run "$top/crates/refusals/out/refusals" guard drop < /dev/null
+check 'a dropped guard' \
   '0|Failed to send shutdown signal to logging worker. Error: Shutdown|Failed to flush. Error: no storage space' "$(told)"
 
 conclude

@@ -25,6 +25,16 @@ pub(crate) fn expect_eq_of<P: Copy + Debug, T: Copy + PartialEq + Debug>(
     );
 }
 
+/// Ends the test if the `Debug` text of a value isn't the expected one.
+pub(crate) fn expect_shown<T: Copy + Debug>(rt: &impl AllocAndAbort, value: T, wanted: &str) {
+    expect_eq(rt, debug_text(rt, value).as_str(), wanted);
+}
+
+/// Ends the test if the `Debug` text of a value doesn't begin with this.
+pub(crate) fn expect_shown_start<T: Copy + Debug>(rt: &impl AllocAndAbort, value: T, start: &str) {
+    expect_eq(rt, debug_text(rt, value).as_str().starts_with(start), true);
+}
+
 /// Returns the `Debug` text of a value.
 pub(crate) fn debug_text<T: Copy + Debug>(rt: &impl AllocAndAbort, value: T) -> String {
     format!(in rt.alloc(); "{value:?}").expect(rt, "memory")

@@ -1,9 +1,9 @@
 // Full disks, short writes, links that are made in between, and a folder that is removed.
 
+use crate::disk::{Call, Disk};
 use crate::expect::{AllocAndAbort, expect_eq_of, pair_text};
 use crate::runs::{DiskStep, Outcome};
 use crate::scene::{ELEVEN, START, TWELVE, disk_of, expect_texts, put_file, write_log};
-use fake_files::disk::{Call, Disk};
 
 // A disk that holds only `other.txt`.
 fn kept_disk(rt: &impl AllocAndAbort) -> Disk {

@@ -1,11 +1,17 @@
 //! Tests of logs over a disk in memory whose calls fail as a test chooses, and that a disk in the end holds what a
-//! folder in memory does.
+//! folder in memory does. `folders` has those over real folders.
 #![tactic(auto)]
 
 #[cfg(test)]
+mod disk;
+#[cfg(test)]
 mod expect;
 #[cfg(test)]
+mod fake;
+#[cfg(test)]
 mod faults;
+#[cfg(test)]
+mod folders;
 #[cfg(test)]
 mod links;
 #[cfg(test)]

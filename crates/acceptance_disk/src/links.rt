@@ -1,9 +1,9 @@
 // The name under which a link is made before it replaces the old one, if something else has that name.
 
+use crate::disk::Disk;
 use crate::expect::AllocAndAbort;
 use crate::runs::{DiskStep, Outcome};
 use crate::scene::{ELEVEN, START, expect_texts, write_log};
-use fake_files::disk::Disk;
 
 // What has the name at first.
 #[derive(Clone, Copy, Debug)]

@@ -1,10 +1,10 @@
 // What retention does with a folder that lists less than it should.
 
+use crate::disk::{Disk, DiskFault};
 use crate::expect::{AllocAndAbort, expect_eq, expect_eq_of, pair_text};
 use crate::logs::hourly_log;
 use crate::runs::{list_folder, run_log};
 use crate::scene::{START, disk_of, put_file, write_log};
-use fake_files::disk::{Disk, DiskFault};
 use std::io::ErrorKind;
 
 // Logs of three hours, put there in this order.

@@ -1,12 +1,12 @@
 // What is printed on standard error if boundaries meet faults.
 
+use crate::disk::{Call, Disk};
 use crate::expect::{AllocAndAbort, expect_eq, expect_eq_of};
+use crate::fake::Fake;
 use crate::logs::hourly_log;
 use crate::runs::{DiskStep, Outcome, folder_of};
 use crate::scene::{ELEVEN, START, TWELVE, old_logs, write_log};
 use appender_rolling::rolling::SystemClock;
-use fake_files::disk::{Call, Disk};
-use fake_files::fake::Fake;
 use std::process::Abort;
 use tracing_appender::store::NoticeKind;
 

@@ -1,10 +1,10 @@
 // Openings by a runtime and a path, which the disk or its clock refuses.
 
+use crate::disk::{Call, Disk, FOLDER};
 use crate::expect::{AllocAndAbort, expect_eq, expect_eq_of};
+use crate::fake::Fake;
 use crate::logs::hourly_log;
 use crate::scene::START;
-use fake_files::disk::{Call, Disk, FOLDER};
-use fake_files::fake::Fake;
 use tracing_appender::rolling::InitError;
 
 // The moment, whether the folder is there, the calls that fail; the text of the error.

@@ -1,9 +1,9 @@
 // What other processes do to the folder of a log, and what a log file's owner may do with it.
 
+use crate::disk::{Call, Disk, Kind};
 use crate::expect::{AllocAndAbort, expect_eq, expect_eq_of};
 use crate::runs::{DiskStep, Outcome, folder_of};
 use crate::scene::{ELEVEN, START, disk_of, expect_texts, write_log};
-use fake_files::disk::{Call, Disk, Kind};
 use std::io::ErrorKind;
 use tracing_appender::store::Folder;
 

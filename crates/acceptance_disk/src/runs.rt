@@ -1,11 +1,11 @@
 // Runs of a log over a fake disk, as texts.
 
+use crate::disk::{Call, Disk, FOLDER};
 use crate::expect::{AllocAndAbort, debug_text, pair_text};
+use crate::fake::Fake;
 use appender_folder::folder::DirFolder;
 use appender_rolling::rolling::{Builder, Clock, RollingFile, Switch, SystemClock};
 use appender_store::store::Folder;
-use fake_files::disk::{Call, Disk, FOLDER};
-use fake_files::fake::Fake;
 use std::fmt::{Display, Write as _};
 use std::io;
 use std::io::Write;

@@ -1,9 +1,9 @@
 // The logs that the tests write, and what their disks hold at first.
 
+use crate::disk::Disk;
 use crate::expect::{AllocAndAbort, expect_eq_of};
 use crate::logs::hourly_log;
 use crate::runs::{DiskStep, Outcome, run_log};
-use fake_files::disk::Disk;
 use std::fmt::Debug;
 use std::process::Abort;
 

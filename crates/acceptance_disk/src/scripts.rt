@@ -1,10 +1,10 @@
 // Scripts of `rollplay` without a queue, carried out over a folder in memory and over a fake disk.
 
+use crate::disk::Disk;
 use crate::expect::{AllocAndAbort, expect_eq, expect_eq_of};
 use crate::runs::folder_of;
-use fake_files::disk::Disk;
+use acceptance_rollplay::rows::{PLAYED, first_row};
 use rollplay_core::script::{LONGEST, Plan, Script};
-use rollplay_rows::{PLAYED, first_row};
 use std::process::Abort;
 use tracing_appender::replay::replay_rolling;
 use tracing_appender::rolling::Builder;

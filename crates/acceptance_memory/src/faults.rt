@@ -1,5 +1,5 @@
 // One run in which each call of the folder fails in turn: what is noted, and that no byte that was reported
-// as written is lost. What the run prints and leaves is then among the scripts of `rollplay_rows`.
+// as written is lost. What the run prints and leaves is then among the scripts of `rows` of `acceptance_rollplay`.
 
 use crate::expect::{AllocAndAbort, bytes, expect_eq, expect_eq_of};
 use crate::logs::{folder_with, hourly_log};

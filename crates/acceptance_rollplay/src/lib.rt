@@ -8,3 +8,4 @@ mod expect;
 mod program;
 #[cfg(test)]
 mod queued;
+pub mod rows;

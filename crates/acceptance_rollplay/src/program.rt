@@ -1,7 +1,7 @@
 // Whole scripts, played through memory.
 use crate::expect::{expect_eq, expect_eq_of};
+use crate::rows::{AROUND_FAULTS, FAULTS, PLAYED, Table, first_row};
 use rollplay_core::play::play;
-use rollplay_rows::{AROUND_FAULTS, FAULTS, PLAYED, Table, first_row};
 use std::alloc::Global;
 use std::io;
 use std::io::{Read, Write};

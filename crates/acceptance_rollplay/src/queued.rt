@@ -1,8 +1,8 @@
 // Whole scripts with a queue, played through memory.
 use crate::expect::{expect_eq, expect_eq_of};
 use crate::program::check_each;
+use crate::rows::QUEUED;
 use rollplay_core::play::play;
-use rollplay_rows::QUEUED;
 use std::alloc::Global;
 use std::process::Abort;
 use std::test::Fail;

@@ -1,7 +1,7 @@
 // Lines that are written together: what a fault leaves of them, and how soon they are in the file.
 use crate::expect::expect_eq;
 use crate::logs::OneLog;
-use program_options::Options;
+use program_io::options::Options;
 use rolltee_core::tee::{TeeLog, tee, tee_with};
 use std::alloc::{AllocError, Global};
 use std::io::{Read, Write};

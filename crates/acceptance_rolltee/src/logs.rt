@@ -1,6 +1,6 @@
 // A log that a test gives to the program.
 use log_check::FileCounts;
-use program_options::Options;
+use program_io::options::Options;
 use rolltee_core::tee::{Logs, TeeLog};
 use std::alloc::Global;
 use std::cell::RefCell;

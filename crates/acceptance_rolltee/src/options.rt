@@ -1,6 +1,6 @@
 // The words of a command line.
 use crate::expect::expect_eq;
-use program_options::{Request, read};
+use program_io::options::{Request, read};
 use rolltee_core::tee::{Fault, report_fault};
 use std::alloc::AllocError;
 use std::process::Abort;

@@ -2,7 +2,7 @@
 use crate::expect::expect_eq;
 use crate::logs::OneLog;
 use log_check::FileCounts;
-use program_options::Options;
+use program_io::options::Options;
 use rolltee_core::tee::{Logs, TeeLog, tee, tee_with};
 use std::alloc::{AllocError, Global};
 use std::io::{Read, Write};

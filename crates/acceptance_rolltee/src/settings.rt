@@ -1,7 +1,7 @@
 // Runs with options.
 use crate::expect::expect_eq;
 use crate::logs::OneLog;
-use program_options::Options;
+use program_io::options::Options;
 use rolltee_core::tee::{Logs, TeeLog, tee_with};
 use std::alloc::{AllocError, Global};
 use std::io::{Read, Write};

@@ -1,7 +1,7 @@
 // Logs that are slow or full for a while, and inputs that do not block.
 use crate::expect::expect_eq;
 use crate::logs::OneLog;
-use program_options::Options;
+use program_io::options::Options;
 use rolltee_core::feed::{Feed, WatchedLog};
 use rolltee_core::tee::{TeeLog, tee};
 use std::alloc::{AllocError, Global};

@@ -1,6 +1,6 @@
 // What a guard leaves when it is closed, and how soon it returns.
 use crate::expect::expect_eq;
-use acceptance_gate::{Seen, new_gate};
+use crate::gate::{Seen, new_gate};
 use appender_non_blocking::non_blocking::{
     Closing, Host, NonBlocking, NonBlockingBuilder, WorkerGuard,
 };

@@ -4,7 +4,7 @@ ghost use Rattle.appender_non_blocking.specs.Account.{AreBlanksOf};
 
 use crate::counted_crowd::{Tickets, expect_in_order, write_by_ten};
 use crate::expect::{Totals, expect_eq, expect_shown, expect_text, put};
-use acceptance_gate::{Gate, Seen, new_gate};
+use crate::gate::{Gate, Seen, new_gate};
 use appender_non_blocking::non_blocking::{
     Blanks, CountedGuard, CountedSender, Host, NonBlockingBuilder, Sent, Shut, Unsettled,
 };

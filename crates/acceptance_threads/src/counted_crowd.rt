@@ -1,7 +1,7 @@
 // Ten senders in threads of their own, a hundred lines each.
 use crate::counted::TicketSender;
 use crate::expect::{expect_eq, put};
-use acceptance_gate::Seen;
+use crate::gate::Seen;
 use appender_non_blocking::non_blocking::{Host, Sent};
 use std::alloc::{AllocError, Global};
 use std::process::Abort;

@@ -4,7 +4,7 @@ ghost use Rattle.appender_non_blocking.specs.Account.{AreBlanksOf};
 
 use crate::counted::TicketSender;
 use crate::expect::{expect_eq, expect_text};
-use acceptance_gate::{Gate, Seen, new_gate};
+use crate::gate::{Gate, Seen, new_gate};
 use appender_non_blocking::non_blocking::{Blanks, Host, NonBlockingBuilder, Sent, Shut};
 use std::io::{ErrorKind, Write};
 use std::marker::Brand;

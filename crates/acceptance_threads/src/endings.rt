@@ -1,6 +1,6 @@
 // Limits of a queue, and how its worker ends.
+use crate::gate::{Gate, new_gate};
 use crate::scene::{Queue, WorkerStep, play, play_over};
-use acceptance_gate::{Gate, new_gate};
 use appender_non_blocking::non_blocking::{Closing, Host};
 use std::io;
 use std::io::{ErrorKind, Write};

@@ -1,5 +1,5 @@
 // What these tests compare: a call of these makes a proof shorter than `assert_eq!` or `format!` does.
-use acceptance_gate::Seen;
+use crate::gate::Seen;
 use appender_non_blocking::non_blocking::{Account, Host};
 use std::alloc::AllocError;
 use std::fmt::Debug;

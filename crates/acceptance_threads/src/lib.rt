@@ -1,5 +1,5 @@
 //! Tests of the non-blocking writer with its worker's thread, and of what counts lines: counted senders with their account, and
-//! a counting writer. They end by themselves, and pass however the threads are scheduled.
+//! a counting writer. They end by themselves, and pass however the threads are scheduled. `schedules` has small ones.
 #![tactic(auto)]
 
 #[cfg(test)]
@@ -19,6 +19,8 @@ mod endings;
 #[cfg(test)]
 mod expect;
 #[cfg(test)]
+mod gate;
+#[cfg(test)]
 mod lines;
 #[cfg(test)]
 mod log_sink;
@@ -28,6 +30,8 @@ mod losses;
 mod plain_ends;
 #[cfg(test)]
 mod scene;
+#[cfg(test)]
+mod schedules;
 #[cfg(test)]
 mod whole_lines;
 #[cfg(test)]

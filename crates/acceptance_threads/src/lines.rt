@@ -1,7 +1,7 @@
 // What becomes of lines.
 use crate::expect::{debug_text, expect_eq};
+use crate::gate::{Gate, new_gate};
 use crate::scene::{Queue, WorkerStep, expect_taken, play, play_over};
-use acceptance_gate::{Gate, new_gate};
 use appender_non_blocking::non_blocking::{
     Closing, DEFAULT_BUFFERED_LINES_LIMIT, Host, NonBlocking, NonBlockingBuilder, non_blocking,
 };

@@ -1,6 +1,6 @@
 // Records of the crate `log` through the queue: each is one line.
 use crate::expect::{expect_eq, expect_text};
-use acceptance_gate::{Seen, new_gate};
+use crate::gate::{Seen, new_gate};
 use appender_log::LogSink;
 use appender_non_blocking::non_blocking::{
     Closing, Host, NonBlocking, NonBlockingBuilder, WorkerGuard,

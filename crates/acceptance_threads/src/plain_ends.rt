@@ -1,6 +1,6 @@
 // When the worker of plain senders ends, and how many lines its queue takes.
 use crate::expect::expect_eq;
-use acceptance_gate::{Gate, new_gate};
+use crate::gate::{Gate, new_gate};
 use appender_non_blocking::non_blocking::{
     Closing, Host, NonBlocking, NonBlockingBuilder, WorkerGuard,
 };

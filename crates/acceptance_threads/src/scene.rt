@@ -1,7 +1,7 @@
 // Plays a list of steps over a worker, its sender and its guard. A test is such a list: a proof over a
 // scene is shorter than one over all that it holds.
 use crate::expect::{expect_eq, expect_shown, expect_text, put};
-use acceptance_gate::{Seen, new_gate};
+use crate::gate::{Seen, new_gate};
 use appender_non_blocking::non_blocking::{
     Closing, ErrorCounter, Host, NonBlocking, NonBlockingBuilder, WorkerGuard,
 };

@@ -1,6 +1,6 @@
 // One call of `write_all` is one line, whatever its length.
 use crate::expect::expect_text;
-use acceptance_gate::new_gate;
+use crate::gate::new_gate;
 use appender_non_blocking::non_blocking::{
     Closing, Host, NonBlocking, NonBlockingBuilder, WorkerGuard,
 };

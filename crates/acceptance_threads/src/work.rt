@@ -1,6 +1,6 @@
 // Work with counted senders, and its account.
 use crate::expect::{Totals, expect_eq, expect_eq_of, expect_shown, put};
-use acceptance_gate::new_gate;
+use crate::gate::new_gate;
 use appender_non_blocking::non_blocking::{CountedWork, LineSender, NonBlockingBuilder, Sent};
 use std::alloc::Global;
 use std::io;

@@ -9,8 +9,8 @@ use Rattle.std.specs.declared.io.ErrorKind.TheVariants.{OutOfMemory}
 use Rattle.appender_names.specs.declared.error.InitError.{InitError}
 use Rattle.appender_names.specs.declared.error.InitError.TheVariants.{Directory, File, Symlink, Memory as NoRoom}
 use Rattle.program_io.specs.Report.{AppendsBeginning}
-use Rattle.program_options.specs.declared.OptionFault.{OptionFault}
-use Rattle.program_options.specs.declared.OptionFault.TheVariants.{Unknown as UnknownWord, Wrong, Memory as NoMemory}
+use Rattle.program_io.specs.declared.options.OptionFault.{OptionFault}
+use Rattle.program_io.specs.declared.options.OptionFault.TheVariants.{Unknown as UnknownWord, Wrong, Memory as NoMemory}
 use Rattle.audit_trail_core.specs.declared.trail.Fault.{Fault}
 use Rattle.audit_trail_core.specs.declared.trail.Fault.TheVariants.{Usage, Unknown, Option as WrongOption, Argument, Open, Read, Write, Cut, Lost, Gone, Unsynced, Locked, Own, Account, Thread, Memory}
 

@@ -11,9 +11,9 @@ ghost use Rattle.audit_trail_core.specs.declared.trail.Fault.TheVariants.{Accoun
 use crate::input::{InputReads, LineInput};
 use crate::lines::{LineLog, TrailLineFault};
 use log_check::{DirCheck, FileCheck, FileCounts, Opens, WaitingOpener, open_dir};
+use program_io::options::{OptionError, OptionFault};
 use program_io::report::report;
 use program_io::{ShortLines, end_line, read_line};
-use program_options::{OptionError, OptionFault};
 use std::alloc::{AllocError, Global};
 use std::io::{BufReader, ErrorKind, Read, Write};
 use std::rt::Runtime;

@@ -1,5 +1,5 @@
-//! What programs have in common: a runtime, arguments, lines of an input. `report` has reports of faults, `streams` standard
-//! streams that are closed, `blocking` an input that does not block.
+//! What programs have in common: a runtime, arguments, lines of an input. `options` reads the options of a command line,
+//! `report` has reports of faults, `streams` standard streams that are closed, `blocking` an input that does not block.
 #![tactic(auto)]
 
 ghost use Rattle.std.specs.Prelude.{
@@ -34,6 +34,7 @@ ghost use Rattle.program_io.specs.Inside.Piece.{Extends, IsOpen};
 ghost use Rattle.program_io.specs.Report.{AppendsBeginning};
 
 pub mod blocking;
+pub mod options;
 pub mod report;
 pub mod streams;
 

@@ -3,9 +3,9 @@
 #![tactic(auto)]
 
 use program_io::arguments;
+use program_io::options::{OptionFault, Request, read};
 use program_io::report::{print, report};
 use program_io::streams::fill_streams;
-use program_options::{OptionFault, Request, read};
 use rollplay_core::play;
 use std::io::ErrorKind;
 use std::process::ExitCode;

@@ -3,9 +3,9 @@
 #![tactic(auto)]
 
 use program_io::arguments;
+use program_io::options::{Request, read};
 use program_io::report::print;
 use program_io::streams::fill_streams;
-use program_options::{Request, read};
 use rolltee_core::tee;
 use rolltee_core::tee::Fault;
 use std::process::ExitCode;

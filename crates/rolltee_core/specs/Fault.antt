@@ -8,8 +8,8 @@ use Rattle.std.specs.declared.io.ErrorKind.TheVariants.{OutOfMemory}
 use Rattle.std.specs.IoError.{error_kind}
 use Rattle.program_io.specs.declared.CopyFault.{CopyFault}
 use Rattle.program_io.specs.declared.CopyFault.TheVariants.{Read as Failed, Write as Refused, Cut}
-use Rattle.program_options.specs.declared.OptionFault.{OptionFault}
-use Rattle.program_options.specs.declared.OptionFault.TheVariants.{Unknown as UnknownWord, Wrong, Memory as NoMemory}
+use Rattle.program_io.specs.declared.options.OptionFault.{OptionFault}
+use Rattle.program_io.specs.declared.options.OptionFault.TheVariants.{Unknown as UnknownWord, Wrong, Memory as NoMemory}
 use Rattle.rolltee_core.specs.declared.tee.Fault.{Fault}
 use Rattle.rolltee_core.specs.declared.tee.Fault.TheVariants.{Usage, Unknown, Option as OfOption, Open, Thread, Read, Write, Lost, Pending, Full, Memory}
 

@@ -10,7 +10,7 @@ use Rattle.appender_rolling.specs.Appender.{Appending, AppendsNow}
 use Rattle.appender_rolling.specs.Config.{Config}
 use Rattle.appender_rolling.specs.Roller.{ChecksClock}
 use Rattle.log_check.specs.Log.{OpensAnew, newline_length}
-use Rattle.program_options.specs.declared.Options.{Options}
+use Rattle.program_io.specs.declared.options.Options.{Options}
 
 -- The configuration that is asked for. Files are kept by their names, and an opening continues the last one.
 abbrev pub config_of : Rotation → List ℕ → Options → Config

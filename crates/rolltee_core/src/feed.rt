@@ -1,7 +1,7 @@
 //! The way of lines to a log through a queue, and how many of them are on it.
 use jiff::Timestamp;
+use program_io::options::Options;
 use program_io::report::report;
-use program_options::Options;
 use std::alloc::{AllocError, Global};
 use std::io::Write;
 use std::sync::{Arc, Wait};

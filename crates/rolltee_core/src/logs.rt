@@ -6,7 +6,7 @@ use crate::tee::Fault;
 use log_check::{
     CheckedLog, DirCheck, FileCheck, FileCounts, Opens, cause_of, length_with, open_dir,
 };
-use program_options::Options;
+use program_io::options::Options;
 use std::alloc::{AllocError, Global};
 use std::io;
 use std::io::{ErrorKind, Write};

@@ -1,0 +1,190 @@
+// Each example, and what comes of it: the files in `logs`, or what a log was given.
+use super::{
+    builder, daily, line_queue, log_sink, make_writer, memory_folder, non_blocking,
+    non_blocking_builder, rolling_file, rolling_file_appender, run_counted, worker_guard,
+};
+use std::io::Write;
+use std::test::Fail;
+use std::{fs, io};
+use tracing_appender::non_blocking::Closing;
+use tracing_appender::queue::Counts;
+use tracing_appender::rolling::{FileAppender, RollingFileAppender, Rotation, Switch};
+
+const DONE: Closing = Closing::Done { left: 0 };
+
+// The names of the files of a prefix in `logs`, in their order.
+fn names_of(rt: &HostRuntime, prefix: &str) -> io::Result<Vec<String>> {
+    let mut names = Vec::new(rt.alloc());
+    for entry in fs::read_dir(rt, "logs")? {
+        let name = String::from_str(rt.alloc(), entry?.file_name())?;
+        if name.as_bytes().starts_with(prefix.as_bytes()) {
+            names.push(name)?;
+        }
+    }
+    names.sort_unstable();
+    Ok(names)
+}
+
+fn path_of(rt: &HostRuntime, name: &str) -> io::Result<String> {
+    Ok(format!(in rt.alloc(); "logs/{name}")?)
+}
+
+// Makes the folder, and removes the files of a prefix that an earlier run left.
+fn clear(rt: &HostRuntime, prefix: &str) -> io::Result<()> {
+    fs::create_dir_all(rt, "logs")?;
+    for name in &names_of(rt, prefix)? {
+        fs::remove_file(rt, path_of(rt, name.as_str())?)?;
+    }
+    Ok(())
+}
+
+// The text of all files of a prefix, in the order of their names. There are two if a period began meanwhile.
+fn text_of(rt: &HostRuntime, prefix: &str) -> io::Result<String> {
+    let mut text = String::new(rt.alloc());
+    for name in &names_of(rt, prefix)? {
+        let part = fs::read_to_string(rt, path_of(rt, name.as_str())?)?;
+        text.push_str(part.as_str())?;
+    }
+    Ok(text)
+}
+
+// Opens a log of one file without what an earlier run left.
+fn open(rt: HostRuntime, name: &str) -> io::Result<FileAppender> {
+    clear(&rt, name)?;
+    Ok(RollingFileAppender::new(rt, Rotation::NEVER, "logs", name)?)
+}
+
+#[test]
+fn a_log_of_the_day(rt: HostRuntime) -> Result<(), Fail> {
+    clear(&rt, "app.")?;
+    daily::log_start(rt)?;
+    daily::log_start(rt)?;
+    assert_eq!(rt; text_of(&rt, "app.")?.as_str(), "started\nstarted\n");
+    Ok(())
+}
+
+#[test]
+fn an_appender(rt: HostRuntime) -> Result<(), Fail> {
+    clear(&rt, "web.")?;
+    rolling_file_appender::log_request(rt)?;
+    assert_eq!(rt; text_of(&rt, "web.")?.as_str(), "GET / 200\n");
+    Ok(())
+}
+
+#[test]
+fn a_builder(rt: HostRuntime) -> Result<(), Fail> {
+    clear(&rt, "db.")?;
+    for day in 10..20 {
+        let path = format!(in rt.alloc(); "logs/db.2020-02-{day}.log")?;
+        fs::write(&rt, path, b"old\n")?;
+    }
+    let mut log = builder::open_log(rt)?;
+    log.write_all(b"new\n")?;
+    assert_eq!(rt; names_of(&rt, "db.")?.len(), 7);
+    Ok(())
+}
+
+#[test]
+fn a_file_for_one_thread(rt: HostRuntime) -> Result<(), Fail> {
+    clear(&rt, "20")?;
+    assert_eq!(rt; rolling_file::log_two(rt)?, Switch::Opened);
+    assert_eq!(rt; text_of(&rt, "20")?.as_str(), "first\nsecond\n");
+    Ok(())
+}
+
+#[test]
+fn a_queue(rt: HostRuntime) -> Result<(), Fail> {
+    let log = open(rt, "queue")?;
+    assert_eq!(rt; non_blocking::log_start(rt, log)?, DONE);
+    assert_eq!(rt; text_of(&rt, "queue")?.as_str(), "started\n");
+    Ok(())
+}
+
+#[test]
+fn a_queue_with_settings(rt: HostRuntime) -> Result<(), Fail> {
+    let log = open(rt, "settings")?;
+    let (mut lines, guard) = non_blocking_builder::start(rt, log)?;
+    lines.write_all(b"waited\n")?;
+    assert_eq!(rt; guard.close(), DONE);
+    assert_eq!(rt; text_of(&rt, "settings")?.as_str(), "waited\n");
+    Ok(())
+}
+
+// Takes no byte.
+#[derive(Drop)]
+struct Full;
+
+impl Write for Full {
+    fn write(&mut self, _buf: &[u8]) -> io::Result<usize> {
+        Err(io::Error::other("full"))
+    }
+
+    fn flush(&mut self) -> io::Result<()> {
+        Ok(())
+    }
+}
+
+#[test]
+fn a_guard(rt: HostRuntime) -> Result<(), Fail> {
+    let log = open(rt, "guard")?;
+    worker_guard::log_stop(rt, log)?;
+    assert_eq!(rt; text_of(&rt, "guard")?.as_str(), "stopped\n");
+    assert!(rt; worker_guard::log_stop(rt, Full).is_err());
+    Ok(())
+}
+
+#[test]
+fn an_account(rt: HostRuntime) -> Result<(), Fail> {
+    let log = open(rt, "account")?;
+    let account = run_counted::greet(rt, log)?;
+    assert_eq!(rt; (account.accepted(), account.handed()), (2, 2));
+    assert_eq!(rt; text_of(&rt, "account")?.as_str(), "hello\nhello\n");
+    Ok(())
+}
+
+#[test]
+fn a_maker_of_writers(rt: HostRuntime) -> Result<(), Fail> {
+    let log = open(rt, "maker")?;
+    make_writer::log_line(&log, b"a line\n")?;
+    make_writer::log_line(&log, b"another\n")?;
+    assert_eq!(rt; text_of(&rt, "maker")?.as_str(), "a line\nanother\n");
+    Ok(())
+}
+
+#[test]
+fn a_folder_in_memory(rt: HostRuntime) -> Result<(), Fail> {
+    let Some(folder) = memory_folder::log_two_days(rt.alloc()) else {
+        return Err(Fail::from(io::Error::other("no log")));
+    };
+    assert_eq!(rt;
+        folder.bytes("1970-01-01").expect(&rt, "a file"),
+        b"first\n".as_slice()
+    );
+    assert_eq!(rt;
+        folder.bytes("1970-01-02").expect(&rt, "a file"),
+        b"second\n".as_slice()
+    );
+    Ok(())
+}
+
+#[test]
+fn a_queue_of_two(rt: HostRuntime) -> Result<(), Fail> {
+    let counts = line_queue::offer_three(rt.alloc())?;
+    let wanted = Counts {
+        accepted: 2,
+        handed: 1,
+        queued: 1,
+        left: 0,
+        dropped: 1,
+    };
+    assert_eq!(rt; counts, wanted);
+    Ok(())
+}
+
+#[test]
+fn a_sink(rt: HostRuntime) -> Result<(), Fail> {
+    let log = open(rt, "sink")?;
+    log_sink::log_read(rt, log)?;
+    assert_eq!(rt; text_of(&rt, "sink")?.as_str(), "[INFO  db] read rows=3\n");
+    Ok(())
+}

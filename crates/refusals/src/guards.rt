@@ -1,0 +1,89 @@
+// What is printed on standard output and standard error where a guard is dropped.
+use crate::marks::ScenarioHost;
+use std::alloc::Global;
+use std::io::{ErrorKind, Write};
+use std::sync::Arc;
+use std::sync::atomic::AtomicBool;
+use std::sync::atomic::Ordering::SeqCst;
+use std::time::{Clock, Duration};
+use std::{io, thread};
+use tracing_appender::non_blocking::NonBlockingBuilder;
+
+// The flags by which the worker's thread and the main thread signal each other.
+#[derive(Drop)]
+struct Flags {
+    held: AtomicBool,
+    open: AtomicBool,
+    gone: AtomicBool,
+}
+
+// Holds each line until a flag is set, for ten seconds at most. Its flushes fail.
+struct Holding<R: Clock + Drop> {
+    rt: R,
+    flags: Arc<Flags, Global>,
+}
+
+impl<R: Clock + Drop> Write for Holding<R> {
+    fn write(&mut self, line: &[u8]) -> io::Result<usize> {
+        self.flags.held.store(true, SeqCst);
+        if comes(&self.rt, &self.flags.open) {
+            return Ok(line.len());
+        }
+        Err(io::Error::from(ErrorKind::TimedOut))
+    }
+
+    fn flush(&mut self) -> io::Result<()> {
+        Err(io::Error::from(ErrorKind::StorageFull))
+    }
+}
+
+impl<R: Clock + Drop> Drop for Holding<R> {
+    fn drop(self) {
+        let Holding { rt: _, flags } = self;
+        flags.gone.store(true, SeqCst);
+    }
+}
+
+// Waits until a flag is set, for ten seconds at most, and returns whether it is.
+fn comes(rt: &impl Clock, flag: &AtomicBool) -> bool {
+    for _ in 0..10_000u32 {
+        if flag.load(SeqCst) {
+            return true;
+        }
+        thread::sleep(rt, Duration::from_millis(1));
+    }
+    false
+}
+
+/// Drops a guard while its queue is full, over a writer whose flushes fail. The worker holds one line, and the queue has no room
+/// after the next. Once the guard is dropped, the worker ends after the last sender, and its last flush fails.
+pub(crate) fn run<R: ScenarioHost>(rt: R) -> io::Result<()> {
+    let flags = Arc::new(
+        rt.alloc(),
+        Flags {
+            held: AtomicBool::new(false),
+            open: AtomicBool::new(false),
+            gone: AtomicBool::new(false),
+        },
+    )?;
+    let writer = Holding {
+        rt,
+        flags: Arc::try_clone(&flags)?,
+    };
+    let (mut lines, guard) = NonBlockingBuilder::default()
+        .buffered_lines_limit(1)
+        .finish(rt, rt.alloc(), writer)?;
+    lines.write(b"held\n")?;
+    if !comes(&rt, &flags.held) {
+        return Err(io::Error::from(ErrorKind::TimedOut));
+    }
+    lines.write(b"queued\n")?;
+    drop(guard);
+    flags.open.store(true, SeqCst);
+    drop(lines);
+    if comes(&rt, &flags.gone) {
+        Ok(())
+    } else {
+        Err(io::Error::from(ErrorKind::TimedOut))
+    }
+}
