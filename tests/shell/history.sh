@@ -346,6 +346,18 @@ check 'audit_trail, a FIFO that is opened later' '0|accepted 3 handed 3 left 0 d
 mkdir "$work/locks"
 mkfifo "$work/locks/.audit.lock"
 run "$audit_trail" --keep 2 "$work/locks" < "$lines"
-check 'audit_trail --keep, a lock that is a FIFO' '0||' "$(told)"
+check 'audit_trail --keep, a lock that is a FIFO' "0||$work/locks/.audit.lock can't be locked: no plain file" "$(told)"
+if [ "$EUID" = 0 ] && has setpriv 'a lock of another user' && has flock 'a lock of another user'; then
+  rm "$work/locks/.audit.lock"
+  cp "$audit_trail" "$work/program"
+  chmod 711 "$work"
+  chown 65534 "$work/locks"
+  exec 8> "$work/locks/.audit.lock"
+  flock -n 8
+  run setpriv --reuid 65534 --regid 65534 --clear-groups "$work/program" --keep 2 "$work/locks" < "$lines"
+  check 'audit_trail --keep, a lock of another user' '1||another audit_trail --keep writes to the log directory' "$(told)"
+  exec 8>&-
+  chmod 700 "$work"
+fi
 
 conclude

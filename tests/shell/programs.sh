@@ -704,6 +704,51 @@ else
   skip 'rolltee under runsv' 'no runsv'
 fi
 
+# ---- what rolltee says of lines that it drops, loses or does not echo
+
+mkdir "$work/told"
+touch "$work/told/app"
+# on_log OUTPUT CALLS OPTION..: runs rolltee with this output, and what strace does to the writes of its log.
+on_log() {
+  local output=$1 calls=$2
+  shift 2
+  run bash -c "exec \"\$@\" > $output" bash strace -f -qq -o /dev/null -P "$work/told/app" -e trace=write -e "inject=write:$calls" \
+    "$rolltee" "$@" never "$work/told" app
+}
+if has strace 'rolltee, lines that are dropped or lost'; then
+  seq 2000 > "$work/told.lines"
+  on_log /dev/stdout delay_enter=20000 --lossy --queue 2 --echo < "$work/told.lines"
+  check 'rolltee --lossy --queue 2 --echo, a slow log: it says so once' \
+    $'1|lines are dropped: the queue is full\nlines dropped: ' "$status|$(sed '2s/[0-9]*$//' "$err")"
+  check 'rolltee --lossy --queue 2 --echo, a slow log: all lines but those' 2000 \
+    $(($(line_count "$work/told/app") + $(sed -n 's/^lines dropped: //p' "$err")))
+  check 'rolltee --lossy --queue 2 --echo, a slow log: all lines are echoed' same \
+    "$(cmp -s "$work/told.lines" "$out" && echo same || echo other)"
+  on_log /dev/full error=ENOSPC --no-wait --echo < "$lines"
+  check 'rolltee --no-wait --echo > /dev/full' "$(printf '%s\n' '1|lines are lost: No space left on device (os error 28)' \
+    'lines are not echoed: No space left on device (os error 28)' 'lines not written whole: 2; lines not echoed: 2')" \
+    "$status|$(sort -k 3 "$err")"
+  : > "$work/told/app"
+  on_log /dev/stdout error=ESTALE:when=1 < "$lines"
+  check 'rolltee, a fault of another kind' "$(printf '%s\n' '0||writes pause: Stale file handle (os error 116)' 'writes go on')" "$(told)"
+  check 'rolltee, a fault of another kind: the log' $'[one\ntwo]' "$(content "$work/told/app")"
+  run strace -f -qq -o /dev/null -e trace=fdatasync -e inject=fdatasync:error=EIO \
+    "$rolltee" --sync --max-bytes 1K daily "$work/told" synced < "$work/told.lines"
+  check 'rolltee --sync --max-bytes 1K, syncs that fail: one for each file at least' yes \
+    "$([ "$(sed -n 's/^syncs that failed: //p' "$err")" -ge "$(find "$work/told" -name 'synced.*' | wc -l)" ] && echo yes || cat "$err")"
+fi
+run "$rolltee" --queue 1 never "$work/told" one < "$many"
+check 'rolltee --queue 1' '0||same' "$(told)$(cmp -s "$many" "$work/told/one" && echo same || echo other)"
+before=$(date -u +%FT%T)
+{ echo one; sleep 1.1; echo two; } | run "$rolltee" --timestamps never "$work/told" times
+after=$(date -u +%FT%TZ)
+check 'rolltee --timestamps: each line has its own time' 'one two' "$(awk -v from="$before" -v to="$after" \
+  '$1 >= from && $1 <= to && substr($1, 1, 19) > last { print $2 } { last = substr($1, 1, 19) }' "$work/told/times" | paste -s -d ' ')"
+for ((length = 0; length < 1100; length++)); do printf "%0${length}d\n" 0; done > "$work/told.source"
+run "$audit_trail" "$work/told.trail" "$work/told.source"
+check 'audit_trail, a file with lines of all lengths' '0|accepted 1100 handed 1100 left 0 dropped 0|same' \
+  "$(told)$(cmp -s "$work/told.source" "$work/told.trail/latest.log" && echo same || echo other)"
+
 # ---- what a guard and a worker print
 
 run "$top/crates/refusals/out/refusals" guard drop < /dev/null

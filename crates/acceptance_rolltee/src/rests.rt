@@ -1,4 +1,4 @@
-// The rest of a line whose first part was taken, after the next file is due.
+// A log in memory: the rest of a line, parts of lines that are ended by a newline, and a file that is gone.
 use crate::expect::expect_eq;
 use appender_store::store::{Folder, MemoryFile, MemoryFolder};
 use log_check::{FileCheck, Opens};
@@ -6,17 +6,42 @@ use rolltee_core::logs::{FileLog, TeeLog};
 use std::alloc::Global;
 use std::cell::Cell;
 use std::io::Write;
-use std::process::Abort;
 use std::test::Fail;
 use tracing_appender::rolling::{Builder, Clock, InitError, RollingFile, Rotation};
 
-// A clock that the test sets.
+// 10:01 and 11:00 on the first of February 2020.
+const FIRST: i64 = 1580551260;
+
+const NEXT: i64 = 1580554800;
+
+// What a test sets, and what it sees: the clock; whether the file is lost at the next look; how often the log was opened; how many
+// bytes two files have at a flush.
 #[derive(Drop)]
-struct SetClock {
+struct Scene {
     moment: Cell<i64>,
+    lost: Cell<bool>,
+    openings: Cell<u32>,
+    names: [&'static str; 2],
+    lengths: Cell<(usize, usize)>,
 }
 
-impl Clock for SetClock {
+impl Scene {
+    fn new(names: [&'static str; 2]) -> Scene {
+        Scene {
+            moment: Cell::new(FIRST),
+            lost: Cell::new(false),
+            openings: Cell::new(0),
+            names,
+            lengths: Cell::new((0, 0)),
+        }
+    }
+
+    fn of_hours() -> Scene {
+        Scene::new(["app.2020-02-01-10", "app.2020-02-01-11"])
+    }
+}
+
+impl Clock for Scene {
     ghost now_gives = { λ clock moment. Unit {0} };
 
     fn now(&self) -> i64 {
@@ -24,39 +49,44 @@ impl Clock for SetClock {
     }
 }
 
-// Opens an hourly log in memory, of whose calls this one is an append that takes so many bytes.
+// Opens an hourly log in memory. One of its calls fails, and one is an append that takes so many bytes; 0 is none.
 #[derive(Drop)]
-struct ShortOpener<'a> {
+struct SceneOpener<'a> {
     alloc: Global,
     settings: Builder,
-    call: u64,
-    takes: usize,
-    clock: &'a SetClock,
+    failing: u64,
+    short: (u64, usize),
+    scene: &'a Scene,
 }
 
-impl<'a> Opens<MemoryFolder, &'a SetClock> for ShortOpener<'a> {
+impl<'a> Opens<MemoryFolder, &'a Scene> for SceneOpener<'a> {
     ghost config = { λ opener. opener.settings };
 
-    fn open(&self) -> Result<RollingFile<MemoryFolder, &'a SetClock>, InitError> {
+    fn open(&self) -> Result<RollingFile<MemoryFolder, &'a Scene>, InitError> {
+        let openings = self.scene.openings.get();
+        self.scene.openings.set(openings.saturating_add(1));
         let mut folder = MemoryFolder::new(self.alloc);
+        let (call, takes) = self.short;
         folder
-            .short_append(self.call, self.takes)
+            .fail_call(self.failing)
             .map_err(|_| InitError::Memory)?;
-        match self.settings.open_in(self.alloc, folder, self.clock) {
+        folder
+            .short_append(call, takes)
+            .map_err(|_| InitError::Memory)?;
+        match self.settings.open_in(self.alloc, folder, self.scene) {
             Ok(log) => Ok(log),
             Err((error, _, _)) => Err(error),
         }
     }
 }
 
-// Records at each flush how many bytes two files have.
+// Sees what the scene says, and never the end of a file.
 #[derive(Drop)]
-struct Lengths<'a> {
-    names: [&'static str; 2],
-    lengths: &'a Cell<(usize, usize)>,
+struct SceneCheck<'a> {
+    scene: &'a Scene,
 }
 
-impl<'a> FileCheck<MemoryFolder> for Lengths<'a> {
+impl<'a> FileCheck<MemoryFolder> for SceneCheck<'a> {
     fn ends_line(&self, _: &MemoryFolder, _: &MemoryFile, _: &str) -> bool {
         false
     }
@@ -66,14 +96,16 @@ impl<'a> FileCheck<MemoryFolder> for Lengths<'a> {
     }
 
     fn finds(&self, _: &MemoryFolder, _: &MemoryFile, _: &str, _: u64) -> bool {
-        true
+        let lost = self.scene.lost.get();
+        self.scene.lost.set(false);
+        !lost
     }
 
     fn count_unsynced(&self, folder: &MemoryFolder, _: u64) {
-        self.lengths.set((
-            length_of(folder, self.names[0]),
-            length_of(folder, self.names[1]),
-        ));
+        let [first, next] = self.scene.names;
+        self.scene
+            .lengths
+            .set((length_of(folder, first), length_of(folder, next)));
     }
 
     fn unsynced(&self) -> u64 {
@@ -88,89 +120,142 @@ fn length_of(folder: &MemoryFolder, name: &str) -> usize {
     }
 }
 
-// 10:01 and 11:00 on the first of February 2020.
-const FIRST: i64 = 1580551260;
+type SceneLog<'a> = FileLog<MemoryFolder, &'a Scene, SceneCheck<'a>, SceneOpener<'a>>;
 
-const NEXT: i64 = 1580554800;
-
-// Writes the beginning of a line, then its rest in the next hour, and a line. If the line is given up, the rest is a line of its
-// own. Returns how many bytes each hour's file has.
-fn written_lengths(
-    rt: &(impl AllocGlobal + Abort),
-    gives_up: bool,
-) -> Result<(usize, usize), Fail> {
-    let alloc = rt.alloc();
-    let clock = SetClock {
-        moment: Cell::new(FIRST),
-    };
-    let lengths = Cell::new((0, 0));
-    let opener = ShortOpener {
-        alloc,
-        settings: Builder::new()
-            .rotation(Rotation::HOURLY)
-            .filename_prefix(alloc, "app")?,
-        call: 2,
-        takes: 3,
-        clock: &clock,
-    };
-    let watch = Lengths {
-        names: ["app.2020-02-01-10", "app.2020-02-01-11"],
-        lengths: &lengths,
-    };
-    let mut log = FileLog::new(opener, watch, false)?;
-    expect_eq(rt, log.write(b"abcdef\n")?, 3);
-    if gives_up {
-        log.give_up();
-    }
-    clock.moment.set(NEXT);
-    expect_eq(rt, log.write(b"def\n")?, 4);
-    expect_eq(rt, log.write(b"gh\n")?, 3);
-    log.flush()?;
-    Ok(lengths.get())
-}
-
-#[test]
-fn the_rest_of_a_line_is_in_its_file(rt: HostRuntime) -> Result<(), Fail> {
-    expect_eq(&rt, written_lengths(&rt, false)?, (7, 3));
-    expect_eq(&rt, written_lengths(&rt, true)?, (3, 7));
-    Ok(())
-}
-
-// Writes one byte of a line, gives that up, and writes another line, all within a limit of six bytes a file. Each file begins with a
-// newline, since its end is not seen. Returns how many bytes the first two files have.
-fn limited_lengths(rt: &(impl AllocGlobal + Abort), line: &[u8]) -> Result<(usize, usize), Fail> {
-    let alloc = rt.alloc();
-    let clock = SetClock {
-        moment: Cell::new(FIRST),
-    };
-    let lengths = Cell::new((0, 0));
-    let opener = ShortOpener {
+// A log of this scene, by the calls that are not as usual.
+fn log_of(
+    alloc: Global,
+    scene: &Scene,
+    limit: u64,
+    whole_lines: bool,
+    failing: u64,
+    short: (u64, usize),
+) -> Result<SceneLog<'_>, Fail> {
+    let opener = SceneOpener {
         alloc,
         settings: Builder::new()
             .rotation(Rotation::HOURLY)
             .filename_prefix(alloc, "app")?
-            .max_file_bytes(6),
-        call: 4,
-        takes: 1,
-        clock: &clock,
+            .max_file_bytes(limit),
+        failing,
+        short,
+        scene,
     };
-    let watch = Lengths {
-        names: ["app.2020-02-01-10.000000", "app.2020-02-01-10.000001"],
-        lengths: &lengths,
-    };
-    let mut log = FileLog::new(opener, watch, true)?;
-    expect_eq(rt, log.write(b"abc\n")?, 1);
-    log.give_up();
-    expect_eq(rt, log.write(line)?, line.len());
-    log.flush()?;
-    Ok(lengths.get())
+    Ok(FileLog::new(opener, SceneCheck { scene }, whole_lines)?)
 }
 
-// The newline that ends a part of a line is counted too: no file is above the limit.
+// The beginning of a line, then its rest in the next hour, and a line. If the line is given up, the rest is a line of its own.
+#[test]
+fn the_rest_of_a_line_is_in_its_file(rt: HostRuntime) -> Result<(), Fail> {
+    for (gives_up, wanted) in [(false, (7, 3)), (true, (3, 7))] {
+        let scene = Scene::of_hours();
+        let mut log = log_of(rt.alloc(), &scene, 0, false, 0, (2, 3))?;
+        expect_eq(&rt, log.write(b"abcdef\n")?, 3);
+        if gives_up {
+            log.give_up();
+        }
+        scene.moment.set(NEXT);
+        expect_eq(&rt, log.write(b"def\n")?, 4);
+        expect_eq(&rt, log.write(b"gh\n")?, 3);
+        log.flush()?;
+        expect_eq(&rt, scene.lengths.get(), wanted);
+    }
+    Ok(())
+}
+
+// A short write that ends a line leaves no rest: the next line is in the file of its own moment.
+#[test]
+fn a_short_write_at_the_end_of_a_line_has_no_rest(rt: HostRuntime) -> Result<(), Fail> {
+    let scene = Scene::of_hours();
+    let mut log = log_of(rt.alloc(), &scene, 0, false, 0, (2, 2))?;
+    expect_eq(&rt, log.write(b"a\nbc\n")?, 2);
+    scene.moment.set(NEXT);
+    expect_eq(&rt, log.write(b"bc\n")?, 3);
+    log.flush()?;
+    expect_eq(&rt, scene.lengths.get(), (2, 3));
+    Ok(())
+}
+
+// One byte of a line is written, that is given up, and another line is written, all within a limit of six bytes a file. Each file
+// begins with a newline, since its end is not seen. The newline that ends a part is counted too: no file is above the limit.
 #[test]
 fn a_part_of_a_line_is_ended_within_the_limit(rt: HostRuntime) -> Result<(), Fail> {
-    expect_eq(&rt, limited_lengths(&rt, b"bc\n")?, (6, 0));
-    expect_eq(&rt, limited_lengths(&rt, b"bcd\n")?, (2, 5));
-    expect_eq(&rt, limited_lengths(&rt, b"bcde\n")?, (2, 6));
+    for (line, wanted) in [
+        (b"bc\n".as_slice(), (6, 0)),
+        (b"bcd\n".as_slice(), (2, 5)),
+        (b"bcde\n".as_slice(), (2, 6)),
+    ] {
+        let scene = Scene::new(["app.2020-02-01-10.000000", "app.2020-02-01-10.000001"]);
+        let mut log = log_of(rt.alloc(), &scene, 6, true, 0, (4, 1))?;
+        expect_eq(&rt, log.write(b"abc\n")?, 1);
+        log.give_up();
+        expect_eq(&rt, log.write(line)?, line.len());
+        log.flush()?;
+        expect_eq(&rt, scene.lengths.get(), wanted);
+    }
+    Ok(())
+}
+
+// The part at the opening is ended once, and so is that of the next file.
+#[test]
+fn each_part_is_ended_once(rt: HostRuntime) -> Result<(), Fail> {
+    for (whole_lines, wanted) in [(true, (5, 5)), (false, (4, 4))] {
+        let scene = Scene::of_hours();
+        let mut log = log_of(rt.alloc(), &scene, 0, whole_lines, 0, (0, 0))?;
+        for moment in [FIRST, NEXT] {
+            scene.moment.set(moment);
+            expect_eq(&rt, log.write(b"a\n")?, 2);
+            expect_eq(&rt, log.write(b"b\n")?, 2);
+        }
+        log.flush()?;
+        expect_eq(&rt, scene.lengths.get(), wanted);
+    }
+    Ok(())
+}
+
+// A line of which three bytes were taken, and which is given up: its part is ended if that is asked for, also if the first newline
+// is refused, and only in its own file. The newline at the opening is the second call.
+#[test]
+fn a_line_that_is_given_up_is_ended(rt: HostRuntime) -> Result<(), Fail> {
+    for (whole_lines, failing, moment, wanted) in [
+        (false, 0, FIRST, (6, 0)),
+        (true, 0, FIRST, (8, 0)),
+        (true, 4, FIRST, (8, 0)),
+        (true, 0, NEXT, (4, 4)),
+    ] {
+        let scene = Scene::of_hours();
+        let line = if whole_lines { 3 } else { 2 };
+        let mut log = log_of(rt.alloc(), &scene, 0, whole_lines, failing, (line, 3))?;
+        expect_eq(&rt, log.write(b"abcdef\n")?, 3);
+        log.give_up();
+        scene.moment.set(moment);
+        if log.write(b"gh\n").is_err() {
+            log.give_up();
+            expect_eq(&rt, log.write(b"gh\n")?, 3);
+        }
+        log.flush()?;
+        expect_eq(&rt, scene.lengths.get(), wanted);
+    }
+    Ok(())
+}
+
+// A file that is gone is begun anew by the next write, and no later write opens the log again. A flush looks for it too.
+#[test]
+fn a_log_is_opened_again_once(rt: HostRuntime) -> Result<(), Fail> {
+    let scene = Scene::of_hours();
+    let mut log = log_of(rt.alloc(), &scene, 0, false, 0, (0, 0))?;
+    expect_eq(&rt, log.write(b"a\n")?, 2);
+    scene.lost.set(true);
+    for _ in 0..3u32 {
+        expect_eq(&rt, log.write(b"b\n")?, 2);
+    }
+    log.flush()?;
+    expect_eq(&rt, scene.openings.get(), 2);
+    expect_eq(&rt, scene.lengths.get(), (6, 0));
+    scene.lost.set(true);
+    log.flush()?;
+    expect_eq(&rt, scene.lost.get(), false);
+    expect_eq(&rt, log.write(b"c\n")?, 2);
+    expect_eq(&rt, scene.openings.get(), 3);
     Ok(())
 }

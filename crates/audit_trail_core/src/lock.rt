@@ -1,29 +1,48 @@
 //! The lock of a folder whose log files a program may remove.
 use crate::trail::Fault;
-use std::fs;
 use std::fs::{File, TryLockError};
-use std::io::ErrorKind;
+use std::io::{Error, ErrorKind};
+use std::{fs, io};
 
 /// Locks the log files of a folder, which is made if it is absent, until the file that is returned is closed: by
-/// `.audit.lock` there. `Fault::Locked` if another program holds the lock; `Fault::Memory`. Returns `None` if there are no
-/// locks, or that name is not a plain file's: a FIFO would wait for a reader.
+/// `.audit.lock` there, which may be another user's. `Fault::Locked` if another program holds the lock; `Fault::Memory`. If
+/// there can be no lock, as where that name is not a plain file's, standard error says so, and the result is `None`.
 pub fn lock_files(rt: &HostRuntime, directory: &str) -> Result<Option<File>, Fault> {
     let path = format!(in rt.alloc(); "{directory}/.audit.lock")?;
     // If the folder can't be made, the opening of the log reports it.
     let _ = fs::create_dir_all(rt, directory);
-    if let Ok(found) = fs::symlink_metadata(rt, path.as_str()) {
-        if !found.is_file() {
-            return Ok(None);
+    let fault = match open_lock(rt, path.as_str()) {
+        Ok(file) => match file.try_lock() {
+            Ok(()) => return Ok(Some(file)),
+            Err(TryLockError::WouldBlock) => return Err(Fault::Locked),
+            Err(TryLockError::Error(fault)) => fault,
+        },
+        Err(fault) => fault,
+    };
+    match fault.kind() {
+        ErrorKind::OutOfMemory => return Err(Fault::Memory),
+        ErrorKind::NotFound => {}
+        _ => {
+            let _ = eprintln!(rt; "{path} can't be locked: {fault}");
         }
     }
-    let file = match File::options().write(true).create(true).open(rt, path) {
-        Ok(file) => file,
-        Err(fault) if fault.kind() == ErrorKind::OutOfMemory => return Err(Fault::Memory),
-        Err(_) => return Ok(None),
-    };
-    match file.try_lock() {
-        Ok(()) => Ok(Some(file)),
-        Err(TryLockError::WouldBlock) => Err(Fault::Locked),
-        Err(TryLockError::Error(_)) => Ok(None),
+    Ok(None)
+}
+
+// Opens the file of the lock. One that may only be read is enough for that. A FIFO would wait for a writer.
+fn open_lock(rt: &HostRuntime, path: &str) -> io::Result<File> {
+    if let Ok(found) = fs::symlink_metadata(rt, path) {
+        if !found.is_file() {
+            return Err(Error::new(ErrorKind::Other, "no plain file"));
+        }
     }
+    match File::options().write(true).create(true).open(rt, path) {
+        Err(fault) if is_refused(&fault) => File::open(rt, path),
+        opened => opened,
+    }
+}
+
+// Returns whether a file may not be written to.
+fn is_refused(fault: &Error) -> bool {
+    fault.kind() == ErrorKind::PermissionDenied || fault.kind() == ErrorKind::ReadOnlyFilesystem
 }

@@ -1,5 +1,5 @@
 use Rattle.log_check.proofs.Openings.{opens_last}
-use Rattle.acceptance_rolltee.proofs.rests.ShortOpenerOpensMemoryFolderRefSetClock.open.Goals as goal
+use Rattle.acceptance_rolltee.proofs.rests.SceneOpenerOpensMemoryFolderRefScene.open.Goals as goal
 
 pub returns-in-Ok : goal.returns-in-Ok
 returns-in-Ok c = opens_last c.in-Ok.ensures.ok
