@@ -1,5 +1,5 @@
 -- The lines that were handed, and what was written of them.
-use Rattle.std.proofs.Common.{◌≡◌, ◌≢◌, ◌⊎◌, ℕ, suc, zero, ◌+◌, ◌-◌, ◌<◌, ◌≤◌, ◌==◌, nat_le, nat_lt, Bool, true, false, ◌&&◌, if◌then◌else◌, List, [], ◌∷◌, ◌++◌, length, take, drop, get_or, is_some, length-drop, length-append, Result, Ok, Err, inl, inr, refl, ap, sym, ◌∙◌, subst, arith, append_assoc}
+use Rattle.std.proofs.Common.{◌≡◌, ◌≢◌, ◌⊎◌, ℕ, suc, zero, ◌+◌, ◌-◌, ◌<◌, ◌≤◌, ◌==◌, nat_le, nat_lt, Bool, true, false, not, ◌&&◌, ◌||◌, if◌then◌else◌, List, [], ◌∷◌, ◌++◌, length, take, drop, get_or, is_some, length-drop, length-append, Result, Ok, Err, inl, inr, refl, ap, sym, ◌∙◌, subst, arith, append_assoc}
 use Rattle.std.specs.Prelude.{ℤ, All}
 use Rattle.std.specs.declared.io.ErrorKind.{ErrorKind}
 use Rattle.std.proofs.lemmas.List.{append-nil, drop-drop, take_all, take_more, take-append-le}
@@ -155,32 +155,18 @@ module _ (a : RunAccount) (w : WrittenLine) (h : IsInHand a.rest a.interrupted w
       }
       again false false e f = absurd (let same = h.repeats_are in let both : true ≡ false = grind arith in cc)
 
-      by : (b : Bool) → Leaves (after_error a (b && nat_lt a.interrupted 100)).rest (after_error a (b && nat_lt a.interrupted 100)).interrupted ((if b then record w { interruptions = w.interruptions + 1; is_given_up = nat_le most_repeats w.interruptions } else record w { is_given_up = true }) ∷ earlier)
+      by : (b : Bool) → Leaves (after_error a (b && nat_lt a.interrupted 100)).rest (after_error a (b && nat_lt a.interrupted 100)).interrupted (record w { interruptions = if b then w.interruptions + 1 else w.interruptions; is_given_up = not b || nat_le most_repeats w.interruptions } ∷ earlier)
       by true = again (nat_lt a.interrupted 100) (nat_le most_repeats w.interruptions) refl refl
       by false = record {
         done = (inl (refl, inl refl), done);
         begun = All-cons IsBegun _ earlier (record { beginning = h.beginning; cut_short = λ is. h.some }) begun;
       }
 
--- a write keeps the line, and an error what was written of it
-same_line : (w : WrittenLine) (answer : Result ℕ ErrorKind) → (line_after_write w answer).line ≡ w.line
-same_line w (Ok n) = refl
-same_line w (Err kind) = by (is_interruption kind)
-  where
-    by : (b : Bool) → (if b then record w { interruptions = w.interruptions + 1; is_given_up = nat_le most_repeats w.interruptions } else record w { is_given_up = true }).line ≡ w.line
-    by true = refl
-    by false = refl
-
-same_text : (w : WrittenLine) (kind : ErrorKind) → (line_after_write w (Err kind)).written ≡ w.written
-same_text w kind = by (is_interruption kind)
-  where
-    by : (b : Bool) → (if b then record w { interruptions = w.interruptions + 1; is_given_up = nat_le most_repeats w.interruptions } else record w { is_given_up = true }).written ≡ w.written
-    by true = refl
-    by false = refl
-
+-- a write keeps the lines
 same_lines : (a : RunAccount) (m : ℤ) (switch : Switch) (answer : Result ℕ ErrorKind) (lines : List WrittenLine) → whole_lines (written_by a (Work m, Wrote switch answer) lines) ≡ whole_lines lines
 same_lines a m switch answer [] = refl
-same_lines a m switch answer (w ∷ earlier) = ap (λ line. whole_lines earlier ++ line ∷ []) (same_line w answer)
+same_lines a m switch (Ok n) (w ∷ earlier) = refl
+same_lines a m switch (Err kind) (w ∷ earlier) = refl
 
 -- ---- one step
 
@@ -203,7 +189,7 @@ line_steps limit c a (Work m, Wrote switch (Err kind)) (w ∷ earlier) gets done
   | inl is ↦ absurd (gets.0 is.0)
   | inr h ↦ record {
     leaves = failed a w h earlier done.1 (All-tail IsBegun w earlier begun) kind;
-    text = append-nil (text_of_lines earlier ++ w.written) ∙ ap (λ xs. text_of_lines earlier ++ xs) (sym (same_text w kind));
+    text = append-nil (text_of_lines earlier ++ w.written);
   }
 ]
 line_steps limit c a (Offer label line, Accepted k) lines gets done begun = record { leaves = record { done = done; begun = begun }; text = append-nil (text_of_lines lines) }

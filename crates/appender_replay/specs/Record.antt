@@ -1,6 +1,6 @@
--- What an account says of a run of queue, worker and roller: the queue, what the worker does next, what was written of the lines, what each
--- step does to the roller, and how the run reads as a history of the files.
-use Rattle.std.specs.Prelude.{◌≡◌, ℕ, ◌+◌, ◌-◌, ◌^◌, List, [], ◌∷◌, ◌++◌, Bool, true, false, not, ◌==◌, nat_le, if◌then◌else◌, length, get_or, take, drop, min, Some, None, Result, Ok, Err}
+-- What follows from the account of a run: the queue, what the worker does next, and what was written of the lines. Also what each step does
+-- to the roller, and how the run reads as a history of the files.
+use Rattle.std.specs.Prelude.{◌≡◌, ℕ, ◌+◌, ◌-◌, ◌^◌, List, [], ◌∷◌, ◌++◌, Bool, false, not, ◌||◌, ◌==◌, nat_le, if◌then◌else◌, length, get_or, take, drop, min, Some, None, Result, Ok, Err}
 use Rattle.std.specs.declared.io.Error.{Error}
 use Rattle.std.specs.declared.io.ErrorKind.{ErrorKind}
 use Rattle.appender_worker.specs.Core.{Core, Taking, Writing, Flushing, Ending, Over, most_repeats}
@@ -87,9 +87,7 @@ taken_line line = record { line = line; written = []; interruptions = 0; is_give
 abbrev pub line_after_write : WrittenLine → Result ℕ ErrorKind → WrittenLine
 line_after_write w (Ok n) = record w { written = w.written ++ take n (drop (length w.written) w.line); is_given_up = n == 0 }
 line_after_write w (Err kind) =
-    if is_interruption kind
-    then record w { interruptions = w.interruptions + 1; is_given_up = nat_le most_repeats w.interruptions }
-    else record w { is_given_up = true }
+    record w { interruptions = if is_interruption kind then w.interruptions + 1 else w.interruptions; is_given_up = not (is_interruption kind) || nat_le most_repeats w.interruptions }
 
 abbrev pub written_by : RunAccount → StepWithReply → List WrittenLine → List WrittenLine
 written_by a (Work m, Took ticket) earlier = taken_line (get_or a.accepted a.handed []) ∷ earlier
