@@ -1,11 +1,8 @@
 -- The headlines of runs: each reply is the one that the account demands, and the folder keeps what the account says.
-use Rattle.std.proofs.Common.{◌≡◌, ◌∙◌, ℕ, ℤ, ◌+◌, ◌≤◌, Bool, true, false, List, [], ◌∷◌, length, take, Option, None, Some, is_some, Result, refl, ap, sym, subst, arith}
-use Rattle.std.specs.Prelude.{if◌then◌else◌, ◌==◌}
+use Rattle.std.proofs.Common.{◌≡◌, ◌∙◌, ℕ, ℤ, ◌+◌, ◌≤◌, Bool, List, [], ◌∷◌, length, take, Option, None, Some, is_some, Result, refl, ap, sym, subst, arith}
 use Rattle.std.specs.declared.io.Error.{Error}
 use Rattle.std.specs.declared.io.ErrorKind.{ErrorKind}
-use Rattle.appender_queue.specs.Queue.{Queue, has_line, is_sent}
 use Rattle.appender_queue.specs.declared.queue.Shut.TheVariants.{Sent}
-use Rattle.appender_worker.specs.Core.{Core, Taking, Writing, Flushing, Ending, Over}
 use Rattle.appender_store.specs.declared.store.Folder.{Ghosts}
 use Rattle.appender_rolling.specs.Config.{Config}
 use Rattle.appender_rolling.specs.Roller.{Rolling, Writes, written_count}
@@ -15,21 +12,21 @@ use Rattle.appender_rolling.specs.declared.rolling.Switch.TheVariants.{None as S
 use Rattle.appender_replay.specs.Start.{Start, start_of}
 use Rattle.appender_replay.specs.Run.{Event, is_switch, stamp_at, attempt_times, SwitchesAtAttempts}
 use Rattle.appender_replay.specs.Replay.{RollStepWithReply, RollDoes, RollStepDoes, RollerFollows, RunsFrom, LeadsTo, by_kind, events_by, event_of, roll_event}
-use Rattle.appender_replay.specs.Record.{StepWithReply, worker_after, queue_after}
-use Rattle.appender_replay.specs.Answers.{AreRunReplies, IsStepReply, IsWorkReply, RollerDoes, WorkerDoes, rest_of, file_event, run_event, events}
+use Rattle.appender_replay.specs.Record.{StepWithReply, RollerDoes, WorkerDoes, file_event, run_event}
+use Rattle.appender_replay.specs.Inside.Steps.{Parts}
 use Rattle.appender_replay.specs.Headline as head
 use Rattle.appender_replay.specs.Headline.{RunAccount, Files, Headline, account, faults_in}
 use Rattle.appender_replay.specs.RollHeadline.{RollHeadline, RollReplies, RollFollows, roll_after, roll_account}
 use Rattle.appender_replay.specs.declared.replay.RollStep.TheVariants.{See, Put, Write, Flush}
 use Rattle.appender_replay.specs.declared.replay.RollReply.TheVariants.{Saw, Put as DidPut, Wrote as RollWrote, Flushed as RollFlushed}
-use Rattle.appender_replay.specs.declared.replay.whole.Step.TheVariants.{Offer, Shut, AddSender, DropSender, Work}
-use Rattle.appender_replay.specs.declared.replay.whole.Reply.{Reply}
-use Rattle.appender_replay.specs.declared.replay.whole.Reply.TheVariants.{Accepted, Shut as DidShut, Took, TookShutdown, TookGone, TookEmpty, Wrote, Flushed, Ended}
+use Rattle.appender_replay.specs.declared.replay.whole.Step.TheVariants.{Offer, Shut, Work}
+use Rattle.appender_replay.specs.declared.replay.whole.Reply.TheVariants.{Accepted, Shut as DidShut, Wrote, Flushed}
 use Rattle.appender_replay.proofs.Turns.{count_by_kind}
 use Rattle.appender_replay.proofs.Runs.{Grounds}
 use Rattle.appender_replay.proofs.Counting.{Counted, counted_same, looks_counted, puts_counted, writes_counted, flushes_counted}
 use Rattle.appender_replay.proofs.FileAccounts.{FilesAre, failed_by, files_begin, files_look, files_see, files_write, files_stay, with_faults, switches_if_due}
-use Rattle.appender_replay.proofs.Accounts.{Same, CoreOf, SwitchesIfDue, same_all, step_gets}
+use Rattle.appender_replay.proofs.Accounts.{SwitchesIfDue, Leads, steps, stands}
+use Rattle.appender_replay.proofs.Wholes.{GoesFrom, goes_runs}
 use Rattle.appender_replay.proofs.Keeping.{keeps, sum_by}
 
 -- a check of the clock counts no error
@@ -144,101 +141,43 @@ module _ (c : Config) (start : Start) where
   whole_faults_more : (past : List StepWithReply) (a : RunAccount) (t : StepWithReply) → a.files.faults + whole_faults past t ≡ (head.account_after c a t).files.faults
   whole_faults_more past a (Work m, Wrote switch answer) = ap (λ (n : ℕ). n + faults_in answer) (sym (look_faults c m (length a.rest) switch a.files))
   whole_faults_more past a (Work m, Flushed answer) = refl
-  whole_faults_more past a (Work m, Took k) = omega arith
-  whole_faults_more past a (Work m, TookShutdown) = omega arith
-  whole_faults_more past a (Work m, TookGone) = omega arith
-  whole_faults_more past a (Work m, TookEmpty) = omega arith
-  whole_faults_more past a (Work m, reply) = omega arith
   whole_faults_more past a (Offer label line, Accepted k) = omega arith
-  whole_faults_more past a (Offer label line, reply) = omega arith
   whole_faults_more past a (Shut, DidShut Sent) = omega arith
-  whole_faults_more past a (Shut, reply) = omega arith
-  whole_faults_more past a (AddSender, reply) = omega arith
-  whole_faults_more past a (DropSender, reply) = omega arith
+  whole_faults_more past a (s, r) = omega arith
 
   -- ---- one more step of a run
 
-  abbrev On : Core → List Event → RunAccount → StepWithReply → Type 0
-  On core h a t = FilesAre c start (file_event core t ∷ h) (head.account_after c a t).files
+  module _ (h : List Event) (a : RunAccount) (so : FilesAre c start h a.files) where
+    abbrev On : StepWithReply → Type 0
+    On t = FilesAre c start (file_event a.rest t ∷ h) (head.account_after c a t).files × SwitchesIfDue c a t
 
-  module _ (q : Queue) (h : List Event) (a : RunAccount) (so : FilesAre c start h a.files) where
-    take_on : (closed line sent gone waits : Bool) (k : ℕ) (m : ℤ) → On (Taking waits) h a (Work m, if closed then TookGone else if line then Took k else if sent then TookShutdown else if gone then TookGone else TookEmpty)
-    take_on true line sent gone waits k m = files_stay c start h a.files so
-    take_on false true sent gone waits k m = files_stay c start h a.files so
-    take_on false false true gone waits k m = files_stay c start h a.files so
-    take_on false false false true waits k m = files_stay c start h a.files so
-    take_on false false false false waits k m = files_stay c start h a.files so
-
-    abbrev Switches : Core → StepWithReply → Type 0
-    Switches core t = is_switch (file_event core t).switch ≡ is_some (stamp_at c start (attempt_times c start h) (file_event core t) h)
-
-    write_on : (left : List ℕ) (repeats : ℕ) (m : ℤ) (switch : Switch) (answer : Result ℕ ErrorKind) → a.rest ≡ left → Switches (Writing left repeats) (Work m, Wrote switch answer)
-        → On (Writing left repeats) h a (Work m, Wrote switch answer) × SwitchesIfDue c a (Work m, Wrote switch answer)
-    write_on left repeats m switch answer rest is =
-        let piece : List ℕ = take (written_count answer) a.rest in
-        let of_rest : Switches (Writing a.rest repeats) (Work m, Wrote switch answer) = subst (λ (xs : List ℕ). Switches (Writing xs repeats) (Work m, Wrote switch answer)) (sym rest) is in (
-          subst (λ (xs : List ℕ). FilesAre c start (file_event (Writing xs repeats) (Work m, Wrote switch answer) ∷ h) (head.account_after c a (Work m, Wrote switch answer)).files) rest
-              (with_faults c start (file_event (Writing a.rest repeats) (Work m, Wrote switch answer) ∷ h) _ _ (files_look c start (length a.rest) switch piece h a.files m so of_rest)),
-          switches_if_due c start (length a.rest) switch piece h a.files m so of_rest,
+    step_on : (t : StepWithReply) → is_switch (file_event a.rest t).switch ≡ is_some (stamp_at c start (attempt_times c start h) (file_event a.rest t) h) → On t
+    step_on (Work m, Wrote switch answer) is =
+        let piece : List ℕ = take (written_count answer) a.rest in (
+          with_faults c start (file_event a.rest (Work m, Wrote switch answer) ∷ h) _ _ (files_look c start (length a.rest) switch piece h a.files m so is),
+          switches_if_due c start (length a.rest) switch piece h a.files m so is,
         )
-
-    no_write : (switch : Switch) (answer : Result ℕ ErrorKind) (closed line sent gone : Bool) (k : ℕ)
-        → Wrote switch answer ≡ (if closed then TookGone else if line then Took k else if sent then TookShutdown else if gone then TookGone else TookEmpty) → ⊥
-    no_write switch answer true line sent gone k e = let both : ◌≡◌ {A = Reply} (Wrote switch answer) TookGone = e in cc
-    no_write switch answer false true sent gone k e = let both : ◌≡◌ {A = Reply} (Wrote switch answer) (Took k) = e in cc
-    no_write switch answer false false true gone k e = let both : ◌≡◌ {A = Reply} (Wrote switch answer) TookShutdown = e in cc
-    no_write switch answer false false false true k e = let both : ◌≡◌ {A = Reply} (Wrote switch answer) TookGone = e in cc
-    no_write switch answer false false false false k e = let both : ◌≡◌ {A = Reply} (Wrote switch answer) TookEmpty = e in cc
-
-    work_on : (core : Core) (m : ℤ) (reply : Reply) → IsWorkReply q core reply → CoreOf core a → Switches core (Work m, reply) → On core h a (Work m, reply)
-    work_on (Taking waits) m reply ans co is =
-        subst (λ (r : Reply). On (Taking waits) h a (Work m, r)) (sym ans) (take_on q.closed (has_line q) (is_sent q.shutdown) (q.senders == 0) waits (q.handed + 1) m)
-    work_on (Writing left repeats) m (Wrote switch answer) ans co is = (write_on left repeats m switch answer co.0 is).0
-    work_on (Writing left repeats) m _ ans co is = absurd ans
-    work_on Flushing m (Flushed answer) ans co is = with_faults c start (file_event Flushing (Work m, Flushed answer) ∷ h) a.files _ (files_stay c start h a.files so)
-    work_on Flushing m _ ans co is = absurd ans
-    work_on (Ending n) m (Flushed answer) ans co is = with_faults c start (file_event (Ending n) (Work m, Flushed answer) ∷ h) a.files _ (files_stay c start h a.files so)
-    work_on (Ending n) m _ ans co is = absurd ans
-    work_on Over m reply ans co is = subst (λ (r : Reply). On Over h a (Work m, r)) (sym ans) (files_stay c start h a.files so)
-
-    step_on : (core : Core) (t : StepWithReply) → IsStepReply q core t → CoreOf core a → Switches core t → On core h a t
-    step_on core (Offer label line, Accepted k) ans co is = files_stay c start h a.files so
-    step_on core (Offer label line, reply) ans co is = files_stay c start h a.files so
-    step_on core (Shut, DidShut Sent) ans co is = files_stay c start h a.files so
-    step_on core (Shut, reply) ans co is = files_stay c start h a.files so
-    step_on core (AddSender, reply) ans co is = files_stay c start h a.files so
-    step_on core (DropSender, reply) ans co is = files_stay c start h a.files so
-    step_on core (Work m, reply) ans co is = work_on core m reply ans co is
-
-    due_work : (core : Core) (m : ℤ) (switch : Switch) (answer : Result ℕ ErrorKind) → IsWorkReply q core (Wrote switch answer) → CoreOf core a → Switches core (Work m, Wrote switch answer) → SwitchesIfDue c a (Work m, Wrote switch answer)
-    due_work (Taking waits) m switch answer ans co is = absurd (no_write switch answer q.closed (has_line q) (is_sent q.shutdown) (q.senders == 0) (q.handed + 1) ans)
-    due_work (Writing left repeats) m switch answer ans co is = (write_on left repeats m switch answer co.0 is).1
-    due_work Flushing m switch answer ans co is = absurd ans
-    due_work (Ending n) m switch answer ans co is = absurd ans
-    due_work Over m switch answer ans co is = absurd (let both : ◌≡◌ {A = Reply} (Wrote switch answer) Ended = ans in cc)
-
-    due_on : (core : Core) (t : StepWithReply) → IsStepReply q core t → CoreOf core a → Switches core t → SwitchesIfDue c a t
-    due_on core (Work m, Wrote switch answer) ans co is = due_work core m switch answer ans co is
-    due_on core (s, r) ans co is = tt
+    step_on (Work m, Flushed answer) is = (with_faults c start (file_event a.rest (Work m, Flushed answer) ∷ h) a.files _ (files_stay c start h a.files so), tt)
+    step_on (Offer label line, Accepted k) is = (files_stay c start h a.files so, tt)
+    step_on (Shut, DidShut Sent) is = (files_stay c start h a.files so, tt)
+    step_on (s, r) is = (files_stay c start h a.files so, tt)
 
   -- ---- all steps
 
   -- what is known of the account after some steps
   record Known (limit : ℕ) (past : List StepWithReply) : Type 0 where
     follows : head.Follows limit c start past
-    files : FilesAre c start (events past) (account c start past).files
+    files : FilesAre c start (events_by (run_event c start) past) (account c start past).files
 
-  known : (limit : ℕ) (lossy : Bool) (past : List StepWithReply) → AreRunReplies limit lossy past → SwitchesAtAttempts c start (events past) → Known limit past
-  known limit lossy [] all switches = record { follows = tt; files = files_begin c start }
-  known limit lossy (t ∷ past) all switches =
-      let so = known limit lossy past all.0 switches.1 in
+  known : {S F : Type 0} (kind : Ghosts S F) (limit : ℕ) (lossy : Bool) (first : Rolling S F) (past : List StepWithReply) (last : Parts S F) → Leads kind limit lossy first past last → SwitchesAtAttempts c start (events_by (run_event c start) past) → Known limit past
+  known kind limit lossy first [] last same switches = record { follows = tt; files = files_begin c start }
+  known kind limit lossy first (t ∷ past) last (between, earlier, does) switches =
+      let so = known kind limit lossy first past between earlier switches.1 in
       let a : RunAccount = account c start past in
-      let same : Same past a = same_all limit lossy c start past all.0 in
-      let q : Queue = queue_after limit lossy past in
-      let core : Core = worker_after past in
+      let more = step_on (events_by (run_event c start) past) a so.files t switches.0 in
       record {
-        follows = (so.follows, step_gets limit lossy c past a same t all.1 (due_on q (events past) a so.files core t all.1 same.core switches.0));
-        files = step_on q (events past) a so.files core t all.1 same.core switches.0;
+        follows = (so.follows, (steps kind limit lossy c past a between last (stands kind limit lossy c start first past between earlier) t does).gets more.1);
+        files = more.0;
       }
 
   module _ {S F : Type 0} (kind : Ghosts S F) (grounds : Grounds kind c) where
@@ -246,24 +185,25 @@ module _ (c : Config) (start : Start) where
     whole_faults_are [] = refl
     whole_faults_are (t ∷ past) = ap (λ (n : ℕ). n + whole_faults past t) (whole_faults_are past) ∙ whole_faults_more past (account c start past) t
 
-    rolls_count : (past : List StepWithReply) (core : Core) (t : StepWithReply) (old new : Rolling S F) → RollerDoes kind core t old new
-        → Counted kind grounds.failures_fit grounds.noted_fit (failed_by (file_event core t).switch) (whole_faults past t) old.folder new.folder
-    rolls_count past core (Work m, Wrote switch shown) old new (answer, is, puts) =
+    rolls_count : (past : List StepWithReply) (rest : List ℕ) (t : StepWithReply) (old new : Rolling S F) → RollerDoes kind rest t old new
+        → Counted kind grounds.failures_fit grounds.noted_fit (failed_by (file_event rest t).switch) (whole_faults past t) old.folder new.folder
+    rolls_count past rest (Work m, Wrote switch shown) old new (answer, is, puts) =
         subst (λ (r : Result ℕ ErrorKind). Counted kind grounds.failures_fit grounds.noted_fit (failed_by switch) (faults_in r) old.folder new.folder) (sym is)
-        (puts_counted kind grounds.failures_fit grounds.noted_fit m (rest_of core) switch answer old new puts)
-    rolls_count past core (Work m, Flushed shown) old new (answer, is, flushes) =
+        (puts_counted kind grounds.failures_fit grounds.noted_fit m rest switch answer old new puts)
+    rolls_count past rest (Work m, Flushed shown) old new (answer, is, flushes) =
         subst (λ (r : Result (Unit {0}) ErrorKind). Counted kind grounds.failures_fit grounds.noted_fit 0 (faults_in r) old.folder new.folder) (sym is)
         (flushes_counted kind grounds.failures_fit grounds.noted_fit answer old new flushes)
-    rolls_count past core (s, r) old new same = counted_same kind grounds.failures_fit grounds.noted_fit old.folder new.folder (ap (λ (x : Rolling S F). x.folder) same)
+    rolls_count past rest (s, r) old new same = counted_same kind grounds.failures_fit grounds.noted_fit old.folder new.folder (ap (λ (x : Rolling S F). x.folder) same)
 
-pub headline : {S F : Type 0} (kind : Ghosts S F) (c : Config) (grounds : Grounds kind c) (limit : ℕ) (lossy : Bool) (moment : ℤ) (number room : ℕ) (folder : S) (past : List StepWithReply) (last : Rolling S F)
-    → AreRunReplies limit lossy past → RunsFrom kind (WorkerDoes kind) c moment number room folder past last → RollerFollows kind (WorkerDoes kind) run_event c moment number room folder past last
-    → Headline kind limit c moment number room past folder last.folder
-headline kind c grounds limit lossy moment number room folder past last all run rolls =
+pub headline : {S F : Type 0} (kind : Ghosts S F) (c : Config) (grounds : Grounds kind c) (limit : ℕ) (lossy : Bool) (moment : ℤ) (number room : ℕ) (folder : S) (past : List StepWithReply) (last : Parts S F) (so : GoesFrom kind c limit lossy moment number room folder past last)
+    → RollerFollows kind (WorkerDoes kind c (start_of c moment number room)) (run_event c (start_of c moment number room)) c moment number room folder past last.roller
+    → Headline kind limit c moment number room past folder last.roller.folder
+headline kind c grounds limit lossy moment number room folder past last so follows =
     let start : Start = start_of c moment number room in
-    let so = known c start limit lossy past all rolls.switches in
+    let run = goes_runs kind c limit lossy moment number room folder past last so in
+    let is = known c start kind limit lossy so.first past last so.leads follows.switches in
     record {
-      replies = so.follows;
-      folder = keeps kind grounds.failures_fit grounds.noted_fit (WorkerDoes kind) run_event whole_faults (λ earlier t. rolls_count c start kind grounds earlier (worker_after earlier) t) grounds.maps grounds.parts grounds.sound
-          c moment number room folder past last run rolls (account c start past).files so.files (whole_faults_are c start kind grounds past);
+      replies = is.follows;
+      folder = keeps kind grounds.failures_fit grounds.noted_fit (WorkerDoes kind c start) (run_event c start) whole_faults (λ earlier t. rolls_count c start kind grounds earlier (account c start earlier).rest t) grounds.maps grounds.parts grounds.sound
+          c moment number room folder past last.roller run follows (account c start past).files is.files (whole_faults_are c start kind grounds past);
     }

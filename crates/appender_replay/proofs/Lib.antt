@@ -5,8 +5,6 @@ pub mod Clocks
 pub mod Owners
 pub mod Files
 pub mod Runs
-pub mod Records
-pub mod Orders
 pub mod Keys
 pub mod Lines
 pub mod Wholes

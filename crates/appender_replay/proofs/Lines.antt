@@ -1,19 +1,24 @@
--- What was written of the lines that the worker took.
-use Rattle.std.proofs.Common.{◌≡◌, ℕ, suc, zero, ◌+◌, ◌-◌, ◌<◌, ◌≤◌, ◌==◌, nat_le, nat_lt, Bool, true, false, if◌then◌else◌, List, [], ◌∷◌, ◌++◌, length, map, take, drop, length-drop, length-append, Result, Ok, Err, inl, inr, refl, ap, sym, ◌∙◌, subst, arith, append_assoc}
+-- The lines that were handed, and what was written of them.
+use Rattle.std.proofs.Common.{◌≡◌, ◌≢◌, ◌⊎◌, ℕ, suc, zero, ◌+◌, ◌-◌, ◌<◌, ◌≤◌, ◌==◌, nat_le, nat_lt, Bool, true, false, not, ◌&&◌, ◌||◌, if◌then◌else◌, List, [], ◌∷◌, ◌++◌, length, take, drop, get_or, is_some, length-drop, length-append, Result, Ok, Err, inl, inr, refl, ap, sym, ◌∙◌, subst, arith, append_assoc}
 use Rattle.std.specs.Prelude.{ℤ, All}
 use Rattle.std.specs.declared.io.ErrorKind.{ErrorKind}
-use Rattle.std.proofs.lemmas.List.{append-nil, map-append, drop-drop, take_all}
+use Rattle.std.proofs.lemmas.List.{append-nil, drop-drop, take_all, take_more, take-append-le}
 use Rattle.std.proofs.lemmas.List.Elements.{All-cons, All-nil, All-head, All-tail}
 use Rattle.std.proofs.Math.Seq.{take-add, length-take-le}
-use Rattle.appender_worker.specs.Core.{Core, Taking, Writing, Flushing, Ending, Over, Wrote as DidWrite, Interrupted, Failed, Line, after_took, after_wrote, is_writing, most_repeats}
+use Rattle.appender_worker.specs.Core.{most_repeats}
 use Rattle.appender_worker.specs.CoreReplies.{is_interruption}
-use Rattle.appender_queue.specs.Queue.{Queue, has_line, is_sent}
-use Rattle.appender_replay.specs.Record.{StepWithReply, Offered, WrittenLine, taken_line, line_after_write, with_write, written_by, written_lines, text_of_lines, whole_lines, accepted_lines, handed_lines, handed_by, with_ticket, at_end, worker_event, worker_after, after_event, queue_after}
-use Rattle.appender_replay.specs.Answers.{IsStepReply, IsWorkReply, AreRunReplies, file_event, events, text_of_events}
-use Rattle.appender_replay.specs.Whole.{IsDone, AreDone, IsBegun, TextLaw}
-use Rattle.appender_replay.specs.declared.replay.whole.Step.TheVariants.{Offer, Shut, AddSender, DropSender, Work}
+use Rattle.appender_rolling.specs.Config.{Config}
+use Rattle.appender_rolling.specs.declared.rolling.Switch.{Switch}
+use Rattle.appender_replay.specs.Start.{Start}
+use Rattle.appender_replay.specs.Headline.{RunAccount, Replies, Follows, account, account_after, account_after_write, account_take_reply}
+use Rattle.appender_replay.specs.Replay.{events_by}
+use Rattle.appender_replay.specs.Record.{StepWithReply, WrittenLine, accepted_labels, handed_labels, taken_line, line_after_write, written_by, written_lines, text_of_lines, whole_lines, file_event, run_event, text_of_events}
+use Rattle.appender_replay.specs.Whole.{IsDone, AreDone, IsBegun, HandsInOrder, TextLaw}
+use Rattle.appender_replay.specs.declared.replay.whole.Step.TheVariants.{Offer, Shut, Work}
 use Rattle.appender_replay.specs.declared.replay.whole.Reply.{Reply}
-use Rattle.appender_replay.specs.declared.replay.whole.Reply.TheVariants.{Took, TookShutdown, TookGone, TookEmpty, Wrote, Flushed}
+use Rattle.appender_replay.specs.declared.replay.whole.Reply.TheVariants.{Accepted, Shut as DidShut, Took, TookShutdown, TookGone, TookEmpty, Wrote, Ended}
+use Rattle.appender_queue.specs.declared.queue.Shut.TheVariants.{Sent}
+use Rattle.appender_replay.proofs.Accounts.{finds_line, after_error}
 
 -- ---- beginnings
 
@@ -39,230 +44,242 @@ pub record IsInHand (rest : List ℕ) (repeats : ℕ) (w : WrittenLine) : Type 0
   pub beginning : w.written ≡ take (length w.written) w.line
   pub some : length w.written < length w.line
 
--- what is known of the lines, by what the worker does next
-abbrev pub DoneBy : Core → List WrittenLine → Type 0
-DoneBy (Writing rest repeats) [] = ⊥
-DoneBy (Writing rest repeats) (w ∷ earlier) = IsInHand rest repeats w × All IsDone earlier
-DoneBy (Taking waits) lines = All IsDone lines
-DoneBy Flushing lines = All IsDone lines
-DoneBy (Ending n) lines = All IsDone lines
-DoneBy Over lines = All IsDone lines
+-- what is known of the lines, by the rest of the line in hand
+abbrev pub DoneBy : List ℕ → ℕ → List WrittenLine → Type 0
+DoneBy rest repeats [] = rest ≡ []
+DoneBy rest repeats (w ∷ earlier) = (((rest ≡ []) × IsDone w) ⊎ IsInHand rest repeats w) × All IsDone earlier
 
 -- What a step leaves of the lines.
-record Leaves (core : Core) (lines : List WrittenLine) : Type 0 where
-  done : DoneBy core lines
+record Leaves (rest : List ℕ) (repeats : ℕ) (lines : List WrittenLine) : Type 0 where
+  done : DoneBy rest repeats lines
   begun : All IsBegun lines
 
+-- so many bytes are left
+left : (rest : List ℕ) (repeats : ℕ) (w : WrittenLine) → IsInHand rest repeats w → length rest ≡ length w.line - length w.written
+left rest repeats w h = ap length h.rest_is ∙ length-drop (length w.written) w.line
+
+has_rest : (rest : List ℕ) (repeats : ℕ) (w : WrittenLine) → IsInHand rest repeats w → rest ≢ []
+has_rest rest repeats w h none =
+    let size = left rest repeats w h in
+    let zero_left : length rest ≡ 0 = ap length none in
+    let some = h.some in
+    absurd (omega arith)
+
+-- without a rest each is done
+all_done : (rest : List ℕ) (repeats : ℕ) (lines : List WrittenLine) → rest ≡ [] → DoneBy rest repeats lines → All IsDone lines
+all_done rest repeats [] none done = All-nil IsDone
+all_done rest repeats (w ∷ earlier) none done = All-cons IsDone w earlier (elim done.0 [ inl is ↦ is.1 | inr h ↦ absurd (has_rest rest repeats w h none) ]) done.1
+
 -- a line that is taken: nothing of it is written yet, and an empty one is whole
-taken : (waits : Bool) (line : List ℕ) (earlier : List WrittenLine) → All IsDone earlier → All IsBegun earlier → Leaves (after_took (Taking waits) (Line line)) (taken_line line ∷ earlier)
-taken waits [] earlier done begun = record {
-  done = All-cons IsDone (taken_line []) earlier (inr refl) done;
-  begun = All-cons IsBegun (taken_line []) earlier (record { beginning = refl; cut_short = λ e. absurd (let both : false ≡ true = e in cc) }) begun;
+taken : (line : List ℕ) (earlier : List WrittenLine) → All IsDone earlier → All IsBegun earlier → Leaves line 0 (taken_line line ∷ earlier)
+taken line earlier done begun = record {
+  done = (by line, done);
+  begun = All-cons IsBegun (taken_line line) earlier (record { beginning = refl; cut_short = λ e. absurd (let both : false ≡ true = e in cc) }) begun;
 }
-taken waits (b ∷ line) earlier done begun = record {
-  done = (record { kept = refl; rest_is = refl; repeats_are = refl; beginning = refl; some = omega arith }, done);
-  begun = All-cons IsBegun (taken_line (b ∷ line)) earlier (record { beginning = refl; cut_short = λ e. absurd (let both : false ≡ true = e in cc) }) begun;
-}
+  where
+    by : (line : List ℕ) → ((line ≡ []) × IsDone (taken_line line)) ⊎ IsInHand line 0 (taken_line line)
+    by [] = inl (refl, inr refl)
+    by (b ∷ line) = inr (record { kept = refl; rest_is = refl; repeats_are = refl; beginning = refl; some = omega arith })
 
 -- ---- one write
 
-module _ (rest : List ℕ) (repeats : ℕ) (w : WrittenLine) (h : IsInHand rest repeats w) where
+module _ (a : RunAccount) (w : WrittenLine) (h : IsInHand a.rest a.interrupted w) (earlier : List WrittenLine) (done : All IsDone earlier) (begun : All IsBegun earlier) where
   -- the bytes that n more make
   abbrev more : ℕ → List ℕ
   more n = w.written ++ take n (drop (length w.written) w.line)
 
-  grown : (n : ℕ) → n ≤ length rest → length (more n) ≡ length w.written + n
+  grown : (n : ℕ) → n ≤ length a.rest → length (more n) ≡ length w.written + n
   grown n le =
       let room : n ≤ length (drop (length w.written) w.line) = subst (λ (xs : List ℕ). n ≤ length xs) h.rest_is le in
       length-append w.written (take n (drop (length w.written) w.line)) ∙ ap (λ m. length w.written + m) (length-take-le n (drop (length w.written) w.line) room)
 
-  -- so many bytes are left
-  left : length rest ≡ length w.line - length w.written
-  left = ap length h.rest_is ∙ length-drop (length w.written) w.line
+  -- an answer of n bytes
+  wrote : (n : ℕ) → n ≤ length a.rest → Leaves (if n == 0 then [] else drop n a.rest) a.interrupted (line_after_write w (Ok n) ∷ earlier)
+  wrote n le = by (n == 0) (drop n a.rest) refl refl
+    where
+      now : length (more n) ≡ length w.written + n
+      now = grown n le
 
-  module _ (earlier : List WrittenLine) (done : All IsDone earlier) (begun : All IsBegun earlier) where
-    -- an answer of n bytes
-    wrote : (n : ℕ) → n ≤ length rest → Leaves (after_wrote (Writing rest repeats) (DidWrite n)) (line_after_write w (Ok n) ∷ earlier)
-    wrote n le = by (n == 0) (nat_le (length rest) n) refl refl
-      where
-        is_begun : (given_up : Bool) → (given_up ≡ true → n ≡ 0) → IsBegun (record w { written = more n; is_given_up = given_up })
-        is_begun given_up none = record {
-          beginning = longer_begins w.line w.written n h.beginning;
-          cut_short = λ is. let size = grown n le in let zero_more = none is in let some = h.some in omega arith;
-        }
+      -- what is left of the rest
+      fewer : (xs : List ℕ) → drop n a.rest ≡ xs → length xs ≡ length w.line - length w.written - n
+      fewer xs f = sym (ap length f) ∙ length-drop n a.rest ∙ ap (λ m. m - n) (left a.rest a.interrupted w h)
 
-        by : (z full : Bool) → (n == 0) ≡ z → nat_le (length rest) n ≡ full
-            → Leaves (if z then Taking true else (if full then Taking false else Writing (drop n rest) repeats)) (record w { written = more n; is_given_up = z } ∷ earlier)
-        by true full e f = record {
-          done = All-cons IsDone _ earlier (inl refl) done;
-          begun = All-cons IsBegun _ earlier (is_begun true (λ is. grind arith)) begun;
-        }
-        by false true e f =
-            let all : length rest ≤ n = grind arith in
-            let size = left in
-            let whole : w.written ++ take n (drop (length w.written) w.line) ≡ w.line = longer w.line w.written n h.beginning ∙ take_all _ _ (omega arith) in
-            record {
-              done = All-cons IsDone _ earlier (inr whole) done;
-              begun = All-cons IsBegun _ earlier (is_begun false (λ is. absurd (let both : false ≡ true = is in cc))) begun;
-            }
-        by false false e f =
-            let some : n < length rest = grind arith in
-            let size = left in
-            let now = grown n le in
-            record {
-              done = (
-                record {
-                  kept = refl;
-                  rest_is = ap (drop n) h.rest_is ∙ drop-drop n (length w.written) w.line ∙ ap (λ m. drop m w.line) (sym now);
-                  repeats_are = h.repeats_are;
-                  beginning = longer_begins w.line w.written n h.beginning;
-                  some = omega arith;
-                },
-                done,
-              );
-              begun = All-cons IsBegun _ earlier (is_begun false (λ is. absurd (let both : false ≡ true = is in cc))) begun;
-            }
+      is_begun : (given_up : Bool) → (given_up ≡ true → n ≡ 0) → IsBegun (record w { written = more n; is_given_up = given_up })
+      is_begun given_up none = record {
+        beginning = longer_begins w.line w.written n h.beginning;
+        cut_short = λ is. let size = now in let zero_more = none is in let some = h.some in omega arith;
+      }
 
-    -- a fault
-    failed : (kind : ErrorKind) → Leaves (after_wrote (Writing rest repeats) (if is_interruption kind then Interrupted else Failed)) (line_after_write w (Err kind) ∷ earlier)
-    failed kind = by (is_interruption kind)
-      where
-        again : (t g : Bool) → nat_lt repeats most_repeats ≡ t → nat_le most_repeats w.interruptions ≡ g
-            → Leaves (if t then Writing rest (repeats + 1) else Taking true) (record w { interruptions = w.interruptions + 1; is_given_up = g } ∷ earlier)
-        again true true e f = absurd (let same = h.repeats_are in let both : true ≡ false = grind arith in cc)
-        again true false e f = record {
-          done = (record { kept = refl; rest_is = h.rest_is; repeats_are = ap (λ n. n + 1) h.repeats_are; beginning = h.beginning; some = h.some }, done);
-          begun = All-cons IsBegun _ earlier (record { beginning = h.beginning; cut_short = λ is. h.some }) begun;
-        }
-        again false true e f = record {
-          done = All-cons IsDone _ earlier (inl refl) done;
-          begun = All-cons IsBegun _ earlier (record { beginning = h.beginning; cut_short = λ is. h.some }) begun;
-        }
-        again false false e f = absurd (let same = h.repeats_are in let both : true ≡ false = grind arith in cc)
+      by : (z : Bool) (xs : List ℕ) → (n == 0) ≡ z → drop n a.rest ≡ xs → Leaves (if z then [] else xs) a.interrupted (record w { written = more n; is_given_up = z } ∷ earlier)
+      by true xs e f = record {
+        done = (inl (refl, inl refl), done);
+        begun = All-cons IsBegun _ earlier (is_begun true (λ is. grind arith)) begun;
+      }
+      by false [] e f =
+          let none : 0 ≡ length w.line - length w.written - n = fewer [] f in
+          let whole : w.written ++ take n (drop (length w.written) w.line) ≡ w.line = longer w.line w.written n h.beginning ∙ take_all _ _ (omega arith) in
+          record {
+            done = (inl (refl, inr whole), done);
+            begun = All-cons IsBegun _ earlier (is_begun false (λ is. absurd (let both : false ≡ true = is in cc))) begun;
+          }
+      by false (b ∷ xs) e f =
+          let size = fewer (b ∷ xs) f in
+          let after = now in
+          record {
+            done = (
+              inr (record {
+                kept = refl;
+                rest_is = sym f ∙ ap (drop n) h.rest_is ∙ drop-drop n (length w.written) w.line ∙ ap (λ m. drop m w.line) (sym now);
+                repeats_are = h.repeats_are;
+                beginning = longer_begins w.line w.written n h.beginning;
+                some = omega arith;
+              }),
+              done,
+            );
+            begun = All-cons IsBegun _ earlier (is_begun false (λ is. absurd (let both : false ≡ true = is in cc))) begun;
+          }
 
-        by : (b : Bool) → Leaves (after_wrote (Writing rest repeats) (if b then Interrupted else Failed)) ((if b then record w { interruptions = w.interruptions + 1; is_given_up = nat_le most_repeats w.interruptions } else record w { is_given_up = true }) ∷ earlier)
-        by true = again (nat_lt repeats most_repeats) (nat_le most_repeats w.interruptions) refl refl
-        by false = record {
-          done = All-cons IsDone _ earlier (inl refl) done;
-          begun = All-cons IsBegun _ earlier (record { beginning = h.beginning; cut_short = λ is. h.some }) begun;
-        }
+  -- an error
+  failed : (kind : ErrorKind) → Leaves (account_after_write (Err kind) a).rest (account_after_write (Err kind) a).interrupted (line_after_write w (Err kind) ∷ earlier)
+  failed kind = by (is_interruption kind)
+    where
+      again : (t g : Bool) → nat_lt a.interrupted 100 ≡ t → nat_le most_repeats w.interruptions ≡ g → Leaves (after_error a t).rest (after_error a t).interrupted (record w { interruptions = w.interruptions + 1; is_given_up = g } ∷ earlier)
+      again true true e f = absurd (let same = h.repeats_are in let both : true ≡ false = grind arith in cc)
+      again true false e f = record {
+        done = (inr (record { kept = refl; rest_is = h.rest_is; repeats_are = ap (λ n. n + 1) h.repeats_are; beginning = h.beginning; some = h.some }), done);
+        begun = All-cons IsBegun _ earlier (record { beginning = h.beginning; cut_short = λ is. h.some }) begun;
+      }
+      again false true e f = record {
+        done = (inl (refl, inl refl), done);
+        begun = All-cons IsBegun _ earlier (record { beginning = h.beginning; cut_short = λ is. h.some }) begun;
+      }
+      again false false e f = absurd (let same = h.repeats_are in let both : true ≡ false = grind arith in cc)
+
+      by : (b : Bool) → Leaves (after_error a (b && nat_lt a.interrupted 100)).rest (after_error a (b && nat_lt a.interrupted 100)).interrupted (record w { interruptions = if b then w.interruptions + 1 else w.interruptions; is_given_up = not b || nat_le most_repeats w.interruptions } ∷ earlier)
+      by true = again (nat_lt a.interrupted 100) (nat_le most_repeats w.interruptions) refl refl
+      by false = record {
+        done = (inl (refl, inl refl), done);
+        begun = All-cons IsBegun _ earlier (record { beginning = h.beginning; cut_short = λ is. h.some }) begun;
+      }
+
+-- a write keeps the lines
+same_lines : (a : RunAccount) (m : ℤ) (switch : Switch) (answer : Result ℕ ErrorKind) (lines : List WrittenLine) → whole_lines (written_by a (Work m, Wrote switch answer) lines) ≡ whole_lines lines
+same_lines a m switch answer [] = refl
+same_lines a m switch (Ok n) (w ∷ earlier) = refl
+same_lines a m switch (Err kind) (w ∷ earlier) = refl
 
 -- ---- one step
 
 -- What a step does to the lines: what is known of them, and the bytes that it adds.
-record Steps (core : Core) (lines : List Offered) (t : StepWithReply) (earlier : List WrittenLine) : Type 0 where
-  leaves : Leaves (after_event core (worker_event lines t)) (written_by lines t earlier)
-  text : text_of_lines earlier ++ (file_event core t).piece ≡ text_of_lines (written_by lines t earlier)
+record Steps (after : RunAccount) (rest : List ℕ) (t : StepWithReply) (lines now : List WrittenLine) : Type 0 where
+  leaves : Leaves after.rest after.interrupted now
+  text : text_of_lines lines ++ (file_event rest t).piece ≡ text_of_lines now
 
-same_text : (earlier : List WrittenLine) → text_of_lines earlier ++ [] ≡ text_of_lines earlier
-same_text earlier = append-nil (text_of_lines earlier)
-
-module _ (lines : List Offered) (earlier : List WrittenLine) (begun : All IsBegun earlier) where
-  -- a step that leaves the lines alone
-  stays : (core : Core) (t : StepWithReply) → Leaves (after_event core (worker_event lines t)) earlier → written_by lines t earlier ≡ earlier → (file_event core t).piece ≡ [] → Steps core lines t earlier
-  stays core t leaves same none = record {
-    leaves = subst (λ (ws : List WrittenLine). Leaves (after_event core (worker_event lines t)) ws) (sym same) leaves;
-    text = ap (λ p. text_of_lines earlier ++ p) none ∙ same_text earlier ∙ ap text_of_lines (sym same);
+line_steps : (limit : ℕ) (c : Config) (a : RunAccount) (t : StepWithReply) (lines : List WrittenLine) → Replies limit c a t → DoneBy a.rest a.interrupted lines → All IsBegun lines → Steps (account_after c a t) a.rest t lines (written_by a t lines)
+line_steps limit c a (Work m, Took k) lines gets done begun = record { leaves = taken (get_or a.accepted a.handed []) lines (all_done a.rest a.interrupted lines gets.0 done) begun; text = refl }
+line_steps limit c a (Work m, Wrote switch answer) [] gets done begun = absurd (gets.0 done)
+line_steps limit c a (Work m, Wrote switch (Ok n)) (w ∷ earlier) gets done begun = elim done.0 [
+  | inl is ↦ absurd (gets.0 is.0)
+  | inr h ↦ record {
+    leaves = wrote a w h earlier done.1 (All-tail IsBegun w earlier begun) n gets.1;
+    text = append_assoc (text_of_lines earlier) w.written (take n a.rest) ∙ ap (λ xs. text_of_lines earlier ++ (w.written ++ take n xs)) h.rest_is;
   }
+]
+line_steps limit c a (Work m, Wrote switch (Err kind)) (w ∷ earlier) gets done begun = elim done.0 [
+  | inl is ↦ absurd (gets.0 is.0)
+  | inr h ↦ record {
+    leaves = failed a w h earlier done.1 (All-tail IsBegun w earlier begun) kind;
+    text = append-nil (text_of_lines earlier ++ w.written);
+  }
+]
+line_steps limit c a (Offer label line, Accepted k) lines gets done begun = record { leaves = record { done = done; begun = begun }; text = append-nil (text_of_lines lines) }
+line_steps limit c a (Shut, DidShut Sent) lines gets done begun = record { leaves = record { done = done; begun = begun }; text = append-nil (text_of_lines lines) }
+line_steps limit c a (s, r) lines gets done begun = record { leaves = record { done = done; begun = begun }; text = append-nil (text_of_lines lines) }
 
-  take_steps : (closed line sent gone waits : Bool) (m : ℤ) (k : ℕ) → All IsDone earlier
-      → Steps (Taking waits) lines (Work m, if closed then TookGone else if line then Took k else if sent then TookShutdown else if gone then TookGone else TookEmpty) earlier
-  take_steps true line sent gone waits m k done = record { leaves = record { done = done; begun = begun }; text = same_text earlier }
-  take_steps false true sent gone waits m k done = record { leaves = taken waits ((with_ticket k lines).1) earlier done begun; text = refl }
-  take_steps false false true gone waits m k done = record { leaves = record { done = done; begun = begun }; text = same_text earlier }
-  take_steps false false false true waits m k done = record { leaves = record { done = done; begun = begun }; text = same_text earlier }
-  take_steps false false false false true m k done = record { leaves = record { done = done; begun = begun }; text = same_text earlier }
-  take_steps false false false false false m k done = record { leaves = record { done = done; begun = begun }; text = same_text earlier }
+-- ---- the order
 
-  flush_ends : (b : Bool) → All IsDone earlier → Leaves (if b then Ending 1 else Over) earlier
-  flush_ends true done = record { done = done; begun = begun }
-  flush_ends false done = record { done = done; begun = begun }
+-- What is known of the handed lines and of their labels.
+record InOrder (past : List StepWithReply) (accepted : List (List ℕ)) (handed : ℕ) (lines : List WrittenLine) : Type 0 where
+  most : handed ≤ length accepted
+  whole : whole_lines lines ≡ take handed accepted
+  count : length (accepted_labels past) ≡ length accepted
+  labels : handed_labels past ≡ take handed (accepted_labels past)
 
-same_line_text : (w : WrittenLine) (kind : ErrorKind) → (line_after_write w (Err kind)).written ≡ w.written
-same_line_text w kind = by (is_interruption kind)
+-- the line that is taken is the next
+takes_next : (a : RunAccount) (k : ℕ) → Took k ≡ account_take_reply a → (k ≡ a.handed + 1) × (a.handed < length a.accepted)
+takes_next a k e = by a.closed (finds_line a) (is_some a.shutdown) (a.senders == 0) refl e
   where
-    by : (b : Bool) → (if b then record w { interruptions = w.interruptions + 1; is_given_up = nat_le most_repeats w.interruptions } else record w { is_given_up = true }).written ≡ w.written
-    by true = refl
-    by false = refl
+    by : (x l s g : Bool) → finds_line a ≡ l → Took k ≡ (if x then Ended else if l then Took (a.handed + 1) else if s then TookShutdown else if g then TookGone else TookEmpty) → (k ≡ a.handed + 1) × (a.handed < length a.accepted)
+    by true l s g f e = absurd (let no : ◌≡◌ {A = Reply} (Took k) Ended = e in cc)
+    by false true s g f e = (let same : ◌≡◌ {A = Reply} (Took k) (Took (a.handed + 1)) = e in cc, grind arith)
+    by false false true g f e = absurd (let no : ◌≡◌ {A = Reply} (Took k) TookShutdown = e in cc)
+    by false false false true f e = absurd (let no : ◌≡◌ {A = Reply} (Took k) TookGone = e in cc)
+    by false false false false f e = absurd (let no : ◌≡◌ {A = Reply} (Took k) TookEmpty = e in cc)
 
-work_steps : (q : Queue) (core : Core) (lines : List Offered) (m : ℤ) (reply : Reply) (earlier : List WrittenLine) → IsWorkReply q core reply → DoneBy core earlier → All IsBegun earlier → Steps core lines (Work m, reply) earlier
-work_steps q (Taking waits) lines m reply earlier a done begun =
-    subst (λ (r : Reply). Steps (Taking waits) lines (Work m, r) earlier) (sym a) (take_steps lines earlier begun q.closed (has_line q) (is_sent q.shutdown) (q.senders == 0) waits m (q.handed + 1) done)
-work_steps q (Writing rest repeats) lines m reply [] a done begun = absurd done
-work_steps q (Writing rest repeats) lines m (Wrote switch (Ok n)) (w ∷ earlier) a done begun = record {
-  leaves = wrote rest repeats w done.0 earlier done.1 (All-tail IsBegun w earlier begun) n a;
-  text = append_assoc (text_of_lines earlier) w.written (take n rest) ∙ ap (λ xs. text_of_lines earlier ++ (w.written ++ take n xs)) done.0.rest_is;
-}
-work_steps q (Writing rest repeats) lines m (Wrote switch (Err kind)) (w ∷ earlier) a done begun = record {
-  leaves = failed rest repeats w done.0 earlier done.1 (All-tail IsBegun w earlier begun) kind;
-  text = append-nil (text_of_lines earlier ++ w.written) ∙ ap (λ xs. text_of_lines earlier ++ xs) (sym (same_line_text w kind));
-}
-work_steps q (Writing rest repeats) lines m _ (w ∷ earlier) a done begun = absurd a
-work_steps q Flushing lines m (Flushed answer) earlier a done begun = record { leaves = record { done = done; begun = begun }; text = same_text earlier }
-work_steps q Flushing lines m _ earlier a done begun = absurd a
-work_steps q (Ending n) lines m (Flushed answer) earlier a done begun = record { leaves = flush_ends lines earlier begun (n == 2) done; text = same_text earlier }
-work_steps q (Ending n) lines m _ earlier a done begun = absurd a
-work_steps q Over lines m reply earlier a done begun =
-    subst (λ (r : Reply). Steps Over lines (Work m, r) earlier) (sym a) (record { leaves = record { done = done; begun = begun }; text = same_text earlier })
-
-line_steps : (q : Queue) (core : Core) (lines : List Offered) (t : StepWithReply) (earlier : List WrittenLine) → IsStepReply q core t → DoneBy core earlier → All IsBegun earlier → Steps core lines t earlier
-line_steps q core lines (Offer label line, reply) earlier a done begun = record { leaves = record { done = done; begun = begun }; text = same_text earlier }
-line_steps q core lines (Shut, reply) earlier a done begun = record { leaves = record { done = done; begun = begun }; text = same_text earlier }
-line_steps q core lines (AddSender, reply) earlier a done begun = record { leaves = record { done = done; begun = begun }; text = same_text earlier }
-line_steps q core lines (DropSender, reply) earlier a done begun = record { leaves = record { done = done; begun = begun }; text = same_text earlier }
-line_steps q core lines (Work m, reply) earlier a done begun = work_steps q core lines m reply earlier a done begun
-
--- ---- the lines themselves
-
-same_line : (w : WrittenLine) (answer : Result ℕ ErrorKind) → (line_after_write w answer).line ≡ w.line
-same_line w (Ok n) = refl
-same_line w (Err kind) = by (is_interruption kind)
+order_on : (limit : ℕ) (c : Config) (past : List StepWithReply) (a : RunAccount) (t : StepWithReply) (lines : List WrittenLine) → Replies limit c a t → InOrder past a.accepted a.handed lines
+    → InOrder (t ∷ past) (account_after c a t).accepted (account_after c a t).handed (written_by a t lines)
+order_on limit c past a (Offer label line, Accepted k) lines gets so =
+    let one : length (a.accepted ++ line.items ∷ []) ≡ length a.accepted + 1 = length-append a.accepted (line.items ∷ []) in
+    let few : a.handed ≤ length (accepted_labels past) = rw so.count so.most in
+    record {
+      most = rw one (let most = so.most in omega arith);
+      whole = so.whole ∙ sym (take-append-le a.handed a.accepted (line.items ∷ []) so.most);
+      count = length-append (accepted_labels past) (label ∷ []) ∙ ap (λ n. n + 1) so.count ∙ sym one;
+      labels = so.labels ∙ sym (take-append-le a.handed (accepted_labels past) (label ∷ []) few);
+    }
+order_on limit c past a (Work m, Took k) lines gets so =
+    let next = takes_next a k gets.2 in
+    let place : k - 1 ≡ a.handed = let ticket = next.0 in omega arith in
+    let less : a.handed < length (accepted_labels past) = rw so.count next.1 in
+    record {
+      most = let less = next.1 in omega arith;
+      whole = ap (λ xs. xs ++ get_or a.accepted a.handed [] ∷ []) so.whole ∙ sym (take_more a.accepted a.handed [] next.1);
+      count = so.count;
+      labels = ap (λ xs. xs ++ get_or (accepted_labels past) (k - 1) 0 ∷ []) so.labels ∙ ap (λ n. take a.handed (accepted_labels past) ++ get_or (accepted_labels past) n 0 ∷ []) place ∙ sym (take_more (accepted_labels past) a.handed 0 less);
+    }
+order_on limit c past a (Work m, Wrote switch (Ok n)) lines gets so = record { most = so.most; whole = same_lines a m switch (Ok n) lines ∙ so.whole; count = so.count; labels = so.labels }
+order_on limit c past a (Work m, Wrote switch (Err kind)) lines gets so = by (is_interruption kind && nat_lt a.interrupted 100)
   where
-    by : (b : Bool) → (if b then record w { interruptions = w.interruptions + 1; is_given_up = nat_le most_repeats w.interruptions } else record w { is_given_up = true }).line ≡ w.line
-    by true = refl
-    by false = refl
-
-same_lines : (answer : Result ℕ ErrorKind) (earlier : List WrittenLine) → whole_lines (with_write answer earlier) ≡ whole_lines earlier
-same_lines answer [] = refl
-same_lines answer (w ∷ earlier) = ap (λ line. whole_lines earlier ++ line ∷ []) (same_line w answer)
-
--- a step takes the line that it hands
-lines_handed : (lines handed : List Offered) (t : StepWithReply) (earlier : List WrittenLine) → whole_lines earlier ≡ map (λ (o : Offered). o.1) handed → whole_lines (written_by lines t earlier) ≡ map (λ (o : Offered). o.1) (at_end handed (handed_by lines t))
-lines_handed lines handed (Work m, Took k) earlier so = ap (λ xs. xs ++ (with_ticket k lines).1 ∷ []) so ∙ sym (map-append (λ (o : Offered). o.1) handed (with_ticket k lines ∷ []))
-lines_handed lines handed (Work m, Wrote switch answer) earlier so = same_lines answer earlier ∙ so
-lines_handed lines handed (s, r) earlier so = so
+    by : (b : Bool) → InOrder ((Work m, Wrote switch (Err kind)) ∷ past) (after_error a b).accepted (after_error a b).handed (written_by a (Work m, Wrote switch (Err kind)) lines)
+    by true = record { most = so.most; whole = same_lines a m switch (Err kind) lines ∙ so.whole; count = so.count; labels = so.labels }
+    by false = record { most = so.most; whole = same_lines a m switch (Err kind) lines ∙ so.whole; count = so.count; labels = so.labels }
+order_on limit c past a (Shut, DidShut Sent) lines gets so = record { most = so.most; whole = so.whole; count = so.count; labels = so.labels }
+order_on limit c past a (s, r) lines gets so = record { most = so.most; whole = so.whole; count = so.count; labels = so.labels }
 
 -- ---- all steps
 
--- What is known after these steps.
-pub record LinesSoFar (past : List StepWithReply) : Type 0 where
-  pub done : DoneBy (worker_after past) (written_lines past)
-  pub begun : All IsBegun (written_lines past)
-  pub text : text_of_events (events past) ≡ text_of_lines (written_lines past)
-  pub lines : whole_lines (written_lines past) ≡ map (λ (o : Offered). o.1) (handed_lines past)
+module _ (limit : ℕ) (c : Config) (start : Start) where
+  -- What is known after these steps.
+  record LinesSoFar (past : List StepWithReply) : Type 0 where
+    leaves : Leaves (account c start past).rest (account c start past).interrupted (written_lines c start past)
+    text : text_of_events (events_by (run_event c start) past) ≡ text_of_lines (written_lines c start past)
+    order : InOrder past (account c start past).accepted (account c start past).handed (written_lines c start past)
 
-pub lines_so_far : (limit : ℕ) (lossy : Bool) (past : List StepWithReply) → AreRunReplies limit lossy past → LinesSoFar past
-lines_so_far limit lossy [] a = record { done = All-nil IsDone; begun = All-nil IsBegun; text = refl; lines = refl }
-lines_so_far limit lossy (t ∷ past) a =
-    let so = lines_so_far limit lossy past a.0 in
-    let step = line_steps (queue_after limit lossy past) (worker_after past) (accepted_lines past) t (written_lines past) a.1 so.done so.begun in
-    record {
-      done = step.leaves.done;
-      begun = step.leaves.begun;
-      text = ap (λ text. text ++ (file_event (worker_after past) t).piece) so.text ∙ step.text;
-      lines = lines_handed (accepted_lines past) (handed_lines past) t (written_lines past) so.lines;
-    }
+  lines_so_far : (past : List StepWithReply) → Follows limit c start past → LinesSoFar past
+  lines_so_far [] all = record { leaves = record { done = refl; begun = All-nil IsBegun }; text = refl; order = record { most = omega arith; whole = refl; count = refl; labels = refl } }
+  lines_so_far (t ∷ past) all =
+      let so = lines_so_far past all.0 in
+      let a : RunAccount = account c start past in
+      let step = line_steps limit c a t (written_lines c start past) all.1 so.leaves.done so.leaves.begun in
+      record {
+        leaves = step.leaves;
+        text = ap (λ text. text ++ (file_event a.rest t).piece) so.text ∙ step.text;
+        order = order_on limit c past a t (written_lines c start past) all.1 so.order;
+      }
 
--- each is done, but the newest where it is in hand
-pub are_done : (core : Core) (lines : List WrittenLine) → DoneBy core lines → AreDone (is_writing core) lines
-are_done core [] done = tt
-are_done (Writing rest repeats) (w ∷ earlier) done = ((λ no. absurd (let both : true ≡ false = no in cc)), done.1)
-are_done (Taking waits) (w ∷ earlier) done = ((λ yes. All-head IsDone w earlier done), All-tail IsDone w earlier done)
-are_done Flushing (w ∷ earlier) done = ((λ yes. All-head IsDone w earlier done), All-tail IsDone w earlier done)
-are_done (Ending n) (w ∷ earlier) done = ((λ yes. All-head IsDone w earlier done), All-tail IsDone w earlier done)
-are_done Over (w ∷ earlier) done = ((λ yes. All-head IsDone w earlier done), All-tail IsDone w earlier done)
+  are_done : (rest : List ℕ) (repeats : ℕ) (lines : List WrittenLine) → DoneBy rest repeats lines → AreDone rest lines
+  are_done rest repeats [] done = tt
+  are_done rest repeats (w ∷ earlier) done = ((λ none. All-head IsDone w earlier (all_done rest repeats (w ∷ earlier) none done)), done.1)
 
-pub text_law : (limit : ℕ) (lossy : Bool) (past : List StepWithReply) → AreRunReplies limit lossy past → TextLaw past
-text_law limit lossy past a =
-    let so = lines_so_far limit lossy past a in
-    record { lines = so.lines; text = so.text; begun = so.begun; done = are_done (worker_after past) (written_lines past) so.done }
+  pub in_order : (past : List StepWithReply) → Follows limit c start past → HandsInOrder c start past
+  in_order past all = let so = (lines_so_far past all).order in record { most = so.most; labels = so.labels }
+
+  pub text_law : (past : List StepWithReply) → Follows limit c start past → TextLaw c start past
+  text_law past all =
+      let so = lines_so_far past all in
+      record {
+        lines = so.order.whole;
+        text = so.text;
+        begun = so.leaves.begun;
+        done = are_done (account c start past).rest (account c start past).interrupted (written_lines c start past) so.leaves.done;
+      }

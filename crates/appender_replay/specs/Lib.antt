@@ -1,9 +1,8 @@
 pub mod Start
 pub mod Run
 pub mod Replay
-pub mod Record
-pub mod Answers
-pub mod Whole
 pub mod Headline
 pub mod RollHeadline
+pub mod Record
+pub mod Whole
 pub mod Inside

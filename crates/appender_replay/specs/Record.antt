@@ -1,138 +1,73 @@
--- What follows from the steps of a run of queue, worker and roller, each with its reply, the newest first: the accepted lines,
--- those that were handed to the worker, the shutdown, the senders, and what the worker does next.
-use Rattle.std.specs.Prelude.{ℕ, ◌+◌, ◌-◌, ◌^◌, List, [], ◌∷◌, ◌++◌, Bool, true, false, ◌&&◌, ◌||◌, ◌==◌, nat_le, if◌then◌else◌, length, map, get_or, take, drop, min, Option, Some, None, Result, Ok, Err}
+-- What follows from the account of a run: the queue, what the worker does next, and what was written of the lines. Also what each step does
+-- to the roller, and how the run reads as a history of the files.
+use Rattle.std.specs.Prelude.{◌≡◌, ℕ, ◌+◌, ◌-◌, ◌^◌, List, [], ◌∷◌, ◌++◌, Bool, false, not, ◌||◌, ◌==◌, nat_le, if◌then◌else◌, length, get_or, take, drop, min, Some, None, Result, Ok, Err}
+use Rattle.std.specs.declared.io.Error.{Error}
 use Rattle.std.specs.declared.io.ErrorKind.{ErrorKind}
-use Rattle.appender_worker.specs.Core.{Core, Taking, Answer, Wrote as DidWrite, Interrupted, Failed, Line, Last, Nothing, most_repeats}
+use Rattle.appender_worker.specs.Core.{Core, Taking, Writing, Flushing, Ending, Over, most_repeats}
 use Rattle.appender_worker.specs.CoreReplies.{is_interruption}
-use Rattle.appender_queue.specs.Queue.{Queue, saturating_next, one_less}
-use Rattle.appender_worker.specs.Runs.{WorkerEvent, Took as DidTake, Write, Flushed as DidFlush, core_after_event, is_waiting}
-use Rattle.appender_queue.specs.declared.queue.Shut.TheVariants.{Sent}
+use Rattle.appender_queue.specs.Queue.{Queue}
+use Rattle.appender_store.specs.declared.store.Folder.{Ghosts}
+use Rattle.appender_rolling.specs.Config.{Config}
+use Rattle.appender_rolling.specs.Roller.{Rolling, Puts, Flushes, written_count}
+use Rattle.appender_rolling.specs.declared.rolling.Switch.TheVariants.{None as Stayed}
+use Rattle.appender_replay.specs.Start.{Start}
+use Rattle.appender_replay.specs.Run.{Event}
+use Rattle.appender_replay.specs.Replay.{by_kind}
+use Rattle.appender_replay.specs.Headline.{RunAccount, account}
 use Rattle.appender_replay.specs.declared.replay.whole.Step.{Step}
-use Rattle.appender_replay.specs.declared.replay.whole.Step.TheVariants.{Offer, Shut, AddSender, DropSender, Work}
+use Rattle.appender_replay.specs.declared.replay.whole.Step.TheVariants.{Offer, Work}
 use Rattle.appender_replay.specs.declared.replay.whole.Reply.{Reply}
-use Rattle.appender_replay.specs.declared.replay.whole.Reply.TheVariants.{Accepted, Full, Closed, Shut as DidShut, Took, TookShutdown, TookGone, TookEmpty, Wrote, Flushed}
+use Rattle.appender_replay.specs.declared.replay.whole.Reply.TheVariants.{Accepted, Full, Closed, Took, Wrote, Flushed}
 
 -- a step with its reply
 abbrev pub StepWithReply : Type 0
 StepWithReply = Step × Reply
 
--- one more at the end, if there is one
-abbrev pub at_end : {A : Type 0} → List A → Option A → List A
-at_end xs None = xs
-at_end xs (Some x) = xs ++ x ∷ []
-
--- ---- lines
-
--- a line, and the label of the sender that offered it
-abbrev pub Offered : Type 0
-Offered = ℕ × List ℕ
-
-abbrev pub accepted_by : StepWithReply → Option Offered
-accepted_by (Offer label line, Accepted ticket) = Some (label, line.items)
-accepted_by past = None
-
--- all lines that were accepted, in order: this list only grows
-abbrev pub accepted_lines : List StepWithReply → List Offered
-accepted_lines [] = []
-accepted_lines (t ∷ earlier) = at_end (accepted_lines earlier) (accepted_by t)
-
--- the line of a ticket: tickets count the accepted lines from 1
-abbrev pub with_ticket : ℕ → List Offered → Offered
-with_ticket ticket lines = get_or lines (ticket - 1) (0, [])
-
-abbrev pub handed_by : List Offered → StepWithReply → Option Offered
-handed_by lines (Work m, Took ticket) = Some (with_ticket ticket lines)
-handed_by lines past = None
-
--- the lines that the worker took, in the order in which it took them
-abbrev pub handed_lines : List StepWithReply → List Offered
-handed_lines [] = []
-handed_lines (t ∷ earlier) = at_end (handed_lines earlier) (handed_by (accepted_lines earlier) t)
-
--- ---- the shutdown, and the end
-
-abbrev pub sends_shutdown : StepWithReply → Bool
-sends_shutdown (Shut, DidShut Sent) = true
-sends_shutdown past = false
-
--- how many lines had been accepted when the shutdown was sent, if it was
-abbrev pub shutdown_place : List StepWithReply → Option ℕ
-shutdown_place [] = None
-shutdown_place (t ∷ earlier) = if sends_shutdown t then Some (length (accepted_lines earlier)) else shutdown_place earlier
-
-abbrev pub is_closing : StepWithReply → Bool
-is_closing (Work m, TookShutdown) = true
-is_closing (Work m, TookGone) = true
-is_closing past = false
-
--- whether the worker has taken the shutdown, or has found that no sender is left
-abbrev pub is_closed : List StepWithReply → Bool
-is_closed [] = false
-is_closed (t ∷ earlier) = is_closing t || is_closed earlier
-
--- ---- senders
-
-abbrev pub senders_by : Step → ℕ → ℕ
-senders_by AddSender n = saturating_next n
-senders_by DropSender n = one_less n
-senders_by step n = n
-
--- how many senders there are: at first one
-abbrev pub senders_after : List StepWithReply → ℕ
-senders_after [] = 1
-senders_after ((step, reply) ∷ earlier) = senders_by step (senders_after earlier)
-
-abbrev pub is_refusal : StepWithReply → Bool
-is_refusal (Offer label line, Full) = true
-is_refusal (Offer label line, Closed) = true
-is_refusal past = false
+-- ---- queue and worker
 
 -- how many offers found no place or a closed queue
 abbrev pub refusals : List StepWithReply → ℕ
 refusals [] = 0
-refusals (t ∷ earlier) = if is_refusal t then refusals earlier + 1 else refusals earlier
+refusals ((Offer label line, Full) ∷ earlier) = refusals earlier + 1
+refusals ((Offer label line, Closed) ∷ earlier) = refusals earlier + 1
+refusals (t ∷ earlier) = refusals earlier
 
--- ---- the worker
+-- the queue, after this number of refusals
+abbrev pub account_queue : ℕ → Bool → ℕ → RunAccount → Queue
+account_queue limit lossy refused a = record {
+  lines = if a.closed then [] else drop a.handed a.accepted;
+  accepted = length a.accepted;
+  handed = a.handed;
+  shutdown = a.shutdown;
+  closed = a.closed;
+  senders = a.senders;
+  worker_waits = a.idle;
+  dropped = if lossy then min refused (2 ^ 64 - 1) else 0;
+  limit = limit;
+  lossy = lossy;
+  last_tickets = [];
+}
 
-abbrev pub written_answer : Result ℕ ErrorKind → Answer
-written_answer (Ok n) = DidWrite n
-written_answer (Err kind) = if is_interruption kind then Interrupted else Failed
+-- what the worker does next: it writes the line in hand, makes the flushes that are due, or else takes, until it found the end
+abbrev pub account_core : RunAccount → Core
+account_core a =
+    if not (length a.rest == 0) then Writing a.rest a.interrupted
+    else if a.flushes == 0 then (if a.closed then Over else Taking (not a.whole))
+    else if a.closed then Ending a.flushes else Flushing
 
--- what a step passes to the worker, if it is one of the worker's: what a take found, the result of a write, or that a flush was made
-abbrev pub worker_event : List Offered → StepWithReply → Option WorkerEvent
-worker_event lines (Work m, Took ticket) = Some (DidTake (Line ((with_ticket ticket lines).1)))
-worker_event lines (Work m, TookShutdown) = Some (DidTake Last)
-worker_event lines (Work m, TookGone) = Some (DidTake Last)
-worker_event lines (Work m, TookEmpty) = Some (DidTake Nothing)
-worker_event lines (Work m, Wrote switch answer) = Some (Write (written_answer answer))
-worker_event lines (Work m, Flushed answer) = Some DidFlush
-worker_event lines past = None
+-- ---- labels
 
-abbrev pub after_event : Core → Option WorkerEvent → Core
-after_event core None = core
-after_event core (Some e) = core_after_event core e
+-- the labels of the accepted lines, in order
+abbrev pub accepted_labels : List StepWithReply → List ℕ
+accepted_labels [] = []
+accepted_labels ((Offer label line, Accepted ticket) ∷ earlier) = accepted_labels earlier ++ label ∷ []
+accepted_labels (t ∷ earlier) = accepted_labels earlier
 
--- what the worker does next: it begins with a take that waits
-abbrev pub worker_after : List StepWithReply → Core
-worker_after [] = Taking true
-worker_after (t ∷ earlier) = after_event (worker_after earlier) (worker_event (accepted_lines earlier) t)
-
-abbrev pub is_take : StepWithReply → Bool
-is_take (Work m, Took ticket) = true
-is_take (Work m, TookShutdown) = true
-is_take (Work m, TookGone) = true
-is_take (Work m, TookEmpty) = true
-is_take past = false
-
-abbrev pub is_empty_take : StepWithReply → Bool
-is_empty_take (Work m, TookEmpty) = true
-is_empty_take past = false
-
--- whether the last take was a waiting one that found nothing
-abbrev pub last_take_waits : List StepWithReply → Bool
-last_take_waits [] = false
-last_take_waits (t ∷ earlier) =
-    if is_take t then (is_empty_take t && is_waiting (worker_after earlier)) else last_take_waits earlier
+-- those of the lines that the worker took, by their tickets, which count the accepted lines from 1
+abbrev pub handed_labels : List StepWithReply → List ℕ
+handed_labels [] = []
+handed_labels ((Work m, Took ticket) ∷ earlier) = handed_labels earlier ++ get_or (accepted_labels earlier) (ticket - 1) 0 ∷ []
+handed_labels (t ∷ earlier) = handed_labels earlier
 
 -- ---- what is written of the lines
 
@@ -152,23 +87,17 @@ taken_line line = record { line = line; written = []; interruptions = 0; is_give
 abbrev pub line_after_write : WrittenLine → Result ℕ ErrorKind → WrittenLine
 line_after_write w (Ok n) = record w { written = w.written ++ take n (drop (length w.written) w.line); is_given_up = n == 0 }
 line_after_write w (Err kind) =
-    if is_interruption kind
-    then record w { interruptions = w.interruptions + 1; is_given_up = nat_le most_repeats w.interruptions }
-    else record w { is_given_up = true }
+    record w { interruptions = if is_interruption kind then w.interruptions + 1 else w.interruptions; is_given_up = not (is_interruption kind) || nat_le most_repeats w.interruptions }
 
-abbrev pub with_write : Result ℕ ErrorKind → List WrittenLine → List WrittenLine
-with_write answer [] = []
-with_write answer (w ∷ earlier) = line_after_write w answer ∷ earlier
-
-abbrev pub written_by : List Offered → StepWithReply → List WrittenLine → List WrittenLine
-written_by lines (Work m, Took ticket) earlier = taken_line (with_ticket ticket lines).1 ∷ earlier
-written_by lines (Work m, Wrote switch answer) earlier = with_write answer earlier
-written_by lines past earlier = earlier
+abbrev pub written_by : RunAccount → StepWithReply → List WrittenLine → List WrittenLine
+written_by a (Work m, Took ticket) earlier = taken_line (get_or a.accepted a.handed []) ∷ earlier
+written_by a (Work m, Wrote switch answer) (w ∷ earlier) = line_after_write w answer ∷ earlier
+written_by a t earlier = earlier
 
 -- all lines that the worker took, the newest first
-abbrev pub written_lines : List StepWithReply → List WrittenLine
-written_lines [] = []
-written_lines (t ∷ earlier) = written_by (accepted_lines earlier) t (written_lines earlier)
+abbrev pub written_lines : Config → Start → List StepWithReply → List WrittenLine
+written_lines c start [] = []
+written_lines c start (t ∷ earlier) = written_by (account c start earlier) t (written_lines c start earlier)
 
 -- their bytes that were written, strung together, the oldest first
 abbrev pub text_of_lines : List WrittenLine → List ℕ
@@ -180,24 +109,33 @@ abbrev pub whole_lines : List WrittenLine → List (List ℕ)
 whole_lines [] = []
 whole_lines (w ∷ earlier) = whole_lines earlier ++ w.line ∷ []
 
--- ---- the queue
+-- ---- the roller
 
--- the accepted lines that were not handed yet
-abbrev pub lines_left : List StepWithReply → List (List ℕ)
-lines_left past = drop (length (handed_lines past)) (map (λ (o : Offered). o.1) (accepted_lines past))
+-- What a step does to the roller, with this rest of the line in hand: a write of the worker checks the clock and puts the rest, a flush of
+-- it flushes, and no other step touches the roller. Replies show only the kinds of faults.
+abbrev pub RollerDoes : {S F : Type 0} → Ghosts S F → List ℕ → StepWithReply → Rolling S F → Rolling S F → Type 0
+RollerDoes kind rest (Work m, Wrote switch shown) old new =
+    (answer : Result ℕ Error) × (shown ≡ by_kind answer) × Puts kind m rest switch answer old new
+RollerDoes kind rest (Work m, Flushed shown) old new =
+    (answer : Result (Unit {0}) Error) × (shown ≡ by_kind answer) × Flushes kind answer old new
+RollerDoes kind rest t old new = new ≡ old
 
--- the queue of a run after these steps
-abbrev pub queue_after : ℕ → Bool → List StepWithReply → Queue
-queue_after limit lossy past = record {
-  lines = if is_closed past then [] else lines_left past;
-  accepted = length (accepted_lines past);
-  handed = length (handed_lines past);
-  shutdown = shutdown_place past;
-  closed = is_closed past;
-  senders = senders_after past;
-  worker_waits = last_take_waits past;
-  dropped = if lossy then min (refusals past) (2 ^ 64 - 1) else 0;
-  limit = limit;
-  lossy = lossy;
-  last_tickets = [];
-}
+-- what a step after these does to the roller
+abbrev pub WorkerDoes : {S F : Type 0} → Ghosts S F → Config → Start → List StepWithReply → StepWithReply → Rolling S F → Rolling S F → Type 0
+WorkerDoes kind c start earlier = RollerDoes kind (account c start earlier).rest
+
+-- ---- read as a run of files
+
+-- A step of the worker that wrote reads the clock, and its piece is what was taken of the rest. No other step reads the
+-- clock, switches or writes.
+abbrev pub file_event : List ℕ → StepWithReply → Event
+file_event rest (Work m, Wrote switch answer) = record { read = Some m; offered = length rest; switch = switch; piece = take (written_count answer) rest }
+file_event rest t = record { read = None; offered = 0; switch = Stayed; piece = [] }
+
+abbrev pub run_event : Config → Start → List StepWithReply → StepWithReply → Event
+run_event c start earlier = file_event (account c start earlier).rest
+
+-- all pieces of a history strung together, the oldest first
+abbrev pub text_of_events : List Event → List ℕ
+text_of_events [] = []
+text_of_events (e ∷ earlier) = text_of_events earlier ++ e.piece

@@ -23,23 +23,7 @@ abbrev pub by_kind : {T : Type 0} → Result T Error → Result T ErrorKind
 by_kind (Ok x) = Ok x
 by_kind (Err fault) = Err (error_kind fault)
 
--- ---- replies
-
-abbrev pub IsCheckReply : RollReply → (Switch → Type 0) → Type 0
-IsCheckReply (Saw switch) P = P switch
-IsCheckReply _ P = ⊥
-
-abbrev pub IsPutReply : RollReply → (Switch → Result ℕ ErrorKind → Type 0) → Type 0
-IsPutReply (DidPut switch answer) P = P switch answer
-IsPutReply _ P = ⊥
-
-abbrev pub IsWriteReply : RollReply → (Result ℕ ErrorKind → Type 0) → Type 0
-IsWriteReply (Wrote answer) P = P answer
-IsWriteReply _ P = ⊥
-
-abbrev pub IsFlushReply : RollReply → (Result (Unit {0}) ErrorKind → Type 0) → Type 0
-IsFlushReply (Flushed answer) P = P answer
-IsFlushReply _ P = ⊥
+-- ---- steps
 
 -- a step with its reply
 abbrev pub RollStepWithReply : Type 0
@@ -47,13 +31,11 @@ RollStepWithReply = RollStep × RollReply
 
 -- What one step does to a roller, and its reply, whose faults show only their kinds.
 abbrev pub RollStepDoes : {S F : Type 0} → Ghosts S F → RollStepWithReply → Rolling S F → Rolling S F → Type 0
-RollStepDoes kind (See m, reply) old new = IsCheckReply reply (λ switch. ChecksClockOnly kind m switch old new)
-RollStepDoes kind (Put m bytes, reply) old new =
-    IsPutReply reply (λ switch shown. (answer : Result ℕ Error) × (shown ≡ by_kind answer) × Puts kind m bytes.items switch answer old new)
-RollStepDoes kind (Write bytes, reply) old new =
-    IsWriteReply reply (λ shown. (answer : Result ℕ Error) × (shown ≡ by_kind answer) × Writes kind bytes.items answer old new)
-RollStepDoes kind (Flush, reply) old new =
-    IsFlushReply reply (λ shown. (answer : Result (Unit {0}) Error) × (shown ≡ by_kind answer) × Flushes kind answer old new)
+RollStepDoes kind (See m, Saw switch) old new = ChecksClockOnly kind m switch old new
+RollStepDoes kind (Put m bytes, DidPut switch shown) old new = (answer : Result ℕ Error) × (shown ≡ by_kind answer) × Puts kind m bytes.items switch answer old new
+RollStepDoes kind (Write bytes, Wrote shown) old new = (answer : Result ℕ Error) × (shown ≡ by_kind answer) × Writes kind bytes.items answer old new
+RollStepDoes kind (Flush, Flushed shown) old new = (answer : Result (Unit {0}) Error) × (shown ≡ by_kind answer) × Flushes kind answer old new
+RollStepDoes kind t old new = ⊥
 
 -- the steps of a run with their replies, the newest first
 abbrev pub with_replies_onto : {S R : Type 0} → List (S × R) → List S → List R → List (S × R)
@@ -64,10 +46,10 @@ with_replies_onto past (s ∷ steps) (r ∷ replies) = with_replies_onto ((s, r)
 abbrev pub with_replies : {S R : Type 0} → List S → List R → List (S × R)
 with_replies = with_replies_onto []
 
--- one step after another leads from the old roller to the new, where a step may depend on those before it
-abbrev pub LeadsTo : {S F T : Type 0} → (List T → T → Rolling S F → Rolling S F → Type 0) → List T → Rolling S F → Rolling S F → Type 0
+-- one step after another leads from the old state to the new, as of a roller, where a step may depend on those before it
+abbrev pub LeadsTo : {X T : Type 0} → (List T → T → X → X → Type 0) → List T → X → X → Type 0
 LeadsTo does [] old new = new ≡ old
-LeadsTo does (t ∷ earlier) old new = (between : Rolling _ _) × LeadsTo does earlier old between × does earlier t between new
+LeadsTo {X} does (t ∷ earlier) old new = (between : X) × LeadsTo does earlier old between × does earlier t between new
 
 -- the events of steps with replies, where the event of a step may depend on those before it
 abbrev pub events_by : {T : Type 0} → (List T → T → Event) → List T → List Event

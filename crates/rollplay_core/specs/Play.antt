@@ -14,7 +14,8 @@ use Rattle.appender_rolling.specs.Roller.{Rolling, OpensNoRoller}
 use Rattle.appender_queue.specs.Queue.{Queue}
 use Rattle.appender_queue.specs.QueueReplies.{queue_counts}
 use Rattle.tracing_appender.specs.Core.{Core}
-use Rattle.appender_replay.specs.Answers.{WorkerDoes}
+use Rattle.appender_replay.specs.Start.{start_of}
+use Rattle.appender_replay.specs.Record.{WorkerDoes}
 use Rattle.appender_replay.specs.Replay.{RollDoes, RunsFrom, with_replies}
 use Rattle.appender_replay.specs.Whole.{LinesFollow}
 use Rattle.appender_replay.specs.declared.replay.RollStep.{RollStep}
@@ -50,11 +51,11 @@ pub record IsQueuedRunPage {F : Type 0} (kind : Ghosts MemoryFolder F) (config :
   pub one_each : length replies ≡ length steps
   pub queue : Queue
   pub worker : Core
-  pub lines : LinesFollow limit lossy (with_replies steps replies) queue worker
   pub last : Rolling MemoryFolder F
   pub number : ℕ
   pub room : ℕ
-  pub runs : RunsFrom kind (WorkerDoes kind) config start number room folder (with_replies steps replies) last
+  pub lines : LinesFollow config (start_of config start number room) (with_replies steps replies) limit lossy queue worker
+  pub runs : RunsFrom kind (WorkerDoes kind config (start_of config start number room)) config start number room folder (with_replies steps replies) last
   pub page_is : page ≡ queued_page (file_name_of config (stamp start number)) replies (state_of last.folder).content (queue_counts queue)
 
 -- the log was not opened, and the page has the reason

@@ -40,7 +40,6 @@ pub use Rattle.appender_replay.specs.Replay
 pub use Rattle.appender_replay.specs.Headline
 pub use Rattle.appender_replay.specs.RollHeadline
 pub use Rattle.appender_replay.specs.Record
-pub use Rattle.appender_replay.specs.Answers
 pub use Rattle.appender_replay.specs.Whole
 pub use Rattle.appender_runtime.specs.Waiting
 pub use Rattle.appender_rolling.specs.Config

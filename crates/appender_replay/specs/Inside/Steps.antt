@@ -1,21 +1,22 @@
 -- What one step does to queue, worker and roller, by the contracts of the three.
-use Rattle.std.specs.Prelude.{◌≡◌, ◌≢◌, ◌⊎◌, ℕ, ℤ, List, [], Result, Ok, Err, slice_index_or}
+use Rattle.std.specs.Prelude.{◌≡◌, ◌≢◌, ◌⊎◌, ℕ, ◌+◌, ℤ, if◌then◌else◌, List, [], Result, Ok, Err, slice_index_or}
 use Rattle.std.specs.declared.io.Error.{Error}
-use Rattle.appender_worker.specs.Core.{Core, Taking, Writing, Over, Found, Line, Last, Nothing, after_took, after_wrote, after_flushed}
-use Rattle.appender_queue.specs.Queue.{Queue, take_case, saturating_next, one_less, after_offer, after_shut, after_take}
+use Rattle.std.specs.declared.io.ErrorKind.{ErrorKind}
+use Rattle.appender_worker.specs.Core.{Core, Taking, Writing, Over, Answer, Wrote as DidWrite, Interrupted, Failed, Found, Line, Last, Nothing, after_took, after_wrote, after_flushed}
+use Rattle.appender_worker.specs.CoreReplies.{is_interruption}
+use Rattle.appender_queue.specs.Queue.{Queue, is_open, has_room, take_case, saturating_next, one_less, after_offer, after_shut, after_take}
 use Rattle.appender_queue.specs.QueueReplies.{shut_reply}
 use Rattle.appender_queue.specs.declared.queue.Refused.{Refused}
 use Rattle.appender_queue.specs.declared.queue.Refused.TheVariants.{Full as RefusedFull, Closed as RefusedClosed}
 use Rattle.appender_queue.specs.declared.queue.Taken.{Taken}
 use Rattle.appender_queue.specs.declared.queue.Taken.TheVariants.{Line as TakenLine, Shutdown as TakenShutdown, Gone as TakenGone, Empty as TakenEmpty}
 use Rattle.appender_store.specs.declared.store.Folder.{Ghosts}
-use Rattle.appender_replay.specs.Record.{StepWithReply, written_answer}
-use Rattle.appender_replay.specs.Answers.{IsWorkerWrite, IsWorkerFlush, run_offer_reply, run_take_reply}
+use Rattle.appender_replay.specs.Record.{StepWithReply}
 use Rattle.appender_replay.specs.Replay.{by_kind}
 use Rattle.appender_rolling.specs.Roller.{Rolling, Puts, Flushes}
 use Rattle.appender_replay.specs.declared.replay.whole.Step.TheVariants.{Offer, Shut, AddSender, DropSender, Work}
 use Rattle.appender_replay.specs.declared.replay.whole.Reply.{Reply}
-use Rattle.appender_replay.specs.declared.replay.whole.Reply.TheVariants.{Accepted, Full, Closed, NoMemory, Shut as DidShut, Senders, Took, TookShutdown, TookGone, TookEmpty, Ended}
+use Rattle.appender_replay.specs.declared.replay.whole.Reply.TheVariants.{Accepted, Full, Closed, NoMemory, Shut as DidShut, Senders, Took, TookShutdown, TookGone, TookEmpty, Wrote, Flushed, Ended}
 
 -- a queue's answers as replies
 abbrev pub offered_reply : Result ℕ Refused → Reply
@@ -28,6 +29,19 @@ taken_reply (TakenLine ticket line) = Took ticket
 taken_reply TakenShutdown = TookShutdown
 taken_reply TakenGone = TookGone
 taken_reply TakenEmpty = TookEmpty
+
+-- The reply to an offer for whose copy there was memory: the next ticket exactly if the queue is open and has room.
+abbrev pub run_offer_reply : Queue → Reply
+run_offer_reply q = if is_open q then (if has_room q then Accepted (q.accepted + 1) else Full) else Closed
+
+-- the reply to a take: a line is the first accepted one that was not handed
+abbrev pub run_take_reply : Queue → Reply
+run_take_reply q = take_case q TookGone (Took (q.handed + 1)) TookShutdown TookGone TookEmpty
+
+-- a write's answer as the worker gets it
+abbrev pub written_answer : Result ℕ ErrorKind → Answer
+written_answer (Ok n) = DidWrite n
+written_answer (Err kind) = if is_interruption kind then Interrupted else Failed
 
 -- what the worker sees of the reply to a take
 abbrev pub take_finds : Queue → Found
@@ -54,18 +68,18 @@ WorkDoes kind (Taking waits) m reply old new =
     × (new.queue ≡ after_take old.queue waits)
     × (new.worker ≡ after_took (Taking waits) (take_finds old.queue))
     × (new.roller ≡ old.roller)
-WorkDoes kind (Writing rest repeats) m reply old new =
-    IsWorkerWrite reply (λ switch shown.
-    (answer : Result ℕ Error) × (shown ≡ by_kind answer)
-    × Puts kind m rest switch answer old.roller new.roller
-    × (new.worker ≡ after_wrote (Writing rest repeats) (written_answer shown)))
-    × (new.queue ≡ old.queue)
 WorkDoes kind Over m reply old new =
     (reply ≡ Ended) × (new.queue ≡ old.queue) × (new.worker ≡ Over) × (new.roller ≡ old.roller)
-WorkDoes kind flushing m reply old new =
-    IsWorkerFlush reply (λ shown. (answer : Result (Unit {0}) Error) × (shown ≡ by_kind answer) × Flushes kind answer old.roller new.roller)
+WorkDoes kind (Writing rest repeats) m (Wrote switch shown) old new =
+    (answer : Result ℕ Error) × (shown ≡ by_kind answer) × Puts kind m rest switch answer old.roller new.roller
     × (new.queue ≡ old.queue)
-    × (new.worker ≡ after_flushed flushing)
+    × (new.worker ≡ after_wrote (Writing rest repeats) (written_answer shown))
+WorkDoes kind (Writing rest repeats) m reply old new = ⊥
+WorkDoes kind core m (Flushed shown) old new =
+    (answer : Result (Unit {0}) Error) × (shown ≡ by_kind answer) × Flushes kind answer old.roller new.roller
+    × (new.queue ≡ old.queue)
+    × (new.worker ≡ after_flushed core)
+WorkDoes kind core m reply old new = ⊥
 
 abbrev pub RunStepDoes : {S F : Type 0} → Ghosts S F → StepWithReply → Parts S F → Parts S F → Type 0
 RunStepDoes kind (Offer label line, reply) old new =

@@ -1,7 +1,8 @@
 // Runs of a queue, a worker and a roller together.
 ghost use Rattle.std.specs.Prelude.{◌≡◌, [], length, IfOk, IfErr, IsOk};
 ghost use Rattle.appender_replay.specs.Replay.{with_replies, with_replies_onto, RunsFrom, RollerFollows, IsNotRun};
-ghost use Rattle.appender_replay.specs.Answers.{WorkerDoes, run_event};
+ghost use Rattle.appender_replay.specs.Start.{start_of};
+ghost use Rattle.appender_replay.specs.Record.{WorkerDoes, run_event};
 ghost use Rattle.appender_replay.specs.Inside.Steps.{offered_reply, taken_reply, OffersCopy, WorkDoes, RunStepDoes, parts};
 ghost use Rattle.appender_replay.specs.Whole.{LinesFollow};
 ghost use Rattle.appender_replay.specs.Headline.{Headline};
@@ -192,12 +193,15 @@ pub fn replay<S: Folder>(
     ensures headline { IfOk result (λ run. Headline S.Folder limit builder.now start run.number run.room
         (with_replies_onto [] steps.now run.replies.items) folder run.roller.folder) }
     ensures one_each { IfOk result (λ run. length run.replies.items ≡ length steps.now) }
-    ensures lines { IfOk result (λ run. LinesFollow limit lossy (with_replies steps.now run.replies.items)
-        run.queue run.worker) }
-    ensures runs { IfOk result (λ run. RunsFrom S.Folder (WorkerDoes S.Folder) builder.now start run.number run.room
-        folder (with_replies steps.now run.replies.items) run.roller) }
-    ensures roller { IfOk result (λ run. RollerFollows S.Folder (WorkerDoes S.Folder) run_event builder.now start
-        run.number run.room folder (with_replies steps.now run.replies.items) run.roller) }
+    ensures lines { IfOk result (λ run. LinesFollow builder.now (start_of builder.now start run.number run.room)
+        (with_replies steps.now run.replies.items) limit lossy run.queue run.worker) }
+    ensures runs { IfOk result (λ run.
+        RunsFrom S.Folder (WorkerDoes S.Folder builder.now (start_of builder.now start run.number run.room))
+        builder.now start run.number run.room folder (with_replies steps.now run.replies.items) run.roller) }
+    ensures roller { IfOk result (λ run.
+        RollerFollows S.Folder (WorkerDoes S.Folder builder.now (start_of builder.now start run.number run.room))
+        (run_event builder.now (start_of builder.now start run.number run.room))
+        builder.now start run.number run.room folder (with_replies steps.now run.replies.items) run.roller) }
     ensures err { IfErr result (λ error. IsNotRun S.Folder builder.now start folder error) }
 {
     names_change_one_at_a_time();

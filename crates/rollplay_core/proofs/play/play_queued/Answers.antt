@@ -14,10 +14,10 @@ returns-in-Ok-print_queued_run-clause-ok c =
       one_each = c.in-Ok.ensures.one_each;
       queue = c.in-Ok.run'.queue;
       worker = c.in-Ok.run'.worker;
-      lines = c.in-Ok.ensures.lines;
       last = c.in-Ok.run'.roller;
       number = c.in-Ok.run'.number;
       room = c.in-Ok.run'.room;
+      lines = rw start at c.in-Ok.ensures.lines;
       runs = rw start at c.in-Ok.ensures.runs;
       page_is = rw (start, c.in-Ok.ensures.roller.config_is, c.new-page.ensures.items) at c.in-Ok-print_queued_run.ensures;
     }
