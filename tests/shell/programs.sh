@@ -749,6 +749,53 @@ run "$audit_trail" "$work/told.trail" "$work/told.source"
 check 'audit_trail, a file with lines of all lengths' '0|accepted 1100 handed 1100 left 0 dropped 0|same' \
   "$(told)$(cmp -s "$work/told.source" "$work/told.trail/latest.log" && echo same || echo other)"
 
+# ---- a service that is stopped
+
+# It prints lines until TERM, then 40 more, and leaves their number.
+stopped=$work/stopped
+mkdir "$stopped"
+cat > "$stopped/service" << 'end'
+trap 'for i in $(seq 40); do echo $((n += 1)); done; echo "$n" > "${0%/*}/last"; exit' TERM
+n=0
+while :; do
+  echo $((n += 1))
+  [ $((n % 50)) != 0 ] || sleep 0.01
+done
+end
+# Checks that the log has all lines of the service.
+all_of_service() {
+  wait_until [ -s "$stopped/last" ]
+  wait_until has_lines "$stopped/log/app" "$(cat "$stopped/last")"
+  check "$1" same "$(seq "$(cat "$stopped/last")" | cmp -s - "$stopped/log/app" && echo same || echo other)"
+  rm -rf "$stopped/log" "$stopped/last"
+}
+setsid sh -c "bash '$stopped/service' | (trap '' INT TERM HUP QUIT; exec '$rolltee' never '$stopped/log' app)" &
+running=$!
+wait_until has_lines "$stopped/log/app" 100
+kill -TERM -"$running"
+wait "$running" 2> /dev/null
+all_of_service 'rolltee, TERM to all processes of a unit'
+cat > "$stopped/entry" << end
+mkfifo '$stopped/pipe'
+(trap '' INT TERM HUP QUIT; exec '$rolltee' never '$stopped/log' app) < '$stopped/pipe' &
+bash '$stopped/service' > '$stopped/pipe' 2>&1 &
+service=\$!
+trap 'kill "\$service"' INT TERM
+wait
+wait
+end
+if unshare -p -f true 2> /dev/null; then
+  unshare -p -f sh "$stopped/entry" &
+  running=$!
+  wait_until has_lines "$stopped/log/app" 100
+  kill -TERM "$(pgrep -P "$running")"
+  wait "$running"
+  check 'rolltee, TERM to the first process of a container' 0 "$?"
+  all_of_service 'rolltee, TERM to the first process of a container: the log'
+else
+  skip 'rolltee, TERM to the first process of a container' 'no unshare'
+fi
+
 # ---- what a guard and a worker print
 
 run "$top/crates/refusals/out/refusals" guard drop < /dev/null
