@@ -102,10 +102,10 @@ impl<'a> FileCheck<MemoryFolder> for SceneCheck<'a> {
     }
 
     fn count_unsynced(&self, folder: &MemoryFolder, _: u64) {
-        let [first, next] = self.scene.names;
-        self.scene
-            .lengths
-            .set((length_of(folder, first), length_of(folder, next)));
+        let scene = self.scene;
+        let first = length_of(folder, scene.names[0]);
+        let next = length_of(folder, scene.names[1]);
+        scene.lengths.set((first, next));
     }
 
     fn unsynced(&self) -> u64 {
