@@ -71,23 +71,35 @@ fn line_of(alloc: Global, length: usize) -> Result<Vec<u8>, AllocError> {
     Ok(line)
 }
 
-// Buffers of up to 512 bytes are used again: a longer line is before and after each short one.
-#[test]
-fn long_lines_are_whole(rt: HostRuntime) -> Result<(), Fail> {
-    let lengths = [513usize, 511, 1_048_576, 512, 5000, 1];
+// Writes lines of these lengths, each by the sender or by a clone, once the buffer of the line before is kept.
+fn expect_whole<R: Host + Abort>(rt: R, lengths: &[usize], by_clones: bool) -> Result<(), Fail> {
     let (writer, seen) = new_gate(rt, b"held")?;
     let (mut sender, guard) = waiting(rt, writer)?;
-    for length in lengths {
-        let line = line_of(rt.alloc(), length)?;
-        sender.write_all(line.as_slice())?;
-    }
-    assert!(rt; seen.come(rt, lengths.len()));
     let mut place = 0usize;
     for length in lengths {
-        let line = line_of(rt.alloc(), length)?;
+        let line = line_of(rt.alloc(), *length)?;
+        if by_clones {
+            sender.clone()?.write_all(line.as_slice())?;
+        } else {
+            sender.write_all(line.as_slice())?;
+        }
+        assert!(rt; seen.come(rt, place.saturating_add(1)));
+        assert!(rt; seen.flushes_come(rt, 1));
         assert!(rt; seen.has_at(&rt, place, line.as_slice()));
         place = place.saturating_add(1);
     }
     assert!(rt; guard.close() == Closing::Done { left: 0 });
     Ok(())
+}
+
+// Buffers of up to 512 bytes are used again: a longer line is before and after each short one.
+#[test]
+fn long_lines_are_whole(rt: HostRuntime) -> Result<(), Fail> {
+    expect_whole(rt, &[513, 511, 1_048_576, 512, 5000, 1], false)
+}
+
+// The buffer of the line before has room, or is too short.
+#[test]
+fn lines_of_clones_are_whole(rt: HostRuntime) -> Result<(), Fail> {
+    expect_whole(rt, &[64, 64, 1, 200, 513, 512, 3], true)
 }

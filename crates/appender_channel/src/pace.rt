@@ -73,7 +73,7 @@ impl FullBackoff {
 
     /// Yields before the first look at a full queue: twice as long as at the last one if lines come fast and
     /// in short runs, else half as long.
-    pub fn first(&mut self) {
+    pub fn first(&mut self, alone: bool) {
         let fast = self.lines >= (self.turns / LEAST_FULL_TURNS) as usize;
         self.turns = if fast && self.lines < self.long_run {
             self.turns
@@ -85,12 +85,12 @@ impl FullBackoff {
             0
         };
         self.lines = 0;
-        yield_for(self.turns);
+        yield_for(self.turns, alone);
     }
 
     /// Yields before another look.
-    pub fn again(self) {
-        yield_for(self.turns.max(FULL_TURNS));
+    pub fn again(self, alone: bool) {
+        yield_for(self.turns.max(FULL_TURNS), alone);
     }
 }
 
@@ -124,11 +124,11 @@ impl Pace {
 
     /// Lets other threads run, if the worker is behind.
     #[inline(always)]
-    pub fn keep(self) {
+    pub fn keep(self, alone: bool) {
         match self {
             Pace::GoOn => {}
             Pace::Yield => thread::yield_now(),
-            Pace::BackOff => yield_for(BEHIND_TURNS),
+            Pace::BackOff => yield_for(BEHIND_TURNS, alone),
         }
     }
 }

@@ -207,14 +207,12 @@ impl<B: Books> State<B> {
     }
 
     /// Offers a line from the sender's place, if it has one. A thread that has `waited`, whatever woke it,
-    /// is counted no longer. If the line is queued, its pace is beside the ticket, and `spare` may be
-    /// another buffer.
+    /// is counted no longer. If the line is queued, its pace is beside the ticket.
     #[inline(always)]
     pub fn offer(
         &mut self,
         line: Vec<u8>,
         waited: Option<Waiter>,
-        spare: &mut Vec<u8>,
         mine: &mut B::Mine,
     ) -> (Result<(u64, Pace), Refused>, Wakeups)
         requires { B.may_accept mine.old }
@@ -232,9 +230,9 @@ impl<B: Books> State<B> {
             asleep,
             woken,
             waiting,
-            spares,
             queue,
             books,
+            ..
         } = self;
         end_waiting(waited, woken, waiting);
         let reply = offer_at(queue, books.place(mine), line);
@@ -242,13 +240,26 @@ impl<B: Books> State<B> {
         match reply {
             Ok(ticket) => {
                 books.accept(mine);
-                if let Some(buffer) = spares.pop() {
-                    *spare = buffer;
-                }
                 (Ok((ticket, Pace::after(ticket, queue))), wakeups)
             }
             Err(refused) => (Err(refused), wakeups),
         }
+    }
+
+    /// Returns the buffer of a written line, if one is kept.
+    #[inline(always)]
+    pub fn take_spare(&mut self) -> Option<Vec<u8>>
+        ensures { self.new ≡ self.old }
+    {
+        self.spares.pop()
+    }
+
+    /// Returns whether the queue is open and has no room.
+    #[inline(always)]
+    pub fn is_full(&self) -> bool
+        ensures { result ≡ (not self.now.queue.closed && not (has_room self.now.queue)) }
+    {
+        self.queue.is_full()
     }
 
     /// The number of lines that a lossy queue refused.

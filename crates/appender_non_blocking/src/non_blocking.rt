@@ -2,7 +2,8 @@
 //!
 //! Each `write` of a `NonBlocking` is one line: it is copied, and the copy is offered to a bounded
 //! queue. A worker takes line after line, and writes each to the writer that it was given. The lock
-//! is held for just one offer or one take, and never while a line is copied or written.
+//! is held for just one offer or one take, and never while a line is written. Only the first line of a
+//! clone is copied under it: up to 512 bytes, into a buffer that has room for them.
 
 mod account;
 mod builder;

@@ -128,11 +128,12 @@ impl NonBlockingBuilder {
     {
         let NonBlockingBuilder { limit, lossy, name } = self;
         let name = name_or_default(alloc, name)?;
-        let shared = Shared::new(alloc, limit, lossy, 0, NoBooks)?;
+        let shared = Shared::new(&rt, alloc, limit, lossy, 0, NoBooks)?;
         let guarded = Arc::try_clone(&shared)?;
         let served = Arc::try_clone(&shared)?;
         // A worker that finds no sender ends. A refusal of memory leaves no thread.
-        let sender = NonBlocking::first(rt, alloc, shared, SenderState::new(alloc, limit, lossy))?;
+        let local = SenderState::new(alloc, limit, lossy, shared.alone);
+        let sender = NonBlocking::first(rt, alloc, shared, local)?;
         start(rt, name, served, writer)?;
         Ok((sender, WorkerGuard::new(rt, guarded)))
     }
@@ -179,9 +180,9 @@ impl NonBlockingBuilder {
             shutdowns,
             closings,
         };
-        let shared = Shared::new(alloc, limit, lossy, senders, books)?;
+        let shared = Shared::new(&rt, alloc, limit, lossy, senders, books)?;
         let served = Arc::try_clone(&shared)?;
-        let local = SenderState::new(alloc, limit, lossy);
+        let local = SenderState::new(alloc, limit, lossy, shared.alone);
         // A refusal of memory leaves no thread, since the senders are made before it.
         let (made, part) = make_senders(rt, alloc, &shared, &local, share, senders)?;
         let pass = Pass {

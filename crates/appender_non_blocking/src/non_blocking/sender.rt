@@ -8,6 +8,7 @@ ghost use Rattle.std.specs.Prelude.{
   None,
   IfOk,
   IfErr,
+  IfSome,
   OnOk,
   IsErr,
   IsOk,
@@ -22,7 +23,7 @@ ghost use Rattle.appender_non_blocking.specs.Refusal.{IsRefusal};
 use super::shared::Shared;
 use appender_channel::books::{Books, NoBooks};
 use appender_channel::pace::{FullBackoff, LOOKS, MOST_BYTES};
-use appender_channel::state::Counted;
+use appender_channel::state::{Counted, State};
 use appender_queue::queue::Refused;
 use appender_runtime::backoff::Backoff;
 use appender_runtime::make_writer::MakeWriter;
@@ -31,7 +32,7 @@ use std::fmt::{Debug, Formatter};
 use std::io::{ErrorKind, Write};
 use std::marker::Model;
 use std::sync::atomic::Ordering::SeqCst;
-use std::sync::{Arc, Wait};
+use std::sync::{Arc, MutexGuard, Wait};
 use std::{fmt, io, mem};
 
 /// What became of a line.
@@ -50,6 +51,8 @@ pub(super) struct SenderState {
     pub(super) lossy: bool,
     /// The buffer for the next line.
     pub(super) spare: Vec<u8>,
+    // Whether it has queued a line. From then on it keeps a buffer, which a clone for one line has no use for.
+    has_sent: bool,
     backoff: Backoff,
     full_backoff: FullBackoff,
 }
@@ -95,25 +98,27 @@ impl<R: Wait + Drop> Model for NonBlocking<R> {
 
 impl SenderState {
     /// Returns the state of the first sender of a queue with this limit of lines: no buffer, and the initial back-offs.
-    pub(super) fn new(alloc: Global, limit: usize, lossy: bool) -> SenderState
+    pub(super) fn new(alloc: Global, limit: usize, lossy: bool, alone: bool) -> SenderState
         ensures { result.lossy ≡ lossy }
     {
         SenderState {
             lossy,
             spare: Vec::new(alloc),
-            backoff: Backoff::NEW,
+            has_sent: false,
+            backoff: Backoff::new(alone),
             full_backoff: FullBackoff::new(limit),
         }
     }
 
-    /// Returns the state of one more sender of the same queue. It begins with the back-off of this one at a full queue.
+    /// Returns the state of one more sender of the same queue. It begins with the back-offs of this one.
     pub(super) fn another(&self, alloc: Global) -> SenderState
         ensures { result.lossy ≡ self.now.lossy }
     {
         SenderState {
             lossy: self.lossy,
             spare: Vec::new(alloc),
-            backoff: Backoff::NEW,
+            has_sent: false,
+            backoff: self.backoff,
             full_backoff: self.full_backoff,
         }
     }
@@ -167,11 +172,51 @@ impl<R: Wait + Drop> NonBlocking<R> {
             shared_sender,
             local,
         } = self;
+        let shared = &*shared_sender.shared;
+        if !local.has_sent
+            && local.spare.capacity() == 0
+            && buf.len() <= MOST_BYTES
+            && let Some(sent) = send_first(rt, *alloc, shared, local, buf)
+        {
+            return sent;
+        }
         let line = copy_of(*alloc, &mut local.spare, buf)?;
-        match send(rt, &*shared_sender.shared, local, line, &mut ()) {
+        match send(rt, shared, local, line, &mut ()) {
             Some(_) => Ok(()),
             None => Err(ErrorKind::Other),
         }
+    }
+}
+
+// Sends the first line of a sender, whose copy is made under the lock in the buffer of a written line, so that a clone for
+// one line allocates nothing. A lossy queue that is full drops the line without a copy. Returns `None`, and has offered
+// nothing, if the line has to wait or no buffer with room for it is kept: nothing is allocated or freed under the lock.
+#[inline(always)]
+fn send_first<R: Wait>(
+    rt: &R,
+    alloc: Global,
+    shared: &Shared<NoBooks>,
+    local: &mut SenderState,
+    buf: &[u8],
+) -> Option<Result<(), ErrorKind>>
+    ensures kind { IfSome result (λ sent. IfErr sent (λ kind. IsRefusal local.old.lossy kind)) }
+    ensures same { local.new.lossy ≡ local.old.lossy }
+{
+    let mut state = shared.lock_once(rt);
+    let line = if !state.is_full() {
+        local.spare = state.take_spare()?;
+        if local.spare.capacity() < buf.len() {
+            return None;
+        }
+        copy_of(alloc, &mut local.spare, buf).ok()?
+    } else if local.lossy {
+        Vec::new(alloc)
+    } else {
+        return None;
+    };
+    match offer(rt, shared, local, state, line, &mut ()) {
+        Some(_) => Some(Ok(())),
+        None => Some(Err(ErrorKind::Other)),
     }
 }
 
@@ -251,14 +296,37 @@ pub(super) fn send<B: Books, R: Wait>(
     ensures lossy { local.old.lossy ≡ true → IsSome result }
     ensures same { local.new.lossy ≡ local.old.lossy }
 {
-    let mut state = shared.lock(rt, &mut local.backoff);
-    let (reply, wakeups) = state.offer(line, None, &mut local.spare, mine);
+    let state = shared.lock(rt, &mut local.backoff);
+    offer(rt, shared, local, state, line, mine)
+}
+
+// Makes one offer under the lock, and does the rest of `send`.
+#[inline(always)]
+fn offer<B: Books, R: Wait>(
+    rt: &R,
+    shared: &Shared<B>,
+    local: &mut SenderState,
+    state: MutexGuard<'_, State<B>>,
+    line: Vec<u8>,
+    mine: &mut B::Mine,
+) -> Option<Sent>
+    requires { B.may_accept mine.old }
+    ensures queued { (ticket : ℕ) → result ≡ Some (Sent.Queued ticket) → B.counts_line mine.old mine.new }
+    ensures dropped { result ≡ Some Sent.Dropped → mine.new ≡ mine.old }
+    ensures closed { result ≡ None → mine.new ≡ mine.old }
+    ensures waiting { local.old.lossy ≡ false → result ≢ Some Sent.Dropped }
+    ensures lossy { local.old.lossy ≡ true → IsSome result }
+    ensures same { local.new.lossy ≡ local.old.lossy }
+{
+    let mut state = state;
+    let (reply, wakeups) = state.offer(line, None, mine);
     match reply {
         Ok((ticket, pace)) => {
+            keep_spare(&mut *state, local);
             drop(state);
             shared.wake(wakeups);
             local.full_backoff.line();
-            pace.keep();
+            pace.keep(shared.alone);
             Some(Sent::Queued(ticket))
         }
         Err(refused) if local.lossy => {
@@ -301,12 +369,13 @@ fn send_later<B: Books, R: Wait>(
     let mut line = line;
     let mut waited = None;
     let mut looks = 1u32;
-    local.full_backoff.first();
+    local.full_backoff.first(shared.alone);
     let mut state = shared.lock(rt, &mut local.backoff);
     for _ in rt.forever() {
-        let (reply, wakeups) = state.offer(line, waited, &mut local.spare, mine);
+        let (reply, wakeups) = state.offer(line, waited, mine);
         match reply {
             Ok((ticket, _)) => {
+                keep_spare(&mut *state, local);
                 drop(state);
                 shared.wake(wakeups);
                 return Some(Sent::Queued(ticket));
@@ -321,7 +390,7 @@ fn send_later<B: Books, R: Wait>(
                 shared.wake(wakeups);
                 if looks < LOOKS {
                     drop(state);
-                    local.full_backoff.again();
+                    local.full_backoff.again(shared.alone);
                     looks += 1;
                     state = shared.lock(rt, &mut local.backoff);
                     waited = None;
@@ -335,6 +404,19 @@ fn send_later<B: Books, R: Wait>(
         }
     }
     unreachable!()
+}
+
+// Takes a buffer for the next line, of a sender whose queued line was not its first.
+#[inline(always)]
+fn keep_spare<B: Books>(state: &mut State<B>, local: &mut SenderState)
+    ensures { local.new.lossy ≡ local.old.lossy }
+{
+    if local.has_sent
+        && let Some(spare) = state.take_spare()
+    {
+        local.spare = spare;
+    }
+    local.has_sent = true;
 }
 
 // Keeps the buffer of a line that was refused, unless it is large.

@@ -5,12 +5,13 @@ ghost use Rattle.appender_channel.specs.Tally.{new_tally};
 use appender_channel::books::{Books, Done, FourBooks};
 use appender_channel::state::{Counted, State, Wakeups};
 use appender_queue::queue::{Counts, Shut};
-use appender_runtime::backoff::Backoff;
+use appender_runtime::backoff::{Backoff, SharedBackoff, is_alone};
 use crossbeam_utils::CachePadded;
 use std::alloc::{AllocError, Global};
 use std::sync::atomic::AtomicUsize;
 use std::sync::ledger::{Ledger, Share};
 use std::sync::{Arc, Condvar, Mutex, MutexGuard, Wait};
+use std::thread::Threads;
 
 #[derive(Drop)]
 pub(super) struct Shared<B: Books> {
@@ -25,11 +26,16 @@ pub(super) struct Shared<B: Books> {
     pub(super) end: Condvar,
     // A copy of the count of dropped lines, stored while the lock is held.
     pub(super) dropped: AtomicUsize,
+    // Whether the process has just one processor.
+    pub(super) alone: bool,
+    // Of clones, each of which mostly sends one line.
+    clones: SharedBackoff,
 }
 
 impl<B: Books> Shared<B> {
     /// Returns an empty queue with no sender and this number of senders' places, beside new books.
     pub(super) fn new(
+        rt: &impl Threads,
         alloc: Global,
         limit: usize,
         lossy: bool,
@@ -38,6 +44,7 @@ impl<B: Books> Shared<B> {
     ) -> Result<Arc<Shared<B>, Global>, AllocError>
         requires { B.agree books (new_tally places) }
     {
+        let alone = is_alone(rt);
         let shared = Shared {
             state: CachePadded::new(Mutex::new(State::new(alloc, limit, lossy, places, books)?)),
             lines: Condvar::new(),
@@ -45,6 +52,8 @@ impl<B: Books> Shared<B> {
             ended: Mutex::new(false),
             end: Condvar::new(),
             dropped: AtomicUsize::new(0),
+            alone,
+            clones: SharedBackoff::new(alone),
         };
         Ok(Arc::new(alloc, shared)?)
     }
@@ -53,6 +62,12 @@ impl<B: Books> Shared<B> {
     #[inline(always)]
     pub(super) fn lock<R: Wait>(&self, rt: &R, backoff: &mut Backoff) -> MutexGuard<'_, State<B>> {
         appender_runtime::backoff::lock(rt, &self.state, backoff)
+    }
+
+    /// Takes the lock as `lock` does, for a sender without a back-off of its own.
+    #[inline(always)]
+    pub(super) fn lock_once<R: Wait>(&self, rt: &R) -> MutexGuard<'_, State<B>> {
+        appender_runtime::backoff::lock_once(rt, &self.state, &self.clones)
     }
 
     /// Wakes whom a step under the lock says. The lock was released, or will be by a wait.

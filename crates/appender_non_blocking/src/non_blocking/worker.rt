@@ -10,9 +10,9 @@ use appender_channel::state::TakeRequest;
 use appender_queue::queue::Taken;
 use appender_runtime::backoff::{Backoff, yield_for};
 use appender_worker::worker::{Want, WorkerCore};
+use std::io;
 use std::io::Write;
 use std::sync::Wait;
-use std::{io, thread};
 
 // Makes one take under the lock. If there is nothing to take and the request says so, sleeps until it is
 // woken.
@@ -72,7 +72,7 @@ pub(super) fn serve<B: Books, W: Write, R: Wait + Eprint>(
     requires { B.may_take pass }
 {
     let mut pass = pass;
-    let mut backoff = Backoff::NEW;
+    let mut backoff = Backoff::new(shared.alone);
     let mut core = WorkerCore::new();
     // How often the queue was found empty, one look after another.
     let mut looks = 0u32;
@@ -88,11 +88,8 @@ pub(super) fn serve<B: Books, W: Write, R: Wait + Eprint>(
                 if !matches!(&taken, Taken::Empty) || looks >= LOOKS {
                     looks = 0;
                 } else if waits {
-                    if looks == 0 {
-                        thread::yield_now();
-                    } else {
-                        yield_for(EMPTY_TURNS);
-                    }
+                    let turns = if looks == 0 { 0 } else { EMPTY_TURNS };
+                    yield_for(turns, shared.alone);
                     looks += 1;
                 }
                 core.took(taken);
