@@ -8,7 +8,7 @@ use tracing_appender::non_blocking::{NonBlocking, NonBlockingBuilder, WorkerGuar
 
 const USAGE: &str = "\
 usage: compare tee FILE
-       compare waiting|lossy|each-waiting|each-lossy ROUNDS LINES SENDERS BYTES LIMIT
+       compare waiting|lossy|each-waiting|each-lossy|latency ROUNDS LINES SENDERS BYTES LIMIT
 tee: copies each line of standard input to FILE, through a queue of 1,024 lines
 the others: the columns and the cases of crates/bench";
 
@@ -17,7 +17,7 @@ fn main() -> Result<()> {
     let words: Vec<&str> = words.iter().map(String::as_str).collect();
     match words[..] {
         ["tee", file] => tee(file),
-        [mode @ ("waiting" | "lossy" | "each-waiting" | "each-lossy"), rounds, lines, senders, bytes, limit] => {
+        [mode @ ("waiting" | "lossy" | "each-waiting" | "each-lossy" | "latency"), rounds, lines, senders, bytes, limit] => {
             let case = Case {
                 mode,
                 lines: number(lines)?,
@@ -26,7 +26,11 @@ fn main() -> Result<()> {
                 limit: number(limit)?,
             };
             for round in 0..number(rounds)? {
-                measure(&case, round)?;
+                if mode == "latency" {
+                    latency(&case, round);
+                } else {
+                    measure(&case, round)?;
+                }
             }
             Ok(())
         }
@@ -113,6 +117,49 @@ fn measure(case: &Case, round: usize) -> Result<()> {
         nanos * 10 / lines as u128
     );
     Ok(())
+}
+
+// Prints the times that half, 99 % and 99.9 % of the writes of all threads don't exceed.
+fn latency(case: &Case, round: usize) {
+    let sink = Sink {
+        bytes: 0,
+        told: Arc::default(),
+    };
+    let (sender, guard) = start(sink, case.limit, true);
+    let drops = sender.error_counter();
+    let threads: Vec<_> = (0..case.senders)
+        .map(|_| {
+            let (mut sender, count) = (sender.clone(), case.lines);
+            let line = vec![b'x'; case.bytes];
+            let mut times = Vec::with_capacity(count);
+            thread::spawn(move || {
+                for _ in 0..count {
+                    let start = Instant::now();
+                    sender.write_all(&line).expect("a worker");
+                    times.push(start.elapsed().as_nanos());
+                }
+                times
+            })
+        })
+        .collect();
+    drop(sender);
+    let mut times: Vec<_> = threads
+        .into_iter()
+        .flat_map(|thread| thread.join().expect("no panic"))
+        .collect();
+    drop(guard);
+    times.sort_unstable();
+    for (mode, thousandths) in [("p50", 500), ("p99", 990), ("p99.9", 999)] {
+        println!(
+            "rust,{mode},{},{},{},{round},{},{},{}",
+            case.limit,
+            case.bytes,
+            case.senders,
+            times.len(),
+            times[times.len() / 1000 * thousandths] * 10,
+            drops.dropped_lines()
+        );
+    }
 }
 
 // Sends the lines of all threads, and returns the moment at which they began.

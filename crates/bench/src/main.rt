@@ -28,12 +28,12 @@ use std::{env, io, thread};
 const USAGE: &str = "\
 usage: bench waiting|lossy ROUNDS LINES SENDERS BYTES LIMIT
        bench each-waiting|each-lossy ROUNDS LINES SENDERS BYTES LIMIT
-       bench write ROUNDS LINES BYTES
+       bench latency ROUNDS LINES SENDERS BYTES LIMIT
        bench direct ROUNDS LINES THREADS BYTES [LIMIT]
        bench idle SECONDS
 waiting, lossy: the time of a line through a queue of LIMIT lines, where each of SENDERS threads sends LINES lines
 each-waiting, each-lossy: the same, where each line is sent by a new clone of the thread's sender
-write: the time of one lossy write at 100,000 a second, and of one straight to a file: half and 99 % take no longer
+latency: the time that half, 99 % and 99.9 % of the single writes take at most, to a lossy queue, without a pause between them
 direct: the time of a line of THREADS threads, or with 0 of one alone, to the log of this hour in the current folder,
         and with LIMIT also to one whose files take so many bytes
 idle: a line, and then nothing for so long";
@@ -104,23 +104,15 @@ fn numbers_of(rt: &(impl Env + Alloc), alloc: Global) -> io::Result<Vec<u32>> {
 fn run<R: Files + Host>(rt: R, alloc: Global, mode: &str, numbers: &[u32]) -> io::Result<()> {
     match (mode, numbers) {
         ("idle", [seconds]) => idle(rt, alloc, *seconds),
-        ("write", [rounds, lines, bytes]) => {
-            let case = latency::Case {
-                lines: *lines,
-                bytes: *bytes as usize,
-            };
-            println!(rt; "{HEADER}")?;
-            latency::compare(rt, alloc, case, *rounds)
-        }
         (
-            "waiting" | "lossy" | "each-waiting" | "each-lossy",
+            "waiting" | "lossy" | "each-waiting" | "each-lossy" | "latency",
             [rounds, lines, senders, bytes, limit],
         ) => {
             let case = throughput::Case {
                 mode,
                 limit: Limit {
                     lines: *limit as usize,
-                    lossy: mode.ends_with("lossy"),
+                    lossy: mode.ends_with("lossy") || mode == "latency",
                 },
                 clones: mode.starts_with("each"),
                 bytes: *bytes as usize,

@@ -2,8 +2,8 @@
 use crate::channel::start_channel;
 use crate::plain::start_plain;
 use crate::queue::{BenchSender, Ending, Limit, Queue, start_ours};
-use crate::row;
 use crate::row::Row;
+use crate::{latency, row};
 use appender_non_blocking::non_blocking::Host;
 use std::alloc::Global;
 use std::io::ErrorKind;
@@ -53,6 +53,9 @@ fn measure<
     E: Ending + Drop,
     R: Threads + Wait + Clock + Print + Copy + Send + 'static,
 >(rt: R, alloc: Global, queue: Queue<S, E>, case: Case<'_>, round: u32) -> io::Result<()> {
+    if case.mode == "latency" {
+        return latency::measure(rt, alloc, queue, case, round);
+    }
     let Queue {
         name,
         sender,
