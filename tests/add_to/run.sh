@@ -201,7 +201,7 @@ awk -v folder="$work/examples" '
   /^```$/ { file = "" }
   file { print > file }
 ' "$top/README.md" "$top/docs/CALLING.md"
-check 'the pages have examples' 5 "$(ls "$work/examples" | wc -l)"
+check 'the pages have examples' 6 "$(ls "$work/examples" | wc -l)"
 for file in "$work"/examples/*; do
   name=$(basename "$file" .rt)
   source=$whole/crates/$name/src

@@ -8,6 +8,8 @@ script=$work/script
 printf 'rotation never\nprefix app\nstart 1580551260\nput 1580551261 a\n' > "$script"
 played=$'open app\nnone ok 1\nfile app 1 a'
 streams_closed='0 1 2 01 02 12 012'
+# That of CHANGELOG, and the kit's.
+version="$(sed -n 's/^## \([0-9.]*\).*/\1/p' "$top/CHANGELOG.md" | head -n 1) (port of tracing-appender 0.2.5; $(rt version | sed 's/ .*//'))"
 
 # ---- installed with their pages
 
@@ -16,7 +18,8 @@ check 'install' '0||' "$(told)"
 check 'install: the files' 'bin/audit_trail bin/rolltee share/man/man1/audit_trail.1 share/man/man1/rolltee.1' \
   "$(cd "$work/prefix" && find . -type f | sed 's/^..//' | sort | paste -s -d ' ')"
 run "$work/prefix/bin/rolltee" --version
-check 'install: rolltee runs' '0|rolltee, over a port of tracing-appender 0.2.5|' "$(told)"
+check 'install: rolltee runs' "0|rolltee $version|" "$(told)"
+check "README: the kit of $(rt version)" 1 "$(tr -s '\n ' ' ' < "$top/README.md" | grep -cF "\`$(rt version)\`")"
 # Each option of --help is in the page, and the other way round.
 for name in rolltee audit_trail; do
   check "man/$name.1: the options of --help" \
@@ -135,6 +138,7 @@ for name in rolltee audit_trail rollplay; do
   run "$program" --help < /dev/null
   help=$(told)
   check "$name --help: status" 0 "$status"
+  check "$name --help: at most 40 lines of 80 characters" 0 "$(awk 'NR > 40 || length > 80' "$out" | wc -l)"
   check "$name --help: errors" '' "$(cat "$err")"
   for words in "$usage" '--version' 'Status: 0 ' 'INT or TERM'; do
     check "$name --help: $words" yes "$(grep -qF -e "$words" "$out" && echo yes || echo no)"
@@ -144,7 +148,8 @@ for name in rolltee audit_trail rollplay; do
   run "$program" here --help -x < /dev/null
   check "$name here --help -x" "$help" "$(told)"
   run "$program" --version < /dev/null
-  check "$name --version" "0|$name, over a port of tracing-appender 0.2.5|" "$(told)"
+  check "$name --version" "0|$name $version|" "$(told)"
+  check "$name --version: 80 characters" 0 "$(awk 'length > 80' "$out" | wc -l)"
   for option in -x --helpme -; do
     case $name in rollplay) unknown= ;; *) unknown="$option: unknown option"$'\n' ;; esac
     run "$program" "$option" "$work/option" app --help < /dev/null
@@ -174,6 +179,14 @@ check 'rolltee -- --help' '2||usage: rolltee ROTATION DIR PREFIX' "$(told)"
 run "$rolltee" never '' app < "$lines"
 check 'rolltee, an empty folder' '2||usage: rolltee ROTATION DIR PREFIX' "$(told)"
 
+# A word that is not UTF-8 is named, also after `--`.
+for name in rolltee audit_trail; do
+  for words in "never $work/switch" "-- never"; do
+    run "$top/crates/$name/out/$name" $words $'caf\xe9' < "$lines"
+    check "$name ${words//$work/} and a word that is not UTF-8" $'2||caf\xef\xbf\xbd: not UTF-8' "$(told)"
+  done
+done
+
 # Options may be anywhere before `--`.
 for words in "--no-wait never $work/switch app" "never --no-wait $work/switch app" "never $work/switch app --no-wait" \
   "--no-wait -- never $work/switch app"; do
@@ -194,8 +207,9 @@ done << END
 --no-wait --no-wait never $work/switch app|--no-wait: given twice
 never $work/switch app --keep|--keep: a value is missing
 never $work/switch app --keep 0|--keep: not a number from 1
-never $work/switch app --keep 1|--keep: not without a rotation
-never $work/switch app --max-bytes 1|--max-bytes: not without a rotation
+never $work/switch app --keep -3|--keep: not a number from 1
+never $work/switch app --keep 1|--keep: not with never, a log of one file; take weekly, whose files are the longest
+never $work/switch app --max-bytes 1|--max-bytes: not with never, a log of one file; take weekly, whose files are the longest
 --max-bytes x hourly $work/switch app|--max-bytes: not a number of bytes from 1, as 500, 64K, 10M or 2G
 never --link=a --link=b $work/switch app|--link: given twice
 END
@@ -204,10 +218,6 @@ for word in -x --no-wait=1 --kep; do
   check "rolltee $word never DIR app" "2||$word: unknown option"$'\n'"$usage" "$(told)"
 done
 check 'rolltee, wrong options make no folder' no "$([ -e "$work/switch" ] && echo yes || echo no)"
-for option in --help --version; do
-  run "$rolltee" $option < /dev/null
-  check "rolltee $option: at most 40 lines of 80 characters" 0 "$(awk 'NR > 40 || length > 80' "$out" | wc -l)"
-done
 
 run "$rolltee" --echo never "$work/echo" app --suffix log --link=latest < "$lines"
 check 'rolltee --echo' $'0|one\ntwo|' "$(told)"
@@ -274,7 +284,7 @@ lost_file() {
   check "rolltee, a log file that is $what: the log" '[two]' "$(content "$log")"
 }
 run "$rolltee" --no-wait --version < /dev/null
-check 'rolltee --no-wait --version' '0|rolltee, over a port of tracing-appender 0.2.5|' "$(told)"
+check 'rolltee --no-wait --version' "0|rolltee $version|" "$(told)"
 
 mkdir "$work/place"
 cd "$work/place" || exit 1
@@ -302,12 +312,10 @@ for words in '--keep 2' '--keep=2' '--keep 2 --'; do
 done
 run "$audit_trail" "$keep" --keep 1 < /dev/null
 check 'audit_trail --keep 1: the log of today' "0||$lines_wanted" "$(told)$(content "$keep/latest.log")"
-for words in --keep '--keep 0' --keep=0 '--keep x' '--keep 18446744073709551616'; do
+for words in --keep '--keep -1' '--keep 0' --keep=0 '--keep x' '--keep 18446744073709551616'; do
   run "$audit_trail" $words "$keep" < "$lines"
   check "audit_trail $words" '2||--keep: not a number from 1' "$(told)"
 done
-run "$audit_trail" --keep -1 "$keep" < "$lines"
-check 'audit_trail --keep -1' '2||--keep: a value is missing' "$(told)"
 run "$audit_trail" "$keep" --keep < "$lines"
 check 'audit_trail DIR --keep' '2||--keep: a value is missing' "$(told)"
 run "$audit_trail" --keep 1 "$keep" --keep=2 < "$lines"

@@ -2,6 +2,7 @@
 use crate::expect::expect_eq;
 use crate::limits::names_in;
 use audit_trail_core::trail::{Fault, Limits, keep, report_fault};
+use program_io::ArgumentFault;
 use std::io::{Read, Write};
 use std::process::Abort;
 use std::rt::{Files, Runtime};
@@ -169,20 +170,18 @@ fn reports_an_option_that_is_unknown(rt: HostRuntime) -> Result<(), Fail> {
     Ok(())
 }
 
-// What the system says of arguments, and what the program makes of it.
-static ARGUMENTS: [(io::ErrorKind, &str, u8); 2] = [
-    (io::ErrorKind::InvalidData, "an argument is not UTF-8\n", 2),
-    (io::ErrorKind::OutOfMemory, "no memory\n", 3),
-];
-
 #[test]
-fn reports_arguments_that_are_not_read(rt: HostRuntime) {
-    for (kind, told, status) in &ARGUMENTS {
+fn reports_arguments_that_are_not_read(rt: HostRuntime) -> Result<(), Fail> {
+    let word = String::from_str(rt.alloc(), "caf\u{FFFD}")?;
+    for (fault, told, status) in [
+        (ArgumentFault::NotText(word), "caf\u{FFFD}: not UTF-8\n", 2),
+        (ArgumentFault::Memory, "no memory\n", 3),
+    ] {
         let mut errors = Vec::new(rt.alloc());
-        let fault = Fault::Argument.unless_memory(*kind);
-        expect_eq(&rt, report_fault(&fault, &mut errors), *status);
+        expect_eq(&rt, report_fault(&Fault::from(fault), &mut errors), status);
         expect_eq(&rt, errors.as_slice(), told.as_bytes());
     }
+    Ok(())
 }
 
 #[test]

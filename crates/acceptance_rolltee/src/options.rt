@@ -59,7 +59,7 @@ fn options_are_read_anywhere(rt: HostRuntime) -> Result<(), Fail> {
     Ok(())
 }
 
-static FAULTS: [(&str, &str); 22] = [
+static FAULTS: [(&str, &str); 26] = [
     ("hourly dir app --keep", "--keep: a value is missing\n"),
     (
         "--keep --lossy hourly dir app",
@@ -68,6 +68,13 @@ static FAULTS: [(&str, &str); 22] = [
     ("--suffix= hourly dir app", "--suffix: a value is missing\n"),
     ("--keep 0 hourly dir app", "--keep: not a number from 1\n"),
     ("--keep x", "--keep: not a number from 1\n"),
+    ("--keep -3", "--keep: not a number from 1\n"),
+    ("--queue -0 app", "--queue: not a number from 1\n"),
+    (
+        "--max-bytes -1K",
+        "--max-bytes: not a number of bytes from 1, as 500, 64K, 10M or 2G\n",
+    ),
+    ("--suffix -3", "--suffix: a value is missing\n"),
     ("--keep=+3", "--keep: not a number from 1\n"),
     ("--keep= x", "--keep: not a number from 1\n"),
     (

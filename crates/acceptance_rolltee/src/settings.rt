@@ -77,8 +77,18 @@ fn count_names(rt: &HostRuntime, directory: &str, end: &str) -> io::Result<usize
 #[test]
 fn some_options_need_a_rotation(rt: HostRuntime) -> Result<(), Fail> {
     for (keep, max_bytes, status, told) in [
-        (1, 0, 2, "--keep: not without a rotation\n"),
-        (0, 1, 2, "--max-bytes: not without a rotation\n"),
+        (
+            1,
+            0,
+            2,
+            "--keep: not with never, a log of one file; take weekly, whose files are the longest\n",
+        ),
+        (
+            0,
+            1,
+            2,
+            "--max-bytes: not with never, a log of one file; take weekly, whose files are the longest\n",
+        ),
         (0, 0, 0, ""),
     ] {
         let mut options = Options::new(rt.alloc());

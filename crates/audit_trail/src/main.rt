@@ -9,11 +9,11 @@ use audit_trail_core::gather::{DiskTrails, keep_all};
 use audit_trail_core::lock::lock_files;
 use audit_trail_core::trail;
 use audit_trail_core::trail::{Fault, Limits};
-use program_io::arguments;
 use program_io::blocking::BlockingInput;
 use program_io::options::{Request, read_limits};
 use program_io::report::print;
 use program_io::streams::fill_streams;
+use program_io::{arguments, version};
 use std::fs::File;
 use std::process::ExitCode;
 use tracing_appender::non_blocking::Host;
@@ -32,37 +32,36 @@ static HELP: &str = concat!(
     "                 removes older ones of this log; without it all are kept\n",
     "  --max-bytes N  begins the next file of the day before a line that does not fit\n",
     "                 into N bytes: as 500, 64K, 10M or 2G, where K is 1024 bytes. A\n",
-    "                 longer line has a file of its own. A number follows the date in\n",
-    "                 each name, as in audit.2026-11-28.000000.log. A start goes on in\n",
-    "                 the last file of the day. --keep counts files with a number only\n",
-    "                 with this option, and files without one only without it\n",
+    "                 longer line has a file of its own. A number follows the date\n",
+    "                 in each name, as in audit.2026-11-28.000000.log. A start goes\n",
+    "                 on in the last file of the day. --keep counts files with a\n",
+    "                 number only with this option, and others only without it\n",
     "  --             ends the options: the words after it are arguments\n",
     "\n",
-    "Status: 0 if every line was written; 1 if no log was opened, an input not read, a\n",
-    "line not written whole, a sync failed, or a log file removed, renamed, replaced or\n",
-    "truncated while it was written to (the next line begins another); 2 if the\n",
-    "arguments are wrong; 3 if memory was refused.\n",
+    "Status: 0 if every line was written; 1 if no log was opened, an input not read,\n",
+    "a line not written whole, a sync failed, or a log file removed, renamed,\n",
+    "replaced or truncated while it was written to (the next line begins another); 2\n",
+    "if the arguments are wrong; 3 if memory was refused.\n",
     "\n",
-    "While the disk refuses lines, as when it is full, broken or read only, it waits: it\n",
-    "prints 'writes pause' and the reason on standard error at once, tries again within\n",
-    "each second, and prints 'writes go on'. No line is lost.\n",
+    "While the disk refuses lines, as when it is full, broken or read only, it waits:\n",
+    "it prints 'writes pause' and the reason on standard error at once, tries again\n",
+    "within each second, and prints 'writes go on'. No line is lost.\n",
     "\n",
-    "It ends at the end of its input. It catches no signal: INT or TERM ends it at once,\n",
-    "and what it read and did not write is lost: up to 8 KiB of standard input, or lines\n",
-    "of a SOURCE that wait to be written. So end the program whose output it reads, or let\n",
-    "it ignore signals. In a pipeline with parentheses:\n",
+    "It ends at the end of its input. It catches no signal: INT or TERM ends it at\n",
+    "once, and what it read and did not write is lost: up to 8 KiB of standard input,\n",
+    "or lines of a SOURCE that wait to be written. So end the program whose output it\n",
+    "reads, or let it ignore signals. In a pipeline with parentheses:\n",
     "\n",
     "  program | (trap '' INT TERM HUP QUIT; exec audit_trail DIRECTORY)\n",
     "\n",
-    "In the run script of a supervisor without them, on lines of their own. A signal ends a\n",
-    "shell that waits for parentheses, and the supervisor then starts a second audit_trail\n",
-    "beside the first:\n",
+    "In the run script of a supervisor on lines of their own, since a signal ends a\n",
+    "shell that waits for parentheses, and a second audit_trail is then started:\n",
     "\n",
     "  trap '' INT TERM HUP QUIT\n",
     "  exec audit_trail DIRECTORY\n",
 );
 
-static VERSION: &str = "audit_trail, over a port of tracing-appender 0.2.5\n";
+static VERSION: &str = version!("audit_trail");
 
 fn main(rt: HostRuntime) -> ExitCode {
     if fill_streams(&rt).is_err() {
@@ -73,10 +72,7 @@ fn main(rt: HostRuntime) -> ExitCode {
             Ok(request) => run(rt, &rt, request),
             Err(fault) => trail::report_fault(&Fault::from(fault), &mut rt.stderr()),
         },
-        Err(fault) => {
-            let fault = Fault::Argument.unless_memory(fault.kind());
-            trail::report_fault(&fault, &mut rt.stderr())
-        }
+        Err(fault) => trail::report_fault(&Fault::from(fault), &mut rt.stderr()),
     };
     ExitCode::from(status)
 }

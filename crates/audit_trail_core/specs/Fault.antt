@@ -9,6 +9,8 @@ use Rattle.std.specs.declared.io.ErrorKind.TheVariants.{OutOfMemory}
 use Rattle.appender_names.specs.declared.error.InitError.{InitError}
 use Rattle.appender_names.specs.declared.error.InitError.TheVariants.{Directory, File, Symlink, Memory as NoRoom}
 use Rattle.program_io.specs.Report.{AppendsBeginning}
+use Rattle.program_io.specs.declared.ArgumentFault.{ArgumentFault}
+use Rattle.program_io.specs.declared.ArgumentFault.TheVariants.{NotText, Memory as NoArguments}
 use Rattle.program_io.specs.declared.options.OptionFault.{OptionFault}
 use Rattle.program_io.specs.declared.options.OptionFault.TheVariants.{Unknown as UnknownWord, Wrong, Memory as NoMemory}
 use Rattle.audit_trail_core.specs.declared.trail.Fault.{Fault}
@@ -33,6 +35,11 @@ trail_options_fault (UnknownWord word) = Unknown word
 trail_options_fault (Wrong option error) = WrongOption option error
 trail_options_fault NoMemory = Memory
 
+-- the fault of arguments that were not read
+abbrev pub trail_arguments_fault : ArgumentFault → Fault
+trail_arguments_fault (NotText word) = Argument word
+trail_arguments_fault NoArguments = Memory
+
 -- the fault of a line of which this number of bytes were taken
 abbrev pub line_fault : ℕ → Error → Fault
 line_fault taken error = trail_fault_unless_memory (error_kind error) (if taken == 0 then Write error else Cut error)
@@ -42,7 +49,7 @@ abbrev pub trail_status : Fault → ℕ
 trail_status Usage = 2
 trail_status (Unknown word) = 2
 trail_status (WrongOption option error) = 2
-trail_status Argument = 2
+trail_status (Argument word) = 2
 trail_status (Open error) = 1
 trail_status (Read error) = 1
 trail_status (Write error) = 1
@@ -59,7 +66,6 @@ trail_status Memory = 3
 -- the report of a fault, on a line; a fault with an error, a word or a number has further words
 abbrev pub trail_fault_words : Fault → Option (List ℕ)
 trail_fault_words Usage = Some (codes "usage: audit_trail DIRECTORY [SOURCE..]" ++ (10 ∷ []))
-trail_fault_words Argument = Some (codes "an argument is not UTF-8" ++ (10 ∷ []))
 trail_fault_words Locked = Some (codes "another audit_trail --keep writes to the log directory" ++ (10 ∷ []))
 trail_fault_words Own = Some (codes "source in the log directory" ++ (10 ∷ []))
 trail_fault_words Thread = Some (codes "no thread" ++ (10 ∷ []))

@@ -1,7 +1,7 @@
 //! An audit trail of lines.
 ghost use Rattle.std.specs.Prelude.{◌≡◌, ◌≢◌, ◌≤◌, ℕ, List, [], length, false, Some, Ok, Err, OnOk, IfOk, IfErr, IfSome, IsOk};
 ghost use Rattle.std.specs.Io.KnownBytes.{Keeps};
-ghost use Rattle.audit_trail_core.specs.Fault.{line_fault, opening_fault, trail_options_fault, trail_status, trail_fault_unless_memory, trail_fault_words, ReportsTrailFault};
+ghost use Rattle.audit_trail_core.specs.Fault.{line_fault, opening_fault, trail_arguments_fault, trail_options_fault, trail_status, trail_fault_unless_memory, trail_fault_words, ReportsTrailFault};
 ghost use Rattle.log_check.specs.Log.{EndsWhole, OpensLog};
 ghost use Rattle.audit_trail_core.specs.Trail.{MayFlush, PutsLine, PutsLines, FlushesLines, KeepsLines, trail_config};
 ghost use Rattle.appender_rolling.specs.Appender.{FlushesNow};
@@ -13,7 +13,7 @@ use crate::lines::{LineLog, TrailLineFault};
 use log_check::{DirCheck, FileCheck, FileCounts, Opens, WaitingOpener, open_dir};
 use program_io::options::{OptionError, OptionFault};
 use program_io::report::report;
-use program_io::{ShortLines, end_line, read_line};
+use program_io::{ArgumentFault, ShortLines, end_line, read_line};
 use std::alloc::{AllocError, Global};
 use std::io::{BufReader, ErrorKind, Read, Write};
 use std::rt::Runtime;
@@ -54,9 +54,9 @@ pub enum Fault {
     /// An option was given twice, or its value was missing or wrong.
     #[error("{0}: {1}")]
     Option(&'static str, OptionError),
-    /// An argument was not UTF-8.
-    #[error("an argument is not UTF-8")]
-    Argument,
+    /// This argument is not UTF-8. It has U+FFFD in place of what is not.
+    #[error("{0}: not UTF-8")]
+    Argument(String),
     /// No log was opened.
     #[error("{0}")]
     Open(InitError),
@@ -102,7 +102,7 @@ impl Fault {
         ensures { result ≡ trail_status self.now }
     {
         match self {
-            Fault::Usage | Fault::Unknown(_) | Fault::Option(..) | Fault::Argument => 2,
+            Fault::Usage | Fault::Unknown(_) | Fault::Option(..) | Fault::Argument(_) => 2,
             Fault::Memory => 3,
             _ => 1,
         }
@@ -114,7 +114,6 @@ impl Fault {
     {
         match self {
             Fault::Usage => b"usage: audit_trail DIRECTORY [SOURCE..]\n",
-            Fault::Argument => b"an argument is not UTF-8\n",
             Fault::Locked => b"another audit_trail --keep writes to the log directory\n",
             Fault::Own => b"source in the log directory\n",
             Fault::Thread => b"no thread\n",
@@ -178,6 +177,18 @@ impl From<OptionFault> for Fault {
             OptionFault::Unknown(word) => Fault::Unknown(word),
             OptionFault::Wrong(option, error) => Fault::Option(option, error),
             OptionFault::Memory => Fault::Memory,
+        }
+    }
+}
+
+/// A fault of the arguments.
+impl From<ArgumentFault> for Fault {
+    ghost from_gives = { λ fault reported. reported ≡ trail_arguments_fault fault };
+
+    fn from(fault: ArgumentFault) -> Fault {
+        match fault {
+            ArgumentFault::NotText(word) => Fault::Argument(word),
+            ArgumentFault::Memory => Fault::Memory,
         }
     }
 }

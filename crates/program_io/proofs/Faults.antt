@@ -3,7 +3,7 @@ use Rattle.std.proofs.Common.{◌≡◌, ℕ, Bor, length, zero, suc, List, [], 
 use Rattle.std.proofs.lemmas.List.Elements.{Contains-append_right}
 use Rattle.std.specs.Prelude.{String, Contains}
 use Rattle.std.specs.declared.alloc.Global.{Global}
-use Rattle.program_io.specs.Options.{valued_word, IsFaultOf, IsNextAfter, IsWrong, IsWrongOption, IsWrongValue, NamesSomeWord, ReadsWords, Rejects, ReadsWordAs}
+use Rattle.program_io.specs.Options.{dashed_reason, valued_word, IsFaultOf, IsNextAfter, IsWrong, IsWrongOption, IsWrongValue, NamesSomeWord, ReadsWords, Rejects, ReadsWordAs}
 use Rattle.program_io.specs.declared.options.Next.{Next}
 use Rattle.program_io.specs.declared.options.Next.TheVariants.{Any, Value, Argument, Help, Version}
 use Rattle.program_io.proofs.Words.{no_words}
@@ -87,7 +87,7 @@ names_word words word o NoMemory contained wrong = tt
 names_rejected : (next : Next) (words : List (String Global)) (k : ℕ) (word : String Global) (rest : List (String Global)) (r : Reading) (fault : OptionFault)
     → r.next ≡ next → ReadsWords words k (word ∷ rest) r → Rejects next (string_bytes word) r.options fault → NamesSomeWord words fault
 names_rejected (Value option) words k word rest r fault at reached (inl (dashed, wrong)) =
-    names_option words k (word ∷ rest) r option fault reached at (wrong_is_of (valued_word option) Missing fault wrong)
+    names_option words k (word ∷ rest) r option fault reached at (wrong_is_of (valued_word option) (dashed_reason option (string_bytes word)) fault wrong)
 names_rejected (Value option) words k word rest r fault at reached (inr (undashed, wrong)) =
     names_option words k (word ∷ rest) r option fault reached at (wrong_value_is_of option (string_bytes word) r.options fault wrong)
 names_rejected Any words k word rest r fault at reached wrong =

@@ -1,5 +1,6 @@
 -- The options of a command line.
-use Rattle.std.specs.Prelude.{◌≡◌, ◌≢◌, ◌==◌, ◌⊎◌, ◌<◌, ◌≤◌, ◌*◌, ◌^◌, ℕ, zero, suc, Bool, true, false, List, [], ◌∷◌, ◌++◌, String, string_bytes, codes, map, nat_lt, Contains, Vec}
+use Rattle.std.specs.Prelude.{◌≡◌, ◌≢◌, ◌==◌, ◌&&◌, if◌then◌else◌, ◌⊎◌, ◌<◌, ◌≤◌, ◌*◌, ◌^◌, ℕ, zero, suc, Bool, true, false, List, [], ◌∷◌, ◌++◌, String, string_bytes, codes, map, nat_lt, Contains, Vec}
+use Rattle.std.specs.Char.{is_ascii_digit}
 use Rattle.std.specs.Str.Parse.{IsNumeral, digits_value}
 use Rattle.std.specs.declared.alloc.Global.{Global}
 use Rattle.program_io.specs.declared.options.Options.{Options}
@@ -20,6 +21,12 @@ use Rattle.program_io.specs.declared.options.Reading.{Reading}
 abbrev pub begins_with_dash : List ℕ → Bool
 begins_with_dash [] = false
 begins_with_dash (byte ∷ bytes) = byte == 45
+
+-- a dash and a digit, as a negative number begins
+abbrev pub begins_negative : List ℕ → Bool
+begins_negative [] = false
+begins_negative (byte ∷ []) = false
+begins_negative (byte ∷ digit ∷ bytes) = (byte == 45) && is_ascii_digit digit
 
 -- ---- values
 
@@ -231,6 +238,18 @@ IsWrong word reason (Wrong name error) = (name.now ≡ word) × (error ≡ reaso
 IsWrong word reason (Unknown text) = ⊥
 IsWrong word reason NoMemory = ⊥
 
+-- the reason why a number is no value of this option; a text has none
+abbrev pub number_reason : Valued → OptionError
+number_reason Keep = Count
+number_reason MaxBytes = ByteCount
+number_reason Suffix = Missing
+number_reason Link = Missing
+number_reason Queue = Count
+
+-- the reason why a word that begins with a dash is no value of this option: none was given, unless it is a negative number
+abbrev pub dashed_reason : Valued → List ℕ → OptionError
+dashed_reason option word = if begins_negative word then number_reason option else Missing
+
 -- the value of this option is rejected after these options, or memory ran out
 abbrev pub IsWrongValue : Valued → List ℕ → Options → OptionFault → Type 0
 IsWrongValue option value o (Wrong name error) = (name.now ≡ valued_word option) × IsReason option value o error
@@ -255,7 +274,7 @@ IsWrongOption word o NoMemory = Unit {0}
 -- the word is rejected with the meaning that those before gave it
 abbrev pub Rejects : Next → List ℕ → Options → OptionFault → Type 0
 Rejects (Value option) word o fault =
-    ((begins_with_dash word ≡ true) × IsWrong (valued_word option) Missing fault)
+    ((begins_with_dash word ≡ true) × IsWrong (valued_word option) (dashed_reason option word) fault)
     ⊎ ((begins_with_dash word ≡ false) × IsWrongValue option word o fault)
 Rejects Any word o fault = IsWrongOption word o fault
 Rejects next word o fault = fault ≡ NoMemory

@@ -40,18 +40,62 @@ pub mod streams;
 
 use memchr::memchr;
 use std::alloc::{AllocError, Global};
+use std::env::FillError;
 use std::io::{BufRead, ErrorKind, Read, Write};
 use std::rt::Env;
-use std::{env, io};
+use std::{env, io, str};
 
-/// Returns the arguments after the program's name. The error is that of the runtime if one of them is not UTF-8, or
-/// `OutOfMemory`.
-pub fn arguments(rt: &(impl Env + AllocGlobal)) -> io::Result<Vec<String>> {
+/// Why the arguments of a program were not read.
+#[derive(Debug, Drop)]
+pub enum ArgumentFault {
+    /// This argument is not UTF-8. It has U+FFFD in place of what is not.
+    NotText(String),
+    /// Out of memory.
+    Memory,
+}
+
+impl From<AllocError> for ArgumentFault {
+    fn from(_error: AllocError) -> ArgumentFault {
+        ArgumentFault::Memory
+    }
+}
+
+/// Returns the arguments after the program's name.
+pub fn arguments(rt: &(impl Env + AllocGlobal)) -> Result<Vec<String>, ArgumentFault> {
+    let all = match env::args(rt) {
+        Ok(all) => all,
+        Err(error) if error.kind() == ErrorKind::InvalidData => {
+            return Err(ArgumentFault::NotText(first_not_text(rt)?));
+        }
+        Err(_) => return Err(ArgumentFault::Memory),
+    };
     let mut arguments = Vec::new(rt.alloc());
-    for argument in env::args(rt)?.skip(1) {
+    for argument in all.skip(1) {
         arguments.push(argument).map_err(AllocError::from)?;
     }
     Ok(arguments)
+}
+
+// The greatest length in bytes of an argument that is looked at after a fault.
+const LONGEST_ARGUMENT: usize = 4096;
+
+// Returns the first argument that is not UTF-8, with U+FFFD in place of what is not. A longer one is only called long.
+fn first_not_text(rt: &(impl Env + AllocGlobal)) -> Result<String, AllocError> {
+    let mut bytes = Vec::new(rt.alloc());
+    bytes.resize(LONGEST_ARGUMENT, 0)?;
+    for number in 0..usize::MAX {
+        match rt.arg(number, bytes.as_mut_slice()) {
+            Ok(length) => {
+                let argument = &bytes[..length];
+                if str::from_utf8(argument).is_err() {
+                    return String::from_utf8_lossy(rt.alloc(), argument);
+                }
+            }
+            Err(FillError::TooLong) => {}
+            Err(FillError::NotPresent) => break,
+        }
+    }
+    String::from_str(rt.alloc(), "a long argument")
 }
 
 /// An input whose lines have a greatest length, so that one which never ends fills no memory.

@@ -4,7 +4,7 @@ ghost use Rattle.std.specs.Str.Parse.{IsNumeral};
 ghost use Rattle.program_io.specs.declared.options.Flag.{Flag};
 ghost use Rattle.program_io.specs.declared.options.Next.{Next};
 ghost use Rattle.program_io.specs.declared.options.Valued.{Valued};
-ghost use Rattle.program_io.specs.Options.{begins_with_dash, flag_word, valued_word, AreUndashed, HasOnlyLimits, HasUnit, IsByteCount, IsPositiveNumber, IsFaultOf, IsNextAfter, IsNumber, IsPlain, IsRead, IsWrong, NamesOtherOption, NamesSomeWord, IsNoByteCount, IsNoPositiveNumber};
+ghost use Rattle.program_io.specs.Options.{begins_negative, begins_with_dash, dashed_reason, flag_word, valued_word, AreUndashed, HasOnlyLimits, HasUnit, IsByteCount, IsPositiveNumber, IsFaultOf, IsNextAfter, IsNumber, IsPlain, IsRead, IsWrong, NamesOtherOption, NamesSomeWord, IsNoByteCount, IsNoPositiveNumber};
 
 use std::alloc::{AllocError, Global};
 use thiserror::Error;
@@ -90,6 +90,21 @@ impl Valued {
             Valued::Queue => "--queue",
         }
     }
+
+    // Returns the reason why a word that begins with a dash is no value of the option. Without a negative number the value
+    // may have been forgotten.
+    fn dashed(self, word: &str) -> OptionError
+        ensures { result ≡ dashed_reason self word.now }
+    {
+        if !is_negative(word) {
+            return OptionError::Missing;
+        }
+        match self {
+            Valued::Keep | Valued::Queue => OptionError::Count,
+            Valued::MaxBytes => OptionError::ByteCount,
+            Valued::Suffix | Valued::Link => OptionError::Missing,
+        }
+    }
 }
 
 // An option without a value.
@@ -122,14 +137,14 @@ impl Flag {
 /// The reason why an option is rejected.
 #[derive(Clone, Copy, Debug, PartialEq, Eq, Error)]
 pub enum OptionError {
-    /// There is no value: the words end, the next one begins with a dash, or the text is empty.
+    /// There is no value: the words end, the text is empty, or the next word begins with a dash and is no negative number.
     #[error("a value is missing")]
     Missing,
     /// The option was set before.
     #[error("given twice")]
     Twice,
     /// The program has no use for the option without a rotation. `read` never returns it.
-    #[error("not without a rotation")]
+    #[error("not with never, a log of one file; take weekly, whose files are the longest")]
     Never,
     /// The value is not a decimal number from 1 that a `usize` can represent.
     #[error("not a number from 1")]
@@ -177,7 +192,7 @@ pub enum Request {
 ///
 /// Each option is set at most once, anywhere before `--`. The words after that are arguments. A value follows a `=`
 /// or is the next word, as in `--keep=7` and `--keep 7`. In a word of its own it may not begin with a dash, since a value
-/// may have been forgotten.
+/// may have been forgotten. A negative number is reported as what it is.
 /// `--max-bytes` takes `N[K|M|G]`, with 1,024 bytes for `K`.
 ///
 /// `OptionFault::Unknown` and `OptionFault::Wrong` report the first wrong word.
@@ -265,7 +280,7 @@ impl Reading {
     {
         match self.next {
             Next::Value(option) if begins(word) => {
-                Err(OptionFault::Wrong(option.word(), OptionError::Missing))
+                Err(OptionFault::Wrong(option.word(), option.dashed(word)))
             }
             Next::Value(option) => {
                 self.next = Next::Any;
@@ -418,6 +433,16 @@ fn begins(word: &str) -> bool
     match word.as_bytes() {
         [first, ..] => *first == b'-',
         [] => false,
+    }
+}
+
+// Returns whether a word begins with a dash and a digit, as a negative number does.
+fn is_negative(word: &str) -> bool
+    ensures { result ≡ begins_negative word.now }
+{
+    match word.as_bytes() {
+        [first, second, ..] => *first == b'-' && second.is_ascii_digit(),
+        _ => false,
     }
 }
 

@@ -47,3 +47,14 @@ pub fn print<W: Write>(output: &mut W, text: &str, failed: u8) -> u8
         Err(_) => failed,
     }
 }
+
+/// Returns the line of a program of this name: its version, that of the Rust crate, and the kit that proved it.
+#[macro_export]
+macro_rules! version {
+    ($name:literal) => {
+        concat!(
+            $name,
+            " 3.0.0 (port of tracing-appender 0.2.5; rattle-kit-13f)\n"
+        )
+    };
+}

@@ -2,18 +2,17 @@
 //! Prints the reply to each step, and the contents of the folder at the end.
 #![tactic(auto)]
 
-use program_io::arguments;
 use program_io::options::{OptionFault, Request, read};
 use program_io::report::{print, report};
 use program_io::streams::fill_streams;
+use program_io::{ArgumentFault, arguments, version};
 use rollplay_core::play;
-use std::io::ErrorKind;
 use std::process::ExitCode;
 
 static HELP: &str = concat!(
     "Plays a script from standard input: runs a rolling log writer over a folder in\n",
-    "memory, by itself or behind a queue, and prints what each step answered and what the\n",
-    "folder holds at the end.\n",
+    "memory, by itself or through a queue. Prints the reply to each step, and the\n",
+    "contents of the folder at the end.\n",
     "\n",
     "usage: rollplay < SCRIPT\n",
     "       rollplay --help | -h | --version\n",
@@ -21,14 +20,15 @@ static HELP: &str = concat!(
     "  SCRIPT  a setting or a step a line; any other argument is ignored\n",
     "  --      ends the options: the words after it are arguments\n",
     "\n",
-    "Status: 0 if the script was played; 1 if its log was not opened; 2 if the script or an\n",
-    "option is wrong, the script not read or the output not written; 3 if memory was refused.\n",
+    "Status: 0 if the script was played; 1 if its log was not opened; 2 if the script\n",
+    "or an option is wrong, the script not read or the output not written; 3 if\n",
+    "memory was refused.\n",
     "\n",
-    "It ends when the whole script was read and played. It catches no signal: INT or TERM\n",
-    "ends it at once, and nothing is printed.\n",
+    "It ends when the whole script was read and played. It catches no signal:\n",
+    "INT or TERM ends it at once, and nothing is printed.\n",
 );
 
-static VERSION: &str = "rollplay, over a port of tracing-appender 0.2.5\n";
+static VERSION: &str = version!("rollplay");
 
 fn main(rt: HostRuntime) -> ExitCode {
     if fill_streams(&rt).is_err() {
@@ -36,9 +36,9 @@ fn main(rt: HostRuntime) -> ExitCode {
     }
     let request = match arguments(&rt) {
         Ok(arguments) => read(rt.alloc(), arguments.as_slice()),
-        Err(fault) if fault.kind() == ErrorKind::OutOfMemory => Err(OptionFault::Memory),
-        // One of the arguments is not UTF-8. It is ignored, as is any argument that is no option.
-        Err(_) => read(rt.alloc(), &[]),
+        Err(ArgumentFault::Memory) => Err(OptionFault::Memory),
+        // It is ignored, as is any argument that is no option.
+        Err(ArgumentFault::NotText(_word)) => read(rt.alloc(), &[]),
     };
     ExitCode::from(run(rt, request))
 }

@@ -2,10 +2,10 @@
 //! minute, hour, day or week of UTC. One thread reads the lines, and another writes them.
 #![tactic(auto)]
 
-use program_io::arguments;
 use program_io::options::{Request, read};
 use program_io::report::print;
 use program_io::streams::fill_streams;
+use program_io::{arguments, version};
 use rolltee_core::tee;
 use rolltee_core::tee::Fault;
 use std::process::ExitCode;
@@ -52,7 +52,7 @@ static HELP: &str = concat!(
     "lost. See rolltee(1).\n",
 );
 
-static VERSION: &str = "rolltee, over a port of tracing-appender 0.2.5\n";
+static VERSION: &str = version!("rolltee");
 
 fn main(rt: HostRuntime) -> ExitCode {
     if fill_streams(&rt).is_err() {
@@ -60,11 +60,7 @@ fn main(rt: HostRuntime) -> ExitCode {
     }
     let status = match arguments(&rt) {
         Ok(words) => run(rt, &rt, words.as_slice()),
-        // One of the arguments is not UTF-8, or memory was refused.
-        Err(fault) => tee::report_fault(
-            &Fault::Usage.unless_memory(fault.kind()),
-            &mut rt.stderr(),
-        ),
+        Err(fault) => tee::report_fault(&Fault::from(fault), &mut rt.stderr()),
     };
     ExitCode::from(status)
 }

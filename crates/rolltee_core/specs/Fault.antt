@@ -6,12 +6,14 @@ use Rattle.program_io.specs.Report.{AppendsBeginning}
 use Rattle.std.specs.declared.io.ErrorKind.{ErrorKind}
 use Rattle.std.specs.declared.io.ErrorKind.TheVariants.{OutOfMemory}
 use Rattle.std.specs.IoError.{error_kind}
+use Rattle.program_io.specs.declared.ArgumentFault.{ArgumentFault}
+use Rattle.program_io.specs.declared.ArgumentFault.TheVariants.{NotText, Memory as NoArguments}
 use Rattle.program_io.specs.declared.CopyFault.{CopyFault}
 use Rattle.program_io.specs.declared.CopyFault.TheVariants.{Read as Failed, Write as Refused, Cut}
 use Rattle.program_io.specs.declared.options.OptionFault.{OptionFault}
 use Rattle.program_io.specs.declared.options.OptionFault.TheVariants.{Unknown as UnknownWord, Wrong, Memory as NoMemory}
 use Rattle.rolltee_core.specs.declared.tee.Fault.{Fault}
-use Rattle.rolltee_core.specs.declared.tee.Fault.TheVariants.{Usage, Unknown, Option as OfOption, Open, Thread, Read, Write, Lost, Pending, Full, Memory}
+use Rattle.rolltee_core.specs.declared.tee.Fault.TheVariants.{Usage, Unknown, Option as OfOption, Argument, Open, Thread, Read, Write, Lost, Pending, Full, Memory}
 
 -- the first argument is the word for no rotation
 abbrev pub NamesNoRotation : List (String Global) → Type 0
@@ -40,11 +42,17 @@ tee_options_fault (UnknownWord word) = Unknown word
 tee_options_fault (Wrong option error) = OfOption option error
 tee_options_fault NoMemory = Memory
 
+-- the fault of arguments that were not read
+abbrev pub tee_arguments_fault : ArgumentFault → Fault
+tee_arguments_fault (NotText word) = Argument word
+tee_arguments_fault NoArguments = Memory
+
 -- the status of a process that a fault ended
 abbrev pub tee_status : Fault → ℕ
 tee_status Usage = 2
 tee_status (Unknown word) = 2
 tee_status (OfOption option error) = 2
+tee_status (Argument word) = 2
 tee_status (Open error) = 1
 tee_status Thread = 1
 tee_status Read = 1
@@ -59,6 +67,7 @@ abbrev pub tee_fault_words : Fault → Option (List ℕ)
 tee_fault_words Usage = Some (codes "usage: rolltee ROTATION DIR PREFIX" ++ (10 ∷ []))
 tee_fault_words (Unknown word) = None
 tee_fault_words (OfOption option error) = None
+tee_fault_words (Argument word) = None
 tee_fault_words (Open error) = None
 tee_fault_words Thread = Some (codes "no thread" ++ (10 ∷ []))
 tee_fault_words Read = Some (codes "read failed" ++ (10 ∷ []))

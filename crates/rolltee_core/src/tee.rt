@@ -13,7 +13,7 @@ use log_check::FileCounts;
 use program_io::blocking::BlockingInput;
 use program_io::options::{OptionError, OptionFault, Options};
 use program_io::report::report;
-use program_io::{CopyFault, copy_lines};
+use program_io::{ArgumentFault, CopyFault, copy_lines};
 use std::alloc::AllocError;
 use std::io;
 use std::io::{BufReader, ErrorKind, Read, Write};
@@ -38,6 +38,9 @@ pub enum Fault {
     /// This option was given twice, or its value is missing or wrong, or the rotation does not allow it.
     #[error("{0}: {1}")]
     Option(&'static str, OptionError),
+    /// This argument is not UTF-8. It has U+FFFD in place of what is not.
+    #[error("{0}: not UTF-8")]
+    Argument(String),
     /// No log was opened.
     #[error("{0}")]
     Open(InitError),
@@ -70,7 +73,7 @@ impl Fault {
         ensures { result ≡ tee_status self.now }
     {
         match self {
-            Fault::Usage | Fault::Unknown(_) | Fault::Option(_, _) => 2,
+            Fault::Usage | Fault::Unknown(_) | Fault::Option(_, _) | Fault::Argument(_) => 2,
             Fault::Memory => 3,
             _ => 1,
         }
@@ -120,6 +123,20 @@ impl From<OptionFault> for Fault {
             OptionFault::Unknown(word) => Fault::Unknown(word),
             OptionFault::Wrong(option, error) => Fault::Option(option, error),
             OptionFault::Memory => Fault::Memory,
+        }
+    }
+}
+
+/// A fault of the arguments.
+impl From<ArgumentFault> for Fault {
+    ghost use Rattle.rolltee_core.specs.Fault.{tee_arguments_fault};
+
+    ghost from_gives = { λ fault reported. reported ≡ tee_arguments_fault fault };
+
+    fn from(fault: ArgumentFault) -> Fault {
+        match fault {
+            ArgumentFault::NotText(word) => Fault::Argument(word),
+            ArgumentFault::Memory => Fault::Memory,
         }
     }
 }
