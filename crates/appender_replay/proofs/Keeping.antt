@@ -1,6 +1,6 @@
 -- What a folder contains and counts after a run, by the files of its account.
 use Rattle.std.proofs.Common.{◌≡◌, ◌≢◌, ◌∙◌, ◌⊎◌, ℕ, ℤ, zero, suc, ◌+◌, ◌^◌, ◌<◌, ◌≤◌, ◌-◌, min, nat_le, Bool, true, false, List, [], ◌∷◌, ◌++◌, length, get_or, map, Option, None, Some, is_some, Result, Ok, Err, MatchResult, Vec, IsTrue, inl, inr, refl, ap, sym, subst, arith}
-use Rattle.std.specs.Prelude.{if◌then◌else◌, ◌==◌, OnOk, IsOk}
+use Rattle.std.specs.Prelude.{if◌then◌else◌, ◌==◌, IsOk}
 use Rattle.std.specs.Option.{option_map_or}
 use Rattle.std.specs.FinMap as fin
 use Rattle.std.specs.declared.alloc.Global.{Global}
@@ -203,32 +203,34 @@ module _ {S F : Type 0} (kind : Ghosts S F) (failures_fit : (s : S) → kind.fai
                   below = (rw (ap (λ (m : NotedCounts). m.lists) noted_after ∙ later.0) below.0, rw (ap (λ (m : NotedCounts). m.removes) noted_after ∙ later.1) below.1);
                 }))
 
-        -- the first number is by what the folder had
-        first_number : is_limited c ≡ true → IsFirstNumber c moment (HasEntry (kind.content folder)) number
-        first_number limited = rw (← run.number_is) (by l.answer (kind.content folder).there refl l.there l.number_is l.number_in fine.lists)
-          where
-            l : ListsNumbers kind c moment folder run.opens.number run.opens.listed
-            l = run.opens.finds.calls limited
+      -- ---- the first number
 
-            none : (kind.content folder).there ≡ false → IsFirstNumber c moment (HasEntry (kind.content folder)) 0
-            none absent = record {
-              at_most = omega arith;
-              above = λ name which k (e, is, kind_is) in_it. absurd (let both : ◌≡◌ {A = Option Entry} None (Some e) = sym (none_of _ ((sound folder is_known).absent absent name)) ∙ is in cc);
-              least = inl refl;
-            }
+      -- it is by what the folder had, or its listing failed
+      first_number : IsTrue kind.is_known → is_limited c ≡ true → IsFirstNumber c moment (HasEntry (kind.content folder)) number
+          ⊎ ((number ≡ 0) × ((kind.content folder).there ≡ true) × (next_count (kind.noted folder).lists ≤ (kind.noted last.folder).lists))
+      first_number is_known limited = rw (← run.number_is) (by l.answer (kind.content folder).there refl l.number_is l.number_in)
+        where
+          l : ListsNumbers kind c moment folder run.opens.number run.opens.listed
+          l = run.opens.finds.calls limited
 
-            by : (answer : Result (Vec Listed Global) Error) (there : Bool) → (kind.content folder).there ≡ there → OnOk answer (IsTrue kind.is_known → (kind.content folder).there ≡ true)
-                → MatchResult answer (λ all. IsFirstNumber c moment (IsListed (map listed_row all.items)) run.opens.number × (run.opens.listed ≡ l.listed)) (λ fault. (run.opens.number ≡ 0) × Notes kind l.listed (NotedList fault) run.opens.listed)
-                → (IsOk answer → IsTrue kind.is_known → IsFirstNumber c moment (HasEntry (kind.content folder)) run.opens.number)
-                → (kind.noted last.folder).lists ≡ (kind.noted folder).lists + (if there then 0 else (if is_limited c then 1 else 0) + (if max_before c == 0 then 0 else 1))
-                → IsFirstNumber c moment (HasEntry (kind.content folder)) run.opens.number
-            by (Ok all) there is on_ok number_is number_in lists = number_in refl is_known
-            by (Err fault) false is on_ok number_is number_in lists = rw number_is.0 (none is)
-            by (Err fault) true is on_ok number_is number_in lists =
-                let noted : (kind.noted run.opens.listed).lists ≡ next_count (kind.noted folder).lists = ap (λ (n : NotedCounts). n.lists) number_is.1.noted ∙ ap (λ (n : NotedCounts). next_count n.lists) l.noted in
-                let opened = opens_rise kind failures_fit noted_fit c _ run.opens.listed run.first.file run.first.folder run.opens.opens in
-                let below = fine.below.0 in
-                absurd (omega (arith, opened.lists, all_steps.rise.lists))
+          none : (kind.content folder).there ≡ false → IsFirstNumber c moment (HasEntry (kind.content folder)) 0
+          none absent = record {
+            at_most = omega arith;
+            above = λ name which k (e, is, kind_is) in_it. absurd (let both : ◌≡◌ {A = Option Entry} None (Some e) = sym (none_of _ ((sound folder is_known).absent absent name)) ∙ is in cc);
+            least = inl refl;
+          }
+
+          by : (answer : Result (Vec Listed Global) Error) (there : Bool) → (kind.content folder).there ≡ there
+              → MatchResult answer (λ all. IsFirstNumber c moment (IsListed (map listed_row all.items)) run.opens.number × (run.opens.listed ≡ l.listed)) (λ fault. (run.opens.number ≡ 0) × Notes kind l.listed (NotedList fault) run.opens.listed)
+              → (IsOk answer → IsTrue kind.is_known → IsFirstNumber c moment (HasEntry (kind.content folder)) run.opens.number)
+              → IsFirstNumber c moment (HasEntry (kind.content folder)) run.opens.number
+              ⊎ ((run.opens.number ≡ 0) × ((kind.content folder).there ≡ true) × (next_count (kind.noted folder).lists ≤ (kind.noted last.folder).lists))
+          by (Ok all) there is number_is number_in = inl (number_in refl is_known)
+          by (Err fault) false is number_is number_in = inl (rw number_is.0 (none is))
+          by (Err fault) true is number_is number_in =
+              let noted : (kind.noted run.opens.listed).lists ≡ next_count (kind.noted folder).lists = ap (λ (n : NotedCounts). n.lists) number_is.1.noted ∙ ap (λ (n : NotedCounts). next_count n.lists) l.noted in
+              let opened = opens_rise kind failures_fit noted_fit c _ run.opens.listed run.first.file run.first.folder run.opens.opens in
+              inr (number_is.0, is, omega (arith, noted, opened.lists, all_steps.rise.lists))
 
       -- ---- what the first file held
 
@@ -324,6 +326,6 @@ module _ {S F : Type 0} (kind : Ghosts S F) (failures_fit : (s : S) → kind.fai
                       ]) in
                       subst (λ (ss : List Stamp). NamesAfterOpenings c (length (kind.content folder).bodies) ss (kind.content folder).names (kind.content last.folder).names) stamps
                       (names_lead maps c parts law.attempts (events_by event past) (kind.content folder) (kind.content last.folder) law.leads (each_leaves law.attempts (each_opened law.attempts opened) prunes));
-                  number = λ limited fine. first_number is_known fine limited;
+                  number = λ limited. first_number is_known limited;
                 };
           }

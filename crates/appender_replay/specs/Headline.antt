@@ -9,7 +9,7 @@ use Rattle.std.specs.declared.io.ErrorKind.TheVariants.{OutOfMemory}
 use Rattle.appender_names.specs.Rotation.{is_moment, period_of, is_same_start}
 use Rattle.appender_store.specs.Content.{Content, NameMap, Entry, File, Link, body_at}
 use Rattle.appender_store.specs.declared.store.Folder.{Ghosts}
-use Rattle.appender_store.specs.Folder.{NotedCounts}
+use Rattle.appender_store.specs.Folder.{NotedCounts, next_count}
 use Rattle.appender_retain.specs.Survival.{name_rank, name_survives}
 use Rattle.appender_rolling.specs.Config.{Config, is_limited, max_before, log_files_of}
 use Rattle.appender_rolling.specs.Opening.{file_name_of, IsFirstNumber, HasEntry}
@@ -202,8 +202,10 @@ pub record Contains (c : Config) (start : Start) (f : Files) (first last : Conte
       → NamesAfterOpenings c (length first.bodies) (f.newest ∷ f.earlier) first.names last.names
   -- If the log continues its last file, what the first file held counts.
   pub held : c.continues ≡ true → IsHeld c start first
-  -- With a limit of bytes the first number is the next after those that the folder had in that period, or that of the file that is continued.
-  pub number : is_limited c ≡ true → RetentionSucceeded c first.there noted_first noted_last → IsFirstNumber c start.moment (HasEntry first) start.number
+  -- With a limit of bytes the first number is the next after those that the folder had in that period, or that of the file that is continued. If the
+  -- listing that finds it failed, List was noted, and it is 0.
+  pub number : is_limited c ≡ true → IsFirstNumber c start.moment (HasEntry first) start.number
+      ⊎ ((start.number ≡ 0) × (first.there ≡ true) × (next_count noted_first.lists ≤ noted_last.lists))
 
 -- The folder after a run: it noted each attempt that failed, and counted each write and each flush that failed.
 pub record FolderFollows {S F : Type 0} (kind : Ghosts S F) (c : Config) (start : Start) (f : Files) (first last : S) : Type 0 where
