@@ -5,7 +5,7 @@ use Rattle.std.specs.Option.{option_map_or}
 use Rattle.std.specs.FinMap as fin
 use Rattle.std.specs.declared.alloc.Global.{Global}
 use Rattle.std.specs.declared.io.Error.{Error}
-use Rattle.appender_store.specs.Content.{Content, Entry, File, IsSound, OpensBody, after_make_folder, body_at}
+use Rattle.appender_store.specs.Content.{Content, Entry, File, IsFile, IsSound, OpensBody, after_make_folder, body_at}
 use Rattle.appender_store.specs.Folder.{AreNotedCounts, NotedCounts, NotedList, listed_row, next_count}
 use Rattle.appender_store.specs.NameLaws.{NameLaws}
 use Rattle.appender_store.specs.Notes.{Notes}
@@ -23,11 +23,12 @@ use Rattle.appender_rolling.specs.declared.rolling.Switch.{Switch}
 use Rattle.appender_rolling.specs.declared.rolling.Switch.TheVariants.{None as Stayed, Opened as Switched, Failed as SwitchFailed}
 use Rattle.appender_rolling.proofs.Rising.{finds_rise, opens_rise, absent_finds, absent_opens}
 use Rattle.appender_replay.specs.Start.{Start, start_stamp, start_of}
-use Rattle.appender_replay.specs.Run.{Event, Attempt, AttemptTime, time_of, content_before, counts_before, MatchesItsStep, attempt_times, stamp_at, is_switch, is_opened, with_time, NoneFailed, SwitchesAtAttempts, EachOf}
+use Rattle.appender_replay.specs.Run.{Event, Attempt, time_of, content_before, counts_before, MatchesItsStep, attempt_times, stamp_at, is_switch, is_opened, with_time, NoneFailed, SwitchesAtAttempts, EachOf}
 use Rattle.appender_replay.specs.Replay.{LeadsTo, RunsFrom, RollerFollows, events_by, step_state_of, step_states_after, run_states}
 use Rattle.appender_replay.specs.Headline.{Files, FolderFollows, IsHeld, NamesAfterOpenings, RetentionSucceeded}
 use Rattle.appender_replay.proofs.NamesLeft.{none_of}
 use Rattle.appender_replay.proofs.NamesLead.{PrunesAll, LeavesAll, stamps_in, names_lead, others_stay}
+use Rattle.appender_replay.proofs.FilesStay.{AllOpened, AllLead, all_kept, written_lead, open_leads}
 use Rattle.appender_replay.proofs.FileAccounts.{FilesAre, failed_by, failed_in, stamps_of, none_failed, text_same}
 use Rattle.appender_replay.proofs.Counting.{Counted, counted_same, counted_on, finds_counted, opens_counted}
 
@@ -36,10 +37,6 @@ nothing_beyond [] = refl
 nothing_beyond (b ∷ bodies) = nothing_beyond bodies
 
 -- ---- attempts that all succeeded
-
-abbrev AllOpened : List AttemptTime → Type 0
-AllOpened [] = Unit {0}
-AllOpened ((step, s, ok) ∷ ts) = (ok ≡ true) × AllOpened ts
 
 all_opened : (c : Config) (start : Start) (h : List Event) → SwitchesAtAttempts c start h → NoneFailed h → AllOpened (attempt_times c start h)
 all_opened c start [] switches fine = (refl, tt)
@@ -318,6 +315,18 @@ module _ {S F : Type 0} (kind : Ghosts S F) (failures_fit : (s : S) → kind.fai
                   bytes = λ name b t at. law.bodies b ∙ ap (λ (xs : List ℕ). body_at (kind.content folder) b ++ xs)
                       (text_same c start (kind.content last.folder) name b t at law.attempts (events_by event past) f law.are_times law.under_its_name law.names_its_body so);
                   others = λ name others not_link. others_stay maps c name not_link law.attempts (events_by event past) (kind.content folder) (kind.content last.folder) law.leads (rw stamps others);
+                  kept = λ none. (all_kept maps c none law.attempts (events_by event past) (kind.content folder) (kind.content last.folder) law.leads).0;
+                  written = λ none name some.
+                      let all : AllLead maps c (kind.content last.folder).names (attempt_times c start (events_by event past)) =
+                      subst (AllLead maps c (kind.content last.folder).names) law.are_times (all_kept maps c none law.attempts (events_by event past) (kind.content folder) (kind.content last.folder) law.leads).1 in
+                      written_lead maps c start (kind.content last.folder).names (events_by event past) all name (λ nothing. some (sym (so.text name) ∙ nothing));
+                  open_file = λ fine.
+                      let stays : (max_before c ≡ 0) ⊎ AllOpened (attempt_times c start (events_by event past)) = elim fine [
+                        | inl never ↦ inr (all_opened c start (events_by event past) rolls.switches (none_failed (events_by event past) (so.failed ∙ never)))
+                        | inr none ↦ inl none
+                      ] in
+                      subst (λ (n : List ℕ). IsFile (fin.get (kind.content last.folder).names n)) so.file
+                      (open_leads maps c start law.attempts (events_by event past) (kind.content folder) (kind.content last.folder) law.leads law.are_times stays);
                   names = λ none fine.
                       let opened : AllOpened (map time_of law.attempts) = rw law.are_times (all_opened c start (events_by event past) rolls.switches (none_failed (events_by event past) (so.failed ∙ none))) in
                       let prunes : EachOf (PrunesAll maps c) law.attempts = each_prunes law.attempts law.are_seen (elim fine [

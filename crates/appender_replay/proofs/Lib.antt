@@ -12,6 +12,7 @@ pub mod Bounds
 pub mod Accounts
 pub mod FileAccounts
 pub mod NamesLead
+pub mod FilesStay
 pub mod Counting
 pub mod Keeping
 pub mod Headlines

@@ -23,7 +23,7 @@ use Rattle.appender_replay.proofs.NamesLeft.{nothing_survives, nothing_survives_
 abbrev pub stamps_in : List Attempt → List Stamp
 stamps_in = map (λ (a : Attempt). a.stamp)
 
-carried_names : (o : Option ℕ) (bytes : List ℕ) (old new : Content) → Carried o bytes old new → new.names ≡ old.names
+pub carried_names : (o : Option ℕ) (bytes : List ℕ) (old new : Content) → Carried o bytes old new → new.names ≡ old.names
 carried_names None bytes old new is = ap (λ (d : Content). d.names) is
 carried_names (Some b) bytes old new is = ap (λ (d : Content). d.names) is
 
@@ -68,14 +68,14 @@ module _ (maps : NameLaws) (c : Config) where
   abbrev pub PrunesAll : Attempt → Type 0
   PrunesAll a = (c.max_files ≡ 0) ⊎ (IsQuiet a.noted_before a.noted_after ⊎ ((a.before.there ≡ false) × IsSound a.before))
 
-  none_before : c.max_files ≡ 0 → max_before c ≡ 0
+  pub none_before : c.max_files ≡ 0 → max_before c ≡ 0
   none_before none = by c.by_name
     where
       by : (t : Bool) → (if t then 0 else c.max_files) ≡ 0
       by true = refl
       by false = none
 
-  none_after : c.max_files ≡ 0 → max_after c ≡ 0
+  pub none_after : c.max_files ≡ 0 → max_after c ≡ 0
   none_after none = by c.by_name
     where
       by : (t : Bool) → (if t then c.max_files else 0) ≡ 0

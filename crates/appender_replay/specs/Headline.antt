@@ -7,11 +7,12 @@ use Rattle.std.specs.FinMap as fin
 use Rattle.std.specs.declared.io.ErrorKind.{ErrorKind}
 use Rattle.std.specs.declared.io.ErrorKind.TheVariants.{OutOfMemory}
 use Rattle.appender_names.specs.Rotation.{is_moment, period_of, is_same_start}
-use Rattle.appender_store.specs.Content.{Content, NameMap, Entry, File, Link, body_at}
+use Rattle.appender_store.specs.Content.{Content, NameMap, Entry, File, Link, IsFile, body_at}
 use Rattle.appender_store.specs.declared.store.Folder.{Ghosts}
 use Rattle.appender_store.specs.Folder.{NotedCounts, next_count}
 use Rattle.appender_retain.specs.Survival.{name_rank, name_survives}
 use Rattle.appender_rolling.specs.Config.{Config, is_limited, max_before, log_files_of}
+use Rattle.appender_rolling.specs.Limits.{KeepsEachFile}
 use Rattle.appender_rolling.specs.Opening.{file_name_of, IsFirstNumber, HasEntry}
 use Rattle.appender_rolling.specs.Roller.{written_count}
 use Rattle.appender_rolling.specs.declared.rolling.setup.Stamp.{Stamp}
@@ -197,6 +198,11 @@ pub record Contains (c : Config) (start : Start) (f : Files) (first last : Conte
   -- Whatever fails, no other name changes, except that log files may be removed if there is a maximum of them.
   pub others : (name : List ℕ) → All (λ s. name ≢ file_name_of c s) (f.newest ∷ f.earlier) → name ≢ c.link
       → (fin.get last.names name ≡ fin.get first.names name) ⊎ ((fin.get last.names name ≡ None) × (c.max_files ≢ 0) × (is_some (name_rank (log_files_of c None) first.names name) ≡ true))
+  -- Without a maximum each file that was there at first has its name, whatever fails, and so has each to which bytes were written.
+  pub kept : c.max_files ≡ 0 → KeepsEachFile first last
+  pub written : c.max_files ≡ 0 → (name : List ℕ) → written_to_name name f.writes ≢ [] → IsFile (fin.get last.names name)
+  -- The open file has its name if no attempt failed. Else it has it by name or without a maximum, where retention doesn't come before the opening.
+  pub open_file : (f.failed ≡ 0) ⊎ (max_before c ≡ 0) → IsFile (fin.get last.names f.file)
   -- If each attempt succeeded, and each listing and removal, the names are exactly these. Without a maximum nothing is listed for retention.
   pub names : f.failed ≡ 0 → ((c.max_files ≡ 0) ⊎ RetentionSucceeded c first.there noted_first noted_last)
       → NamesAfterOpenings c (length first.bodies) (f.newest ∷ f.earlier) first.names last.names
