@@ -25,7 +25,7 @@ use Rattle.appender_rolling.proofs.Rising.{finds_rise, opens_rise, absent_finds,
 use Rattle.appender_replay.specs.Start.{Start, start_stamp, start_of}
 use Rattle.appender_replay.specs.Run.{Event, Attempt, time_of, content_before, counts_before, MatchesItsStep, attempt_times, stamp_at, is_switch, is_opened, with_time, NoneFailed, SwitchesAtAttempts, EachOf}
 use Rattle.appender_replay.specs.Replay.{LeadsTo, RunsFrom, RollerFollows, events_by, step_state_of, step_states_after, run_states}
-use Rattle.appender_replay.specs.Headline.{Files, FolderFollows, IsHeld, NamesAfterOpenings, RetentionSucceeded}
+use Rattle.appender_replay.specs.Headline.{CallsLead, Files, FolderFollows, IsHeld, NamesAfterOpenings, RetentionSucceeded}
 use Rattle.appender_replay.proofs.NamesLeft.{none_of}
 use Rattle.appender_replay.proofs.NamesLead.{PrunesAll, LeavesAll, stamps_in, names_lead, others_stay}
 use Rattle.appender_replay.proofs.FilesStay.{AllOpened, AllLead, all_kept, written_lead, open_leads}
@@ -299,12 +299,13 @@ module _ {S F : Type 0} (kind : Ghosts S F) (failures_fit : (s : S) → kind.fai
       each_prunes [] at all = tt
       each_prunes (a ∷ rest) at all = (all a at.0, each_prunes rest at.1 all)
 
-      pub keeps : RollerFollows kind does event c moment number room folder past last → (f : Files) → FilesAre c start (events_by event past) f → sum_by faults past ≡ f.faults → FolderFollows kind c start f folder last.folder
-      keeps rolls f so all =
+      pub keeps : RollerFollows kind does event c moment number room folder past last → (f : Files) → FilesAre c start (events_by event past) f → sum_by faults past ≡ f.faults → CallsLead kind folder f.writes last.folder → FolderFollows kind c start f folder last.folder
+      keeps rolls f so all lead =
           let counts = run_counts f.failed f.faults so.failed all in
           record {
             failed = counts.opens;
             faults = counts.failures;
+            calls = lead;
             anew = λ afresh. omega (arith, run.room_is, run.opens.room.anew afresh);
             unnumbered = λ unlimited. sym run.number_is ∙ (run.opens.finds.none unlimited).0;
             content = λ is_known.

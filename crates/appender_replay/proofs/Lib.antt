@@ -14,6 +14,7 @@ pub mod FileAccounts
 pub mod NamesLead
 pub mod FilesStay
 pub mod Counting
+pub mod FolderCalls
 pub mod Keeping
 pub mod Headlines
 pub mod Refusals

@@ -1,18 +1,27 @@
 -- Wrong runs that the headline refuses.
-use Rattle.std.proofs.Common.{◌≡◌, ◌≢◌, ◌∙◌, ℕ, ℤ, pos, ◌+◌, Bool, true, false, nat_le, List, [], ◌∷◌, Option, None, Some, inl, inr, refl, ap, sym, arith}
+use Rattle.std.proofs.Common.{◌≡◌, ◌≢◌, ◌∙◌, ℕ, ℤ, pos, ◌+◌, Bool, true, false, nat_le, min, List, [], ◌∷◌, length, Option, None, Some, Result, Ok, Err, inl, inr, refl, ap, sym, subst, arith}
 use Rattle.std.specs.FinMap as fin
+use Rattle.std.specs.Option.{option_map_or}
+use Rattle.std.specs.IoError.{error_kind}
+use Rattle.std.specs.declared.io.Error.{Error}
+use Rattle.std.specs.declared.io.ErrorKind.{ErrorKind}
 use Rattle.std.specs.Str.{bytes_eq}
 use Rattle.std.proofs.lemmas.Int.{ints}
 use Rattle.std.proofs.lemmas.List.Elements.{All-cons, All-nil}
 use Rattle.std.proofs.lemmas.Slice.Eq.{bytes_eq-Decides}
-use Rattle.appender_store.specs.Content.{Entry, File}
+use Rattle.appender_store.specs.Content.{Entry, File, IsFile}
+use Rattle.appender_store.specs.Folder.{next_count}
+use Rattle.appender_store.specs.MemoryState.{AppendLimits, MemoryState, TakesBytes, count_taken}
 use Rattle.appender_store.specs.declared.store.Folder.{Ghosts}
 use Rattle.appender_retain.specs.Survival.{name_survives}
 use Rattle.appender_rolling.specs.Config.{naming_of, log_files_of}
 use Rattle.appender_rolling.specs.Opening.{file_name_of}
 use Rattle.appender_rolling.specs.declared.rolling.setup.Stamp.{Stamp}
 use Rattle.appender_names.specs.Name.{NamesArePeriods}
-use Rattle.appender_replay.specs.Inside.Refused.{WritesTwice, LosesByte, WritesOutOfOrder, TakesOutOfOrder, ShutdownTakesNoPlace, NeverPrunes, FollowsClockBack, ChangesOtherNames, one_file, hourly}
+use Rattle.appender_rolling.specs.Roller.{written_count}
+use Rattle.appender_replay.specs.Headline.{Writes, Calls, CallsLead, begins, calls, appends}
+use Rattle.appender_replay.specs.Replay.{by_kind}
+use Rattle.appender_replay.specs.Inside.Refused.{WritesTwice, LosesByte, WritesOutOfOrder, TakesOutOfOrder, ShutdownTakesNoPlace, NeverPrunes, FollowsClockBack, ChangesOtherNames, LosesFile, ReusesNumber, TakesNothing, one_file, hourly}
 use Rattle.appender_replay.specs.declared.replay.whole.Reply.{Reply}
 use Rattle.appender_replay.specs.declared.replay.whole.Reply.TheVariants.{Accepted, Full, NoMemory, Took}
 
@@ -101,3 +110,50 @@ changes_other_names kind limit room first last b c t u is_known was is differs l
       | inl same ↦ differs (same_body b c t u (sym is ∙ same ∙ was))
       | inr gone ↦ let both : ◌≡◌ {A = Option Entry} (Some (File c u)) None = sym is ∙ gone.0 in cc
     ]
+
+pub loses_file : {S F : Type 0} (kind : Ghosts S F) → LosesFile kind
+loses_file kind x y limit room first last is_known gone law = subst IsFile gone ((law.folder.content is_known).open_file (inr refl))
+
+pub reuses_number : {S F : Type 0} (kind : Ghosts S F) → ReusesNumber kind
+reuses_number kind limit room past first last name entry k is_known lists below had in_it law = elim ((law.folder.content is_known).number refl) [
+  | inl first_number ↦ elim (first_number.above name entry k had in_it) [
+    | inl less ↦ absurd (omega (arith, less))
+    | inr (inl most) ↦ absurd (omega (arith, most))
+    | inr (inr last_file) ↦ let both : true ≡ false = sym last_file.1.continues in cc
+  ]
+  | inr failed ↦ let more = failed.2 in absurd (omega (arith, lists, below, more))
+]
+
+-- Folders in memory: what their relations say of the limits of appends.
+module _ {S F : Type 0} (kind : Ghosts S F) (state : S → MemoryState) (keeps : (old new : S) → Calls kind old new → (state new).shortened ≡ (state old).shortened)
+    (takes : (old new : S) (file after : F) (bytes : List ℕ) (answer : Result ℕ Error) → kind.append_gives old file bytes answer new after → TakesBytes bytes (state old) answer (state new)) where
+  -- each write that took nothing was given nothing
+  abbrev NoneShort : Writes → Type 0
+  NoneShort [] = Unit {0}
+  NoneShort ((name, bytes, answer) ∷ earlier) = (answer ≡ Ok 0 → length bytes ≡ 0) × NoneShort earlier
+
+  takes_all : (old new : S) (bytes : List ℕ) (answer : Result ℕ Error) → (state old).shortened ≡ fin.empty → TakesBytes bytes (state old) answer (state new) → by_kind answer ≡ Ok 0 → length bytes ≡ 0
+  takes_all old new bytes (Ok n) none does is =
+      let zero : n ≡ 0 = ap written_count is in
+      let all : count_taken (state old) (length bytes) ≡ length bytes =
+      ap (λ (limits : AppendLimits). option_map_or (λ (limit : ℕ). min limit (length bytes)) (fin.get limits (next_count (state old).calls)) (length bytes)) none
+      ∙ ap (λ (o : Option ℕ). option_map_or (λ (limit : ℕ). min limit (length bytes)) o (length bytes)) (fin.get-empty _ _) in
+      sym all ∙ sym does.takes ∙ zero
+  takes_all old new bytes (Err fault) none does is = absurd (let both : ◌≡◌ {A = Result ℕ ErrorKind} (Err (error_kind fault)) (Ok 0) = is in cc)
+
+  none_short : (first last : S) (writes : Writes) → (state first).shortened ≡ fin.empty → CallsLead kind first writes last → ((state last).shortened ≡ fin.empty) × NoneShort writes
+  none_short first last writes none (begins) = (none, tt)
+  none_short first last writes none (calls earlier old new lead call) =
+      let before = none_short first old earlier none lead in
+      (keeps old new call ∙ before.0, before.1)
+  none_short first last writes none (appends earlier old new file after name bytes answer lead call) =
+      let before = none_short first old earlier none lead in
+      let does = takes old new file after bytes answer call in
+      (does.called.shortened ∙ before.0, ((λ is. takes_all old new bytes answer before.0 does is), before.1))
+
+  pub takes_nothing : TakesNothing kind state
+  takes_nothing line items limit room first last none law =
+      let so = none_short first last _ none law.folder.calls in
+      let long : length line.items ≡ 2 = rw items refl in
+      let empty = so.1.0 refl in
+      absurd (omega (arith, long, empty))

@@ -1,15 +1,18 @@
 -- The headline of a run. An account follows from only the steps and replies: which reply each step gets, which files are begun, and what is
 -- written to each. The folder then contains what it contained before, and exactly that.
-use Rattle.std.specs.Prelude.{◌≡◌, ◌≢◌, ◌⊎◌, ◌↔◌, IsTrue, ℕ, ◌+◌, ◌-◌, ◌^◌, ◌<◌, ◌≤◌, nat_lt, min, ◌==◌, ℤ, Bool, true, false, not, ◌&&◌, if◌then◌else◌, List, [], ◌∷◌, ◌++◌, length, take, drop, get_or, All, Option, None, Some, is_some, unwrap_or, Result, Ok, Err}
+use Rattle.std.specs.Prelude.{◌≡◌, ◌≢◌, ◌⊎◌, ◌↔◌, IsTrue, ℕ, ◌+◌, ◌-◌, ◌^◌, ◌<◌, ◌≤◌, nat_lt, min, ◌==◌, ℤ, Bool, true, false, not, ◌&&◌, if◌then◌else◌, List, [], ◌∷◌, ◌++◌, length, take, drop, get_or, All, Option, None, Some, is_some, unwrap_or, Result, Ok, Err, Vec}
 use Rattle.std.specs.Int.{int_max}
 use Rattle.std.specs.Str.{bytes_eq}
 use Rattle.std.specs.FinMap as fin
+use Rattle.std.specs.declared.alloc.Global.{Global}
+use Rattle.std.specs.declared.io.Error.{Error}
 use Rattle.std.specs.declared.io.ErrorKind.{ErrorKind}
 use Rattle.std.specs.declared.io.ErrorKind.TheVariants.{OutOfMemory}
 use Rattle.appender_names.specs.Rotation.{is_moment, period_of, is_same_start}
 use Rattle.appender_store.specs.Content.{Content, NameMap, Entry, File, Link, IsFile, body_at}
 use Rattle.appender_store.specs.declared.store.Folder.{Ghosts}
-use Rattle.appender_store.specs.Folder.{NotedCounts, next_count}
+use Rattle.appender_store.specs.Folder.{NotedCounts, NoticeMessage, next_count}
+use Rattle.appender_store.specs.declared.store.Listed.{Listed}
 use Rattle.appender_retain.specs.Survival.{name_rank, name_survives}
 use Rattle.appender_rolling.specs.Config.{Config, is_limited, max_before, log_files_of}
 use Rattle.appender_rolling.specs.Limits.{KeepsEachFile}
@@ -22,13 +25,18 @@ use Rattle.appender_queue.specs.declared.queue.Shut.TheVariants.{Sent, Already, 
 use Rattle.appender_rolling.specs.declared.rolling.Switch.{Switch}
 use Rattle.appender_rolling.specs.declared.rolling.Switch.TheVariants.{None as Stayed, Opened as Switched}
 use Rattle.appender_replay.specs.Start.{Start, start_stamp, start_of}
+use Rattle.appender_replay.specs.Replay.{by_kind}
 use Rattle.appender_replay.specs.declared.replay.whole.Step.{Step}
 use Rattle.appender_replay.specs.declared.replay.whole.Step.TheVariants.{Offer, Shut, AddSender, DropSender, Work}
 use Rattle.appender_replay.specs.declared.replay.whole.Reply.{Reply}
 use Rattle.appender_replay.specs.declared.replay.whole.Reply.TheVariants.{Accepted, Full, Closed, NoMemory, Shut as DidShut, Senders, Took, TookShutdown, TookGone, TookEmpty, Wrote, Flushed, Ended}
 
+-- the writes, the newest first: the name of the open file, the bytes, and the answer
+abbrev pub Writes : Type 0
+Writes = List (List ℕ × List ℕ × Result ℕ ErrorKind)
+
 -- The files: the latest moment that was read; the attempts to open one, the newest, the earlier ones, newest first, and how many failed; the bytes
--- that count since, which are those that were written, and those that the first file held if the log continues it; the open file's name; what each write took, newest first; how many writes and flushes failed, but for want of memory.
+-- that count since, which are those that were written, and those that the first file held if the log continues it; the open file's name; the writes; how many writes and flushes failed, but for want of memory.
 pub record Files : Type 0 where
   pub latest : ℤ
   pub newest : Stamp
@@ -36,7 +44,7 @@ pub record Files : Type 0 where
   pub failed : ℕ
   pub since : ℕ
   pub file : List ℕ
-  pub writes : List (List ℕ × List ℕ)
+  pub writes : Writes
   pub faults : ℕ
 
 -- The queue: all lines that were accepted, in order, and how many of them were handed to the worker; how many had been accepted when the
@@ -124,7 +132,7 @@ faults_in (Err kind) = 1
 
 -- a write of these bytes to the open file
 abbrev pub files_after_write : List ℕ → Result ℕ ErrorKind → Files → Files
-files_after_write bytes answer f = record f { since = f.since + length (take (written_count answer) bytes); writes = (f.file, take (written_count answer) bytes) ∷ f.writes; faults = f.faults + faults_in answer }
+files_after_write bytes answer f = record f { since = f.since + length (take (written_count answer) bytes); writes = (f.file, bytes, answer) ∷ f.writes; faults = f.faults + faults_in answer }
 
 -- a line is given up at a write of no byte, at the 101st interruption and at any other error
 abbrev pub account_after_write : Result ℕ ErrorKind → RunAccount → RunAccount
@@ -156,9 +164,9 @@ Follows limit c start (t ∷ past) = Follows limit c start past × Replies limit
 -- ---- the folder
 
 -- what was written to the file of this name
-abbrev pub written_to_name : List ℕ → List (List ℕ × List ℕ) → List ℕ
+abbrev pub written_to_name : List ℕ → Writes → List ℕ
 written_to_name name [] = []
-written_to_name name ((file, bytes) ∷ earlier) = written_to_name name earlier ++ (if bytes_eq file name then bytes else [])
+written_to_name name ((file, bytes, answer) ∷ earlier) = written_to_name name earlier ++ (if bytes_eq file name then take (written_count answer) bytes else [])
 
 -- what retention leaves under a name before a file is opened
 abbrev pub kept_entry : Config → Stamp → NameMap → List ℕ → Option Entry
@@ -213,10 +221,33 @@ pub record Contains (c : Config) (start : Start) (f : Files) (first last : Conte
   pub number : is_limited c ≡ true → IsFirstNumber c start.moment (HasEntry first) start.number
       ⊎ ((start.number ≡ 0) × (first.there ≡ true) × (next_count noted_first.lists ≤ noted_last.lists))
 
+-- ---- the calls of the folder
+
+module _ {S F : Type 0} (kind : Ghosts S F) where
+  -- one call that is no append, whatever it returned
+  pub data Calls (old new : S) : Type 0 where
+    Lists : (answer : Result (Vec Listed Global) Error) → kind.list_gives old answer new → Calls old new
+    Removes : (name : List ℕ) (answer : Result (Unit {0}) Error) → kind.remove_gives old name answer new → Calls old new
+    Opens : (name : List ℕ) (answer : Result F Error) → kind.open_gives old name answer new → Calls old new
+    MakesFolder : (answer : Result (Unit {0}) Error) → kind.make_folder_gives old answer new → Calls old new
+    RemovesLink : (link : List ℕ) (answer : Result (Unit {0}) Error) → kind.remove_link_gives old link answer new → Calls old new
+    MakesLink : (link target : List ℕ) (answer : Result (Unit {0}) Error) → kind.make_link_gives old link target answer new → Calls old new
+    Flushes : (file after : F) (answer : Result (Unit {0}) Error) → kind.flush_gives old file answer new after → Calls old new
+    Notes : (notice : NoticeMessage) → kind.note_gives old notice new → Calls old new
+
+  -- All calls since the folder was as at first, one after another. The appends are these writes.
+  pub data CallsLead (first : S) : Writes → S → Type 0 where
+    begins : CallsLead first [] first
+    calls : (writes : Writes) (old new : S) → CallsLead first writes old → Calls old new → CallsLead first writes new
+    appends : (writes : Writes) (old new : S) (file after : F) (name bytes : List ℕ) (answer : Result ℕ Error) → CallsLead first writes old
+        → kind.append_gives old file bytes answer new after → CallsLead first ((name, bytes, by_kind answer) ∷ writes) new
+
 -- The folder after a run: it noted each attempt that failed, and counted each write and each flush that failed.
 pub record FolderFollows {S F : Type 0} (kind : Ghosts S F) (c : Config) (start : Start) (f : Files) (first last : S) : Type 0 where
   pub failed : (kind.noted last).opens ≡ min ((kind.noted first).opens + f.failed) (2 ^ 64 - 1)
   pub faults : min (kind.failures first + f.faults) (2 ^ 64 - 1) ≤ kind.failures last
+  -- Nothing else was called, so each kind of folder says why a write took nothing.
+  pub calls : CallsLead kind first f.writes last
   pub unnumbered : is_limited c ≡ false → start.number ≡ 0
   pub anew : c.continues ≡ false → start.held ≡ 0
   pub content : IsTrue kind.is_known → Contains c start f (kind.content first) (kind.content last) (kind.noted first) (kind.noted last)
