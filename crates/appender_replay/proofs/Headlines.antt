@@ -1,5 +1,5 @@
 -- The headlines of runs: each reply is the one that the account demands, and the folder keeps what the account says.
-use Rattle.std.proofs.Common.{◌≡◌, ◌∙◌, ℕ, ℤ, ◌+◌, ◌≤◌, Bool, List, [], ◌∷◌, length, take, Option, None, Some, is_some, Result, Ok, refl, ap, sym, subst, arith}
+use Rattle.std.proofs.Common.{◌≡◌, ◌∙◌, ℕ, ℤ, ◌+◌, ◌^◌, ◌<◌, ◌≤◌, Bool, List, [], ◌∷◌, length, Option, None, Some, is_some, Result, Ok, refl, ap, sym, subst, arith}
 use Rattle.std.specs.declared.io.Error.{Error}
 use Rattle.std.specs.declared.io.ErrorKind.{ErrorKind}
 use Rattle.appender_queue.specs.declared.queue.Shut.TheVariants.{Sent}
@@ -27,7 +27,7 @@ use Rattle.appender_replay.proofs.Counting.{Counted, counted_same, looks_counted
 use Rattle.appender_replay.proofs.FileAccounts.{FilesAre, failed_by, files_begin, files_look, files_see, files_write, files_stay, with_faults, switches_if_due}
 use Rattle.appender_replay.proofs.Accounts.{SwitchesIfDue, Leads, steps, stands}
 use Rattle.appender_replay.proofs.Wholes.{GoesFrom, goes_runs}
-use Rattle.appender_replay.proofs.FolderCalls.{goes_same, finds_go, opens_go, looks_go, flushes_go}
+use Rattle.appender_replay.proofs.FolderCalls.{goes_same, finds_go, opens_go, looks_go, flushes_go, calls_append}
 use Rattle.appender_replay.proofs.Keeping.{keeps, sum_by}
 
 -- a check of the clock counts no error
@@ -51,15 +51,15 @@ look_writes c m len switch f = by (head.due_file c f m len) switch
     by (Some s) SwitchFailed = refl
 
 -- the calls of one step
-module _ {S F : Type 0} (kind : Ghosts S F) (first : S) (c : Config) where
+module _ {S F : Type 0} (kind : Ghosts S F) (failures_fit : (s : S) → kind.failures s < 2 ^ 64) (first : S) (c : Config) where
   look_calls : (m : ℤ) (len : ℕ) (switch : Switch) (f : Files) (old new : Rolling S F) → ChecksClock kind m len switch old new → CallsLead kind first f.writes old.folder → CallsLead kind first (head.files_after_check c m len switch f).writes new.folder
   look_calls m len switch f old new looks lead =
-      subst (λ (writes : head.Writes). CallsLead kind first writes new.folder) (sym (look_writes c m len switch f)) (looks_go kind first m len switch old new looks f.writes lead)
+      subst (λ (writes : head.WriteList). CallsLead kind first writes new.folder) (sym (look_writes c m len switch f)) (looks_go kind failures_fit first m len switch old new looks f.writes lead)
 
   write_calls : (bytes : List ℕ) (shown : Result ℕ ErrorKind) (answer : Result ℕ Error) (f : Files) (old new : Rolling S F) → shown ≡ by_kind answer → Writes kind bytes answer old new
       → CallsLead kind first f.writes old.folder → CallsLead kind first (head.files_after_write bytes shown f).writes new.folder
   write_calls bytes shown answer f old new is writes lead =
-      subst (λ (r : Result ℕ ErrorKind). CallsLead kind first ((f.file, bytes, r) ∷ f.writes) new.folder) (sym is) (appends f.writes old.folder new.folder old.file new.file f.file bytes answer lead writes.call)
+      appends f.writes (f.file, bytes, shown) old.folder new.folder lead (calls_append kind failures_fit first bytes shown answer old new is writes)
 
   put_calls : (m : ℤ) (bytes : List ℕ) (switch : Switch) (shown : Result ℕ ErrorKind) (answer : Result ℕ Error) (f : Files) (old new : Rolling S F) → shown ≡ by_kind answer → Puts kind m bytes switch answer old new
       → CallsLead kind first f.writes old.folder → CallsLead kind first (head.files_after_write bytes shown (head.files_after_check c m (length bytes) switch f)).writes new.folder
@@ -67,9 +67,9 @@ module _ {S F : Type 0} (kind : Ghosts S F) (first : S) (c : Config) where
       write_calls bytes shown answer (head.files_after_check c m (length bytes) switch f) puts.between new is puts.writes (look_calls m (length bytes) switch f old puts.between puts.looks lead)
 
 -- those of the opening
-opening_calls : {S F : Type 0} (kind : Ghosts S F) (c : Config) (moment : ℤ) (folder : S) (first : Rolling S F) → OpensRoller kind c moment folder first → CallsLead kind folder [] first.folder
-opening_calls kind c moment folder first opens =
-    opens_go kind folder c _ opens.listed first.file first.folder opens.opens [] (finds_go kind folder c moment folder opens.number opens.listed opens.finds [] begins)
+opening_calls : {S F : Type 0} (kind : Ghosts S F) (failures_fit : (s : S) → kind.failures s < 2 ^ 64) (c : Config) (moment : ℤ) (folder : S) (first : Rolling S F) → OpensRoller kind c moment folder first → CallsLead kind folder [] first.folder
+opening_calls kind failures_fit c moment folder first opens =
+    opens_go kind failures_fit folder c _ opens.listed first.file first.folder opens.opens [] (finds_go kind failures_fit folder c moment folder opens.number opens.listed opens.finds [] begins)
 
 -- ---- a roller alone
 
@@ -149,20 +149,20 @@ module _ (c : Config) (start : Start) where
         let more = roll_files (events_by roll_event past) (roll_account c start past) so.files t between new is switches.0 in
         record { follows = (so.follows, more.0); files = more.1 }
 
-  roll_step_calls : {S F : Type 0} (kind : Ghosts S F) (first : S) (past : List RollStepWithReply) (t : RollStepWithReply) (old new : Rolling S F) → RollStepDoes kind t old new
+  roll_step_calls : {S F : Type 0} (kind : Ghosts S F) (failures_fit : (s : S) → kind.failures s < 2 ^ 64) (first : S) (past : List RollStepWithReply) (t : RollStepWithReply) (old new : Rolling S F) → RollStepDoes kind t old new
       → CallsLead kind first (roll_account c start past).writes old.folder → CallsLead kind first (roll_account c start (t ∷ past)).writes new.folder
-  roll_step_calls kind first past (See m, Saw switch) old new looks lead = look_calls kind first c m 0 switch (roll_account c start past) old new looks lead
-  roll_step_calls kind first past (Put m bytes, DidPut switch shown) old new (answer, is, puts) lead = put_calls kind first c m bytes.items switch shown answer (roll_account c start past) old new is puts lead
-  roll_step_calls kind first past (Write bytes, RollWrote shown) old new (answer, is, writes) lead = write_calls kind first c bytes.items shown answer (roll_account c start past) old new is writes lead
-  roll_step_calls kind first past (Flush, RollFlushed shown) old new (answer, is, flushes) lead = flushes_go kind first answer old new flushes (roll_account c start past).writes lead
-  roll_step_calls kind first past (See m, _) old new does lead = absurd does
-  roll_step_calls kind first past (Put m bytes, _) old new does lead = absurd does
-  roll_step_calls kind first past (Write bytes, _) old new does lead = absurd does
-  roll_step_calls kind first past (Flush, _) old new does lead = absurd does
+  roll_step_calls kind failures_fit first past (See m, Saw switch) old new looks lead = look_calls kind failures_fit first c m 0 switch (roll_account c start past) old new looks lead
+  roll_step_calls kind failures_fit first past (Put m bytes, DidPut switch shown) old new (answer, is, puts) lead = put_calls kind failures_fit first c m bytes.items switch shown answer (roll_account c start past) old new is puts lead
+  roll_step_calls kind failures_fit first past (Write bytes, RollWrote shown) old new (answer, is, writes) lead = write_calls kind failures_fit first c bytes.items shown answer (roll_account c start past) old new is writes lead
+  roll_step_calls kind failures_fit first past (Flush, RollFlushed shown) old new (answer, is, flushes) lead = flushes_go kind failures_fit first answer old new flushes (roll_account c start past).writes lead
+  roll_step_calls kind failures_fit first past (See m, _) old new does lead = absurd does
+  roll_step_calls kind failures_fit first past (Put m bytes, _) old new does lead = absurd does
+  roll_step_calls kind failures_fit first past (Write bytes, _) old new does lead = absurd does
+  roll_step_calls kind failures_fit first past (Flush, _) old new does lead = absurd does
 
-  roll_calls : {S F : Type 0} (kind : Ghosts S F) (first : S) (past : List RollStepWithReply) (old new : Rolling S F) → LeadsTo (RollDoes kind) past old new → CallsLead kind first [] old.folder → CallsLead kind first (roll_account c start past).writes new.folder
-  roll_calls kind first [] old new same lead = subst (λ (r : Rolling _ _). CallsLead kind first [] r.folder) (sym same) lead
-  roll_calls kind first (t ∷ past) old new (between, earlier, is) lead = roll_step_calls kind first past t between new is (roll_calls kind first past old between earlier lead)
+  roll_calls : {S F : Type 0} (kind : Ghosts S F) (failures_fit : (s : S) → kind.failures s < 2 ^ 64) (first : S) (past : List RollStepWithReply) (old new : Rolling S F) → LeadsTo (RollDoes kind) past old new → CallsLead kind first [] old.folder → CallsLead kind first (roll_account c start past).writes new.folder
+  roll_calls kind failures_fit first [] old new same lead = subst (λ (r : Rolling _ _). CallsLead kind first [] r.folder) (sym same) lead
+  roll_calls kind failures_fit first (t ∷ past) old new (between, earlier, is) lead = roll_step_calls kind failures_fit first past t between new is (roll_calls kind failures_fit first past old between earlier lead)
 
 pub roll_headline : {S F : Type 0} (kind : Ghosts S F) (c : Config) (grounds : Grounds kind c) (moment : ℤ) (number room : ℕ) (folder : S) (past : List RollStepWithReply) (last : Rolling S F)
     → RunsFrom kind (RollDoes kind) c moment number room folder past last → RollerFollows kind (RollDoes kind) roll_event c moment number room folder past last
@@ -174,7 +174,7 @@ roll_headline kind c grounds moment number room folder past last run rolls =
       replies = so.follows;
       folder = keeps kind grounds.failures_fit grounds.noted_fit (RollDoes kind) roll_event roll_faults (roll_step_counts c start kind grounds) grounds.maps grounds.parts grounds.sound
           c moment number room folder past last run rolls (roll_account c start past) so.files (roll_faults_are c start kind grounds past)
-          (roll_calls c start kind folder past run.first last run.runs (opening_calls kind c moment folder run.first run.opens));
+          (roll_calls c start kind grounds.failures_fit folder past run.first last run.runs (opening_calls kind grounds.failures_fit c moment folder run.first run.opens));
     }
 
 -- ---- a queue, a worker and a roller
@@ -241,17 +241,17 @@ module _ (c : Config) (start : Start) where
         (flushes_counted kind grounds.failures_fit grounds.noted_fit answer old new flushes)
     rolls_count past rest (s, r) old new same = counted_same kind grounds.failures_fit grounds.noted_fit old.folder new.folder (ap (λ (x : Rolling S F). x.folder) same)
 
-  step_calls : {S F : Type 0} (kind : Ghosts S F) (first : S) (past : List StepWithReply) (t : StepWithReply) (old new : Rolling S F) → RollerDoes kind (account c start past).rest t old new
+  step_calls : {S F : Type 0} (kind : Ghosts S F) (failures_fit : (s : S) → kind.failures s < 2 ^ 64) (first : S) (past : List StepWithReply) (t : StepWithReply) (old new : Rolling S F) → RollerDoes kind (account c start past).rest t old new
       → CallsLead kind first (account c start past).files.writes old.folder → CallsLead kind first (account c start (t ∷ past)).files.writes new.folder
-  step_calls kind first past (Work m, Wrote switch shown) old new (answer, is, puts) lead = put_calls kind first c m (account c start past).rest switch shown answer (account c start past).files old new is puts lead
-  step_calls kind first past (Work m, Flushed shown) old new (answer, is, flushes) lead = flushes_go kind first answer old new flushes (account c start past).files.writes lead
-  step_calls kind first past (Offer label line, Accepted k) old new same lead = goes_same kind first old.folder new.folder (ap (λ (r : Rolling _ _). r.folder) same) (account c start past).files.writes lead
-  step_calls kind first past (Shut, DidShut Sent) old new same lead = goes_same kind first old.folder new.folder (ap (λ (r : Rolling _ _). r.folder) same) (account c start past).files.writes lead
-  step_calls kind first past (s, r) old new same lead = goes_same kind first old.folder new.folder (ap (λ (r : Rolling _ _). r.folder) same) (account c start past).files.writes lead
+  step_calls kind failures_fit first past (Work m, Wrote switch shown) old new (answer, is, puts) lead = put_calls kind failures_fit first c m (account c start past).rest switch shown answer (account c start past).files old new is puts lead
+  step_calls kind failures_fit first past (Work m, Flushed shown) old new (answer, is, flushes) lead = flushes_go kind failures_fit first answer old new flushes (account c start past).files.writes lead
+  step_calls kind failures_fit first past (Offer label line, Accepted k) old new same lead = goes_same kind failures_fit first old.folder new.folder (ap (λ (r : Rolling _ _). r.folder) same) (account c start past).files.writes lead
+  step_calls kind failures_fit first past (Shut, DidShut Sent) old new same lead = goes_same kind failures_fit first old.folder new.folder (ap (λ (r : Rolling _ _). r.folder) same) (account c start past).files.writes lead
+  step_calls kind failures_fit first past (s, r) old new same lead = goes_same kind failures_fit first old.folder new.folder (ap (λ (r : Rolling _ _). r.folder) same) (account c start past).files.writes lead
 
-  run_calls : {S F : Type 0} (kind : Ghosts S F) (first : S) (past : List StepWithReply) (old new : Rolling S F) → LeadsTo (WorkerDoes kind c start) past old new → CallsLead kind first [] old.folder → CallsLead kind first (account c start past).files.writes new.folder
-  run_calls kind first [] old new same lead = subst (λ (r : Rolling _ _). CallsLead kind first [] r.folder) (sym same) lead
-  run_calls kind first (t ∷ past) old new (between, earlier, is) lead = step_calls kind first past t between new is (run_calls kind first past old between earlier lead)
+  run_calls : {S F : Type 0} (kind : Ghosts S F) (failures_fit : (s : S) → kind.failures s < 2 ^ 64) (first : S) (past : List StepWithReply) (old new : Rolling S F) → LeadsTo (WorkerDoes kind c start) past old new → CallsLead kind first [] old.folder → CallsLead kind first (account c start past).files.writes new.folder
+  run_calls kind failures_fit first [] old new same lead = subst (λ (r : Rolling _ _). CallsLead kind first [] r.folder) (sym same) lead
+  run_calls kind failures_fit first (t ∷ past) old new (between, earlier, is) lead = step_calls kind failures_fit first past t between new is (run_calls kind failures_fit first past old between earlier lead)
 
 pub headline : {S F : Type 0} (kind : Ghosts S F) (c : Config) (grounds : Grounds kind c) (limit : ℕ) (lossy : Bool) (moment : ℤ) (number room : ℕ) (folder : S) (past : List StepWithReply) (last : Parts S F) (so : GoesFrom kind c limit lossy moment number room folder past last)
     → RollerFollows kind (WorkerDoes kind c (start_of c moment number room)) (run_event c (start_of c moment number room)) c moment number room folder past last.roller
@@ -264,5 +264,5 @@ headline kind c grounds limit lossy moment number room folder past last so follo
       replies = is.follows;
       folder = keeps kind grounds.failures_fit grounds.noted_fit (WorkerDoes kind c start) (run_event c start) whole_faults (λ earlier t. rolls_count c start kind grounds earlier (account c start earlier).rest t) grounds.maps grounds.parts grounds.sound
           c moment number room folder past last.roller run follows (account c start past).files is.files (whole_faults_are c start kind grounds past)
-          (run_calls c start kind folder past run.first last.roller run.runs (opening_calls kind c moment folder run.first run.opens));
+          (run_calls c start kind grounds.failures_fit folder past run.first last.roller run.runs (opening_calls kind grounds.failures_fit c moment folder run.first run.opens));
     }

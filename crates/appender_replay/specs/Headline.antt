@@ -1,17 +1,22 @@
 -- The headline of a run. An account follows from only the steps and replies: which reply each step gets, which files are begun, and what is
--- written to each. The folder then contains what it contained before, and exactly that.
+-- written to each. The folder then contains what it contained before, and exactly that. Read it from `Headline` upwards.
+-- Of other files: `is_moment`, a moment of the years 1 to 9998; `written_count`, the bytes that an answer took; `NotedCounts`, the notices by kind;
+-- `name_rank`, the rank of a log file's name; `name_survives`, whether retention leaves a name.
 use Rattle.std.specs.Prelude.{◌≡◌, ◌≢◌, ◌⊎◌, ◌↔◌, IsTrue, ℕ, ◌+◌, ◌-◌, ◌^◌, ◌<◌, ◌≤◌, nat_lt, min, ◌==◌, ℤ, Bool, true, false, not, ◌&&◌, if◌then◌else◌, List, [], ◌∷◌, ◌++◌, length, take, drop, get_or, All, Option, None, Some, is_some, unwrap_or, Result, Ok, Err, Vec}
 use Rattle.std.specs.Int.{int_max}
 use Rattle.std.specs.Str.{bytes_eq}
 use Rattle.std.specs.FinMap as fin
+use Rattle.std.specs.IoError.{error_kind}
 use Rattle.std.specs.declared.alloc.Global.{Global}
 use Rattle.std.specs.declared.io.Error.{Error}
 use Rattle.std.specs.declared.io.ErrorKind.{ErrorKind}
 use Rattle.std.specs.declared.io.ErrorKind.TheVariants.{OutOfMemory}
+use Rattle.appender_names.specs.declared.error.InitError.{InitError}
 use Rattle.appender_names.specs.Rotation.{is_moment, period_of, is_same_start}
-use Rattle.appender_store.specs.Content.{Content, NameMap, Entry, File, Link, IsFile, body_at}
+use Rattle.appender_store.specs.Content.{Content, NameMap, Entry, File, Link, IsFile, ForbidsList, body_at}
 use Rattle.appender_store.specs.declared.store.Folder.{Ghosts}
-use Rattle.appender_store.specs.Folder.{NotedCounts, NoticeMessage, next_count}
+use Rattle.appender_store.specs.Folder.{HasCause, NotedCounts, NoticeMessage, NotedList, NotedRemove, NotedFlush, NotedOpen, next_count}
+use Rattle.appender_store.specs.Notes.{Notes}
 use Rattle.appender_store.specs.declared.store.Listed.{Listed}
 use Rattle.appender_retain.specs.Survival.{name_rank, name_survives}
 use Rattle.appender_rolling.specs.Config.{Config, is_limited, max_before, log_files_of}
@@ -32,8 +37,8 @@ use Rattle.appender_replay.specs.declared.replay.whole.Reply.{Reply}
 use Rattle.appender_replay.specs.declared.replay.whole.Reply.TheVariants.{Accepted, Full, Closed, NoMemory, Shut as DidShut, Senders, Took, TookShutdown, TookGone, TookEmpty, Wrote, Flushed, Ended}
 
 -- the writes, the newest first: the name of the open file, the bytes, and the answer
-abbrev pub Writes : Type 0
-Writes = List (List ℕ × List ℕ × Result ℕ ErrorKind)
+abbrev pub WriteList : Type 0
+WriteList = List (List ℕ × List ℕ × Result ℕ ErrorKind)
 
 -- The files: the latest moment that was read; the attempts to open one, the newest, the earlier ones, newest first, and how many failed; the bytes
 -- that count since, which are those that were written, and those that the first file held if the log continues it; the open file's name; the writes; how many writes and flushes failed, but for want of memory.
@@ -44,7 +49,7 @@ pub record Files : Type 0 where
   pub failed : ℕ
   pub since : ℕ
   pub file : List ℕ
-  pub writes : Writes
+  pub writes : WriteList
   pub faults : ℕ
 
 -- The queue: all lines that were accepted, in order, and how many of them were handed to the worker; how many had been accepted when the
@@ -164,11 +169,11 @@ Follows limit c start (t ∷ past) = Follows limit c start past × Replies limit
 -- ---- the folder
 
 -- what was written to the file of this name
-abbrev pub written_to_name : List ℕ → Writes → List ℕ
+abbrev pub written_to_name : List ℕ → WriteList → List ℕ
 written_to_name name [] = []
 written_to_name name ((file, bytes, answer) ∷ earlier) = written_to_name name earlier ++ (if bytes_eq file name then take (written_count answer) bytes else [])
 
--- what retention leaves under a name before a file is opened
+-- What retention leaves under a name when this file is opened. By name, the file that is opened is none of those that it counts, and so stays.
 abbrev pub kept_entry : Config → Stamp → NameMap → List ℕ → Option Entry
 kept_entry c s names name = if name_survives (log_files_of c (Some (file_name_of c s))) c.max_files names name then fin.get names name else None
 
@@ -224,7 +229,7 @@ pub record Contains (c : Config) (start : Start) (f : Files) (first last : Conte
 -- ---- the calls of the folder
 
 module _ {S F : Type 0} (kind : Ghosts S F) where
-  -- one call that is no append, whatever it returned
+  -- one call that is neither an append nor a notice, whatever it returned
   pub data Calls (old new : S) : Type 0 where
     Lists : (answer : Result (Vec Listed Global) Error) → kind.list_gives old answer new → Calls old new
     Removes : (name : List ℕ) (answer : Result (Unit {0}) Error) → kind.remove_gives old name answer new → Calls old new
@@ -233,20 +238,42 @@ module _ {S F : Type 0} (kind : Ghosts S F) where
     RemovesLink : (link : List ℕ) (answer : Result (Unit {0}) Error) → kind.remove_link_gives old link answer new → Calls old new
     MakesLink : (link target : List ℕ) (answer : Result (Unit {0}) Error) → kind.make_link_gives old link target answer new → Calls old new
     Flushes : (file after : F) (answer : Result (Unit {0}) Error) → kind.flush_gives old file answer new after → Calls old new
-    Notes : (notice : NoticeMessage) → kind.note_gives old notice new → Calls old new
 
-  -- All calls since the folder was as at first, one after another. The appends are these writes.
-  pub data CallsLead (first : S) : Writes → S → Type 0 where
+  -- it is not noted
+  abbrev pub NotesNothing : S → S → Type 0
+  NotesNothing old new = (kind.noted new ≡ kind.noted old) × (kind.failures old ≤ kind.failures new)
+
+  -- an append of these bytes
+  abbrev pub CallsAppend : List ℕ → Result ℕ ErrorKind → S → S → Type 0
+  CallsAppend bytes shown old new = (file : F) × (after : F) × (answer : Result ℕ Error)
+      × (shown ≡ by_kind answer) × kind.append_gives old file bytes answer new after × NotesNothing old new
+
+  -- The call from one folder to the other failed with the fault of this notice. List is also noted if there was no memory to choose what is removed.
+  abbrev pub HasFault : S → S → NoticeMessage → Type 0
+  HasFault old new (NotedList fault) = (error_kind fault ≡ OutOfMemory) ⊎ (kind.list_gives old (Err fault) new
+      × HasCause {T = Unit {0}} kind.is_known (ForbidsList (kind.content old)) (kind.failures old) (kind.failures new) (Err fault))
+  HasFault old new (NotedRemove name fault) =
+      kind.remove_gives old name (Err fault) new × HasCause {T = Unit {0}} kind.is_known ⊥ (kind.failures old) (kind.failures new) (Err fault)
+  HasFault old new (NotedFlush fault) = (file : F) × (after : F) × kind.flush_gives old file (Err fault) new after
+  HasFault old new (NotedOpen error) = ⊥
+
+  abbrev pub NotesFault : S → S → S → Type 0
+  NotesFault old failed new = (notice : NoticeMessage) × HasFault old failed notice × Notes kind failed notice new
+
+  -- All calls since the first folder, one after another, that lead to this one. The appends are these writes. A notice is of a call or of an attempt.
+  pub data CallsLead (first : S) : WriteList → S → Type 0 where
     begins : CallsLead first [] first
-    calls : (writes : Writes) (old new : S) → CallsLead first writes old → Calls old new → CallsLead first writes new
-    appends : (writes : Writes) (old new : S) (file after : F) (name bytes : List ℕ) (answer : Result ℕ Error) → CallsLead first writes old
-        → kind.append_gives old file bytes answer new after → CallsLead first ((name, bytes, by_kind answer) ∷ writes) new
+    calls : (w : WriteList) (s t : S) → CallsLead first w s → Calls s t → NotesNothing s t → CallsLead first w t
+    appends : (w : WriteList) (e : List ℕ × List ℕ × Result ℕ ErrorKind) (s t : S) → CallsLead first w s → CallsAppend e.1 e.2 s t → CallsLead first (e ∷ w) t
+    notes : (w : WriteList) (s t u : S) → CallsLead first w s → Calls s t → NotesNothing s t → NotesFault s t u → CallsLead first w u
+    notes_attempt : (w : WriteList) (s t : S) (error : InitError) → CallsLead first w s → Notes kind s (NotedOpen error) t → CallsLead first w t
 
--- The folder after a run: it noted each attempt that failed, and counted each write and each flush that failed.
+-- The folder after a run: it noted each attempt that failed, and counted each write and each flush that failed. Why an attempt failed is in the clause
+-- `runs` of `replay` (`KeepsFile` of `appender_rolling`).
 pub record FolderFollows {S F : Type 0} (kind : Ghosts S F) (c : Config) (start : Start) (f : Files) (first last : S) : Type 0 where
   pub failed : (kind.noted last).opens ≡ min ((kind.noted first).opens + f.failed) (2 ^ 64 - 1)
   pub faults : min (kind.failures first + f.faults) (2 ^ 64 - 1) ≤ kind.failures last
-  -- Nothing else was called, so each kind of folder says why a write took nothing.
+  -- Nothing else was called. So its relation of appends says why a write took nothing, and each List or Remove that was noted has a cause.
   pub calls : CallsLead kind first f.writes last
   pub unnumbered : is_limited c ≡ false → start.number ≡ 0
   pub anew : c.continues ≡ false → start.held ≡ 0

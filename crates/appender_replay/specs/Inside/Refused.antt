@@ -1,5 +1,5 @@
 -- Wrong runs. The headline by itself refuses each of them.
-use Rattle.std.specs.Prelude.{false, None, ◌≡◌, IsTrue, ℕ, ◌-◌, ◌^◌, ◌<◌, ℤ, pos, true, List, [], ◌∷◌, Option, Some, Ok, Vec}
+use Rattle.std.specs.Prelude.{false, None, ◌≡◌, ◌≢◌, IsTrue, ℕ, ◌-◌, ◌^◌, ◌<◌, ℤ, pos, true, List, [], ◌∷◌, Option, Some, Ok, Vec}
 use Rattle.std.specs.declared.alloc.Global.{Global}
 use Rattle.std.specs.FinMap as fin
 use Rattle.appender_names.specs.Name.{IsNumberIn}
@@ -111,3 +111,8 @@ ReusesNumber {S} {F} kind = (limit room : ℕ) (past : List StepWithReply) (firs
 abbrev pub TakesNothing : {S F : Type 0} → Ghosts S F → (S → MemoryState) → Type 0
 TakesNothing {S} {F} kind state = (line : Vec ℕ Global) → line.items ≡ 120 ∷ 121 ∷ [] → (limit room : ℕ) (first last : S) → (state first).shortened ≡ fin.empty
     → Headline kind limit (one_file 0) (pos 0) 0 room ((Work (pos 0), Wrote Stayed (Ok 0)) ∷ (Work (pos 0), Took 1) ∷ (Offer 0 line, Accepted 1) ∷ []) first last → ⊥
+
+-- Remove is noted, though no call failed.
+abbrev pub NotesNoFault : {S F : Type 0} → Ghosts S F → Type 0
+NotesNoFault {S} {F} kind = (limit : ℕ) (c : Config) (moment : ℤ) (number room : ℕ) (past : List StepWithReply) (first last : S) → kind.failures first < 2 ^ 64 - 1
+    → kind.failures last ≡ kind.failures first → (kind.noted last).removes ≢ (kind.noted first).removes → Headline kind limit c moment number room past first last → ⊥
