@@ -27,6 +27,9 @@ use Rattle.appender_replay.proofs.Clocks.{count_stays, count_begins}
 abbrev pub stamps_of : List AttemptTime → List Stamp
 stamps_of = map (λ (t : AttemptTime). t.1)
 
+abbrev pub outcomes_of : List AttemptTime → List Bool
+outcomes_of = map (λ (t : AttemptTime). t.2)
+
 abbrev pub failed_by : Switch → ℕ
 failed_by SwitchFailed = 1
 failed_by switch = 0
@@ -46,6 +49,7 @@ bytes_named c start name (e ∷ h) =
 pub record FilesAre (c : Config) (start : Start) (h : List Event) (f : Files) : Type 0 where
   pub latest : latest_moment start.moment h ≡ f.latest
   pub stamps : stamps_of (attempt_times c start h) ≡ f.newest ∷ f.earlier
+  pub outcomes : outcomes_of (attempt_times c start h) ≡ f.outcomes
   pub failed : failed_in h ≡ f.failed
   pub count : count_since start (attempt_times c start h) h ≡ f.since
   pub file : file_name_of c (last_opened start (attempt_times c start h)) ≡ f.file
@@ -97,16 +101,17 @@ latest_more start m len switch bytes h = by (is_moment m) (filter is_moment (fil
 
 module _ (c : Config) (start : Start) where
   pub files_begin : FilesAre c start [] (head.files_at_opening c start)
-  files_begin = record { latest = refl; stamps = refl; failed = refl; count = omega arith; file = refl; text = λ name. refl }
+  files_begin = record { latest = refl; stamps = refl; outcomes = refl; failed = refl; count = omega arith; file = refl; text = λ name. refl }
 
   -- errors that are counted change nothing else
   pub with_faults : (h : List Event) (f : Files) (n : ℕ) → FilesAre c start h f → FilesAre c start h (record f { faults = n })
-  with_faults h f n so = record { latest = so.latest; stamps = so.stamps; failed = so.failed; count = so.count; file = so.file; text = so.text }
+  with_faults h f n so = record { latest = so.latest; stamps = so.stamps; outcomes = so.outcomes; failed = so.failed; count = so.count; file = so.file; text = so.text }
 
   without_piece : (h : List Event) (f : Files) → FilesAre c start h (with_write [] (Ok 0) f) → FilesAre c start h f
   without_piece h f so = record {
     latest = so.latest;
     stamps = so.stamps;
+    outcomes = so.outcomes;
     failed = so.failed;
     count = omega (arith, so.count);
     file = so.file;
@@ -159,6 +164,7 @@ module _ (c : Config) (start : Start) where
         record {
           latest = now;
           stamps = ap stamps_of same ∙ so.stamps;
+          outcomes = ap outcomes_of same ∙ so.outcomes;
           failed = none_fails is;
           count = count_stays c start (event read) h none ∙ ap (λ (n : ℕ). n + length (taken bytes answer)) so.count;
           file = file;
@@ -168,7 +174,7 @@ module _ (c : Config) (start : Start) where
     -- with one
     attempted : (m : ℤ) (s : Stamp) → stamp_at c start (attempt_times c start h) (event (Some m)) h ≡ Some s → (file : List ℕ) → file_name_of c (if is_opened switch then s else last_opened start (attempt_times c start h)) ≡ file
         → (failed : ℕ) → failed_in h + failed_by switch ≡ failed
-        → FilesAre c start (event (Some m) ∷ h) (with_write bytes answer (record f { latest = head.later_moment f.latest m; newest = s; earlier = f.newest ∷ f.earlier; since = 0; file = file; failed = failed }))
+        → FilesAre c start (event (Some m) ∷ h) (with_write bytes answer (record f { latest = head.later_moment f.latest m; newest = s; earlier = f.newest ∷ f.earlier; outcomes = is_opened switch ∷ f.outcomes; since = 0; file = file; failed = failed }))
     attempted m s some file is failed fails =
         let more : attempt_times c start (event (Some m) ∷ h) ≡ (suc (length h), s, is_opened switch) ∷ attempt_times c start h = rw some refl in
         let now : latest_moment start.moment (event (Some m) ∷ h) ≡ head.later_moment f.latest m = latest_more start.moment m len switch (taken bytes answer) h ∙ ap (λ (l : ℤ). head.later_moment l m) so.latest in
@@ -176,6 +182,7 @@ module _ (c : Config) (start : Start) where
         record {
           latest = now;
           stamps = ap stamps_of more ∙ ap (λ (ss : List Stamp). s ∷ ss) so.stamps;
+          outcomes = ap outcomes_of more ∙ ap (λ (os : List Bool). is_opened switch ∷ os) so.outcomes;
           failed = fails;
           count = count_begins c start (event (Some m)) h s some ∙ omega arith;
           file = opened;

@@ -200,9 +200,9 @@ module _ (c : Config) (start : Start) where
 
     step_on : (t : StepWithReply) → is_switch (file_event a.rest t).switch ≡ is_some (stamp_at c start (attempt_times c start h) (file_event a.rest t) h) → On t
     step_on (Work m, Wrote switch answer) is = (
-          with_faults c start (file_event a.rest (Work m, Wrote switch answer) ∷ h) _ _ (files_look c start (length a.rest) switch a.rest answer h a.files m so is),
-          switches_if_due c start (length a.rest) switch a.rest answer h a.files m so is,
-        )
+      with_faults c start (file_event a.rest (Work m, Wrote switch answer) ∷ h) _ _ (files_look c start (length a.rest) switch a.rest answer h a.files m so is),
+      switches_if_due c start (length a.rest) switch a.rest answer h a.files m so is,
+    )
     step_on (Work m, Flushed answer) is = (with_faults c start (file_event a.rest (Work m, Flushed answer) ∷ h) a.files _ (files_stay c start h a.files so), tt)
     step_on (Offer label line, Accepted k) is = (files_stay c start h a.files so, tt)
     step_on (Shut, DidShut Sent) is = (files_stay c start h a.files so, tt)

@@ -25,11 +25,11 @@ use Rattle.appender_rolling.proofs.Rising.{finds_rise, opens_rise, absent_finds,
 use Rattle.appender_replay.specs.Start.{Start, start_stamp, start_of}
 use Rattle.appender_replay.specs.Run.{Event, Attempt, time_of, content_before, counts_before, MatchesItsStep, attempt_times, stamp_at, is_switch, is_opened, with_time, NoneFailed, SwitchesAtAttempts, EachOf}
 use Rattle.appender_replay.specs.Replay.{LeadsTo, RunsFrom, RollerFollows, events_by, step_state_of, step_states_after, run_states}
-use Rattle.appender_replay.specs.Headline.{CallsLead, Files, FolderFollows, IsHeld, NamesAfterOpenings, RetentionSucceeded}
+use Rattle.appender_replay.specs.Headline.{CallsLead, Files, FolderFollows, IsHeld, NamesAfterAttempts, RetentionSucceeded}
 use Rattle.appender_replay.proofs.NamesLeft.{none_of}
-use Rattle.appender_replay.proofs.NamesLead.{PrunesAll, LeavesAll, stamps_in, names_lead, others_stay}
+use Rattle.appender_replay.proofs.NamesLead.{PrunesAll, LeavesAll, outcomes_in, stamps_in, names_lead, others_stay}
 use Rattle.appender_replay.proofs.FilesStay.{AllOpened, AllLead, all_kept, written_lead, open_leads}
-use Rattle.appender_replay.proofs.FileAccounts.{FilesAre, failed_by, failed_in, stamps_of, none_failed, text_same}
+use Rattle.appender_replay.proofs.FileAccounts.{FilesAre, failed_by, failed_in, stamps_of, outcomes_of, none_failed, text_same}
 use Rattle.appender_replay.proofs.Counting.{Counted, counted_same, counted_on, finds_counted, opens_counted}
 
 nothing_beyond : (bodies : List (List ℕ)) → get_or bodies (length bodies) [] ≡ []
@@ -58,6 +58,10 @@ each_opened (a ∷ rest) all = (all.0, each_opened rest all.1)
 stamps_same : (attempts : List Attempt) → stamps_in attempts ≡ stamps_of (map time_of attempts)
 stamps_same [] = refl
 stamps_same (a ∷ rest) = ap (λ (ss : List Stamp). a.stamp ∷ ss) (stamps_same rest)
+
+outcomes_same : (attempts : List Attempt) → map (λ (a : Attempt). is_some a.body) attempts ≡ outcomes_of (map time_of attempts)
+outcomes_same [] = refl
+outcomes_same (a ∷ rest) = ap (λ (os : List Bool). is_some a.body ∷ os) (outcomes_same rest)
 
 -- ---- counts between the first roller and the last
 
@@ -290,9 +294,10 @@ module _ {S F : Type 0} (kind : Ghosts S F) (failures_fit : (s : S) → kind.fai
 
       -- ---- all of it
 
-      each_leaves : (attempts : List Attempt) → EachOf (λ a. is_some a.body ≡ true) attempts → EachOf (PrunesAll maps c) attempts → EachOf (LeavesAll maps c) attempts
-      each_leaves [] opened all = tt
-      each_leaves (a ∷ rest) opened all = ((opened.0, all.0), each_leaves rest opened.1 all.1)
+      each_leaves : (attempts : List Attempt) → EachOf (λ a. is_some a.body ≡ true) attempts ⊎ (max_before c ≡ 0) → EachOf (PrunesAll maps c) attempts → EachOf (LeavesAll maps c) attempts
+      each_leaves [] fine all = tt
+      each_leaves (a ∷ rest) (inl opened) all = ((inl opened.0, all.0), each_leaves rest (inl opened.1) all.1)
+      each_leaves (a ∷ rest) (inr none) all = ((inr none, all.0), each_leaves rest (inr none) all.1)
 
       each_prunes : (attempts : List Attempt) → EachOf (MatchesItsStep (kind.content folder) (kind.noted run.opens.listed) (run_states event run)) attempts
           → ((a : Attempt) → MatchesItsStep (kind.content folder) (kind.noted run.opens.listed) (run_states event run) a → PrunesAll maps c a) → EachOf (PrunesAll maps c) attempts
@@ -328,14 +333,19 @@ module _ {S F : Type 0} (kind : Ghosts S F) (failures_fit : (s : S) → kind.fai
                       ] in
                       subst (λ (n : List ℕ). IsFile (fin.get (kind.content last.folder).names n)) so.file
                       (open_leads maps c start law.attempts (events_by event past) (kind.content folder) (kind.content last.folder) law.leads law.are_times stays);
-                  names = λ none fine.
-                      let opened : AllOpened (map time_of law.attempts) = rw law.are_times (all_opened c start (events_by event past) rolls.switches (none_failed (events_by event past) (so.failed ∙ none))) in
+                  names = λ tried fine.
+                      let succeeded : EachOf (λ a. is_some a.body ≡ true) law.attempts ⊎ (max_before c ≡ 0) = elim tried [
+                        | inl never ↦ inl (each_opened law.attempts (subst AllOpened (sym law.are_times) (all_opened c start (events_by event past) rolls.switches (none_failed (events_by event past) (so.failed ∙ never)))))
+                        | inr none ↦ inr none
+                      ] in
                       let prunes : EachOf (PrunesAll maps c) law.attempts = each_prunes law.attempts law.are_seen (elim fine [
                         | inl unlimited ↦ λ a at. inl unlimited
                         | inr succeeded ↦ prunes_all is_known succeeded
                       ]) in
-                      subst (λ (ss : List Stamp). NamesAfterOpenings c (length (kind.content folder).bodies) ss (kind.content folder).names (kind.content last.folder).names) stamps
-                      (names_lead maps c parts law.attempts (events_by event past) (kind.content folder) (kind.content last.folder) law.leads (each_leaves law.attempts (each_opened law.attempts opened) prunes));
+                      let outcomes : outcomes_in maps c law.attempts ≡ f.outcomes = outcomes_same law.attempts ∙ ap outcomes_of law.are_times ∙ so.outcomes in
+                      subst (λ (os : List Bool). NamesAfterAttempts c (length (kind.content folder).bodies) os (f.newest ∷ f.earlier) (kind.content folder).names (kind.content last.folder).names) outcomes
+                      (subst (λ (ss : List Stamp). NamesAfterAttempts c (length (kind.content folder).bodies) (outcomes_in maps c law.attempts) ss (kind.content folder).names (kind.content last.folder).names) stamps
+                      (names_lead maps c parts law.attempts (events_by event past) (kind.content folder) (kind.content last.folder) law.leads (each_leaves law.attempts succeeded prunes)));
                   number = λ limited. first_number is_known limited;
                 };
           }

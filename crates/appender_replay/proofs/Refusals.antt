@@ -71,7 +71,7 @@ too_many n = grind arith
 pub never_prunes : {S F : Type 0} (kind : Ghosts S F) → NeverPrunes kind
 never_prunes kind limit room first last b created is_known there lists removes few_lists few_removes was is law =
     let gone : name_survives (log_files_of (one_file 1) (Some (file_name_of (one_file 1) (stamp_at (pos 0))))) 1 (kind.content first).names (97 ∷ 98 ∷ []) ≡ false = rw was (too_many _) in
-    let names = (law.folder.content is_known).names refl (inr (record { lists = rw there (omega (arith, lists)); removes = removes; below = (few_lists, few_removes) })) in
+    let names = (law.folder.content is_known).names (inl refl) (inr (record { lists = rw there (omega (arith, lists)); removes = removes; below = (few_lists, few_removes) })) in
     let none : fin.get (kind.content last).names (97 ∷ 98 ∷ []) ≡ None =
     names.2.others (97 ∷ 98 ∷ []) (λ e. let both : ◌≡◌ {A = List ℕ} (97 ∷ 98 ∷ []) (97 ∷ []) = e in cc) (λ e. let both : ◌≡◌ {A = List ℕ} (97 ∷ 98 ∷ []) [] = e in cc) ∙ rw (names.1, gone) refl in
     let both : ◌≡◌ {A = Option Entry} (Some (File b (Some created))) None = sym is ∙ none in

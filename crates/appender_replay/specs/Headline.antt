@@ -13,7 +13,7 @@ use Rattle.std.specs.declared.io.ErrorKind.{ErrorKind}
 use Rattle.std.specs.declared.io.ErrorKind.TheVariants.{OutOfMemory}
 use Rattle.appender_names.specs.declared.error.InitError.{InitError}
 use Rattle.appender_names.specs.Rotation.{is_moment, period_of, is_same_start}
-use Rattle.appender_store.specs.Content.{Content, NameMap, Entry, File, Link, IsFile, ForbidsList, body_at}
+use Rattle.appender_store.specs.Content.{Content, NameMap, Entry, File, Link, IsFile, IsLink, ForbidsList, body_at}
 use Rattle.appender_store.specs.declared.store.Folder.{Ghosts}
 use Rattle.appender_store.specs.Folder.{HasCause, NotedCounts, NoticeMessage, NotedList, NotedRemove, NotedFlush, NotedOpen, next_count}
 use Rattle.appender_store.specs.Notes.{Notes}
@@ -40,12 +40,14 @@ use Rattle.appender_replay.specs.declared.replay.whole.Reply.TheVariants.{Accept
 abbrev pub WriteList : Type 0
 WriteList = List (List ℕ × List ℕ × Result ℕ ErrorKind)
 
--- The files: the latest moment that was read; the attempts to open one, the newest, the earlier ones, newest first, and how many failed; the bytes
--- that count since, which are those that were written, and those that the first file held if the log continues it; the open file's name; the writes; how many writes and flushes failed, but for want of memory.
+-- The files: the latest moment that was read; the attempts to open one, the newest, the earlier ones, newest first, whether each succeeded, and how
+-- many failed; the bytes that count since, which are those that were written, and those that the first file held if the log continues it; the open
+-- file's name; the writes; how many writes and flushes failed, but for want of memory.
 pub record Files : Type 0 where
   pub latest : ℤ
   pub newest : Stamp
   pub earlier : List Stamp
+  pub outcomes : List Bool
   pub failed : ℕ
   pub since : ℕ
   pub file : List ℕ
@@ -71,7 +73,7 @@ pub record RunAccount : Type 0 where
 
 -- after the opening of the first file
 abbrev pub files_at_opening : Config → Start → Files
-files_at_opening c s = record { latest = s.moment; newest = start_stamp s; earlier = []; failed = 0; since = s.held; file = file_name_of c (start_stamp s); writes = []; faults = 0 }
+files_at_opening c s = record { latest = s.moment; newest = start_stamp s; earlier = []; outcomes = true ∷ []; failed = 0; since = s.held; file = file_name_of c (start_stamp s); writes = []; faults = 0 }
 
 -- ---- the reply to a step
 
@@ -123,8 +125,10 @@ Replies limit c a (Work m, reply) = (a.rest ≡ []) × (a.flushes ≡ 0) × (rep
 -- a file that could not be opened leaves the last one open
 abbrev pub files_after_attempt : Config → Option Stamp → Switch → Files → Files
 files_after_attempt c None switch f = f
-files_after_attempt c (Some s) Switched f = record f { newest = s; earlier = f.newest ∷ f.earlier; since = 0; file = file_name_of c s }
-files_after_attempt c (Some s) switch f = record f { newest = s; earlier = f.newest ∷ f.earlier; since = 0; failed = f.failed + 1 }
+files_after_attempt c (Some s) Switched f =
+    record f { newest = s; earlier = f.newest ∷ f.earlier; outcomes = true ∷ f.outcomes; since = 0; file = file_name_of c s }
+files_after_attempt c (Some s) switch f =
+    record f { newest = s; earlier = f.newest ∷ f.earlier; outcomes = false ∷ f.outcomes; since = 0; failed = f.failed + 1 }
 
 -- a check of the clock at m, with this number of bytes to write
 abbrev pub files_after_check : Config → ℤ → ℕ → Switch → Files → Files
@@ -185,10 +189,20 @@ pub record NamesAfterOpening (c : Config) (bodies : ℕ) (s : Stamp) (old new : 
   pub link : c.link ≢ [] → fin.get new c.link ≡ Some (Link (file_name_of c s))
   pub others : (name : List ℕ) → name ≢ file_name_of c s → name ≢ c.link → fin.get new name ≡ kept_entry c s old name
 
--- the same of one file after another, the newest first. The creation moment of a new file follows from no map before it.
-abbrev pub NamesAfterOpenings : Config → ℕ → List Stamp → NameMap → NameMap → Type 0
-NamesAfterOpenings c bodies [] first last = last ≡ first
-NamesAfterOpenings c bodies (s ∷ earlier) first last = (between : NameMap) × NamesAfterOpenings c bodies earlier first between × NamesAfterOpening c bodies s between last
+-- The names after an attempt that failed, if retention doesn't come before it. A name that was free may lead to a new file, and the link may be gone.
+pub record NamesAfterFailure (c : Config) (bodies : ℕ) (s : Stamp) (old new : NameMap) : Type 0 where
+  pub own : (fin.get new (file_name_of c s) ≡ fin.get old (file_name_of c s)) ⊎ ((fin.get old (file_name_of c s) ≡ None)
+      × ((b : ℕ) × (t : Option ℤ) × (fin.get new (file_name_of c s) ≡ Some (File b t)) × (bodies ≤ b)))
+  pub link : c.link ≢ file_name_of c s → (fin.get new c.link ≡ fin.get old c.link) ⊎ (IsLink (fin.get old c.link) × (fin.get new c.link ≡ None))
+  pub others : (name : List ℕ) → name ≢ file_name_of c s → name ≢ c.link → fin.get new name ≡ fin.get old name
+
+-- the same of one attempt after another, the newest first. The creation moment of a new file follows from no map before it.
+abbrev pub NamesAfterAttempts : Config → ℕ → List Bool → List Stamp → NameMap → NameMap → Type 0
+NamesAfterAttempts c bodies (true ∷ outcomes) (s ∷ earlier) first last =
+    (between : NameMap) × NamesAfterAttempts c bodies outcomes earlier first between × NamesAfterOpening c bodies s between last
+NamesAfterAttempts c bodies (false ∷ outcomes) (s ∷ earlier) first last =
+    (between : NameMap) × NamesAfterAttempts c bodies outcomes earlier first between × NamesAfterFailure c bodies s between last
+NamesAfterAttempts c bodies outcomes stamps first last = last ≡ first
 
 -- Every listing and every removal succeeded, except the listings of an absent folder before the opening. Counts at their greatest don't show it.
 pub record RetentionSucceeded (c : Config) (there : Bool) (old new : NotedCounts) : Type 0 where
@@ -216,9 +230,10 @@ pub record Contains (c : Config) (start : Start) (f : Files) (first last : Conte
   pub written : c.max_files ≡ 0 → (name : List ℕ) → written_to_name name f.writes ≢ [] → IsFile (fin.get last.names name)
   -- The open file has its name if no attempt failed. Else it has it by name or without a maximum, where retention doesn't come before the opening.
   pub open_file : (f.failed ≡ 0) ⊎ (max_before c ≡ 0) → IsFile (fin.get last.names f.file)
-  -- If each attempt succeeded, and each listing and removal, the names are exactly these. Without a maximum nothing is listed for retention.
-  pub names : f.failed ≡ 0 → ((c.max_files ≡ 0) ⊎ RetentionSucceeded c first.there noted_first noted_last)
-      → NamesAfterOpenings c (length first.bodies) (f.newest ∷ f.earlier) first.names last.names
+  -- If each listing and removal succeeded, the names are exactly these; by name or without a maximum whichever attempts fail, else if none does.
+  -- Without a maximum nothing is listed for retention.
+  pub names : (f.failed ≡ 0) ⊎ (max_before c ≡ 0) → ((c.max_files ≡ 0) ⊎ RetentionSucceeded c first.there noted_first noted_last)
+      → NamesAfterAttempts c (length first.bodies) f.outcomes (f.newest ∷ f.earlier) first.names last.names
   -- If the log continues its last file, what the first file held counts.
   pub held : c.continues ≡ true → IsHeld c start first
   -- With a limit of bytes the first number is the next after those that the folder had in that period, or that of the file that is continued. If the
@@ -264,12 +279,13 @@ module _ {S F : Type 0} (kind : Ghosts S F) where
   pub data CallsLead (first : S) : WriteList → S → Type 0 where
     begins : CallsLead first [] first
     calls : (w : WriteList) (s t : S) → CallsLead first w s → Calls s t → NotesNothing s t → CallsLead first w t
-    appends : (w : WriteList) (e : List ℕ × List ℕ × Result ℕ ErrorKind) (s t : S) → CallsLead first w s → CallsAppend e.1 e.2 s t → CallsLead first (e ∷ w) t
+    appends : (w : WriteList) (e : List ℕ × List ℕ × Result ℕ ErrorKind) (s t : S) → CallsLead first w s → CallsAppend e.1 e.2 s t →
+        CallsLead first (e ∷ w) t
     notes : (w : WriteList) (s t u : S) → CallsLead first w s → Calls s t → NotesNothing s t → NotesFault s t u → CallsLead first w u
     notes_attempt : (w : WriteList) (s t : S) (error : InitError) → CallsLead first w s → Notes kind s (NotedOpen error) t → CallsLead first w t
 
--- The folder after a run: it noted each attempt that failed, and counted each write and each flush that failed. Why an attempt failed is in the clause
--- `runs` of `replay` (`KeepsFile` of `appender_rolling`).
+-- The folder after a run: it noted each attempt that failed, and counted each write and each flush that failed. Why an attempt failed is in the
+-- clause `runs` of `replay` (`KeepsFile` of `appender_rolling`).
 pub record FolderFollows {S F : Type 0} (kind : Ghosts S F) (c : Config) (start : Start) (f : Files) (first last : S) : Type 0 where
   pub failed : (kind.noted last).opens ≡ min ((kind.noted first).opens + f.failed) (2 ^ 64 - 1)
   pub faults : min (kind.failures first + f.faults) (2 ^ 64 - 1) ≤ kind.failures last
