@@ -1,17 +1,18 @@
 -- The files of an account are those of a run's events.
-use Rattle.std.proofs.Common.{◌≡◌, ℕ, ℤ, suc, ◌+◌, ◌≤◌, nat_lt, nat_le, Bool, true, false, not, ◌&&◌, cond, List, [], ◌∷◌, ◌++◌, length, map, filter, Option, None, Some, is_some, refl, ap, sym, ◌∙◌, subst, arith}
+use Rattle.std.proofs.Common.{◌≡◌, ℕ, ℤ, suc, ◌+◌, ◌≤◌, nat_lt, nat_le, Bool, true, false, not, ◌&&◌, cond, List, [], ◌∷◌, ◌++◌, length, take, map, filter, Option, None, Some, is_some, Result, Ok, refl, ap, sym, ◌∙◌, subst, arith}
 use Rattle.std.specs.Prelude.{if◌then◌else◌, ◌==◌, ◌↔◌}
 use Rattle.std.specs.List.{filter_map}
 use Rattle.std.specs.Int.{int_max}
 use Rattle.std.specs.Str.{bytes_eq}
 use Rattle.std.specs.FinMap as fin
+use Rattle.std.specs.declared.io.ErrorKind.{ErrorKind}
 use Rattle.std.proofs.lemmas.List.{append-nil}
 use Rattle.std.proofs.lemmas.Slice.Eq.{bytes_eq-Decides}
 use Rattle.appender_names.specs.Rotation.{is_moment, period_of, is_same_start}
 use Rattle.appender_store.specs.Content.{Content, File}
 use Rattle.appender_rolling.specs.Config.{Config, is_limited, stamp}
 use Rattle.appender_rolling.specs.Opening.{file_name_of}
-use Rattle.appender_rolling.specs.Roller.{room_needed}
+use Rattle.appender_rolling.specs.Roller.{room_needed, written_count}
 use Rattle.appender_rolling.specs.declared.rolling.setup.Stamp.{Stamp}
 use Rattle.appender_rolling.specs.declared.rolling.Switch.{Switch}
 use Rattle.appender_rolling.specs.declared.rolling.Switch.TheVariants.{None as Stayed, Opened as Switched, Failed as SwitchFailed}
@@ -25,6 +26,9 @@ use Rattle.appender_replay.proofs.Clocks.{count_stays, count_begins}
 
 abbrev pub stamps_of : List AttemptTime → List Stamp
 stamps_of = map (λ (t : AttemptTime). t.1)
+
+abbrev pub outcomes_of : List AttemptTime → List Bool
+outcomes_of = map (λ (t : AttemptTime). t.2)
 
 abbrev pub failed_by : Switch → ℕ
 failed_by SwitchFailed = 1
@@ -45,6 +49,7 @@ bytes_named c start name (e ∷ h) =
 pub record FilesAre (c : Config) (start : Start) (h : List Event) (f : Files) : Type 0 where
   pub latest : latest_moment start.moment h ≡ f.latest
   pub stamps : stamps_of (attempt_times c start h) ≡ f.newest ∷ f.earlier
+  pub outcomes : outcomes_of (attempt_times c start h) ≡ f.outcomes
   pub failed : failed_in h ≡ f.failed
   pub count : count_since start (attempt_times c start h) h ≡ f.since
   pub file : file_name_of c (last_opened start (attempt_times c start h)) ≡ f.file
@@ -76,8 +81,11 @@ abbrev looked : Config → Option ℤ → ℕ → Switch → Files → Files
 looked c None len switch f = f
 looked c (Some m) len switch f = head.files_after_check c m len switch f
 
-abbrev pub with_piece : List ℕ → Files → Files
-with_piece bytes f = record f { since = f.since + length bytes; writes = (f.file, bytes) ∷ f.writes }
+abbrev pub taken : List ℕ → Result ℕ ErrorKind → List ℕ
+taken bytes answer = take (written_count answer) bytes
+
+abbrev pub with_write : List ℕ → Result ℕ ErrorKind → Files → Files
+with_write bytes answer f = record f { since = f.since + length (taken bytes answer); writes = (f.file, bytes, answer) ∷ f.writes }
 
 -- a step that neither checks the clock nor writes
 abbrev pub quiet : Event
@@ -93,16 +101,17 @@ latest_more start m len switch bytes h = by (is_moment m) (filter is_moment (fil
 
 module _ (c : Config) (start : Start) where
   pub files_begin : FilesAre c start [] (head.files_at_opening c start)
-  files_begin = record { latest = refl; stamps = refl; failed = refl; count = omega arith; file = refl; text = λ name. refl }
+  files_begin = record { latest = refl; stamps = refl; outcomes = refl; failed = refl; count = omega arith; file = refl; text = λ name. refl }
 
   -- errors that are counted change nothing else
   pub with_faults : (h : List Event) (f : Files) (n : ℕ) → FilesAre c start h f → FilesAre c start h (record f { faults = n })
-  with_faults h f n so = record { latest = so.latest; stamps = so.stamps; failed = so.failed; count = so.count; file = so.file; text = so.text }
+  with_faults h f n so = record { latest = so.latest; stamps = so.stamps; outcomes = so.outcomes; failed = so.failed; count = so.count; file = so.file; text = so.text }
 
-  without_piece : (h : List Event) (f : Files) → FilesAre c start h (with_piece [] f) → FilesAre c start h f
+  without_piece : (h : List Event) (f : Files) → FilesAre c start h (with_write [] (Ok 0) f) → FilesAre c start h f
   without_piece h f so = record {
     latest = so.latest;
     stamps = so.stamps;
+    outcomes = so.outcomes;
     failed = so.failed;
     count = omega (arith, so.count);
     file = so.file;
@@ -117,22 +126,22 @@ module _ (c : Config) (start : Start) where
       then Some (stamp newest.moment (newest.number + 1))
       else None
 
-  module _ (len : ℕ) (switch : Switch) (bytes : List ℕ) (h : List Event) (f : Files) (so : FilesAre c start h f) where
+  module _ (len : ℕ) (switch : Switch) (bytes : List ℕ) (answer : Result ℕ ErrorKind) (h : List Event) (f : Files) (so : FilesAre c start h f) where
     abbrev event : Option ℤ → Event
-    event read = record { read = read; offered = len; switch = switch; piece = bytes }
+    event read = record { read = read; offered = len; switch = switch; piece = taken bytes answer }
 
     text_more : (read : Option ℤ) (file : List ℕ) → file_name_of c (last_opened start (attempt_times c start (event read ∷ h))) ≡ file
-        → (name : List ℕ) → bytes_named c start name (event read ∷ h) ≡ written_to_name name ((file, bytes) ∷ f.writes)
+        → (name : List ℕ) → bytes_named c start name (event read ∷ h) ≡ written_to_name name ((file, bytes, answer) ∷ f.writes)
     text_more read file is name =
-        ap (λ (xs : List ℕ). xs ++ (if bytes_eq (file_name_of c (last_opened start (attempt_times c start (event read ∷ h)))) name then bytes else [])) (so.text name)
-        ∙ ap (λ (n : List ℕ). written_to_name name f.writes ++ (if bytes_eq n name then bytes else [])) is
+        ap (λ (xs : List ℕ). xs ++ (if bytes_eq (file_name_of c (last_opened start (attempt_times c start (event read ∷ h)))) name then taken bytes answer else [])) (so.text name)
+        ∙ ap (λ (n : List ℕ). written_to_name name f.writes ++ (if bytes_eq n name then taken bytes answer else [])) is
 
     newest_is : last_stamp start (attempt_times c start h) ≡ f.newest
     newest_is = last_stamp_is start (attempt_times c start h) f.newest f.earlier so.stamps
 
     pub due_same : (m : ℤ) → stamp_at c start (attempt_times c start h) (event (Some m)) h ≡ head.due_file c f m len
     due_same m =
-        let now : latest_moment start.moment (event (Some m) ∷ h) ≡ head.later_moment f.latest m = latest_more start.moment m len switch bytes h ∙ ap (λ (l : ℤ). head.later_moment l m) so.latest in
+        let now : latest_moment start.moment (event (Some m) ∷ h) ≡ head.later_moment f.latest m = latest_more start.moment m len switch (taken bytes answer) h ∙ ap (λ (l : ℤ). head.later_moment l m) so.latest in
         ap (λ (l : ℤ). due_by l (latest_moment start.moment h) (last_stamp start (attempt_times c start h)) (count_since start (attempt_times c start h) h) (room_needed len)) now
         ∙ ap (λ (l : ℤ). due_by (head.later_moment f.latest m) l (last_stamp start (attempt_times c start h)) (count_since start (attempt_times c start h) h) (room_needed len)) so.latest
         ∙ ap (λ (s : Stamp). due_by (head.later_moment f.latest m) f.latest s (count_since start (attempt_times c start h) h) (room_needed len)) newest_is
@@ -148,15 +157,16 @@ module _ (c : Config) (start : Start) where
 
     -- without an attempt
     stays : (read : Option ℤ) (latest : ℤ) → latest_moment start.moment (event read ∷ h) ≡ latest → stamp_at c start (attempt_times c start h) (event read) h ≡ None → is_switch switch ≡ false
-        → FilesAre c start (event read ∷ h) (with_piece bytes (record f { latest = latest }))
+        → FilesAre c start (event read ∷ h) (with_write bytes answer (record f { latest = latest }))
     stays read latest now none is =
         let same : attempt_times c start (event read ∷ h) ≡ attempt_times c start h = rw none refl in
         let file : file_name_of c (last_opened start (attempt_times c start (event read ∷ h))) ≡ f.file = ap (λ (ts : List AttemptTime). file_name_of c (last_opened start ts)) same ∙ so.file in
         record {
           latest = now;
           stamps = ap stamps_of same ∙ so.stamps;
+          outcomes = ap outcomes_of same ∙ so.outcomes;
           failed = none_fails is;
-          count = count_stays c start (event read) h none ∙ ap (λ (n : ℕ). n + length bytes) so.count;
+          count = count_stays c start (event read) h none ∙ ap (λ (n : ℕ). n + length (taken bytes answer)) so.count;
           file = file;
           text = text_more read f.file file;
         }
@@ -164,55 +174,56 @@ module _ (c : Config) (start : Start) where
     -- with one
     attempted : (m : ℤ) (s : Stamp) → stamp_at c start (attempt_times c start h) (event (Some m)) h ≡ Some s → (file : List ℕ) → file_name_of c (if is_opened switch then s else last_opened start (attempt_times c start h)) ≡ file
         → (failed : ℕ) → failed_in h + failed_by switch ≡ failed
-        → FilesAre c start (event (Some m) ∷ h) (with_piece bytes (record f { latest = head.later_moment f.latest m; newest = s; earlier = f.newest ∷ f.earlier; since = 0; file = file; failed = failed }))
+        → FilesAre c start (event (Some m) ∷ h) (with_write bytes answer (record f { latest = head.later_moment f.latest m; newest = s; earlier = f.newest ∷ f.earlier; outcomes = is_opened switch ∷ f.outcomes; since = 0; file = file; failed = failed }))
     attempted m s some file is failed fails =
         let more : attempt_times c start (event (Some m) ∷ h) ≡ (suc (length h), s, is_opened switch) ∷ attempt_times c start h = rw some refl in
-        let now : latest_moment start.moment (event (Some m) ∷ h) ≡ head.later_moment f.latest m = latest_more start.moment m len switch bytes h ∙ ap (λ (l : ℤ). head.later_moment l m) so.latest in
+        let now : latest_moment start.moment (event (Some m) ∷ h) ≡ head.later_moment f.latest m = latest_more start.moment m len switch (taken bytes answer) h ∙ ap (λ (l : ℤ). head.later_moment l m) so.latest in
         let opened : file_name_of c (last_opened start (attempt_times c start (event (Some m) ∷ h))) ≡ file = ap (λ (ts : List AttemptTime). file_name_of c (last_opened start ts)) more ∙ is in
         record {
           latest = now;
           stamps = ap stamps_of more ∙ ap (λ (ss : List Stamp). s ∷ ss) so.stamps;
+          outcomes = ap outcomes_of more ∙ ap (λ (os : List Bool). is_opened switch ∷ os) so.outcomes;
           failed = fails;
           count = count_begins c start (event (Some m)) h s some ∙ omega arith;
           file = opened;
           text = text_more (Some m) file opened;
         }
 
-  looks : (len : ℕ) (switch : Switch) (bytes : List ℕ) (h : List Event) (f : Files) (m : ℤ) (so : FilesAre c start h f) → (due : Option Stamp)
-      → stamp_at c start (attempt_times c start h) (record { read = Some m; offered = len; switch = switch; piece = bytes }) h ≡ due → is_switch switch ≡ is_some due
-      → FilesAre c start (record { read = Some m; offered = len; switch = switch; piece = bytes } ∷ h) (with_piece bytes (head.files_after_attempt c due switch (record f { latest = head.later_moment f.latest m })))
-  looks len switch bytes h f m so None none is = stays len switch bytes h f so (Some m) (head.later_moment f.latest m) (latest_more start.moment m len switch bytes h ∙ ap (λ (l : ℤ). head.later_moment l m) so.latest) none is
-  looks len Switched bytes h f m so (Some s) some is = attempted len Switched bytes h f so m s some (file_name_of c s) refl f.failed (omega (arith, so.failed))
-  looks len SwitchFailed bytes h f m so (Some s) some is = attempted len SwitchFailed bytes h f so m s some f.file so.file (f.failed + 1) (omega (arith, so.failed))
-  looks len Stayed bytes h f m so (Some s) some is = absurd (let both : false ≡ true = is in cc)
+  looks : (len : ℕ) (switch : Switch) (bytes : List ℕ) (answer : Result ℕ ErrorKind) (h : List Event) (f : Files) (m : ℤ) (so : FilesAre c start h f) → (due : Option Stamp)
+      → stamp_at c start (attempt_times c start h) (record { read = Some m; offered = len; switch = switch; piece = taken bytes answer }) h ≡ due → is_switch switch ≡ is_some due
+      → FilesAre c start (record { read = Some m; offered = len; switch = switch; piece = taken bytes answer } ∷ h) (with_write bytes answer (head.files_after_attempt c due switch (record f { latest = head.later_moment f.latest m })))
+  looks len switch bytes answer h f m so None none is = stays len switch bytes answer h f so (Some m) (head.later_moment f.latest m) (latest_more start.moment m len switch (taken bytes answer) h ∙ ap (λ (l : ℤ). head.later_moment l m) so.latest) none is
+  looks len Switched bytes answer h f m so (Some s) some is = attempted len Switched bytes answer h f so m s some (file_name_of c s) refl f.failed (omega (arith, so.failed))
+  looks len SwitchFailed bytes answer h f m so (Some s) some is = attempted len SwitchFailed bytes answer h f so m s some f.file so.file (f.failed + 1) (omega (arith, so.failed))
+  looks len Stayed bytes answer h f m so (Some s) some is = absurd (let both : false ≡ true = is in cc)
 
   -- one that checks the clock
-  pub files_look : (len : ℕ) (switch : Switch) (bytes : List ℕ) (h : List Event) (f : Files) (m : ℤ) → FilesAre c start h f
-      → is_switch switch ≡ is_some (stamp_at c start (attempt_times c start h) (record { read = Some m; offered = len; switch = switch; piece = bytes }) h)
-      → FilesAre c start (record { read = Some m; offered = len; switch = switch; piece = bytes } ∷ h) (with_piece bytes (head.files_after_check c m len switch f))
-  files_look len switch bytes h f m so is =
-      let same = due_same len switch bytes h f so m in
-      looks len switch bytes h f m so (head.due_file c f m len) same (is ∙ ap (λ (o : Option Stamp). is_some o) same)
+  pub files_look : (len : ℕ) (switch : Switch) (bytes : List ℕ) (answer : Result ℕ ErrorKind) (h : List Event) (f : Files) (m : ℤ) → FilesAre c start h f
+      → is_switch switch ≡ is_some (stamp_at c start (attempt_times c start h) (record { read = Some m; offered = len; switch = switch; piece = taken bytes answer }) h)
+      → FilesAre c start (record { read = Some m; offered = len; switch = switch; piece = taken bytes answer } ∷ h) (with_write bytes answer (head.files_after_check c m len switch f))
+  files_look len switch bytes answer h f m so is =
+      let same = due_same len switch bytes answer h f so m in
+      looks len switch bytes answer h f m so (head.due_file c f m len) same (is ∙ ap (λ (o : Option Stamp). is_some o) same)
 
   -- and writes nothing
   pub files_see : (len : ℕ) (switch : Switch) (h : List Event) (f : Files) (m : ℤ) → FilesAre c start h f
       → is_switch switch ≡ is_some (stamp_at c start (attempt_times c start h) (record { read = Some m; offered = len; switch = switch; piece = [] }) h)
       → FilesAre c start (record { read = Some m; offered = len; switch = switch; piece = [] } ∷ h) (head.files_after_check c m len switch f)
-  files_see len switch h f m so is = without_piece (record { read = Some m; offered = len; switch = switch; piece = [] } ∷ h) (head.files_after_check c m len switch f) (files_look len switch [] h f m so is)
+  files_see len switch h f m so is = without_piece (record { read = Some m; offered = len; switch = switch; piece = [] } ∷ h) (head.files_after_check c m len switch f) (files_look len switch [] (Ok 0) h f m so is)
 
   -- one that doesn't check it
-  pub files_write : (len : ℕ) (bytes : List ℕ) (h : List Event) (f : Files) → FilesAre c start h f
-      → FilesAre c start (record { read = None; offered = len; switch = Stayed; piece = bytes } ∷ h) (with_piece bytes f)
-  files_write len bytes h f so = stays len Stayed bytes h f so None f.latest so.latest refl refl
+  pub files_write : (len : ℕ) (bytes : List ℕ) (answer : Result ℕ ErrorKind) (h : List Event) (f : Files) → FilesAre c start h f
+      → FilesAre c start (record { read = None; offered = len; switch = Stayed; piece = taken bytes answer } ∷ h) (with_write bytes answer f)
+  files_write len bytes answer h f so = stays len Stayed bytes answer h f so None f.latest so.latest refl refl
 
   pub files_stay : (h : List Event) (f : Files) → FilesAre c start h f → FilesAre c start (quiet ∷ h) f
-  files_stay h f so = without_piece (quiet ∷ h) f (files_write 0 [] h f so)
+  files_stay h f so = without_piece (quiet ∷ h) f (files_write 0 [] (Ok 0) h f so)
 
   -- the reply to a check of the clock
-  pub switches_if_due : (len : ℕ) (switch : Switch) (bytes : List ℕ) (h : List Event) (f : Files) (m : ℤ) → FilesAre c start h f
-      → is_switch switch ≡ is_some (stamp_at c start (attempt_times c start h) (record { read = Some m; offered = len; switch = switch; piece = bytes }) h)
+  pub switches_if_due : (len : ℕ) (switch : Switch) (bytes : List ℕ) (answer : Result ℕ ErrorKind) (h : List Event) (f : Files) (m : ℤ) → FilesAre c start h f
+      → is_switch switch ≡ is_some (stamp_at c start (attempt_times c start h) (record { read = Some m; offered = len; switch = switch; piece = taken bytes answer }) h)
       → (switch ≡ Stayed) ↔ (head.due_file c f m len ≡ None)
-  switches_if_due len switch bytes h f m so is = by switch (head.due_file c f m len) (is ∙ ap (λ (o : Option Stamp). is_some o) (due_same len switch bytes h f so m))
+  switches_if_due len switch bytes answer h f m so is = by switch (head.due_file c f m len) (is ∙ ap (λ (o : Option Stamp). is_some o) (due_same len switch bytes answer h f so m))
     where
       by : (switch : Switch) (o : Option Stamp) → is_switch switch ≡ is_some o → (switch ≡ Stayed) ↔ (o ≡ None)
       by Stayed None e = ((λ _. refl), (λ _. refl))

@@ -1,11 +1,11 @@
 -- What a folder contains and counts after a run, by the files of its account.
 use Rattle.std.proofs.Common.{◌≡◌, ◌≢◌, ◌∙◌, ◌⊎◌, ℕ, ℤ, zero, suc, ◌+◌, ◌^◌, ◌<◌, ◌≤◌, ◌-◌, min, nat_le, Bool, true, false, List, [], ◌∷◌, ◌++◌, length, get_or, map, Option, None, Some, is_some, Result, Ok, Err, MatchResult, Vec, IsTrue, inl, inr, refl, ap, sym, subst, arith}
-use Rattle.std.specs.Prelude.{if◌then◌else◌, ◌==◌, OnOk, IsOk}
+use Rattle.std.specs.Prelude.{if◌then◌else◌, ◌==◌, IsOk}
 use Rattle.std.specs.Option.{option_map_or}
 use Rattle.std.specs.FinMap as fin
 use Rattle.std.specs.declared.alloc.Global.{Global}
 use Rattle.std.specs.declared.io.Error.{Error}
-use Rattle.appender_store.specs.Content.{Content, Entry, File, IsSound, OpensBody, after_make_folder, body_at}
+use Rattle.appender_store.specs.Content.{Content, Entry, File, IsFile, IsSound, OpensBody, after_make_folder, body_at}
 use Rattle.appender_store.specs.Folder.{AreNotedCounts, NotedCounts, NotedList, listed_row, next_count}
 use Rattle.appender_store.specs.NameLaws.{NameLaws}
 use Rattle.appender_store.specs.Notes.{Notes}
@@ -23,12 +23,13 @@ use Rattle.appender_rolling.specs.declared.rolling.Switch.{Switch}
 use Rattle.appender_rolling.specs.declared.rolling.Switch.TheVariants.{None as Stayed, Opened as Switched, Failed as SwitchFailed}
 use Rattle.appender_rolling.proofs.Rising.{finds_rise, opens_rise, absent_finds, absent_opens}
 use Rattle.appender_replay.specs.Start.{Start, start_stamp, start_of}
-use Rattle.appender_replay.specs.Run.{Event, Attempt, AttemptTime, time_of, content_before, counts_before, MatchesItsStep, attempt_times, stamp_at, is_switch, is_opened, with_time, NoneFailed, SwitchesAtAttempts, EachOf}
+use Rattle.appender_replay.specs.Run.{Event, Attempt, time_of, content_before, counts_before, MatchesItsStep, attempt_times, stamp_at, is_switch, is_opened, with_time, NoneFailed, SwitchesAtAttempts, EachOf}
 use Rattle.appender_replay.specs.Replay.{LeadsTo, RunsFrom, RollerFollows, events_by, step_state_of, step_states_after, run_states}
-use Rattle.appender_replay.specs.Headline.{Files, FolderFollows, IsHeld, NamesAfterOpenings, RetentionSucceeded}
+use Rattle.appender_replay.specs.Headline.{CallsLead, Files, FolderFollows, IsHeld, NamesAfterAttempts, RetentionSucceeded}
 use Rattle.appender_replay.proofs.NamesLeft.{none_of}
-use Rattle.appender_replay.proofs.NamesLead.{PrunesAll, LeavesAll, stamps_in, names_lead, others_stay}
-use Rattle.appender_replay.proofs.FileAccounts.{FilesAre, failed_by, failed_in, stamps_of, none_failed, text_same}
+use Rattle.appender_replay.proofs.NamesLead.{PrunesAll, LeavesAll, outcomes_in, stamps_in, names_lead, others_stay}
+use Rattle.appender_replay.proofs.FilesStay.{AllOpened, AllLead, all_kept, written_lead, open_leads}
+use Rattle.appender_replay.proofs.FileAccounts.{FilesAre, failed_by, failed_in, stamps_of, outcomes_of, none_failed, text_same}
 use Rattle.appender_replay.proofs.Counting.{Counted, counted_same, counted_on, finds_counted, opens_counted}
 
 nothing_beyond : (bodies : List (List ℕ)) → get_or bodies (length bodies) [] ≡ []
@@ -36,10 +37,6 @@ nothing_beyond [] = refl
 nothing_beyond (b ∷ bodies) = nothing_beyond bodies
 
 -- ---- attempts that all succeeded
-
-abbrev AllOpened : List AttemptTime → Type 0
-AllOpened [] = Unit {0}
-AllOpened ((step, s, ok) ∷ ts) = (ok ≡ true) × AllOpened ts
 
 all_opened : (c : Config) (start : Start) (h : List Event) → SwitchesAtAttempts c start h → NoneFailed h → AllOpened (attempt_times c start h)
 all_opened c start [] switches fine = (refl, tt)
@@ -61,6 +58,10 @@ each_opened (a ∷ rest) all = (all.0, each_opened rest all.1)
 stamps_same : (attempts : List Attempt) → stamps_in attempts ≡ stamps_of (map time_of attempts)
 stamps_same [] = refl
 stamps_same (a ∷ rest) = ap (λ (ss : List Stamp). a.stamp ∷ ss) (stamps_same rest)
+
+outcomes_same : (attempts : List Attempt) → map (λ (a : Attempt). is_some a.body) attempts ≡ outcomes_of (map time_of attempts)
+outcomes_same [] = refl
+outcomes_same (a ∷ rest) = ap (λ (os : List Bool). is_some a.body ∷ os) (outcomes_same rest)
 
 -- ---- counts between the first roller and the last
 
@@ -203,32 +204,34 @@ module _ {S F : Type 0} (kind : Ghosts S F) (failures_fit : (s : S) → kind.fai
                   below = (rw (ap (λ (m : NotedCounts). m.lists) noted_after ∙ later.0) below.0, rw (ap (λ (m : NotedCounts). m.removes) noted_after ∙ later.1) below.1);
                 }))
 
-        -- the first number is by what the folder had
-        first_number : is_limited c ≡ true → IsFirstNumber c moment (HasEntry (kind.content folder)) number
-        first_number limited = rw (← run.number_is) (by l.answer (kind.content folder).there refl l.there l.number_is l.number_in fine.lists)
-          where
-            l : ListsNumbers kind c moment folder run.opens.number run.opens.listed
-            l = run.opens.finds.calls limited
+      -- ---- the first number
 
-            none : (kind.content folder).there ≡ false → IsFirstNumber c moment (HasEntry (kind.content folder)) 0
-            none absent = record {
-              at_most = omega arith;
-              above = λ name which k (e, is, kind_is) in_it. absurd (let both : ◌≡◌ {A = Option Entry} None (Some e) = sym (none_of _ ((sound folder is_known).absent absent name)) ∙ is in cc);
-              least = inl refl;
-            }
+      -- it is by what the folder had, or its listing failed
+      first_number : IsTrue kind.is_known → is_limited c ≡ true → IsFirstNumber c moment (HasEntry (kind.content folder)) number
+          ⊎ ((number ≡ 0) × ((kind.content folder).there ≡ true) × (next_count (kind.noted folder).lists ≤ (kind.noted last.folder).lists))
+      first_number is_known limited = rw (← run.number_is) (by l.answer (kind.content folder).there refl l.number_is l.number_in)
+        where
+          l : ListsNumbers kind c moment folder run.opens.number run.opens.listed
+          l = run.opens.finds.calls limited
 
-            by : (answer : Result (Vec Listed Global) Error) (there : Bool) → (kind.content folder).there ≡ there → OnOk answer (IsTrue kind.is_known → (kind.content folder).there ≡ true)
-                → MatchResult answer (λ all. IsFirstNumber c moment (IsListed (map listed_row all.items)) run.opens.number × (run.opens.listed ≡ l.listed)) (λ fault. (run.opens.number ≡ 0) × Notes kind l.listed (NotedList fault) run.opens.listed)
-                → (IsOk answer → IsTrue kind.is_known → IsFirstNumber c moment (HasEntry (kind.content folder)) run.opens.number)
-                → (kind.noted last.folder).lists ≡ (kind.noted folder).lists + (if there then 0 else (if is_limited c then 1 else 0) + (if max_before c == 0 then 0 else 1))
-                → IsFirstNumber c moment (HasEntry (kind.content folder)) run.opens.number
-            by (Ok all) there is on_ok number_is number_in lists = number_in refl is_known
-            by (Err fault) false is on_ok number_is number_in lists = rw number_is.0 (none is)
-            by (Err fault) true is on_ok number_is number_in lists =
-                let noted : (kind.noted run.opens.listed).lists ≡ next_count (kind.noted folder).lists = ap (λ (n : NotedCounts). n.lists) number_is.1.noted ∙ ap (λ (n : NotedCounts). next_count n.lists) l.noted in
-                let opened = opens_rise kind failures_fit noted_fit c _ run.opens.listed run.first.file run.first.folder run.opens.opens in
-                let below = fine.below.0 in
-                absurd (omega (arith, opened.lists, all_steps.rise.lists))
+          none : (kind.content folder).there ≡ false → IsFirstNumber c moment (HasEntry (kind.content folder)) 0
+          none absent = record {
+            at_most = omega arith;
+            above = λ name which k (e, is, kind_is) in_it. absurd (let both : ◌≡◌ {A = Option Entry} None (Some e) = sym (none_of _ ((sound folder is_known).absent absent name)) ∙ is in cc);
+            least = inl refl;
+          }
+
+          by : (answer : Result (Vec Listed Global) Error) (there : Bool) → (kind.content folder).there ≡ there
+              → MatchResult answer (λ all. IsFirstNumber c moment (IsListed (map listed_row all.items)) run.opens.number × (run.opens.listed ≡ l.listed)) (λ fault. (run.opens.number ≡ 0) × Notes kind l.listed (NotedList fault) run.opens.listed)
+              → (IsOk answer → IsTrue kind.is_known → IsFirstNumber c moment (HasEntry (kind.content folder)) run.opens.number)
+              → IsFirstNumber c moment (HasEntry (kind.content folder)) run.opens.number
+              ⊎ ((run.opens.number ≡ 0) × ((kind.content folder).there ≡ true) × (next_count (kind.noted folder).lists ≤ (kind.noted last.folder).lists))
+          by (Ok all) there is number_is number_in = inl (number_in refl is_known)
+          by (Err fault) false is number_is number_in = inl (rw number_is.0 (none is))
+          by (Err fault) true is number_is number_in =
+              let noted : (kind.noted run.opens.listed).lists ≡ next_count (kind.noted folder).lists = ap (λ (n : NotedCounts). n.lists) number_is.1.noted ∙ ap (λ (n : NotedCounts). next_count n.lists) l.noted in
+              let opened = opens_rise kind failures_fit noted_fit c _ run.opens.listed run.first.file run.first.folder run.opens.opens in
+              inr (number_is.0, is, omega (arith, noted, opened.lists, all_steps.rise.lists))
 
       -- ---- what the first file held
 
@@ -291,21 +294,23 @@ module _ {S F : Type 0} (kind : Ghosts S F) (failures_fit : (s : S) → kind.fai
 
       -- ---- all of it
 
-      each_leaves : (attempts : List Attempt) → EachOf (λ a. is_some a.body ≡ true) attempts → EachOf (PrunesAll maps c) attempts → EachOf (LeavesAll maps c) attempts
-      each_leaves [] opened all = tt
-      each_leaves (a ∷ rest) opened all = ((opened.0, all.0), each_leaves rest opened.1 all.1)
+      each_leaves : (attempts : List Attempt) → EachOf (λ a. is_some a.body ≡ true) attempts ⊎ (max_before c ≡ 0) → EachOf (PrunesAll maps c) attempts → EachOf (LeavesAll maps c) attempts
+      each_leaves [] fine all = tt
+      each_leaves (a ∷ rest) (inl opened) all = ((inl opened.0, all.0), each_leaves rest (inl opened.1) all.1)
+      each_leaves (a ∷ rest) (inr none) all = ((inr none, all.0), each_leaves rest (inr none) all.1)
 
       each_prunes : (attempts : List Attempt) → EachOf (MatchesItsStep (kind.content folder) (kind.noted run.opens.listed) (run_states event run)) attempts
           → ((a : Attempt) → MatchesItsStep (kind.content folder) (kind.noted run.opens.listed) (run_states event run) a → PrunesAll maps c a) → EachOf (PrunesAll maps c) attempts
       each_prunes [] at all = tt
       each_prunes (a ∷ rest) at all = (all a at.0, each_prunes rest at.1 all)
 
-      pub keeps : RollerFollows kind does event c moment number room folder past last → (f : Files) → FilesAre c start (events_by event past) f → sum_by faults past ≡ f.faults → FolderFollows kind c start f folder last.folder
-      keeps rolls f so all =
+      pub keeps : RollerFollows kind does event c moment number room folder past last → (f : Files) → FilesAre c start (events_by event past) f → sum_by faults past ≡ f.faults → CallsLead kind folder f.writes last.folder → FolderFollows kind c start f folder last.folder
+      keeps rolls f so all lead =
           let counts = run_counts f.failed f.faults so.failed all in
           record {
             failed = counts.opens;
             faults = counts.failures;
+            calls = lead;
             anew = λ afresh. omega (arith, run.room_is, run.opens.room.anew afresh);
             unnumbered = λ unlimited. sym run.number_is ∙ (run.opens.finds.none unlimited).0;
             content = λ is_known.
@@ -316,14 +321,31 @@ module _ {S F : Type 0} (kind : Ghosts S F) (failures_fit : (s : S) → kind.fai
                   bytes = λ name b t at. law.bodies b ∙ ap (λ (xs : List ℕ). body_at (kind.content folder) b ++ xs)
                       (text_same c start (kind.content last.folder) name b t at law.attempts (events_by event past) f law.are_times law.under_its_name law.names_its_body so);
                   others = λ name others not_link. others_stay maps c name not_link law.attempts (events_by event past) (kind.content folder) (kind.content last.folder) law.leads (rw stamps others);
-                  names = λ none fine.
-                      let opened : AllOpened (map time_of law.attempts) = rw law.are_times (all_opened c start (events_by event past) rolls.switches (none_failed (events_by event past) (so.failed ∙ none))) in
+                  kept = λ none. (all_kept maps c none law.attempts (events_by event past) (kind.content folder) (kind.content last.folder) law.leads).0;
+                  written = λ none name some.
+                      let all : AllLead maps c (kind.content last.folder).names (attempt_times c start (events_by event past)) =
+                      subst (AllLead maps c (kind.content last.folder).names) law.are_times (all_kept maps c none law.attempts (events_by event past) (kind.content folder) (kind.content last.folder) law.leads).1 in
+                      written_lead maps c start (kind.content last.folder).names (events_by event past) all name (λ nothing. some (sym (so.text name) ∙ nothing));
+                  open_file = λ fine.
+                      let stays : (max_before c ≡ 0) ⊎ AllOpened (attempt_times c start (events_by event past)) = elim fine [
+                        | inl never ↦ inr (all_opened c start (events_by event past) rolls.switches (none_failed (events_by event past) (so.failed ∙ never)))
+                        | inr none ↦ inl none
+                      ] in
+                      subst (λ (n : List ℕ). IsFile (fin.get (kind.content last.folder).names n)) so.file
+                      (open_leads maps c start law.attempts (events_by event past) (kind.content folder) (kind.content last.folder) law.leads law.are_times stays);
+                  names = λ tried fine.
+                      let succeeded : EachOf (λ a. is_some a.body ≡ true) law.attempts ⊎ (max_before c ≡ 0) = elim tried [
+                        | inl never ↦ inl (each_opened law.attempts (subst AllOpened (sym law.are_times) (all_opened c start (events_by event past) rolls.switches (none_failed (events_by event past) (so.failed ∙ never)))))
+                        | inr none ↦ inr none
+                      ] in
                       let prunes : EachOf (PrunesAll maps c) law.attempts = each_prunes law.attempts law.are_seen (elim fine [
                         | inl unlimited ↦ λ a at. inl unlimited
                         | inr succeeded ↦ prunes_all is_known succeeded
                       ]) in
-                      subst (λ (ss : List Stamp). NamesAfterOpenings c (length (kind.content folder).bodies) ss (kind.content folder).names (kind.content last.folder).names) stamps
-                      (names_lead maps c parts law.attempts (events_by event past) (kind.content folder) (kind.content last.folder) law.leads (each_leaves law.attempts (each_opened law.attempts opened) prunes));
-                  number = λ limited fine. first_number is_known fine limited;
+                      let outcomes : outcomes_in maps c law.attempts ≡ f.outcomes = outcomes_same law.attempts ∙ ap outcomes_of law.are_times ∙ so.outcomes in
+                      subst (λ (os : List Bool). NamesAfterAttempts c (length (kind.content folder).bodies) os (f.newest ∷ f.earlier) (kind.content folder).names (kind.content last.folder).names) outcomes
+                      (subst (λ (ss : List Stamp). NamesAfterAttempts c (length (kind.content folder).bodies) (outcomes_in maps c law.attempts) ss (kind.content folder).names (kind.content last.folder).names) stamps
+                      (names_lead maps c parts law.attempts (events_by event past) (kind.content folder) (kind.content last.folder) law.leads (each_leaves law.attempts succeeded prunes)));
+                  number = λ limited. first_number is_known limited;
                 };
           }

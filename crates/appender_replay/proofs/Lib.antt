@@ -12,7 +12,9 @@ pub mod Bounds
 pub mod Accounts
 pub mod FileAccounts
 pub mod NamesLead
+pub mod FilesStay
 pub mod Counting
+pub mod FolderCalls
 pub mod Keeping
 pub mod Headlines
 pub mod Refusals

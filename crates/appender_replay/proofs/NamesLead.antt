@@ -6,7 +6,7 @@ use Rattle.std.specs.Option.{option_map, option_map_or, option_and_then}
 use Rattle.std.specs.FinMap as fin
 use Rattle.std.proofs.lemmas.List.{length-set}
 use Rattle.std.proofs.lemmas.List.Elements.{All-head, All-tail}
-use Rattle.appender_store.specs.Content.{Content, NameMap, Entry, File, Link, Folder, OpensBody, IsSound, after_make_folder, body_at}
+use Rattle.appender_store.specs.Content.{Content, NameMap, Entry, File, Link, Folder, OpensBody, IsSound, IsLink, after_make_folder, body_at}
 use Rattle.appender_store.specs.Folder.{entry_row}
 use Rattle.appender_store.specs.NameLaws.{NameLaws}
 use Rattle.appender_retain.specs.Pruning.{IsQuiet}
@@ -15,15 +15,15 @@ use Rattle.appender_retain.specs.Survival.{RemovesOnlyOld, KeepsSurvivors, name_
 use Rattle.appender_rolling.specs.Config.{Config, naming_of, log_files_of, max_before, max_after}
 use Rattle.appender_rolling.specs.Kept.{OpeningPartsKeepBodies}
 use Rattle.appender_rolling.specs.declared.rolling.setup.Stamp.{Stamp}
-use Rattle.appender_rolling.specs.Opening.{file_name_of, IsRefusalEffect}
+use Rattle.appender_rolling.specs.Opening.{file_name_of, IsRefusalEffect, MayRemoveLink, MayRemoveNew}
 use Rattle.appender_replay.specs.Run.{Event, Attempt, pieces_since, events_before, open_body, Carried, OnlyAttemptsChange, Succeeded, AttemptDoes, EachOf}
-use Rattle.appender_replay.specs.Headline.{NamesAfterOpening, NamesAfterOpenings, kept_entry}
-use Rattle.appender_replay.proofs.NamesLeft.{nothing_survives, nothing_survives_last, unlimited_keep, either_leaves, left_by, leads_to, opened_other, freed_other, unremoved_other, linked_other, linked_name, apart_from_link}
+use Rattle.appender_replay.specs.Headline.{NamesAfterOpening, NamesAfterFailure, NamesAfterAttempts, kept_entry}
+use Rattle.appender_replay.proofs.NamesLeft.{nothing_survives, nothing_survives_last, unlimited_keep, either_leaves, left_by, leads_to, removed_name, opened_other, freed_other, unremoved_other, linked_other, linked_name, apart_from_link}
 
 abbrev pub stamps_in : List Attempt → List Stamp
 stamps_in = map (λ (a : Attempt). a.stamp)
 
-carried_names : (o : Option ℕ) (bytes : List ℕ) (old new : Content) → Carried o bytes old new → new.names ≡ old.names
+pub carried_names : (o : Option ℕ) (bytes : List ℕ) (old new : Content) → Carried o bytes old new → new.names ≡ old.names
 carried_names None bytes old new is = ap (λ (d : Content). d.names) is
 carried_names (Some b) bytes old new is = ap (λ (d : Content). d.names) is
 
@@ -61,6 +61,10 @@ at_least m n more = by (nat_le m n) refl
     by true e = grind arith
     by false e = let short : n < m = grind arith in let never : n < n = more n short in absurd (omega arith)
 
+-- without a maximum every name survives
+all_survive : (log : LogFiles) (max : ℕ) (names : NameMap) (name : List ℕ) → max ≡ 0 → name_survives log max names name ≡ true
+all_survive log max names name none = rw none refl
+
 -- ---- exactly the survivors
 
 module _ (maps : NameLaws) (c : Config) where
@@ -68,14 +72,14 @@ module _ (maps : NameLaws) (c : Config) where
   abbrev pub PrunesAll : Attempt → Type 0
   PrunesAll a = (c.max_files ≡ 0) ⊎ (IsQuiet a.noted_before a.noted_after ⊎ ((a.before.there ≡ false) × IsSound a.before))
 
-  none_before : c.max_files ≡ 0 → max_before c ≡ 0
+  pub none_before : c.max_files ≡ 0 → max_before c ≡ 0
   none_before none = by c.by_name
     where
       by : (t : Bool) → (if t then 0 else c.max_files) ≡ 0
       by true = refl
       by false = none
 
-  none_after : c.max_files ≡ 0 → max_after c ≡ 0
+  pub none_after : c.max_files ≡ 0 → max_after c ≡ 0
   none_after none = by c.by_name
     where
       by : (t : Bool) → (if t then c.max_files else 0) ≡ 0
@@ -145,29 +149,120 @@ module _ (maps : NameLaws) (c : Config) where
           ∙ pruned_is a b did all name);
     }
 
-  -- the attempt succeeded, and left exactly the survivors
-  abbrev pub LeavesAll : Attempt → Type 0
-  LeavesAll a = (is_some a.body ≡ true) × PrunesAll a
+  -- ---- attempts that failed
 
-  some_is : (o : Option ℕ) → is_some o ≡ true → (b : ℕ) × (o ≡ Some b)
-  some_is None e = absurd (let both : false ≡ true = e in cc)
-  some_is (Some b) e = (b, refl)
+  module _ (n : ℕ) (s : Stamp) (none : max_before c ≡ 0) (old new : Content) (little : IsRefusalEffect c (file_name_of c s) old new) (more : (x : ℕ) → x < n → x < length old.bodies) where
+    abbrev failed_name : List ℕ
+    failed_name = file_name_of c s
+
+    unpruned : (name : List ℕ) → fin.get little.pruned.names name ≡ fin.get old.names name
+    unpruned name =
+        let all : name_survives (log_files_of c (Some failed_name)) (max_before c) old.names name ≡ true = all_survive (log_files_of c (Some failed_name)) (max_before c) old.names name none in
+        unlimited_keep (log_files_of c (Some failed_name)) (max_before c) old little.pruned none little.only_old name ∙ ap (λ (b : Bool). if b then fin.get old.names name else None) all
+
+    abbrev Kept : List ℕ → Type 0
+    Kept name = fin.get new.names name ≡ fin.get old.names name
+
+    abbrev OwnAfter : Type 0
+    OwnAfter = Kept failed_name ⊎ ((fin.get old.names failed_name ≡ None) × ((b : ℕ) × (t : Option ℤ) × (fin.get new.names failed_name ≡ Some (File b t)) × (n ≤ b)))
+
+    -- the file that was opened is not that of the link
+    not_link : (unlinked left : Content) (b : ℕ) (t : Option ℤ) → fin.get unlinked.names failed_name ≡ Some (File b t) → MayRemoveLink c.link unlinked left → fin.get left.names failed_name ≡ Some (File b t)
+    not_link unlinked left b t at (inl same) = ap (λ (d : Content). fin.get d.names failed_name) same ∙ at
+    not_link unlinked left b t at (inr removes) =
+        let apart : failed_name ≢ c.link = λ is.
+        (let both : ◌≡◌ {A = Option Entry} (Some (Link removes.was_there.0)) (Some (File b t)) = sym removes.was_there.1 ∙ ap (fin.get unlinked.names) (sym is) ∙ at in cc) in
+        freed_other maps c.link unlinked left failed_name (inr removes) apart ∙ at
+
+    own_after : (unlinked : Content) (b : ℕ) (left : Content) → OpensBody failed_name (after_make_folder little.pruned) unlinked b → MayRemoveLink c.link unlinked left → MayRemoveNew c failed_name old left new → OwnAfter
+    own_after unlinked b left (there, inl (t, at, same)) frees removes =
+        let was : fin.get old.names failed_name ≡ Some (File b t) = sym (unpruned failed_name) ∙ at in
+        let now : fin.get left.names failed_name ≡ Some (File b t) = not_link unlinked left b t (ap (λ (d : Content). fin.get d.names failed_name) same ∙ at) frees in
+        elim removes [
+          | inl same_left ↦ inl (ap (λ (d : Content). fin.get d.names failed_name) same_left ∙ now ∙ sym was)
+          | inr (by_name, free, gone) ↦ absurd (let both : ◌≡◌ {A = Option Entry} None (Some (File b t)) = sym free ∙ was in cc)
+        ]
+    own_after unlinked b left (there, inr (t, free, number, after)) frees removes =
+        let was : fin.get old.names failed_name ≡ None = sym (unpruned failed_name) ∙ free in
+        let to = leads_to maps failed_name (after_make_folder little.pruned) unlinked b (there, inr (t, free, number, after)) in
+        let now : fin.get left.names failed_name ≡ Some (File b to.0) = not_link unlinked left b to.0 to.1 frees in
+        let size : length little.pruned.bodies ≡ length old.bodies = ap length little.only_old.bodies in
+        let least : n ≤ length old.bodies = at_least n (length old.bodies) more in
+        elim removes [
+          | inl same_left ↦ inr (was, (b, to.0, ap (λ (d : Content). fin.get d.names failed_name) same_left ∙ now, omega arith))
+          | inr (by_name, unused, gone) ↦ inl (ap (λ (d : Content). fin.get d.names failed_name) gone.after ∙ removed_name maps left.names failed_name ∙ sym was)
+        ]
+
+    own_left : OwnAfter
+    own_left = elim little.rest [
+      | inl same ↦ inl (ap (λ (d : Content). fin.get d.names failed_name) same ∙ unpruned failed_name)
+      | inr (inl same) ↦ inl (ap (λ (d : Content). fin.get d.names failed_name) same ∙ unpruned failed_name)
+      | inr (inr (unlinked, b, left, opens, frees, removes)) ↦ own_after unlinked b left opens frees removes
+    ]
+
+    abbrev LinkAfter : Type 0
+    LinkAfter = Kept c.link ⊎ (IsLink (fin.get old.names c.link) × (fin.get new.names c.link ≡ None))
+
+    is_link : (o : Option Entry) (target : List ℕ) → o ≡ Some (Link target) → IsLink o
+    is_link o target e = subst IsLink (sym e) tt
+
+    link_left : c.link ≢ failed_name → LinkAfter
+    link_left apart = elim little.rest [
+      | inl same ↦ inl (ap (λ (d : Content). fin.get d.names c.link) same ∙ unpruned c.link)
+      | inr (inl same) ↦ inl (ap (λ (d : Content). fin.get d.names c.link) same ∙ unpruned c.link)
+      | inr (inr (unlinked, b, left, opens, frees, removes)) ↦
+          let before : fin.get unlinked.names c.link ≡ fin.get old.names c.link = opened_other maps failed_name (after_make_folder little.pruned) unlinked b c.link opens apart ∙ unpruned c.link in
+          let after : fin.get new.names c.link ≡ fin.get left.names c.link = unremoved_other maps c failed_name old left new c.link removes apart in
+          elim frees [
+            | inl same ↦ inl (after ∙ ap (λ (d : Content). fin.get d.names c.link) same ∙ before)
+            | inr gone ↦ inr (
+              is_link (fin.get old.names c.link) gone.was_there.0 (sym before ∙ gone.was_there.1),
+              after ∙ ap (λ (d : Content). fin.get d.names c.link) gone.after ∙ removed_name maps unlinked.names c.link,
+            )
+          ]
+    ]
+
+    others_left : (name : List ℕ) → name ≢ failed_name → name ≢ c.link → Kept name
+    others_left name not_own unlinked_name = elim little.rest [
+      | inl same ↦ ap (λ (d : Content). fin.get d.names name) same ∙ unpruned name
+      | inr (inl same) ↦ ap (λ (d : Content). fin.get d.names name) same ∙ unpruned name
+      | inr (inr (unlinked, b, left, opens, frees, removes)) ↦
+          unremoved_other maps c failed_name old left new name removes not_own ∙ freed_other maps c.link unlinked left name frees unlinked_name
+          ∙ opened_other maps failed_name (after_make_folder little.pruned) unlinked b name opens not_own ∙ unpruned name
+    ]
+
+    fails : NamesAfterFailure c n s old.names new.names
+    fails = record { own = own_left; link = link_left; others = others_left }
+
+  -- the attempt left exactly the survivors, and succeeded or removed nothing
+  abbrev pub LeavesAll : Attempt → Type 0
+  LeavesAll a = ((is_some a.body ≡ true) ⊎ (max_before c ≡ 0)) × PrunesAll a
+
+  abbrev pub outcomes_in : List Attempt → List Bool
+  outcomes_in = map (λ (a : Attempt). is_some a.body)
 
   all_leave : (parts : OpeningPartsKeepBodies) (n : ℕ) (attempts : List Attempt) (h : List Event) (first last : Content) → ((x : ℕ) → x < n → x < length first.bodies)
-      → OnlyAttemptsChange c attempts h first last → EachOf LeavesAll attempts → NamesAfterOpenings c n (stamps_in attempts) first.names last.names
+      → OnlyAttemptsChange c attempts h first last → EachOf LeavesAll attempts → NamesAfterAttempts c n (outcomes_in attempts) (stamps_in attempts) first.names last.names
   all_leave parts n [] h first last more leads all = ap (λ (d : Content). d.names) leads
   all_leave parts n (a ∷ rest) h first last more leads all =
-      let some = some_is a.body all.0.0 in
-      let did : Succeeded c a some.0 = subst (λ (o : Option ℕ). MatchOption o (IsRefusalEffect c (file_name_of c a.stamp) a.before a.after) (Succeeded c a)) some.1 leads.1 in
-      let names : last.names ≡ a.after.names = carried_names (open_body (a ∷ rest)) (pieces_since a.step h) a.after last leads.2 in
-      let grown = leads_bodies parts c rest (events_before a.step h) first a.before leads.0 in (
-        a.before.names,
-        all_leave parts n rest (events_before a.step h) first a.before more leads.0 all.1,
-        subst (λ (m : NameMap). NamesAfterOpening c n a.stamp a.before.names m) (sym names) (leaves n a some.0 did all.0.1 (λ x lt. grown x (more x lt))),
-      )
+      by a.body refl leads.1 all.0.0 (all_leave parts n rest (events_before a.step h) first a.before more leads.0 all.1)
+    where
+      names : last.names ≡ a.after.names
+      names = carried_names (open_body (a ∷ rest)) (pieces_since a.step h) a.after last leads.2
+
+      grown : (x : ℕ) → x < n → x < length a.before.bodies
+      grown x lt = leads_bodies parts c rest (events_before a.step h) first a.before leads.0 x (more x lt)
+
+      by : (o : Option ℕ) → a.body ≡ o → MatchOption o (IsRefusalEffect c (file_name_of c a.stamp) a.before a.after) (Succeeded c a) → (is_some o ≡ true) ⊎ (max_before c ≡ 0)
+          → NamesAfterAttempts c n (outcomes_in rest) (stamps_in rest) first.names a.before.names → NamesAfterAttempts c n (is_some o ∷ outcomes_in rest) (a.stamp ∷ stamps_in rest) first.names last.names
+      by None is little (inl some) earlier = absurd (let both : false ≡ true = some in cc)
+      by None is little (inr none) earlier =
+          (a.before.names, earlier, subst (λ (m : NameMap). NamesAfterFailure c n a.stamp a.before.names m) (sym names) (fails n a.stamp none a.before a.after little grown))
+      by (Some b) is did fine earlier =
+          (a.before.names, earlier, subst (λ (m : NameMap). NamesAfterOpening c n a.stamp a.before.names m) (sym names) (leaves n a b did all.0.1 grown))
 
   pub names_lead : (parts : OpeningPartsKeepBodies) (attempts : List Attempt) (h : List Event) (first last : Content) → OnlyAttemptsChange c attempts h first last → EachOf LeavesAll attempts
-      → NamesAfterOpenings c (length first.bodies) (stamps_in attempts) first.names last.names
+      → NamesAfterAttempts c (length first.bodies) (outcomes_in attempts) (stamps_in attempts) first.names last.names
   names_lead parts attempts h first last leads all = all_leave parts (length first.bodies) attempts h first last (λ x lt. lt) leads all
 
   -- ---- other names

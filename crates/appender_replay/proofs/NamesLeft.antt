@@ -94,6 +94,9 @@ module _ (maps : NameLaws) where
   added_other : (names : NameMap) (name : List ℕ) (entry : Entry) (n : List ℕ) → n ≢ name → fin.get (fin.insert names name entry) n ≡ fin.get names n
   added_other names name entry n ne = elim (maps.additions names name entry n) [ inl own ↦ absurd (ne own.0) | inr other ↦ other.1 ]
 
+  pub removed_name : (names : NameMap) (name : List ℕ) → fin.get (fin.remove names name) name ≡ None
+  removed_name names name = elim (maps.removals names name name) [ inl own ↦ own.1 | inr other ↦ absurd (other.0 refl) ]
+
   removed_other : (names : NameMap) (name n : List ℕ) → n ≢ name → fin.get (fin.remove names name) n ≡ fin.get names n
   removed_other names name n ne = elim (maps.removals names name n) [ inl own ↦ absurd (ne own.0) | inr other ↦ other.1 ]
 

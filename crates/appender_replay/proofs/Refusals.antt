@@ -1,18 +1,29 @@
 -- Wrong runs that the headline refuses.
-use Rattle.std.proofs.Common.{◌≡◌, ◌≢◌, ◌∙◌, ℕ, ℤ, pos, ◌+◌, Bool, true, false, nat_le, List, [], ◌∷◌, Option, None, Some, inl, inr, refl, ap, sym, arith}
+use Rattle.std.proofs.Common.{◌≡◌, ◌≢◌, ◌∙◌, ◌⊎◌, ℕ, ℤ, pos, ◌+◌, ◌-◌, ◌^◌, ◌<◌, ◌≤◌, Bool, true, false, nat_le, min, List, [], ◌∷◌, length, Option, None, Some, Result, Ok, Err, inl, inr, refl, ap, sym, subst, arith}
 use Rattle.std.specs.FinMap as fin
+use Rattle.std.specs.Option.{option_map_or}
+use Rattle.std.specs.IoError.{error_kind}
+use Rattle.std.specs.declared.io.Error.{Error}
+use Rattle.std.specs.declared.io.ErrorKind.{ErrorKind}
+use Rattle.std.specs.declared.io.ErrorKind.TheVariants.{OutOfMemory}
 use Rattle.std.specs.Str.{bytes_eq}
 use Rattle.std.proofs.lemmas.Int.{ints}
 use Rattle.std.proofs.lemmas.List.Elements.{All-cons, All-nil}
 use Rattle.std.proofs.lemmas.Slice.Eq.{bytes_eq-Decides}
-use Rattle.appender_store.specs.Content.{Entry, File}
+use Rattle.appender_store.specs.Content.{Entry, File, IsFile}
+use Rattle.appender_store.specs.Folder.{IsOneMore, NotedCounts, NoticeMessage, NotedList, NotedRemove, NotedFlush, NotedOpen, next_count}
+use Rattle.appender_store.specs.Notes.{Notes}
+use Rattle.appender_store.specs.MemoryState.{AppendLimits, MemoryState, TakesBytes, count_taken}
 use Rattle.appender_store.specs.declared.store.Folder.{Ghosts}
 use Rattle.appender_retain.specs.Survival.{name_survives}
 use Rattle.appender_rolling.specs.Config.{naming_of, log_files_of}
 use Rattle.appender_rolling.specs.Opening.{file_name_of}
 use Rattle.appender_rolling.specs.declared.rolling.setup.Stamp.{Stamp}
 use Rattle.appender_names.specs.Name.{NamesArePeriods}
-use Rattle.appender_replay.specs.Inside.Refused.{WritesTwice, LosesByte, WritesOutOfOrder, TakesOutOfOrder, ShutdownTakesNoPlace, NeverPrunes, FollowsClockBack, ChangesOtherNames, one_file, hourly}
+use Rattle.appender_rolling.specs.Roller.{written_count}
+use Rattle.appender_replay.specs.Headline.{WriteList, Calls, CallsLead, NotesNothing, HasFault, begins, calls, appends, notes, notes_attempt}
+use Rattle.appender_replay.specs.Replay.{by_kind}
+use Rattle.appender_replay.specs.Inside.Refused.{WritesTwice, LosesByte, WritesOutOfOrder, TakesOutOfOrder, ShutdownTakesNoPlace, NeverPrunes, FollowsClockBack, ChangesOtherNames, LosesFile, ReusesNumber, TakesNothing, NotesNoFault, one_file, hourly}
 use Rattle.appender_replay.specs.declared.replay.whole.Reply.{Reply}
 use Rattle.appender_replay.specs.declared.replay.whole.Reply.TheVariants.{Accepted, Full, NoMemory, Took}
 
@@ -60,7 +71,7 @@ too_many n = grind arith
 pub never_prunes : {S F : Type 0} (kind : Ghosts S F) → NeverPrunes kind
 never_prunes kind limit room first last b created is_known there lists removes few_lists few_removes was is law =
     let gone : name_survives (log_files_of (one_file 1) (Some (file_name_of (one_file 1) (stamp_at (pos 0))))) 1 (kind.content first).names (97 ∷ 98 ∷ []) ≡ false = rw was (too_many _) in
-    let names = (law.folder.content is_known).names refl (inr (record { lists = rw there (omega (arith, lists)); removes = removes; below = (few_lists, few_removes) })) in
+    let names = (law.folder.content is_known).names (inl refl) (inr (record { lists = rw there (omega (arith, lists)); removes = removes; below = (few_lists, few_removes) })) in
     let none : fin.get (kind.content last).names (97 ∷ 98 ∷ []) ≡ None =
     names.2.others (97 ∷ 98 ∷ []) (λ e. let both : ◌≡◌ {A = List ℕ} (97 ∷ 98 ∷ []) (97 ∷ []) = e in cc) (λ e. let both : ◌≡◌ {A = List ℕ} (97 ∷ 98 ∷ []) [] = e in cc) ∙ rw (names.1, gone) refl in
     let both : ◌≡◌ {A = Option Entry} (Some (File b (Some created))) None = sym is ∙ none in
@@ -101,3 +112,107 @@ changes_other_names kind limit room first last b c t u is_known was is differs l
       | inl same ↦ differs (same_body b c t u (sym is ∙ same ∙ was))
       | inr gone ↦ let both : ◌≡◌ {A = Option Entry} (Some (File c u)) None = sym is ∙ gone.0 in cc
     ]
+
+pub loses_file : {S F : Type 0} (kind : Ghosts S F) → LosesFile kind
+loses_file kind x y limit room first last is_known gone law = subst IsFile gone ((law.folder.content is_known).open_file (inr refl))
+
+pub reuses_number : {S F : Type 0} (kind : Ghosts S F) → ReusesNumber kind
+reuses_number kind limit room past first last name entry k is_known lists below had in_it law = elim ((law.folder.content is_known).number refl) [
+  | inl first_number ↦ elim (first_number.above name entry k had in_it) [
+    | inl less ↦ absurd (omega (arith, less))
+    | inr (inl most) ↦ absurd (omega (arith, most))
+    | inr (inr last_file) ↦ let both : true ≡ false = sym last_file.1.continues in cc
+  ]
+  | inr failed ↦ let more = failed.2 in absurd (omega (arith, lists, below, more))
+]
+
+-- What the relations of folders in memory say of the limits of appends, and of removals.
+module _ {S F : Type 0} (kind : Ghosts S F) (state : S → MemoryState) (keeps : (old new : S) → Calls kind old new → (state new).shortened ≡ (state old).shortened)
+    (noting : (old new : S) (notice : NoticeMessage) → kind.note_gives old notice new → (state new).shortened ≡ (state old).shortened)
+    (takes : (old new : S) (file after : F) (bytes : List ℕ) (answer : Result ℕ Error) → kind.append_gives old file bytes answer new after → TakesBytes bytes (state old) answer (state new)) where
+  -- each write that took nothing was given nothing
+  abbrev NoneShort : WriteList → Type 0
+  NoneShort [] = Unit {0}
+  NoneShort ((name, bytes, answer) ∷ earlier) = (answer ≡ Ok 0 → length bytes ≡ 0) × NoneShort earlier
+
+  takes_all : (old new : S) (bytes : List ℕ) (answer : Result ℕ Error) → (state old).shortened ≡ fin.empty → TakesBytes bytes (state old) answer (state new) → by_kind answer ≡ Ok 0 → length bytes ≡ 0
+  takes_all old new bytes (Ok n) none does is =
+      let zero : n ≡ 0 = ap written_count is in
+      let all : count_taken (state old) (length bytes) ≡ length bytes =
+      ap (λ (limits : AppendLimits). option_map_or (λ (limit : ℕ). min limit (length bytes)) (fin.get limits (next_count (state old).calls)) (length bytes)) none
+      ∙ ap (λ (o : Option ℕ). option_map_or (λ (limit : ℕ). min limit (length bytes)) o (length bytes)) (fin.get-empty _ _) in
+      sym all ∙ sym does.takes ∙ zero
+  takes_all old new bytes (Err fault) none does is = absurd (let both : ◌≡◌ {A = Result ℕ ErrorKind} (Err (error_kind fault)) (Ok 0) = is in cc)
+
+  none_short : (first last : S) (writes : WriteList) → (state first).shortened ≡ fin.empty → CallsLead kind first writes last → ((state last).shortened ≡ fin.empty) × NoneShort writes
+  none_short first last writes none begins = (none, tt)
+  none_short first last writes none (calls earlier old new lead call quiet) =
+      let before = none_short first old earlier none lead in
+      (keeps old new call ∙ before.0, before.1)
+  none_short first last writes none (appends earlier (name, bytes, shown) old new lead (file, after, answer, as_shown, call, quiet)) =
+      let before = none_short first old earlier none lead in
+      let does = takes old new file after bytes answer call in
+      (does.called.shortened ∙ before.0, ((λ is. takes_all old new bytes answer before.0 does (sym as_shown ∙ is)), before.1))
+  none_short first last writes none (notes earlier old failed new lead call quiet (notice, fault, noted)) =
+      let before = none_short first old earlier none lead in
+      (noting failed new notice noted.call ∙ keeps old failed call ∙ before.0, before.1)
+  none_short first last writes none (notes_attempt earlier old new error lead noted) =
+      let before = none_short first old earlier none lead in
+      (noting old new (NotedOpen error) noted.call ∙ before.0, before.1)
+
+  pub takes_nothing : TakesNothing kind state
+  takes_nothing line items limit room first last none law =
+      let so = none_short first last _ none law.folder.calls in
+      let long : length line.items ≡ 2 = rw items refl in
+      let empty = so.1.0 refl in
+      absurd (omega (arith, long, empty))
+
+-- A removal that needs no memory, and fails, counts a failure. So does each notice of one.
+module _ {S F : Type 0} (kind : Ghosts S F) (removes : (old new : S) (name : List ℕ) (fault : Error) → kind.remove_gives old name (Err fault) new → IsOneMore (kind.failures old) (kind.failures new) ⊎ (error_kind fault ≢ OutOfMemory)) where
+  -- no failure is lost, and a notice of a removal is of one
+  record IsCounted (first last : S) : Type 0 where
+    rise : kind.failures first ≤ kind.failures last
+    caused : (kind.noted last).removes ≡ (kind.noted first).removes ⊎ (kind.failures first < kind.failures last)
+
+  counted_quiet : (first old new : S) → NotesNothing kind old new → IsCounted first old → IsCounted first new
+  counted_quiet first old new quiet before = record {
+    rise = omega (arith, before.rise, quiet.1);
+    caused = elim before.caused [ inl same ↦ inl (ap (λ (n : NotedCounts). n.removes) quiet.0 ∙ same) | inr more ↦ inr (omega (arith, more, quiet.1)) ];
+  }
+
+  -- a notice of another kind
+  counted_note : (first old new : S) → kind.failures new ≡ kind.failures old → (kind.noted new).removes ≡ (kind.noted old).removes → IsCounted first old → IsCounted first new
+  counted_note first old new same removed before = record {
+    rise = omega (arith, before.rise, same);
+    caused = elim before.caused [ inl none ↦ inl (removed ∙ none) | inr more ↦ inr (omega (arith, more, same)) ];
+  }
+
+  counted : (first last : S) (writes : WriteList) → kind.failures first < 2 ^ 64 - 1 → CallsLead kind first writes last → IsCounted first last
+  counted first last writes below begins = record { rise = omega arith; caused = inl refl }
+  counted first last writes below (calls earlier old new lead call quiet) = counted_quiet first old new quiet (counted first old earlier below lead)
+  counted first last writes below (appends earlier (name, bytes, shown) old new lead (file, after, answer, as_shown, call, quiet)) = counted_quiet first old new quiet (counted first old earlier below lead)
+  counted first last writes below (notes_attempt earlier old new error lead noted) =
+      counted_note first old new noted.failures (ap (λ (n : NotedCounts). n.removes) noted.noted) (counted first old earlier below lead)
+  counted first last writes below (notes earlier old failed new lead call quiet (notice, fault, noted)) =
+      by notice fault noted (counted first old earlier below lead) (counted_quiet first old failed quiet (counted first old earlier below lead))
+    where
+      by : (notice : NoticeMessage) → HasFault kind old failed notice → Notes kind failed notice new → IsCounted first old → IsCounted first failed → IsCounted first new
+      by (NotedList fault) why noted early before = counted_note first failed new noted.failures (ap (λ (n : NotedCounts). n.removes) noted.noted) before
+      by (NotedFlush fault) why noted early before = counted_note first failed new noted.failures (ap (λ (n : NotedCounts). n.removes) noted.noted) before
+      by (NotedOpen error) why noted early before = absurd why
+      by (NotedRemove name fault) why noted early before =
+          let one : IsOneMore (kind.failures old) (kind.failures failed) = elim why.1 [
+            | inl more ↦ more
+            | inr (same, inl memory) ↦ elim (removes old failed name fault why.0) [ inl more ↦ more | inr never ↦ absurd (never memory) ]
+            | inr (same, inr forbidden) ↦ absurd forbidden.1
+          ] in
+          let kept = noted.failures in
+          let early_rise = early.rise in
+          let more : kind.failures first < kind.failures new = omega (arith, one, kept, early_rise, below) in
+          record { rise = omega (arith, more); caused = inr more }
+
+  pub notes_no_fault : NotesNoFault kind
+  notes_no_fault limit c moment number room past first last below same differs law = elim (counted first last _ below law.folder.calls).caused [
+    | inl none ↦ differs none
+    | inr more ↦ absurd (omega (arith, same, more))
+  ]

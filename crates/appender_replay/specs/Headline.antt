@@ -1,17 +1,26 @@
 -- The headline of a run. An account follows from only the steps and replies: which reply each step gets, which files are begun, and what is
--- written to each. The folder then contains what it contained before, and exactly that.
-use Rattle.std.specs.Prelude.{◌≡◌, ◌≢◌, ◌⊎◌, ◌↔◌, IsTrue, ℕ, ◌+◌, ◌-◌, ◌^◌, ◌<◌, ◌≤◌, nat_lt, min, ◌==◌, ℤ, Bool, true, false, not, ◌&&◌, if◌then◌else◌, List, [], ◌∷◌, ◌++◌, length, take, drop, get_or, All, Option, None, Some, is_some, unwrap_or, Result, Ok, Err}
+-- written to each. The folder then contains what it contained before, and exactly that. Read it from `Headline` upwards.
+-- Of other files: `is_moment`, a moment of the years 1 to 9998; `written_count`, the bytes that an answer took; `NotedCounts`, the notices by kind;
+-- `name_rank`, the rank of a log file's name; `name_survives`, whether retention leaves a name.
+use Rattle.std.specs.Prelude.{◌≡◌, ◌≢◌, ◌⊎◌, ◌↔◌, IsTrue, ℕ, ◌+◌, ◌-◌, ◌^◌, ◌<◌, ◌≤◌, nat_lt, min, ◌==◌, ℤ, Bool, true, false, not, ◌&&◌, if◌then◌else◌, List, [], ◌∷◌, ◌++◌, length, take, drop, get_or, All, Option, None, Some, is_some, unwrap_or, Result, Ok, Err, Vec}
 use Rattle.std.specs.Int.{int_max}
 use Rattle.std.specs.Str.{bytes_eq}
 use Rattle.std.specs.FinMap as fin
+use Rattle.std.specs.IoError.{error_kind}
+use Rattle.std.specs.declared.alloc.Global.{Global}
+use Rattle.std.specs.declared.io.Error.{Error}
 use Rattle.std.specs.declared.io.ErrorKind.{ErrorKind}
 use Rattle.std.specs.declared.io.ErrorKind.TheVariants.{OutOfMemory}
+use Rattle.appender_names.specs.declared.error.InitError.{InitError}
 use Rattle.appender_names.specs.Rotation.{is_moment, period_of, is_same_start}
-use Rattle.appender_store.specs.Content.{Content, NameMap, Entry, File, Link, body_at}
+use Rattle.appender_store.specs.Content.{Content, NameMap, Entry, File, Link, IsFile, IsLink, ForbidsList, body_at}
 use Rattle.appender_store.specs.declared.store.Folder.{Ghosts}
-use Rattle.appender_store.specs.Folder.{NotedCounts}
+use Rattle.appender_store.specs.Folder.{HasCause, NotedCounts, NoticeMessage, NotedList, NotedRemove, NotedFlush, NotedOpen, next_count}
+use Rattle.appender_store.specs.Notes.{Notes}
+use Rattle.appender_store.specs.declared.store.Listed.{Listed}
 use Rattle.appender_retain.specs.Survival.{name_rank, name_survives}
 use Rattle.appender_rolling.specs.Config.{Config, is_limited, max_before, log_files_of}
+use Rattle.appender_rolling.specs.Limits.{KeepsEachFile}
 use Rattle.appender_rolling.specs.Opening.{file_name_of, IsFirstNumber, HasEntry}
 use Rattle.appender_rolling.specs.Roller.{written_count}
 use Rattle.appender_rolling.specs.declared.rolling.setup.Stamp.{Stamp}
@@ -21,21 +30,28 @@ use Rattle.appender_queue.specs.declared.queue.Shut.TheVariants.{Sent, Already, 
 use Rattle.appender_rolling.specs.declared.rolling.Switch.{Switch}
 use Rattle.appender_rolling.specs.declared.rolling.Switch.TheVariants.{None as Stayed, Opened as Switched}
 use Rattle.appender_replay.specs.Start.{Start, start_stamp, start_of}
+use Rattle.appender_replay.specs.Replay.{by_kind}
 use Rattle.appender_replay.specs.declared.replay.whole.Step.{Step}
 use Rattle.appender_replay.specs.declared.replay.whole.Step.TheVariants.{Offer, Shut, AddSender, DropSender, Work}
 use Rattle.appender_replay.specs.declared.replay.whole.Reply.{Reply}
 use Rattle.appender_replay.specs.declared.replay.whole.Reply.TheVariants.{Accepted, Full, Closed, NoMemory, Shut as DidShut, Senders, Took, TookShutdown, TookGone, TookEmpty, Wrote, Flushed, Ended}
 
--- The files: the latest moment that was read; the attempts to open one, the newest, the earlier ones, newest first, and how many failed; the bytes
--- that count since, which are those that were written, and those that the first file held if the log continues it; the open file's name; what each write took, newest first; how many writes and flushes failed, but for want of memory.
+-- the writes, the newest first: the name of the open file, the bytes, and the answer
+abbrev pub WriteList : Type 0
+WriteList = List (List ℕ × List ℕ × Result ℕ ErrorKind)
+
+-- The files: the latest moment that was read; the attempts to open one, the newest, the earlier ones, newest first, whether each succeeded, and how
+-- many failed; the bytes that count since, which are those that were written, and those that the first file held if the log continues it; the open
+-- file's name; the writes; how many writes and flushes failed, but for want of memory.
 pub record Files : Type 0 where
   pub latest : ℤ
   pub newest : Stamp
   pub earlier : List Stamp
+  pub outcomes : List Bool
   pub failed : ℕ
   pub since : ℕ
   pub file : List ℕ
-  pub writes : List (List ℕ × List ℕ)
+  pub writes : WriteList
   pub faults : ℕ
 
 -- The queue: all lines that were accepted, in order, and how many of them were handed to the worker; how many had been accepted when the
@@ -57,7 +73,7 @@ pub record RunAccount : Type 0 where
 
 -- after the opening of the first file
 abbrev pub files_at_opening : Config → Start → Files
-files_at_opening c s = record { latest = s.moment; newest = start_stamp s; earlier = []; failed = 0; since = s.held; file = file_name_of c (start_stamp s); writes = []; faults = 0 }
+files_at_opening c s = record { latest = s.moment; newest = start_stamp s; earlier = []; outcomes = true ∷ []; failed = 0; since = s.held; file = file_name_of c (start_stamp s); writes = []; faults = 0 }
 
 -- ---- the reply to a step
 
@@ -109,8 +125,10 @@ Replies limit c a (Work m, reply) = (a.rest ≡ []) × (a.flushes ≡ 0) × (rep
 -- a file that could not be opened leaves the last one open
 abbrev pub files_after_attempt : Config → Option Stamp → Switch → Files → Files
 files_after_attempt c None switch f = f
-files_after_attempt c (Some s) Switched f = record f { newest = s; earlier = f.newest ∷ f.earlier; since = 0; file = file_name_of c s }
-files_after_attempt c (Some s) switch f = record f { newest = s; earlier = f.newest ∷ f.earlier; since = 0; failed = f.failed + 1 }
+files_after_attempt c (Some s) Switched f =
+    record f { newest = s; earlier = f.newest ∷ f.earlier; outcomes = true ∷ f.outcomes; since = 0; file = file_name_of c s }
+files_after_attempt c (Some s) switch f =
+    record f { newest = s; earlier = f.newest ∷ f.earlier; outcomes = false ∷ f.outcomes; since = 0; failed = f.failed + 1 }
 
 -- a check of the clock at m, with this number of bytes to write
 abbrev pub files_after_check : Config → ℤ → ℕ → Switch → Files → Files
@@ -123,7 +141,7 @@ faults_in (Err kind) = 1
 
 -- a write of these bytes to the open file
 abbrev pub files_after_write : List ℕ → Result ℕ ErrorKind → Files → Files
-files_after_write bytes answer f = record f { since = f.since + length (take (written_count answer) bytes); writes = (f.file, take (written_count answer) bytes) ∷ f.writes; faults = f.faults + faults_in answer }
+files_after_write bytes answer f = record f { since = f.since + length (take (written_count answer) bytes); writes = (f.file, bytes, answer) ∷ f.writes; faults = f.faults + faults_in answer }
 
 -- a line is given up at a write of no byte, at the 101st interruption and at any other error
 abbrev pub account_after_write : Result ℕ ErrorKind → RunAccount → RunAccount
@@ -155,11 +173,11 @@ Follows limit c start (t ∷ past) = Follows limit c start past × Replies limit
 -- ---- the folder
 
 -- what was written to the file of this name
-abbrev pub written_to_name : List ℕ → List (List ℕ × List ℕ) → List ℕ
+abbrev pub written_to_name : List ℕ → WriteList → List ℕ
 written_to_name name [] = []
-written_to_name name ((file, bytes) ∷ earlier) = written_to_name name earlier ++ (if bytes_eq file name then bytes else [])
+written_to_name name ((file, bytes, answer) ∷ earlier) = written_to_name name earlier ++ (if bytes_eq file name then take (written_count answer) bytes else [])
 
--- what retention leaves under a name before a file is opened
+-- What retention leaves under a name when this file is opened. By name, the file that is opened is none of those that it counts, and so stays.
 abbrev pub kept_entry : Config → Stamp → NameMap → List ℕ → Option Entry
 kept_entry c s names name = if name_survives (log_files_of c (Some (file_name_of c s))) c.max_files names name then fin.get names name else None
 
@@ -171,10 +189,20 @@ pub record NamesAfterOpening (c : Config) (bodies : ℕ) (s : Stamp) (old new : 
   pub link : c.link ≢ [] → fin.get new c.link ≡ Some (Link (file_name_of c s))
   pub others : (name : List ℕ) → name ≢ file_name_of c s → name ≢ c.link → fin.get new name ≡ kept_entry c s old name
 
--- the same of one file after another, the newest first. The creation moment of a new file follows from no map before it.
-abbrev pub NamesAfterOpenings : Config → ℕ → List Stamp → NameMap → NameMap → Type 0
-NamesAfterOpenings c bodies [] first last = last ≡ first
-NamesAfterOpenings c bodies (s ∷ earlier) first last = (between : NameMap) × NamesAfterOpenings c bodies earlier first between × NamesAfterOpening c bodies s between last
+-- The names after an attempt that failed, if retention doesn't come before it. A name that was free may lead to a new file, and the link may be gone.
+pub record NamesAfterFailure (c : Config) (bodies : ℕ) (s : Stamp) (old new : NameMap) : Type 0 where
+  pub own : (fin.get new (file_name_of c s) ≡ fin.get old (file_name_of c s)) ⊎ ((fin.get old (file_name_of c s) ≡ None)
+      × ((b : ℕ) × (t : Option ℤ) × (fin.get new (file_name_of c s) ≡ Some (File b t)) × (bodies ≤ b)))
+  pub link : c.link ≢ file_name_of c s → (fin.get new c.link ≡ fin.get old c.link) ⊎ (IsLink (fin.get old c.link) × (fin.get new c.link ≡ None))
+  pub others : (name : List ℕ) → name ≢ file_name_of c s → name ≢ c.link → fin.get new name ≡ fin.get old name
+
+-- the same of one attempt after another, the newest first. The creation moment of a new file follows from no map before it.
+abbrev pub NamesAfterAttempts : Config → ℕ → List Bool → List Stamp → NameMap → NameMap → Type 0
+NamesAfterAttempts c bodies (true ∷ outcomes) (s ∷ earlier) first last =
+    (between : NameMap) × NamesAfterAttempts c bodies outcomes earlier first between × NamesAfterOpening c bodies s between last
+NamesAfterAttempts c bodies (false ∷ outcomes) (s ∷ earlier) first last =
+    (between : NameMap) × NamesAfterAttempts c bodies outcomes earlier first between × NamesAfterFailure c bodies s between last
+NamesAfterAttempts c bodies outcomes stamps first last = last ≡ first
 
 -- Every listing and every removal succeeded, except the listings of an absent folder before the opening. Counts at their greatest don't show it.
 pub record RetentionSucceeded (c : Config) (there : Bool) (old new : NotedCounts) : Type 0 where
@@ -197,18 +225,72 @@ pub record Contains (c : Config) (start : Start) (f : Files) (first last : Conte
   -- Whatever fails, no other name changes, except that log files may be removed if there is a maximum of them.
   pub others : (name : List ℕ) → All (λ s. name ≢ file_name_of c s) (f.newest ∷ f.earlier) → name ≢ c.link
       → (fin.get last.names name ≡ fin.get first.names name) ⊎ ((fin.get last.names name ≡ None) × (c.max_files ≢ 0) × (is_some (name_rank (log_files_of c None) first.names name) ≡ true))
-  -- If each attempt succeeded, and each listing and removal, the names are exactly these. Without a maximum nothing is listed for retention.
-  pub names : f.failed ≡ 0 → ((c.max_files ≡ 0) ⊎ RetentionSucceeded c first.there noted_first noted_last)
-      → NamesAfterOpenings c (length first.bodies) (f.newest ∷ f.earlier) first.names last.names
+  -- Without a maximum each file that was there at first has its name, whatever fails, and so has each to which bytes were written.
+  pub kept : c.max_files ≡ 0 → KeepsEachFile first last
+  pub written : c.max_files ≡ 0 → (name : List ℕ) → written_to_name name f.writes ≢ [] → IsFile (fin.get last.names name)
+  -- The open file has its name if no attempt failed. Else it has it by name or without a maximum, where retention doesn't come before the opening.
+  pub open_file : (f.failed ≡ 0) ⊎ (max_before c ≡ 0) → IsFile (fin.get last.names f.file)
+  -- If each listing and removal succeeded, the names are exactly these; by name or without a maximum whichever attempts fail, else if none does.
+  -- Without a maximum nothing is listed for retention.
+  pub names : (f.failed ≡ 0) ⊎ (max_before c ≡ 0) → ((c.max_files ≡ 0) ⊎ RetentionSucceeded c first.there noted_first noted_last)
+      → NamesAfterAttempts c (length first.bodies) f.outcomes (f.newest ∷ f.earlier) first.names last.names
   -- If the log continues its last file, what the first file held counts.
   pub held : c.continues ≡ true → IsHeld c start first
-  -- With a limit of bytes the first number is the next after those that the folder had in that period, or that of the file that is continued.
-  pub number : is_limited c ≡ true → RetentionSucceeded c first.there noted_first noted_last → IsFirstNumber c start.moment (HasEntry first) start.number
+  -- With a limit of bytes the first number is the next after those that the folder had in that period, or that of the file that is continued. If the
+  -- listing that finds it failed, List was noted, and it is 0.
+  pub number : is_limited c ≡ true → IsFirstNumber c start.moment (HasEntry first) start.number
+      ⊎ ((start.number ≡ 0) × (first.there ≡ true) × (next_count noted_first.lists ≤ noted_last.lists))
 
--- The folder after a run: it noted each attempt that failed, and counted each write and each flush that failed.
+-- ---- the calls of the folder
+
+module _ {S F : Type 0} (kind : Ghosts S F) where
+  -- one call that is neither an append nor a notice, whatever it returned
+  pub data Calls (old new : S) : Type 0 where
+    Lists : (answer : Result (Vec Listed Global) Error) → kind.list_gives old answer new → Calls old new
+    Removes : (name : List ℕ) (answer : Result (Unit {0}) Error) → kind.remove_gives old name answer new → Calls old new
+    Opens : (name : List ℕ) (answer : Result F Error) → kind.open_gives old name answer new → Calls old new
+    MakesFolder : (answer : Result (Unit {0}) Error) → kind.make_folder_gives old answer new → Calls old new
+    RemovesLink : (link : List ℕ) (answer : Result (Unit {0}) Error) → kind.remove_link_gives old link answer new → Calls old new
+    MakesLink : (link target : List ℕ) (answer : Result (Unit {0}) Error) → kind.make_link_gives old link target answer new → Calls old new
+    Flushes : (file after : F) (answer : Result (Unit {0}) Error) → kind.flush_gives old file answer new after → Calls old new
+
+  -- it is not noted
+  abbrev pub NotesNothing : S → S → Type 0
+  NotesNothing old new = (kind.noted new ≡ kind.noted old) × (kind.failures old ≤ kind.failures new)
+
+  -- an append of these bytes
+  abbrev pub CallsAppend : List ℕ → Result ℕ ErrorKind → S → S → Type 0
+  CallsAppend bytes shown old new = (file : F) × (after : F) × (answer : Result ℕ Error)
+      × (shown ≡ by_kind answer) × kind.append_gives old file bytes answer new after × NotesNothing old new
+
+  -- The call from one folder to the other failed with the fault of this notice. List is also noted if there was no memory to choose what is removed.
+  abbrev pub HasFault : S → S → NoticeMessage → Type 0
+  HasFault old new (NotedList fault) = (error_kind fault ≡ OutOfMemory) ⊎ (kind.list_gives old (Err fault) new
+      × HasCause {T = Unit {0}} kind.is_known (ForbidsList (kind.content old)) (kind.failures old) (kind.failures new) (Err fault))
+  HasFault old new (NotedRemove name fault) =
+      kind.remove_gives old name (Err fault) new × HasCause {T = Unit {0}} kind.is_known ⊥ (kind.failures old) (kind.failures new) (Err fault)
+  HasFault old new (NotedFlush fault) = (file : F) × (after : F) × kind.flush_gives old file (Err fault) new after
+  HasFault old new (NotedOpen error) = ⊥
+
+  abbrev pub NotesFault : S → S → S → Type 0
+  NotesFault old failed new = (notice : NoticeMessage) × HasFault old failed notice × Notes kind failed notice new
+
+  -- All calls since the first folder, one after another, that lead to this one. The appends are these writes. A notice is of a call or of an attempt.
+  pub data CallsLead (first : S) : WriteList → S → Type 0 where
+    begins : CallsLead first [] first
+    calls : (w : WriteList) (s t : S) → CallsLead first w s → Calls s t → NotesNothing s t → CallsLead first w t
+    appends : (w : WriteList) (e : List ℕ × List ℕ × Result ℕ ErrorKind) (s t : S) → CallsLead first w s → CallsAppend e.1 e.2 s t →
+        CallsLead first (e ∷ w) t
+    notes : (w : WriteList) (s t u : S) → CallsLead first w s → Calls s t → NotesNothing s t → NotesFault s t u → CallsLead first w u
+    notes_attempt : (w : WriteList) (s t : S) (error : InitError) → CallsLead first w s → Notes kind s (NotedOpen error) t → CallsLead first w t
+
+-- The folder after a run: it noted each attempt that failed, and counted each write and each flush that failed. Why an attempt failed is in the
+-- clause `runs` of `replay` (`KeepsFile` of `appender_rolling`).
 pub record FolderFollows {S F : Type 0} (kind : Ghosts S F) (c : Config) (start : Start) (f : Files) (first last : S) : Type 0 where
   pub failed : (kind.noted last).opens ≡ min ((kind.noted first).opens + f.failed) (2 ^ 64 - 1)
   pub faults : min (kind.failures first + f.faults) (2 ^ 64 - 1) ≤ kind.failures last
+  -- Nothing else was called. So its relation of appends says why a write took nothing, and each List or Remove that was noted has a cause.
+  pub calls : CallsLead kind first f.writes last
   pub unnumbered : is_limited c ≡ false → start.number ≡ 0
   pub anew : c.continues ≡ false → start.held ≡ 0
   pub content : IsTrue kind.is_known → Contains c start f (kind.content first) (kind.content last) (kind.noted first) (kind.noted last)

@@ -1,15 +1,18 @@
 -- Wrong runs. The headline by itself refuses each of them.
-use Rattle.std.specs.Prelude.{false, ◌≡◌, IsTrue, ℕ, ◌-◌, ◌^◌, ◌<◌, ℤ, pos, true, List, [], ◌∷◌, Option, Some, Ok, Vec}
+use Rattle.std.specs.Prelude.{false, None, ◌≡◌, ◌≢◌, IsTrue, ℕ, ◌-◌, ◌^◌, ◌<◌, ℤ, pos, true, List, [], ◌∷◌, Option, Some, Ok, Vec}
 use Rattle.std.specs.declared.alloc.Global.{Global}
 use Rattle.std.specs.FinMap as fin
+use Rattle.appender_names.specs.Name.{IsNumberIn}
 use Rattle.appender_names.specs.Rotation.{rotation_of}
 use Rattle.appender_names.specs.declared.rotation.RotationKind.TheVariants.{Hourly, Never}
 use Rattle.appender_store.specs.Content.{File, body_at}
 use Rattle.appender_store.specs.declared.store.Folder.{Ghosts}
+use Rattle.appender_store.specs.declared.store.Kind.{Kind}
+use Rattle.appender_store.specs.MemoryState.{MemoryState}
 use Rattle.appender_queue.specs.declared.queue.Shut.TheVariants.{Sent}
-use Rattle.appender_rolling.specs.Config.{Config}
-use Rattle.appender_rolling.specs.declared.rolling.Switch.TheVariants.{None as Stayed, Opened as Switched}
-use Rattle.appender_rolling.specs.Opening.{file_name_of}
+use Rattle.appender_rolling.specs.Config.{Config, naming_of}
+use Rattle.appender_rolling.specs.declared.rolling.Switch.TheVariants.{None as Stayed, Opened as Switched, Failed as SwitchFailed}
+use Rattle.appender_rolling.specs.Opening.{file_name_of, HasEntry}
 use Rattle.appender_replay.specs.Headline.{Headline}
 use Rattle.appender_replay.specs.Record.{StepWithReply}
 use Rattle.appender_replay.specs.declared.replay.whole.Step.TheVariants.{Offer, Shut, Work}
@@ -84,3 +87,32 @@ abbrev pub ChangesOtherNames : {S F : Type 0} → Ghosts S F → Type 0
 ChangesOtherNames {S} {F} kind = (limit room : ℕ) (first last : S) (b c : ℕ) (t u : Option ℤ) → IsTrue kind.is_known
     → fin.get (kind.content first).names (98 ∷ []) ≡ Some (File b t) → fin.get (kind.content last).names (98 ∷ []) ≡ Some (File c u) → (b ≡ c → ⊥)
     → Headline kind limit (one_file 1) (pos 0) 0 room [] first last → ⊥
+
+-- `x` is written, and then an attempt to open the next file fails. The name of the file that has `x` leads to nothing, without a maximum.
+abbrev pub LosesFile : {S F : Type 0} → Ghosts S F → Type 0
+LosesFile {S} {F} kind = (x y : Vec ℕ Global) (limit room : ℕ) (first last : S) → IsTrue kind.is_known
+    → fin.get (kind.content last).names (file_name_of hourly (record { moment = pos 0; number = 0 })) ≡ None
+    → Headline kind limit hourly (pos 0) 0 room
+    ((Work (pos 3600), Wrote SwitchFailed (Ok 1)) ∷ (Work (pos 0), Took 2) ∷ (Work (pos 0), Wrote Stayed (Ok 1)) ∷ (Work (pos 0), Took 1) ∷ (Offer 0 y, Accepted 2) ∷ (Offer 0 x, Accepted 1) ∷ [])
+    first last → ⊥
+
+-- a file each hour, of at most 10 bytes
+abbrev pub limited : Config
+limited = record hourly { max_bytes = 10 }
+
+-- The first number is 0, though an entry had one in that period, and no listing was noted as failed. A removal may have been.
+abbrev pub ReusesNumber : {S F : Type 0} → Ghosts S F → Type 0
+ReusesNumber {S} {F} kind = (limit room : ℕ) (past : List StepWithReply) (first last : S) (name : List ℕ) (entry : Kind) (k : ℕ) → IsTrue kind.is_known
+    → (kind.noted last).lists ≡ (kind.noted first).lists → (kind.noted last).lists < 2 ^ 64 - 1
+    → HasEntry (kind.content first) name entry → IsNumberIn (naming_of limited) (pos 0) name k
+    → Headline kind limit limited (pos 0) 0 room past first last → ⊥
+
+-- The line `xy` is given up, since its write took nothing, though no append was to be short.
+abbrev pub TakesNothing : {S F : Type 0} → Ghosts S F → (S → MemoryState) → Type 0
+TakesNothing {S} {F} kind state = (line : Vec ℕ Global) → line.items ≡ 120 ∷ 121 ∷ [] → (limit room : ℕ) (first last : S) → (state first).shortened ≡ fin.empty
+    → Headline kind limit (one_file 0) (pos 0) 0 room ((Work (pos 0), Wrote Stayed (Ok 0)) ∷ (Work (pos 0), Took 1) ∷ (Offer 0 line, Accepted 1) ∷ []) first last → ⊥
+
+-- Remove is noted, though no call failed.
+abbrev pub NotesNoFault : {S F : Type 0} → Ghosts S F → Type 0
+NotesNoFault {S} {F} kind = (limit : ℕ) (c : Config) (moment : ℤ) (number room : ℕ) (past : List StepWithReply) (first last : S) → kind.failures first < 2 ^ 64 - 1
+    → kind.failures last ≡ kind.failures first → (kind.noted last).removes ≢ (kind.noted first).removes → Headline kind limit c moment number room past first last → ⊥

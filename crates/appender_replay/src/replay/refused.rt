@@ -1,8 +1,9 @@
 // Wrong runs that the headline refuses, whichever other clauses there are.
-ghost use Rattle.appender_replay.specs.Inside.Refused.{WritesTwice, LosesByte, WritesOutOfOrder, TakesOutOfOrder, ShutdownTakesNoPlace, NeverPrunes, FollowsClockBack, ChangesOtherNames};
+ghost use Rattle.appender_store.specs.MemoryView.{state_of};
+ghost use Rattle.appender_replay.specs.Inside.Refused.{WritesTwice, LosesByte, WritesOutOfOrder, TakesOutOfOrder, ShutdownTakesNoPlace, NeverPrunes, FollowsClockBack, ChangesOtherNames, LosesFile, ReusesNumber, TakesNothing, NotesNoFault};
 
 use appender_names::laws::names_are_periods;
-use appender_store::store::Folder;
+use appender_store::store::{Folder, MemoryFolder};
 
 // Does nothing. Each clause is that a wrong run contradicts the headline.
 fn headline_refuses<S: Folder>()
@@ -14,6 +15,10 @@ fn headline_refuses<S: Folder>()
     ensures never_prunes { NeverPrunes S.Folder }
     ensures follows_clock_back { FollowsClockBack S.Folder }
     ensures changes_other_names { ChangesOtherNames S.Folder }
+    ensures loses_file { LosesFile S.Folder }
+    ensures reuses_number { ReusesNumber S.Folder }
+    ensures takes_nothing { TakesNothing ⟦<MemoryFolder as Folder>⟧ state_of }
+    ensures notes_no_fault { NotesNoFault ⟦<MemoryFolder as Folder>⟧ }
 {
     names_are_periods();
 }
