@@ -10,7 +10,7 @@ use Rattle.std.specs.Str.{bytes_eq}
 use Rattle.std.proofs.lemmas.Int.{ints}
 use Rattle.std.proofs.lemmas.List.Elements.{All-cons, All-nil}
 use Rattle.std.proofs.lemmas.Slice.Eq.{bytes_eq-Decides}
-use Rattle.appender_store.specs.Content.{Entry, File, IsFile}
+use Rattle.appender_store.specs.Content.{Entry, File, IsFile, NameMap}
 use Rattle.appender_store.specs.Folder.{IsOneMore, NotedCounts, NoticeMessage, NotedList, NotedRemove, NotedFlush, NotedOpen, next_count}
 use Rattle.appender_store.specs.Notes.{Notes}
 use Rattle.appender_store.specs.MemoryState.{AppendLimits, MemoryState, TakesBytes, count_taken}
@@ -21,9 +21,9 @@ use Rattle.appender_rolling.specs.Opening.{file_name_of}
 use Rattle.appender_rolling.specs.declared.rolling.setup.Stamp.{Stamp}
 use Rattle.appender_names.specs.Name.{NamesArePeriods}
 use Rattle.appender_rolling.specs.Roller.{written_count}
-use Rattle.appender_replay.specs.Headline.{WriteList, Calls, CallsLead, NotesNothing, HasFault, begins, calls, appends, notes, notes_attempt}
+use Rattle.appender_replay.specs.Headline.{WriteList, kept_entry, Calls, CallsLead, NotesNothing, HasFault, begins, calls, appends, notes, notes_attempt}
 use Rattle.appender_replay.specs.Replay.{by_kind}
-use Rattle.appender_replay.specs.Inside.Refused.{WritesTwice, LosesByte, WritesOutOfOrder, TakesOutOfOrder, ShutdownTakesNoPlace, NeverPrunes, FollowsClockBack, ChangesOtherNames, LosesFile, ReusesNumber, TakesNothing, NotesNoFault, one_file, hourly}
+use Rattle.appender_replay.specs.Inside.Refused.{WritesTwice, LosesByte, WritesOutOfOrder, TakesOutOfOrder, ShutdownTakesNoPlace, NeverPrunes, FollowsClockBack, ChangesOtherNames, LosesFile, ReusesNumber, TakesNothing, NotesNoFault, RemovesAtFailure, one_file, hourly, hourly_by_name}
 use Rattle.appender_replay.specs.declared.replay.whole.Reply.{Reply}
 use Rattle.appender_replay.specs.declared.replay.whole.Reply.TheVariants.{Accepted, Full, NoMemory, Took}
 
@@ -115,6 +115,11 @@ changes_other_names kind limit room first last b c t u is_known was is differs l
 
 pub loses_file : {S F : Type 0} (kind : Ghosts S F) → LosesFile kind
 loses_file kind x y limit room first last is_known gone law = subst IsFile gone ((law.folder.content is_known).open_file (inr refl))
+
+pub removes_at_failure : {S F : Type 0} (kind : Ghosts S F) → RemovesAtFailure kind
+removes_at_failure kind x limit room first last name is_known there lists removes few_lists few_removes not_first not_next unlinked kept gone law =
+    let names = (law.folder.content is_known).names (inr refl) (inr (record { lists = rw there (omega (arith, lists)); removes = removes; below = (few_lists, few_removes) })) in
+    kept (ap (λ (m : NameMap). kept_entry hourly_by_name (stamp_at (pos 0)) m name) (sym names.1.1) ∙ sym (names.1.2.others name not_first unlinked) ∙ sym (names.2.others name not_next unlinked) ∙ gone)
 
 pub reuses_number : {S F : Type 0} (kind : Ghosts S F) → ReusesNumber kind
 reuses_number kind limit room past first last name entry k is_known lists below had in_it law = elim ((law.folder.content is_known).number refl) [

@@ -13,7 +13,7 @@ use Rattle.appender_queue.specs.declared.queue.Shut.TheVariants.{Sent}
 use Rattle.appender_rolling.specs.Config.{Config, naming_of}
 use Rattle.appender_rolling.specs.declared.rolling.Switch.TheVariants.{None as Stayed, Opened as Switched, Failed as SwitchFailed}
 use Rattle.appender_rolling.specs.Opening.{file_name_of, HasEntry}
-use Rattle.appender_replay.specs.Headline.{Headline}
+use Rattle.appender_replay.specs.Headline.{Headline, kept_entry}
 use Rattle.appender_replay.specs.Record.{StepWithReply}
 use Rattle.appender_replay.specs.declared.replay.whole.Step.TheVariants.{Offer, Shut, Work}
 use Rattle.appender_replay.specs.declared.replay.whole.Reply.TheVariants.{Accepted, Shut as DidShut, Took, Wrote}
@@ -116,3 +116,16 @@ TakesNothing {S} {F} kind state = (line : Vec ℕ Global) → line.items ≡ 120
 abbrev pub NotesNoFault : {S F : Type 0} → Ghosts S F → Type 0
 NotesNoFault {S} {F} kind = (limit : ℕ) (c : Config) (moment : ℤ) (number room : ℕ) (past : List StepWithReply) (first last : S) → kind.failures first < 2 ^ 64 - 1
     → kind.failures last ≡ kind.failures first → (kind.noted last).removes ≢ (kind.noted first).removes → Headline kind limit c moment number room past first last → ⊥
+
+-- by name, of at most two files
+abbrev pub hourly_by_name : Config
+hourly_by_name = record hourly { max_files = 2; by_name = true }
+
+-- An attempt fails, and a file that retention had left is gone, though no listing or removal was noted as failed.
+abbrev pub RemovesAtFailure : {S F : Type 0} → Ghosts S F → Type 0
+RemovesAtFailure {S} {F} kind = (x : Vec ℕ Global) (limit room : ℕ) (first last : S) (name : List ℕ) → IsTrue kind.is_known → (kind.content first).there ≡ true
+    → (kind.noted last).lists ≡ (kind.noted first).lists → (kind.noted last).removes ≡ (kind.noted first).removes
+    → (kind.noted last).lists < 2 ^ 64 - 1 → (kind.noted last).removes < 2 ^ 64 - 1
+    → name ≢ file_name_of hourly_by_name (record { moment = pos 0; number = 0 }) → name ≢ file_name_of hourly_by_name (record { moment = pos 3600; number = 0 }) → name ≢ []
+    → kept_entry hourly_by_name (record { moment = pos 0; number = 0 }) (kind.content first).names name ≢ None → fin.get (kind.content last).names name ≡ None
+    → Headline kind limit hourly_by_name (pos 0) 0 room ((Work (pos 3600), Wrote SwitchFailed (Ok 1)) ∷ (Work (pos 0), Took 1) ∷ (Offer 0 x, Accepted 1) ∷ []) first last → ⊥

@@ -14,7 +14,7 @@ use Rattle.appender_store.specs.declared.store.memory.MemoryFolder.{MemoryFolder
 use Rattle.appender_rolling.specs.Config.{naming_of}
 use Rattle.appender_replay.specs.Headline.{Calls, Lists, Removes, Opens, MakesFolder, RemovesLink, MakesLink, Flushes}
 use Rattle.appender_replay.specs.Inside.Refused.{hourly}
-use Rattle.appender_replay.proofs.Refusals.{writes_twice, loses_byte, writes_out_of_order, takes_out_of_order, shutdown_takes_no_place, never_prunes, follows_clock_back, changes_other_names, loses_file, reuses_number, takes_nothing, notes_no_fault}
+use Rattle.appender_replay.proofs.Refusals.{writes_twice, loses_byte, writes_out_of_order, takes_out_of_order, shutdown_takes_no_place, never_prunes, follows_clock_back, changes_other_names, loses_file, reuses_number, takes_nothing, notes_no_fault, removes_at_failure}
 use Rattle.appender_replay.proofs.replay.refused.headline_refuses.Goals as goal
 
 -- no call changes the limits of appends
@@ -58,4 +58,5 @@ returns g c = record {
   reuses_number = reuses_number g.S.Folder;
   takes_nothing = takes_nothing ghosts state_of limits_stay (λ old new notice gives. ap (λ (s : MemoryState). s.shortened) gives) (λ old new file after bytes answer gives. gives);
   notes_no_fault = notes_no_fault ghosts removal_counts;
+  removes_at_failure = removes_at_failure g.S.Folder;
 }
