@@ -1,43 +1,44 @@
-//! Lists that two threads keep together. They exist in proofs only: the tokens take no bytes, and the calls do nothing.
+//! Histories: lists of lines that a lock and a thread share, so that a contract can say which lines a thread added.
+//! They exist in proofs only. Their tokens take no bytes, and their calls do nothing at run time.
 #![tactic(auto)]
 
-ghost use Rattle.std.specs.Prelude.{◌≡◌, ℕ, List, [], ◌∷◌, ◌++◌};
+ghost use Rattle.std.specs.Prelude.{◌≡◌, ◌<◌, ℕ, List, [], ◌∷◌, ◌++◌, IfOk};
 ghost use base.Fml.{fsep, fobs, fauth};
 ghost use Rattle.line_history.specs.Pages.{page};
 
 use std::marker::{Brand, Model, PhantomData};
 use std::snapshot::Snapshot;
 
-/// Which history a token is of.
-pub trait Naming {
+/// Names a history for each place. A function is generic in it, and a call passes `Brand` and picks the names.
+pub trait Histories {
     ghost name: { ℕ → ℕ };
 }
 
-impl Naming for Brand {
+impl Histories for Brand {
     ghost name = { λ _. 0 };
 }
 
-/// The lines of a value, which a call adds.
-pub trait Lined {
+/// A value whose lines `record` adds to a history.
+pub trait Recorded {
     ghost lines: { Self → List (List ℕ) };
 }
 
 /// One line.
-impl Lined for Vec<u8> {
+impl Recorded for Vec<u8> {
     ghost lines = { λ v. v.items ∷ [] };
 }
 
-/// The line that it shows.
-impl Lined for Snapshot<Vec<u8>> {
+/// The line that it was taken of.
+impl Recorded for Snapshot<Vec<u8>> {
     ghost lines = { λ s. s.value.items ∷ [] };
 }
 
-/// None.
-impl Lined for () {
+/// No line.
+impl Recorded for () {
     ghost lines = { λ _. [] };
 }
 
-/// A new history, which no type stands for yet.
+/// A new history, which has no place yet.
 pub struct Blank {
     marker: PhantomData<()>,
     pub ghost name: { ℕ },
@@ -47,40 +48,41 @@ impl Model for Blank {
     ghost also_owns = { λ b. fsep (fauth b.name (page [])) (fobs b.name (page [])) };
 }
 
-/// The history as it is kept, under a lock.
-pub struct Kept<L: Naming> {
-    marker: PhantomData<L>,
-    pub ghost at: { ℕ },
+/// The half of a history that is kept under a lock.
+pub struct Kept<H: Histories> {
+    marker: PhantomData<H>,
+    pub ghost place: { ℕ },
     pub ghost lines: { List (List ℕ) },
 }
 
-impl<L: Naming> Model for Kept<L> {
-    ghost also_owns = { λ k. fauth (L.name k.at) (page k.lines) };
+impl<H: Histories> Model for Kept<H> {
+    ghost also_owns = { λ k. fauth (H.name k.place) (page k.lines) };
 }
 
-/// The same history, in the hand of the one thread that adds to it.
-pub struct Mine<L: Naming> {
-    marker: PhantomData<L>,
-    pub ghost at: { ℕ },
+/// The half of a history that the one thread has that adds to it.
+pub struct Mine<H: Histories> {
+    marker: PhantomData<H>,
+    pub ghost place: { ℕ },
     pub ghost lines: { List (List ℕ) },
 }
 
-impl<L: Naming> Model for Mine<L> {
-    ghost also_owns = { λ m. fobs (L.name m.at) (page m.lines) };
+impl<H: Histories> Model for Mine<H> {
+    ghost also_owns = { λ m. fobs (H.name m.place) (page m.lines) };
 }
 
 impl Blank {
+    /// Returns a new history.
     pub fn new() -> Blank {
         Blank {
             marker: PhantomData,
         }
     }
 
-    pub fn open<L: Naming>(self) -> (Kept<L>, Mine<L>)
-        ghost at: { ℕ }
-        requires { self.name ≡ L.name at }
-        ensures kept { (result.0.at ≡ at) × (result.0.lines ≡ []) }
-        ensures mine { (result.1.at ≡ at) × (result.1.lines ≡ []) }
+    /// Returns the halves of the history, which has this place and no line.
+    pub fn open<H: Histories>(self, place: usize) -> (Kept<H>, Mine<H>)
+        requires { self.name ≡ H.name place }
+        ensures kept { (result.0.place ≡ place) × (result.0.lines ≡ []) }
+        ensures mine { (result.1.place ≡ place) × (result.1.lines ≡ []) }
     {
         let Self { marker: _ } = self;
         (
@@ -94,34 +96,23 @@ impl Blank {
     }
 }
 
-/// Adds the lines of a value to the history.
-pub fn record<L: Naming, T: Lined>(kept: &mut Kept<L>, mine: &mut Mine<L>, line: &T)
-    requires { kept.old.at ≡ mine.old.at }
+/// Adds the lines of a value to a history. Its halves had the same lines.
+pub fn record<H: Histories, T: Recorded>(kept: &mut Kept<H>, mine: &mut Mine<H>, line: &T)
+    requires { kept.old.place ≡ mine.old.place }
     ensures same { kept.old.lines ≡ mine.old.lines }
     ensures kept { kept.new.lines ≡ kept.old.lines ++ T.lines line.now }
     ensures mine { mine.new.lines ≡ mine.old.lines ++ T.lines line.now }
-    ensures at { (kept.new.at ≡ kept.old.at) × (mine.new.at ≡ mine.old.at) }
+    ensures place { (kept.new.place ≡ kept.old.place) × (mine.new.place ≡ mine.old.place) }
 {}
 
-/// Adds a line to the history.
-pub fn add<L: Naming>(kept: &mut Kept<L>, mine: &mut Mine<L>, line: &Vec<u8>)
-    requires { kept.old.at ≡ mine.old.at }
-    ensures same { kept.old.lines ≡ mine.old.lines }
-    ensures kept { kept.new.lines ≡ kept.old.lines ++ line.now.items ∷ [] }
-    ensures mine { mine.new.lines ≡ mine.old.lines ++ line.now.items ∷ [] }
-    ensures at { (kept.new.at ≡ kept.old.at) × (mine.new.at ≡ mine.old.at) }
-{
-    record(kept, mine, line)
-}
-
-/// What is kept is what is in the hand.
+/// The halves of a history have the same lines.
 #[tactic(auto, using(crate::proofs::Lists::none_left))]
-pub fn compare<L: Naming>(kept: &mut Kept<L>, mine: &mut Mine<L>)
-    requires { kept.old.at ≡ mine.old.at }
+pub fn compare<H: Histories>(kept: &mut Kept<H>, mine: &mut Mine<H>)
+    requires { kept.old.place ≡ mine.old.place }
     ensures same { kept.old.lines ≡ mine.old.lines }
     ensures kept { kept.new.lines ≡ kept.old.lines }
     ensures mine { mine.new.lines ≡ mine.old.lines }
-    ensures at { (kept.new.at ≡ kept.old.at) × (mine.new.at ≡ mine.old.at) }
+    ensures place { (kept.new.place ≡ kept.old.place) × (mine.new.place ≡ mine.old.place) }
 {
     record(kept, mine, &())
 }
@@ -132,13 +123,13 @@ impl Drop for Blank {
     }
 }
 
-impl<L: Naming> Drop for Kept<L> {
+impl<H: Histories> Drop for Kept<H> {
     fn drop(self) {
         let Self { marker: _ } = self;
     }
 }
 
-impl<L: Naming> Drop for Mine<L> {
+impl<H: Histories> Drop for Mine<H> {
     fn drop(self) {
         let Self { marker: _ } = self;
     }
@@ -146,6 +137,6 @@ impl<L: Naming> Drop for Mine<L> {
 
 unsafe impl Send for Blank {}
 
-unsafe impl<L: Naming> Send for Kept<L> {}
+unsafe impl<H: Histories> Send for Kept<H> {}
 
-unsafe impl<L: Naming> Send for Mine<L> {}
+unsafe impl<H: Histories> Send for Mine<H> {}

@@ -39,19 +39,19 @@ record_spec 𝓤 𝓛 𝓜 𝓡 wired Y Z laws lawsZ g d g' d' _ _ =
     proved 𝓛 En hs c 𝓜 𝓡 (Goes-ref 𝓛 5 0 tt (plain (λ _. A)), (Goes-ref 𝓛 5 1 tt (plain (λ _. B)), (Goes-dropped 𝓛 5 (RefOf (2 ∷ []) tt (plain (λ _. T)) (λ _. tt)) yes (λ κs x f. refl), tt))) (#self inst) fn (code.unfolded 𝓤 H 𝓜 𝓡 wired (Y, (Z, tt)) d d')
     (λ κs. (mut_vals, (mut_vals, (shr_vals, tt)))) (λ κs. (mut_Tells (named 0) κs.0 A, (mut_Tells (named 1) κs.1.0 B, (shr_Tells (named 2) κs.1.1.0 T, tt)))) (λ κs qs bounds a gh are.
     let r = a.0 in let s = a.1.0 in let k : A.Denot = r.now in let m : B.Denot = s.now in let w : List (List ℕ) = m.lines ++ g'.lines a.1.1.0.now in
-    let k' : A.Denot = record { marker = k.marker; at = k.at; lines = w } in let m' : B.Denot = record { marker = m.marker; at = m.at; lines = w } in
+    let k' : A.Denot = record { marker = k.marker; place = k.place; lines = w } in let m' : B.Denot = record { marker = m.marker; place = m.place; lines = w } in
     let u : Val = vptr r.ref_ptr.0 r.ref_ptr.1 in let v : Val = vptr s.ref_ptr.0 s.ref_ptr.1 in let x : Val = vptr a.1.1.0.ref_ptr.0 a.1.1.0.ref_ptr.1 in
     let y : (walk_of 𝓛 En hs c).Ghost = ((κs, qs, bounds, a, (u ∷ [], (v ∷ [], (x ∷ [], tt)))), gh) in
     qed 𝓛 (((‵ (flft κs.0 qs.0) ⊛ ‵ (flft κs.1.0 qs.1.0) ⊛ ‵ (flft κs.1.1.0 qs.1.1.0) ⊛ ‵ (flft κs.1.1.1.0 qs.1.1.1.0) ⊛ ‵ (flft κs.1.1.1.1.0 qs.1.1.1.1.0) ⊛ ‵ ftrue) ⊛ ‵ (owns (types_at En.signature.params κs) a y.0.4)) ∷ raw ((c κs a).requires gh) ∷ []) ∵
-    move ! (1 ∷ []) $ hears ! (λ _. hears ! (λ _. hears_last ! (λ place. split ! $ split ! $ move ! (1 ∷ []) $ split ! $ move ! (3 ∷ []) $ fsplit ! $ fsplit3 ! $ drop ! $ move ! (2 ∷ []) $ fsplit ! $ fsplit3 ! $ drop ! $
+    move ! (1 ∷ []) $ hears ! (λ _. hears ! (λ _. hears_last ! (λ at. split ! $ split ! $ move ! (1 ∷ []) $ split ! $ move ! (3 ∷ []) $ fsplit ! $ fsplit3 ! $ drop ! $ move ! (2 ∷ []) $ fsplit ! $ fsplit3 ! $ drop ! $
     keep ! (3 ∷ 4 ∷ 7 ∷ 0 ∷ 1 ∷ 5 ∷ 6 ∷ []) $ enter ! 𝓣.C 𝓣.Λ fn (u ∷ v ∷ x ∷ []) _ $ alloc_all ! (λ l. pass_all ! refl ((tt, tt), ((tt, tt), ((tt, tt), tt))) $
     opens ! tt A r.ref_ptr.0 r.ref_ptr.1 (λ cs. move ! (5 ∷ 6 ∷ 7 ∷ []) $ opens ! tt B s.ref_ptr.0 s.ref_ptr.1 (λ ds. move ! (1 ∷ []) $ fsplit ! $ move ! (7 ∷ []) $ fsplit ! $ move ! (3 ∷ 1 ∷ []) $
-    types.Kit.rewrite ! 1 (λ (n : ℕ). ‵ (fauth (g.name n) (page k.lines))) {x = m.at} {y = k.at} place refl $
-    name_agree ! {γ = g.name m.at} (coded_list (coded_list coded_ℕ)) {x = m.lines} {y = k.lines} (λ same. name_set ! tt (page w) $ move ! (1 ∷ 0 ∷ []) $ types.Kit.rewrite ! 0 (λ (n : ℕ). ‵ (fauth (g.name n) (page w))) {x = k.at} {y = m.at} (sym place) refl $
+    types.Kit.rewrite ! 1 (λ (n : ℕ). ‵ (fauth (g.name n) (page k.lines))) {x = m.place} {y = k.place} at refl $
+    name_agree ! {γ = g.name m.place} (coded_list (coded_list coded_ℕ)) {x = m.lines} {y = k.lines} (λ same. name_set ! tt (page w) $ move ! (1 ∷ 0 ∷ []) $ types.Kit.rewrite ! 0 (λ (n : ℕ). ‵ (fauth (g.name n) (page w))) {x = k.place} {y = m.place} (sym at) refl $
     move ! (2 ∷ 0 ∷ []) $ fjoin ! $ move ! (2 ∷ 1 ∷ []) $ fjoin ! $
     move ! (2 ∷ 0 ∷ 3 ∷ 4 ∷ 5 ∷ []) $ closes ! tt B m' ds s.ref_ptr.0 s.ref_ptr.1 $ move ! (4 ∷ 3 ∷ 5 ∷ 6 ∷ 7 ∷ []) $ closes ! tt A k' cs r.ref_ptr.0 r.ref_ptr.1 $
     sets ! (of_opd ! (unit_lit !)) refl (tt, tt) $ returns ! (look_at ! 0 refl) $ free_all ! refl $ suffices ! _ (ends_at 𝓛 En hs c y vunit tt (k', (m', (tt, tt))) (tt, (tt, (tt, tt)))) $
     feq_i ! (List Val) (u ∷ []) (u ∷ []) refl $ fjoin3 ! $ move ! (2 ∷ 3 ∷ []) $ feq_i ! (List Val) (v ∷ []) (v ∷ []) refl $ fjoin3 ! $ nothing ! $ nothing ! $ fjoin ! $ move ! (1 ∷ 0 ∷ []) $ fjoin ! $ move ! (1 ∷ 0 ∷ []) $ fjoin ! $
     feq_i ! (List Val) (vunit ∷ []) (vunit ∷ []) refl $ move ! (1 ∷ 0 ∷ []) $ join ! $ move ! (2 ∷ 3 ∷ []) $ join ! $ move ! (2 ∷ 0 ∷ []) $ join ! $ join ! $ frame ! $
-    by ! (tells_all 𝓤 ((k.lines ≡ m.lines) ∷ (w ≡ k.lines ++ g'.lines a.1.1.0.now) ∷ (w ≡ w) ∷ ((k.at ≡ k.at) × (m.at ≡ m.at)) ∷ [])
+    by ! (tells_all 𝓤 ((k.lines ≡ m.lines) ∷ (w ≡ k.lines ++ g'.lines a.1.1.0.now) ∷ (w ≡ w) ∷ ((k.place ≡ k.place) × (m.place ≡ m.place)) ∷ [])
     (sym same, (ap (λ (z : List (List ℕ)). z ++ g'.lines a.1.1.0.now) same, (refl, (refl, refl)))))))))))))

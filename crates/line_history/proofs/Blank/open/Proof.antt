@@ -1,10 +1,10 @@
 -- `open` hands out the two halves of the name, at the brand's name.
 use mathlib.Core.Path.{refl, sym, subst}
 use mathlib.Core.List.{List, [], ◌∷◌, ◌++◌}
-use Prim.Native.Nat.{ℕ}
+use Prim.Native.Nat.{ℕ, ◌<◌, ◌^◌}
 use seplogic.Ra.Ura.{Ura}
-use mir.Syntax.{Fn, Dict, dcons, dnil, a_type}
-use mir.Val.{Val, vstruct, vcons, vnil, of_list}
+use mir.Syntax.{Fn, Dict, dcons, dnil, a_type, w64}
+use mir.Val.{Val, vint, vstruct, vcons, vnil, of_list}
 use mir.MapTy.{inst_fn}
 use base.Logic.{SProp, ent, via, fst∗, snd∗}
 use base.Fml.{Fml, ftrue, fsep, feq, flft}
@@ -22,7 +22,7 @@ use denote.Exit.{yes}
 use denote.RattleType.{RattleType, Valss, owns}
 use denote.Laws.{Are, Ises, owns_show, showss}
 use denote.Signature.{types_at, plain}
-use denote.Builtin.{unit}
+use denote.Builtin.{unit, usize}
 use denote.Steps.{nothing}
 use denote.Param.{param, bounded}
 use denote.Triple.Clauses.{Clauses, closing}
@@ -33,7 +33,7 @@ use denote.Triple.Walked.{Stays, stay_dropped, walk_of, ends_at, Goes-dropped, w
 use contract.CodeStep
 use base.Fml.{fobs, fauth}
 use Rattle.line_history.specs.Pages.{page}
-use Rattle.line_history.specs.declared.Naming.{Ghosts}
+use Rattle.line_history.specs.declared.Histories.{Ghosts}
 use Rattle.line_history.specs.contracts.Blank as blank
 use Rattle.line_history.specs.contracts.Kept as book
 use Rattle.line_history.specs.contracts.Mine as share
@@ -56,7 +56,7 @@ module _ (Y : RattleType) (g : Ghosts Y.Denot) (d : Dict) {M : Type 1} {𝓤 : U
   B = share.the_row (param 0 Y) g
 
   abbrev stayed : Stays (ended Y g d).signature.params (ended Y g d).kept
-  stayed = (stay_dropped (plain (λ _. blank.the_row)) yes, tt)
+  stayed = (stay_dropped (plain (λ _. blank.the_row)) yes, (stay_dropped (plain (λ _. usize)) yes, tt))
 
   abbrev 𝓣 : MachineTables 𝓤 H 𝓜
   𝓣 = tables 𝓤 H 𝓜 𝓡 𝓡.env
@@ -66,7 +66,7 @@ module _ (Y : RattleType) (g : Ghosts Y.Denot) (d : Dict) {M : Type 1} {𝓤 : U
 
   module _ (z : (walk_of 𝓛 (ended Y g d) stayed held).Ghost) where
     abbrev Vss : Type 0
-    Vss = List Val × Unit {0}
+    Vss = List Val × (List Val × Unit {0})
 
     abbrev At : Vss → (walk_of 𝓛 (ended Y g d) stayed held).Ghost
     At vss = ((z.0.0, z.0.1, z.0.2, z.0.3, vss), z.1)
@@ -77,8 +77,11 @@ module _ (Y : RattleType) (g : Ghosts Y.Denot) (d : Dict) {M : Type 1} {𝓤 : U
     abbrev a : (blank.the_row).Denot
     a = z.0.3.0
 
+    abbrev n : ℕ
+    n = z.0.3.1.0
+
     abbrev passed : Vss
-    passed = (token ∷ [], tt)
+    passed = (token ∷ [], (vint w64 n ∷ [], tt))
 
     abbrev args : Fml
     args = owns (types_at (ended Y g d).signature.params z.0.0) z.0.3 passed
@@ -86,27 +89,27 @@ module _ (Y : RattleType) (g : Ghosts Y.Denot) (d : Dict) {M : Type 1} {𝓤 : U
     abbrev asked : SProp 𝓤
     asked = (held z.0.0 z.0.3).requires z.1
 
-    walks : Goes passed
-    walks =
-        let book₀ : A.Denot = record { marker = record {}; at = z.1; lines = [] } in let share₀ : B.Denot = record { marker = record {}; at = z.1; lines = [] } in let v : Val = vstruct (vcons token (vcons token vnil)) in
+    walks : n < 2 ^ 64 → Goes passed
+    walks fits =
+        let book₀ : A.Denot = record { marker = record {}; place = n; lines = [] } in let share₀ : B.Denot = record { marker = record {}; place = n; lines = [] } in let v : Val = vstruct (vcons token (vcons token vnil)) in
         let both : ℕ → Fml = λ n. fsep (fauth n (page [])) (fobs n (page [])) in
         qed 𝓛 (((‵ (flft z.0.0.0 z.0.1.0) ⊛ ‵ ftrue) ⊛ ‵ args) ∷ raw asked ∷ []) ∵ move ! (1 ∷ []) $ hears ! (λ _. hears_last ! (λ named. split ! $ move ! (1 ∷ []) $ fsplit ! $ fsplit ! $ keep ! (1 ∷ 3 ∷ []) $
-        types.Kit.rewrite ! 0 (λ (n : ℕ). ‵ (both n)) {x = g.name z.1} {y = a.name} named refl $ fsplit ! $
-        enter ! 𝓣.C 𝓣.Λ function (token ∷ []) _ $ alloc_all ! (λ l. pass_all ! refl ((tt, (tt, tt)), tt) $ sets ! (agg ! (no_more !)) refl (tt, tt) $ sets ! (agg ! (and_then ! (get ! refl) (no_more !))) refl (tt, (tt, tt)) $ sets ! (agg ! (no_more !)) refl (tt, tt) $ sets ! (agg ! (and_then ! (get ! refl) (no_more !))) refl (tt, (tt, tt)) $
+        types.Kit.rewrite ! 0 (λ (n : ℕ). ‵ (both n)) {x = g.name n} {y = a.name} named refl $ fsplit ! $
+        enter ! 𝓣.C 𝓣.Λ function (token ∷ vint w64 n ∷ []) _ $ alloc_all ! (λ l. pass_all ! refl ((tt, (tt, tt)), ((tt, record { fits = fits }), tt)) $ sets ! (agg ! (no_more !)) refl (tt, tt) $ sets ! (agg ! (and_then ! (get ! refl) (no_more !))) refl (tt, (tt, tt)) $ sets ! (agg ! (no_more !)) refl (tt, tt) $ sets ! (agg ! (and_then ! (get ! refl) (no_more !))) refl (tt, (tt, tt)) $
         sets ! (agg ! (and_then ! (get ! refl) (and_then ! (get ! refl) (no_more !)))) refl (tt, ((tt, tt), ((tt, tt), tt))) $
-        returns ! (look_at ! 0 refl) $ free_all ! refl $ suffices ! _ (ends_at 𝓛 (ended Y g d) stayed held (At passed) v (book₀, share₀) (tt, tt) (tt, tt)) $
+        returns ! (look_at ! 0 refl) $ free_all ! refl $ suffices ! _ (ends_at 𝓛 (ended Y g d) stayed held (At passed) v (book₀, share₀) (tt, (tt, tt)) (tt, (tt, tt))) $
         use0 𝓛 (‵ ((Mark (book.the_type (param 0 Y) g).name (param 0 Y ∷ []) (param 0 Y)).own_val (tt, tt) (token ∷ []))) (made (book.the_type (param 0 Y) g).name (param 0 Y ∷ []) (param 0 Y) 𝓛) $ fjoin ! $ move ! (1 ∷ []) $ use0 𝓛 (‵ ((Mark (share.the_type (param 0 Y) g).name (param 0 Y ∷ []) (param 0 Y)).own_val (tt, tt) (token ∷ []))) (made (share.the_type (param 0 Y) g).name (param 0 Y ∷ []) (param 0 Y) 𝓛) $ fjoin ! $ nothing ! $ move ! (2 ∷ 1 ∷ 0 ∷ []) $ fjoin3 ! $ feq_i ! (List Val) (v ∷ []) (v ∷ []) refl $ fjoin ! $
         fpack ! (Valss (A ∷ B ∷ [])) (λ vss. fsep (feq (List Val) (v ∷ []) (vstruct (of_list (vss.0 ++ (vss.1.0 ++ []))) ∷ [])) (owns (A ∷ B ∷ []) (book₀, (share₀, tt)) vss)) (token ∷ [], (token ∷ [], tt)) $
-        nothing ! $ nothing ! $ fjoin ! $ join ! $ move ! (1 ∷ 0 ∷ []) $ join ! $ frame ! $ tells ! (refl, refl) $ tells_last ! (refl, refl))))
+        nothing ! $ nothing ! $ fjoin ! $ nothing ! $ fjoin ! $ join ! $ move ! (1 ∷ 0 ∷ []) $ join ! $ frame ! $ tells ! (refl, refl) $ tells_last ! (refl, refl))))
 
   meets : Meets 𝓛 (ended Y g d).signature (WpFn 𝓤 H 𝓣.C 𝓣.Λ function) (closing 𝓛 (ended Y g d) held)
   unfolding tables_of contract.CodeStep.c_Tables
   meets =
-      walk_Meets 𝓛 (ended Y g d) stayed (Goes-dropped 𝓛 1 (plain (λ _. blank.the_row)) yes (λ κs x f. refl), tt) held
+      walk_Meets 𝓛 (ended Y g d) stayed (Goes-dropped 𝓛 1 (plain (λ _. blank.the_row)) yes (λ κs x f. refl), (Goes-dropped 𝓛 1 (plain (λ _. usize)) yes (λ κs x f. refl), tt)) held
       (WpFn 𝓤 H 𝓣.C 𝓣.Λ function) (WpFn-mono 𝓤 H 𝓛.laws (tables_of 𝓤 H 𝓜 𝓣) function)
       (λ z. let a = z.0.3 in let vss = z.0.4 in let Rs : List RattleType = types_at (ended Y g d).signature.params z.0.0 in let On : SProp 𝓤 = on_entry 𝓛 (ended Y g d).signature z.0.0 z.0.1 a vss in
       fact_use 𝓤 (Are Rs (Ises Rs) a vss) (via 𝓤 (sem 𝓛 (owns Rs a vss)) (via 𝓤 On (fst∗ 𝓤 On (asked z)) (snd∗ 𝓤 (alive 𝓛 (ended Y g d).signature z.0.0 z.0.1) (sem 𝓛 (owns Rs a vss)))) (owns_show 𝓛 Rs (Ises Rs) (showss 𝓛 Rs) a vss)) (λ are.
-      subst (Goes z) (λ i. (sym (told (blank.the_type).name [] unit vss.0 are.0.0) i, tt)) (walks z)))
+      subst (Goes z) (λ i. (sym (told (blank.the_type).name [] unit vss.0 are.0.0) i, (sym are.1.0.0 i, tt))) (walks z are.1.0.1)))
 
 pub open_spec : {M : Type 1} → stated.statement M
 open_spec 𝓤 𝓛 𝓜 𝓡 wired Y laws g d _ = let 𝓣' = tables 𝓤 𝓛.H 𝓜 𝓡 𝓡.env in

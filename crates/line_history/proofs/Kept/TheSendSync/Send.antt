@@ -1,6 +1,6 @@
 use denote.RattleType.{RattleType}
 use denote.Param.Send.{IsSend}
-use Rattle.line_history.specs.declared.Naming.{Ghosts}
+use Rattle.line_history.specs.declared.Histories.{Ghosts}
 use Rattle.line_history.specs.contracts.Kept.{the_row}
 
 pub send : (L : RattleType) (g : Ghosts L.Denot) → IsSend (the_row L g)
