@@ -2,12 +2,16 @@
 //! They exist in proofs only. Their tokens take no bytes, and their calls do nothing at run time.
 #![tactic(auto)]
 
-ghost use Rattle.std.specs.Prelude.{◌≡◌, ◌<◌, ℕ, List, [], ◌∷◌, ◌++◌, IfOk};
+ghost use Rattle.std.specs.Prelude.{◌≡◌, ℕ, List, [], ◌∷◌, ◌++◌, map, vec_len, IfOk};
 ghost use base.Fml.{fsep, fobs, fauth};
 ghost use Rattle.line_history.specs.Pages.{page};
+ghost use Rattle.line_history.specs.Places.{AreNamed, new_histories};
 
+use std::alloc::{AllocError, Global};
 use std::marker::{Brand, Model, PhantomData};
 use std::snapshot::Snapshot;
+
+pub mod relay;
 
 /// Names a history for each place. A function is generic in it, and a call passes `Brand` and picks the names.
 pub trait Histories {
@@ -94,6 +98,25 @@ impl Blank {
             },
         )
     }
+}
+
+/// Returns the halves of each history. Its place is its index. `AllocError` if memory ran out.
+pub fn open_all<H: Histories>(
+    alloc: Global,
+    blanks: Vec<Blank>,
+) -> Result<(Vec<Kept<H>>, Vec<Mine<H>>), AllocError>
+    requires { AreNamed H.name (map (λ b. b.name) blanks.items) }
+    ensures kept { IfOk result (λ halves. map (λ k. (k.place, k.lines)) halves.0.items ≡ new_histories (vec_len blanks)) }
+    ensures mine { IfOk result (λ halves. map (λ m. (m.place, m.lines)) halves.1.items ≡ new_histories (vec_len blanks)) }
+{
+    let mut all_kept = Vec::with_capacity(alloc, blanks.len())?;
+    let mut all_mine = Vec::with_capacity(alloc, blanks.len())?;
+    for blank in blanks {
+        let (kept, mine) = blank.open::<H>(all_kept.len());
+        all_kept.push_reserved(kept);
+        all_mine.push_reserved(mine);
+    }
+    Ok((all_kept, all_mine))
 }
 
 /// Adds the lines of a value to a history. Its halves had the same lines.

@@ -1,0 +1,172 @@
+//! An example: one thread sends lines under a lock, and another one takes them. What arrives is what was sent.
+ghost use Rattle.std.specs.Prelude.{◌≡◌, [], ◌∷◌, ◌++◌, IfSome, IsNone, OnOk, OnErr};
+ghost use Rattle.line_history.specs.Relay.{texts};
+
+use crate::{Blank, Histories, Kept, Mine, compare, record};
+use std::alloc::{AllocError, Global};
+use std::collections::VecDeque;
+use std::marker::Brand;
+use std::snapshot::Snapshot;
+use std::sync::{Condvar, Mutex, Wait};
+use std::thread::{Threads, join};
+
+/// What the lock protects: the lines that were sent and not taken, and the histories of both.
+#[derive(Drop)]
+pub struct Desk<S: Histories, T: Histories> {
+    lines: VecDeque<Vec<u8>>,
+    ended: bool,
+    sent: Kept<S>,
+    taken: Kept<T>,
+    ghost places: { (sent.place ≡ 0) × (taken.place ≡ 0) },
+    ghost whole: { sent.lines ≡ taken.lines ++ texts lines.items },
+}
+
+impl<S: Histories, T: Histories> Desk<S, T> {
+    /// Appends a line. If memory runs out, it is the end of the lines.
+    #[tactic(auto, using(crate::proofs::Lists::one_more))]
+    pub fn put(&mut self, line: Vec<u8>, mine: &mut Mine<S>) -> Result<(), AllocError>
+        requires { mine.old.place ≡ 0 }
+        ensures ok { OnOk result ((mine.new.lines ≡ mine.old.lines ++ line.items ∷ []) × (self.new.ended ≡ self.old.ended)) }
+        ensures err { OnErr result (mine.new.lines ≡ mine.old.lines) }
+        ensures place { mine.new.place ≡ 0 }
+    {
+        let Desk {
+            lines, ended, sent, ..
+        } = self;
+        let copy = Snapshot::of(&line);
+        if lines.push_back(line).is_err() {
+            *ended = true;
+            return Err(AllocError);
+        }
+        record(sent, mine, &copy);
+        Ok(())
+    }
+
+    /// Takes the first line.
+    #[tactic(auto, using(crate::proofs::Lists::one_over))]
+    pub fn take(&mut self, got: &mut Mine<T>) -> Option<Vec<u8>>
+        requires { got.old.place ≡ 0 }
+        ensures some { IfSome result (λ line. got.new.lines ≡ got.old.lines ++ line.items ∷ []) }
+        ensures none { IsNone result → (got.new.lines ≡ got.old.lines) × (self.old.lines.items ≡ []) }
+        ensures ended { self.new.ended ≡ self.old.ended }
+        ensures place { got.new.place ≡ 0 }
+    {
+        let Desk { lines, taken, .. } = self;
+        let line = lines.pop_front()?;
+        record(taken, got, &line);
+        Some(line)
+    }
+
+    /// Whether the taker has to wait.
+    pub fn is_idle(&self) -> bool
+        ensures { (result ≡ true) ↔ ((self.now.lines.items ≡ []) × (self.now.ended ≡ false)) }
+    {
+        self.lines.is_empty() && !self.ended
+    }
+}
+
+// Sends the lines in their order. `None` if memory ran out.
+#[tactic(auto, using(crate::proofs::Lists::one_over, crate::proofs::Lists::none_left))]
+fn send_all<S: Histories, T: Histories, R: Wait>(
+    rt: &R,
+    desk: &Mutex<Desk<S, T>>,
+    more: &Condvar,
+    mine: Mine<S>,
+    lines: VecDeque<Vec<u8>>,
+) -> Option<Mine<S>>
+    requires { (mine.place ≡ 0) × (mine.lines ≡ []) }
+    ensures { IfSome result (λ m. (m.place ≡ 0) × (m.lines ≡ texts lines.items)) }
+{
+    let mut mine = mine;
+    let mut lines = lines;
+    while let Some(line) = lines.pop_front() {
+        let put = desk.lock(rt).put(line, &mut mine);
+        more.notify_one();
+        put.ok()?;
+    }
+    desk.lock(rt).ended = true;
+    more.notify_one();
+    Some(mine)
+}
+
+// Takes lines until none comes after them. `None` if memory ran out.
+fn take_all<S: Histories, T: Histories, R: Wait>(
+    rt: &R,
+    alloc: Global,
+    desk: &Mutex<Desk<S, T>>,
+    more: &Condvar,
+    got: Mine<T>,
+) -> Option<(Mine<T>, Vec<Vec<u8>>)>
+    requires { (got.place ≡ 0) × (got.lines ≡ []) }
+    ensures { IfSome result (λ r. (r.0.place ≡ 0) × (r.0.lines ≡ texts r.1.items)) }
+{
+    let mut got = got;
+    let mut log = Vec::new(alloc);
+    for _ in rt.forever() {
+        let mut guard = more.wait_while(rt, desk.lock(rt), |desk| desk.is_idle());
+        let taken = guard.take(&mut got);
+        drop(guard);
+        let Some(line) = taken else {
+            break;
+        };
+        log.push(line).ok()?;
+    }
+    Some((got, log))
+}
+
+#[tactic(auto, using(crate::proofs::Lists::none_left))]
+fn relay_by<S: Histories + Send + Sync, T: Histories + Send + Sync, R: Threads + Wait + Sync>(
+    rt: &R,
+    alloc: Global,
+    first: Blank,
+    second: Blank,
+    lines: VecDeque<Vec<u8>>,
+) -> Option<Vec<Vec<u8>>>
+    requires { (first.name ≡ S.name 0) × (second.name ≡ T.name 0) }
+    ensures { IfSome result (λ log. texts log.items ≡ texts lines.items) }
+{
+    let (sent, mine) = first.open::<S>(0);
+    let (taken, got) = second.open::<T>(0);
+    let desk = Mutex::new(Desk {
+        lines: VecDeque::new(alloc),
+        ended: false,
+        sent,
+        taken,
+    });
+    let more = Condvar::new();
+    let (locked, waited) = (&desk, &more);
+    let (mine, took) = join(
+        rt,
+        move || -> Option<Mine<S>>
+            requires { (mine.place ≡ 0) × (mine.lines ≡ []) }
+            ensures { IfSome result (λ m. (m.place ≡ 0) × (m.lines ≡ texts lines.items)) }
+        { send_all(rt, locked, waited, mine, lines) },
+        move || -> Option<(Mine<T>, Vec<Vec<u8>>)>
+            requires { (got.place ≡ 0) × (got.lines ≡ []) }
+            ensures { IfSome result (λ r. (r.0.place ≡ 0) × (r.0.lines ≡ texts r.1.items)) }
+        { take_all(rt, alloc, locked, waited, got) },
+    );
+    let mut mine = mine?;
+    let (mut got, log) = took?;
+    let Desk {
+        lines: left,
+        ended: _,
+        mut sent,
+        mut taken,
+    } = desk.into_inner();
+    compare(&mut sent, &mut mine);
+    compare(&mut taken, &mut got);
+    if left.is_empty() { Some(log) } else { None }
+}
+
+/// Sends the lines by one thread, under a lock, to another one, which collects them. What arrives is what was sent, in
+/// its order, each line whole. `None` if memory ran out.
+pub fn relay<R: Threads + Wait + Sync>(
+    rt: &R,
+    alloc: Global,
+    lines: VecDeque<Vec<u8>>,
+) -> Option<Vec<Vec<u8>>>
+    ensures { IfSome result (λ log. texts log.items ≡ texts lines.items) }
+{
+    relay_by::<Brand, Brand, R>(rt, alloc, Blank::new(), Blank::new(), lines)
+}
