@@ -1,5 +1,5 @@
 //! An example: one thread sends lines under a lock, and another one takes them. What arrives is what was sent.
-ghost use Rattle.std.specs.Prelude.{◌≡◌, [], ◌∷◌, ◌++◌, IfSome, IsNone, OnOk, OnErr};
+ghost use Rattle.std.specs.Prelude.{◌≡◌, ◌↔◌, [], ◌∷◌, ◌++◌, true, false, IfSome, IsNone, OnOk, OnErr};
 ghost use Rattle.line_history.specs.Relay.{texts};
 
 use crate::{Blank, Histories, Kept, Mine, compare, record};
