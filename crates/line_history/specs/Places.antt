@@ -1,10 +1,6 @@
 -- Histories at the places 0, 1, 2, ..
-use Rattle.std.specs.Prelude.{◌≡◌, ℕ, List, [], map, length}
+use Rattle.std.specs.Prelude.{ℕ, List, [], map}
 use Rattle.std.specs.List.{range_with_len}
-
--- the name at each index is the one of this place
-abbrev pub AreNamed : (ℕ → ℕ) → List ℕ → Type 0
-AreNamed name names = names ≡ map name (range_with_len 0 (length names))
 
 -- the places and the lines of this many histories that were opened
 abbrev pub new_histories : ℕ → List (ℕ × List (List ℕ))

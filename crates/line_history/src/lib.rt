@@ -2,10 +2,10 @@
 //! They exist in proofs only. Their tokens take no bytes, and their calls do nothing at run time.
 #![tactic(auto)]
 
-ghost use Rattle.std.specs.Prelude.{◌≡◌, ℕ, List, [], ◌∷◌, ◌++◌, map, vec_len, IfOk};
+ghost use Rattle.std.specs.Prelude.{◌≡◌, ◌<◌, ℕ, List, [], ◌∷◌, ◌++◌, map, slice_index, vec_len, IfOk};
 ghost use base.Fml.{fsep, fobs, fauth};
 ghost use Rattle.line_history.specs.Pages.{page};
-ghost use Rattle.line_history.specs.Places.{AreNamed, new_histories};
+ghost use Rattle.line_history.specs.Places.{new_histories};
 
 use std::alloc::{AllocError, Global};
 use std::marker::{Brand, Model, PhantomData};
@@ -105,7 +105,7 @@ pub fn open_all<H: Histories>(
     alloc: Global,
     blanks: Vec<Blank>,
 ) -> Result<(Vec<Kept<H>>, Vec<Mine<H>>), AllocError>
-    requires { AreNamed H.name (map (λ b. b.name) blanks.items) }
+    requires { (i : ℕ) → i < vec_len blanks → slice_index (map (λ b. b.name) blanks.items) i ≡ H.name i }
     ensures kept { IfOk result (λ halves. map (λ k. (k.place, k.lines)) halves.0.items ≡ new_histories (vec_len blanks)) }
     ensures mine { IfOk result (λ halves. map (λ m. (m.place, m.lines)) halves.1.items ≡ new_histories (vec_len blanks)) }
 {

@@ -12,19 +12,19 @@ use std::thread::{Threads, join};
 
 /// What the lock protects: the lines that were sent and not taken, and the histories of both.
 #[derive(Drop)]
-pub struct Desk<S: Histories, T: Histories> {
+pub struct Desk<H: Histories> {
     lines: VecDeque<Vec<u8>>,
     ended: bool,
-    sent: Kept<S>,
-    taken: Kept<T>,
-    ghost places: { (sent.place ≡ 0) × (taken.place ≡ 0) },
+    sent: Kept<H>,
+    taken: Kept<H>,
+    ghost places: { (sent.place ≡ 0) × (taken.place ≡ 1) },
     ghost whole: { sent.lines ≡ taken.lines ++ texts lines.items },
 }
 
-impl<S: Histories, T: Histories> Desk<S, T> {
+impl<H: Histories> Desk<H> {
     /// Appends a line. If memory runs out, it is the end of the lines.
     #[tactic(auto, using(crate::proofs::Lists::one_more))]
-    pub fn put(&mut self, line: Vec<u8>, mine: &mut Mine<S>) -> Result<(), AllocError>
+    pub fn put(&mut self, line: Vec<u8>, mine: &mut Mine<H>) -> Result<(), AllocError>
         requires { mine.old.place ≡ 0 }
         ensures ok { OnOk result ((mine.new.lines ≡ mine.old.lines ++ line.items ∷ []) × (self.new.ended ≡ self.old.ended)) }
         ensures err { OnErr result (mine.new.lines ≡ mine.old.lines) }
@@ -44,12 +44,12 @@ impl<S: Histories, T: Histories> Desk<S, T> {
 
     /// Takes the first line.
     #[tactic(auto, using(crate::proofs::Lists::one_over))]
-    pub fn take(&mut self, got: &mut Mine<T>) -> Option<Vec<u8>>
-        requires { got.old.place ≡ 0 }
+    pub fn take(&mut self, got: &mut Mine<H>) -> Option<Vec<u8>>
+        requires { got.old.place ≡ 1 }
         ensures some { IfSome result (λ line. got.new.lines ≡ got.old.lines ++ line.items ∷ []) }
         ensures none { IsNone result → (got.new.lines ≡ got.old.lines) × (self.old.lines.items ≡ []) }
         ensures ended { self.new.ended ≡ self.old.ended }
-        ensures place { got.new.place ≡ 0 }
+        ensures place { got.new.place ≡ 1 }
     {
         let Desk { lines, taken, .. } = self;
         let line = lines.pop_front()?;
@@ -67,13 +67,13 @@ impl<S: Histories, T: Histories> Desk<S, T> {
 
 // Sends the lines in their order. `None` if memory ran out.
 #[tactic(auto, using(crate::proofs::Lists::one_over, crate::proofs::Lists::none_left))]
-fn send_all<S: Histories, T: Histories, R: Wait>(
+fn send_all<H: Histories, R: Wait>(
     rt: &R,
-    desk: &Mutex<Desk<S, T>>,
+    desk: &Mutex<Desk<H>>,
     more: &Condvar,
-    mine: Mine<S>,
+    mine: Mine<H>,
     lines: VecDeque<Vec<u8>>,
-) -> Option<Mine<S>>
+) -> Option<Mine<H>>
     requires { (mine.place ≡ 0) × (mine.lines ≡ []) }
     ensures { IfSome result (λ m. (m.place ≡ 0) × (m.lines ≡ texts lines.items)) }
 {
@@ -90,15 +90,15 @@ fn send_all<S: Histories, T: Histories, R: Wait>(
 }
 
 // Takes lines until none comes after them. `None` if memory ran out.
-fn take_all<S: Histories, T: Histories, R: Wait>(
+fn take_all<H: Histories, R: Wait>(
     rt: &R,
     alloc: Global,
-    desk: &Mutex<Desk<S, T>>,
+    desk: &Mutex<Desk<H>>,
     more: &Condvar,
-    got: Mine<T>,
-) -> Option<(Mine<T>, Vec<Vec<u8>>)>
-    requires { (got.place ≡ 0) × (got.lines ≡ []) }
-    ensures { IfSome result (λ r. (r.0.place ≡ 0) × (r.0.lines ≡ texts r.1.items)) }
+    got: Mine<H>,
+) -> Option<(Mine<H>, Vec<Vec<u8>>)>
+    requires { (got.place ≡ 1) × (got.lines ≡ []) }
+    ensures { IfSome result (λ r. (r.0.place ≡ 1) × (r.0.lines ≡ texts r.1.items)) }
 {
     let mut got = got;
     let mut log = Vec::new(alloc);
@@ -115,18 +115,18 @@ fn take_all<S: Histories, T: Histories, R: Wait>(
 }
 
 #[tactic(auto, using(crate::proofs::Lists::none_left))]
-fn relay_by<S: Histories + Send + Sync, T: Histories + Send + Sync, R: Threads + Wait + Sync>(
+fn relay_by<H: Histories + Send + Sync, R: Threads + Wait + Sync>(
     rt: &R,
     alloc: Global,
     first: Blank,
     second: Blank,
     lines: VecDeque<Vec<u8>>,
 ) -> Option<Vec<Vec<u8>>>
-    requires { (first.name ≡ S.name 0) × (second.name ≡ T.name 0) }
+    requires { (first.name ≡ H.name 0) × (second.name ≡ H.name 1) }
     ensures { IfSome result (λ log. texts log.items ≡ texts lines.items) }
 {
-    let (sent, mine) = first.open::<S>(0);
-    let (taken, got) = second.open::<T>(0);
+    let (sent, mine) = first.open::<H>(0);
+    let (taken, got) = second.open::<H>(1);
     let desk = Mutex::new(Desk {
         lines: VecDeque::new(alloc),
         ended: false,
@@ -137,13 +137,13 @@ fn relay_by<S: Histories + Send + Sync, T: Histories + Send + Sync, R: Threads +
     let (locked, waited) = (&desk, &more);
     let (mine, took) = join(
         rt,
-        move || -> Option<Mine<S>>
+        move || -> Option<Mine<H>>
             requires { (mine.place ≡ 0) × (mine.lines ≡ []) }
             ensures { IfSome result (λ m. (m.place ≡ 0) × (m.lines ≡ texts lines.items)) }
         { send_all(rt, locked, waited, mine, lines) },
-        move || -> Option<(Mine<T>, Vec<Vec<u8>>)>
-            requires { (got.place ≡ 0) × (got.lines ≡ []) }
-            ensures { IfSome result (λ r. (r.0.place ≡ 0) × (r.0.lines ≡ texts r.1.items)) }
+        move || -> Option<(Mine<H>, Vec<Vec<u8>>)>
+            requires { (got.place ≡ 1) × (got.lines ≡ []) }
+            ensures { IfSome result (λ r. (r.0.place ≡ 1) × (r.0.lines ≡ texts r.1.items)) }
         { take_all(rt, alloc, locked, waited, got) },
     );
     let mut mine = mine?;
@@ -168,5 +168,5 @@ pub fn relay<R: Threads + Wait + Sync>(
 ) -> Option<Vec<Vec<u8>>>
     ensures { IfSome result (λ log. texts log.items ≡ texts lines.items) }
 {
-    relay_by::<Brand, Brand, R>(rt, alloc, Blank::new(), Blank::new(), lines)
+    relay_by::<Brand, R>(rt, alloc, Blank::new(), Blank::new(), lines)
 }

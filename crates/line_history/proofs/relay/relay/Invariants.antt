@@ -1,8 +1,6 @@
+use Rattle.std.proofs.Common.{if◌then◌else◌, ◌==◌}
 use Rattle.line_history.proofs.relay.relay.Given as goal
 
 -- the names of the two histories
-abbrev pub ghosts-relay_by-S-Histories : goal.ghosts-relay_by-S-Histories
-ghosts-relay_by-S-Histories g a = record { name = λ _. a.first.name }
-
-abbrev pub ghosts-relay_by-T-Histories : goal.ghosts-relay_by-T-Histories
-ghosts-relay_by-T-Histories g a = record { name = λ _. a.second.name }
+abbrev pub ghosts-relay_by : goal.ghosts-relay_by
+ghosts-relay_by g a = record { name = λ place. if place == 0 then a.first.name else a.second.name }
