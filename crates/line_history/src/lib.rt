@@ -4,15 +4,14 @@
 
 ghost use Rattle.std.specs.Prelude.{◌≡◌, ◌<◌, ℕ, List, [], ◌∷◌, ◌++◌, map, slice_index, vec_len, IfOk};
 ghost use base.Fml.{fsep, fobs, fauth};
-ghost use Rattle.line_history.specs.Pages.{page};
-ghost use Rattle.line_history.specs.Places.{new_histories};
+ghost use Rattle.line_history.specs.Lines.{coded};
+ghost use Rattle.line_history.specs.Lines.{new_histories};
 
 use std::alloc::{AllocError, Global};
 use std::marker::{Brand, Model, PhantomData};
 use std::snapshot::Snapshot;
 
 pub mod relay;
-
 #[cfg(test)]
 mod tests;
 
@@ -52,7 +51,7 @@ pub struct Blank {
 }
 
 impl Model for Blank {
-    ghost also_owns = { λ b. fsep (fauth b.name (page [])) (fobs b.name (page [])) };
+    ghost also_owns = { λ b. fsep (fauth b.name (coded [])) (fobs b.name (coded [])) };
 }
 
 /// The half of a history that is kept under a lock.
@@ -63,7 +62,7 @@ pub struct Kept<H: Histories> {
 }
 
 impl<H: Histories> Model for Kept<H> {
-    ghost also_owns = { λ k. fauth (H.name k.place) (page k.lines) };
+    ghost also_owns = { λ k. fauth (H.name k.place) (coded k.lines) };
 }
 
 /// The half of a history that the one thread has that adds to it.
@@ -74,7 +73,7 @@ pub struct Mine<H: Histories> {
 }
 
 impl<H: Histories> Model for Mine<H> {
-    ghost also_owns = { λ m. fobs (H.name m.place) (page m.lines) };
+    ghost also_owns = { λ m. fobs (H.name m.place) (coded m.lines) };
 }
 
 impl Blank {
@@ -103,7 +102,7 @@ impl Blank {
     }
 }
 
-/// Returns the halves of each history. Its place is its index. `AllocError` if memory ran out.
+/// Returns the halves of histories whose names were picked for the places 0, 1, 2, .. `AllocError` if memory ran out.
 pub fn open_all<H: Histories>(
     alloc: Global,
     blanks: Vec<Blank>,
@@ -122,7 +121,7 @@ pub fn open_all<H: Histories>(
     Ok((all_kept, all_mine))
 }
 
-/// Adds the lines of a value to a history. Its halves had the same lines.
+/// Adds the lines of a value to a history. Its halves had the same lines before.
 pub fn record<H: Histories, T: Recorded>(kept: &mut Kept<H>, mine: &mut Mine<H>, line: &T)
     requires { kept.old.place ≡ mine.old.place }
     ensures same { kept.old.lines ≡ mine.old.lines }
@@ -161,6 +160,7 @@ impl<H: Histories> Drop for Mine<H> {
     }
 }
 
+// Each token has a ghost name, which any thread may have.
 unsafe impl Send for Blank {}
 
 unsafe impl<H: Histories> Send for Kept<H> {}

@@ -1,6 +1,6 @@
 use Rattle.std.proofs.Common.{◌≡◌, ℕ, ◌<◌, map, slice_index, vec_len, ◌+◌, length}
 use Rattle.std.specs.Vec.{vec_capacity}
-use Rattle.line_history.specs.Places.{new_histories}
+use Rattle.line_history.specs.Lines.{new_histories}
 use Rattle.line_history.proofs.open_all.Given as goal
 
 -- the opened ones have their places, and the others are those of the places that follow

@@ -21,7 +21,7 @@ use base.Stored.{coded_list, coded_ℕ}
 use types.Tokens.{name_agree, name_set}
 use denote.Ref.{mut_vals, mut_Tells, shr_vals, shr_Tells}
 use Rattle.std.proofs.raw_atomic.Walks.{proved}
-use Rattle.line_history.specs.Pages.{page}
+use Rattle.line_history.specs.Lines.{coded}
 use Rattle.line_history.specs.contracts.Kept as book
 use Rattle.line_history.specs.contracts.Mine as share
 use Rattle.line_history.proofs.Walks.{hears, hears_last, tells_all}
@@ -46,8 +46,8 @@ record_spec 𝓤 𝓛 𝓜 𝓡 wired Y Z laws lawsZ g d g' d' _ _ =
     move ! (1 ∷ []) $ hears ! (λ _. hears ! (λ _. hears_last ! (λ at. split ! $ split ! $ move ! (1 ∷ []) $ split ! $ move ! (3 ∷ []) $ fsplit ! $ fsplit3 ! $ drop ! $ move ! (2 ∷ []) $ fsplit ! $ fsplit3 ! $ drop ! $
     keep ! (3 ∷ 4 ∷ 7 ∷ 0 ∷ 1 ∷ 5 ∷ 6 ∷ []) $ enter ! 𝓣.C 𝓣.Λ fn (u ∷ v ∷ x ∷ []) _ $ alloc_all ! (λ l. pass_all ! refl ((tt, tt), ((tt, tt), ((tt, tt), tt))) $
     opens ! tt A r.ref_ptr.0 r.ref_ptr.1 (λ cs. move ! (5 ∷ 6 ∷ 7 ∷ []) $ opens ! tt B s.ref_ptr.0 s.ref_ptr.1 (λ ds. move ! (1 ∷ []) $ fsplit ! $ move ! (7 ∷ []) $ fsplit ! $ move ! (3 ∷ 1 ∷ []) $
-    types.Kit.rewrite ! 1 (λ (n : ℕ). ‵ (fauth (g.name n) (page k.lines))) {x = m.place} {y = k.place} at refl $
-    name_agree ! {γ = g.name m.place} (coded_list (coded_list coded_ℕ)) {x = m.lines} {y = k.lines} (λ same. name_set ! tt (page w) $ move ! (1 ∷ 0 ∷ []) $ types.Kit.rewrite ! 0 (λ (n : ℕ). ‵ (fauth (g.name n) (page w))) {x = k.place} {y = m.place} (sym at) refl $
+    types.Kit.rewrite ! 1 (λ (n : ℕ). ‵ (fauth (g.name n) (coded k.lines))) {x = m.place} {y = k.place} at refl $
+    name_agree ! {γ = g.name m.place} (coded_list (coded_list coded_ℕ)) {x = m.lines} {y = k.lines} (λ same. name_set ! tt (coded w) $ move ! (1 ∷ 0 ∷ []) $ types.Kit.rewrite ! 0 (λ (n : ℕ). ‵ (fauth (g.name n) (coded w))) {x = k.place} {y = m.place} (sym at) refl $
     move ! (2 ∷ 0 ∷ []) $ fjoin ! $ move ! (2 ∷ 1 ∷ []) $ fjoin ! $
     move ! (2 ∷ 0 ∷ 3 ∷ 4 ∷ 5 ∷ []) $ closes ! tt B m' ds s.ref_ptr.0 s.ref_ptr.1 $ move ! (4 ∷ 3 ∷ 5 ∷ 6 ∷ 7 ∷ []) $ closes ! tt A k' cs r.ref_ptr.0 r.ref_ptr.1 $
     sets ! (of_opd ! (unit_lit !)) refl (tt, tt) $ returns ! (look_at ! 0 refl) $ free_all ! refl $ suffices ! _ (ends_at 𝓛 En hs c y vunit tt (k', (m', (tt, tt))) (tt, (tt, (tt, tt)))) $

@@ -23,7 +23,7 @@ use denote.Triple.Spec.{Meets, triple_of}
 use denote.Triple.Table.{entered}
 use denote.Triple.Walked.{Stays, walk_of, ends_at, walk_Meets}
 use contract.CodeStep
-use Rattle.line_history.specs.Pages.{page}
+use Rattle.line_history.specs.Lines.{coded}
 use Rattle.line_history.specs.contracts.Blank as blank
 use types.Tokens.{name_new}
 use Rattle.line_history.proofs.Walks.{token, Mark, made}
@@ -57,7 +57,7 @@ module _ {M : Type 1} {𝓤 : Ura M} (𝓛 : Logic 𝓤) (𝓜 : Model 𝓤 𝓛
     walks : ent 𝓤 ((walk_of 𝓛 ended stayed held).pre z) (WpFn 𝓤 H 𝓣.C 𝓣.Λ function ((walk_of 𝓛 ended stayed held).args z) ((walk_of 𝓛 ended stayed held).post z))
     walks =
         qed 𝓛 ((‵ ftrue ⊛ ‵ args) ∷ raw asked ∷ []) ∵ keep ! [] $ enter ! 𝓣.C 𝓣.Λ function [] _ $ alloc_all ! (λ l. pass_all ! refl tt $
-        name_new ! tt (page []) (λ γ. move ! (1 ∷ 0 ∷ []) $ fjoin ! $ sets ! (agg ! (no_more !)) refl (tt, tt) $ sets ! (agg ! (and_then ! (get ! refl) (no_more !))) refl (tt, (tt, tt)) $
+        name_new ! tt (coded []) (λ γ. move ! (1 ∷ 0 ∷ []) $ fjoin ! $ sets ! (agg ! (no_more !)) refl (tt, tt) $ sets ! (agg ! (and_then ! (get ! refl) (no_more !))) refl (tt, (tt, tt)) $
         returns ! (look_at ! 0 refl) $ free_all ! refl $ suffices ! _ (ends_at 𝓛 ended stayed held z token record { marker = record {}; name = γ } tt tt) $
         use0 𝓛 (‵ ((Mark (blank.the_type).name [] unit).own_val (tt, tt) (token ∷ []))) (made (blank.the_type).name [] unit 𝓛) $ fjoin ! $ nothing ! $ join ! $ nothing ! $ join ! $ frame ! $ done !))
 

@@ -32,7 +32,7 @@ use denote.Triple.Table.{entered}
 use denote.Triple.Walked.{Stays, stay_dropped, walk_of, ends_at, Goes-dropped, walk_Meets}
 use contract.CodeStep
 use base.Fml.{fobs, fauth}
-use Rattle.line_history.specs.Pages.{page}
+use Rattle.line_history.specs.Lines.{coded}
 use Rattle.line_history.specs.declared.Histories.{Ghosts}
 use Rattle.line_history.specs.contracts.Blank as blank
 use Rattle.line_history.specs.contracts.Kept as book
@@ -92,7 +92,7 @@ module _ (Y : RattleType) (g : Ghosts Y.Denot) (d : Dict) {M : Type 1} {𝓤 : U
     walks : n < 2 ^ 64 → Goes passed
     walks fits =
         let book₀ : A.Denot = record { marker = record {}; place = n; lines = [] } in let share₀ : B.Denot = record { marker = record {}; place = n; lines = [] } in let v : Val = vstruct (vcons token (vcons token vnil)) in
-        let both : ℕ → Fml = λ n. fsep (fauth n (page [])) (fobs n (page [])) in
+        let both : ℕ → Fml = λ n. fsep (fauth n (coded [])) (fobs n (coded [])) in
         qed 𝓛 (((‵ (flft z.0.0.0 z.0.1.0) ⊛ ‵ ftrue) ⊛ ‵ args) ∷ raw asked ∷ []) ∵ move ! (1 ∷ []) $ hears ! (λ _. hears_last ! (λ named. split ! $ move ! (1 ∷ []) $ fsplit ! $ fsplit ! $ keep ! (1 ∷ 3 ∷ []) $
         types.Kit.rewrite ! 0 (λ (n : ℕ). ‵ (both n)) {x = g.name n} {y = a.name} named refl $ fsplit ! $
         enter ! 𝓣.C 𝓣.Λ function (token ∷ vint w64 n ∷ []) _ $ alloc_all ! (λ l. pass_all ! refl ((tt, (tt, tt)), ((tt, record { fits = fits }), tt)) $ sets ! (agg ! (no_more !)) refl (tt, tt) $ sets ! (agg ! (and_then ! (get ! refl) (no_more !))) refl (tt, (tt, tt)) $ sets ! (agg ! (no_more !)) refl (tt, tt) $ sets ! (agg ! (and_then ! (get ! refl) (no_more !))) refl (tt, (tt, tt)) $

@@ -1,5 +1,5 @@
 use Rattle.std.proofs.Common.{◌≡◌, ◌++◌, length}
-use Rattle.line_history.specs.Relay.{texts}
+use Rattle.line_history.specs.Lines.{texts}
 use Rattle.line_history.proofs.relay.send_all.Given as goal
 
 -- what was sent, and what is still to be sent

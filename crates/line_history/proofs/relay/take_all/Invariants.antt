@@ -1,5 +1,5 @@
 use Rattle.std.proofs.Common.{◌≡◌}
-use Rattle.line_history.specs.Relay.{texts}
+use Rattle.line_history.specs.Lines.{texts}
 use Rattle.line_history.proofs.relay.take_all.Given as goal
 
 -- what was taken is what was collected
