@@ -1,4 +1,4 @@
-use Rattle.std.proofs.Common.{◌∙◌, sym, ap, subst, ◌≡◌, rules}
+use Rattle.std.proofs.Common.{◌∙◌, sym, ap, rules}
 use Rattle.line_history.proofs.Lists.{more_opened, names_follow, name_first}
 use Rattle.line_history.proofs.open_all.Goals as goal
 
