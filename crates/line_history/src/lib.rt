@@ -4,8 +4,7 @@
 
 ghost use Rattle.std.specs.Prelude.{◌≡◌, ◌<◌, ℕ, List, [], ◌∷◌, ◌++◌, map, slice_index, vec_len, IfOk};
 ghost use base.Fml.{fsep, fobs, fauth};
-ghost use Rattle.line_history.specs.Lines.{coded};
-ghost use Rattle.line_history.specs.Lines.{new_histories};
+ghost use Rattle.line_history.specs.Lines.{coded, new_histories};
 
 use std::alloc::{AllocError, Global};
 use std::marker::{Brand, Model, PhantomData};
