@@ -1,0 +1,167 @@
+//! Histories: lists of lines that a lock and a thread share, so that a contract can say which lines a thread added.
+//! They exist in proofs only. Their tokens take no bytes, and their calls do nothing at run time.
+#![tactic(auto)]
+
+ghost use Rattle.std.specs.Prelude.{◌≡◌, ◌<◌, ℕ, List, [], ◌∷◌, ◌++◌, map, slice_index, vec_len, IfOk};
+ghost use base.Fml.{fsep, fobs, fauth};
+ghost use Rattle.line_history.specs.Lines.{coded, new_histories};
+
+use std::alloc::{AllocError, Global};
+use std::marker::{Brand, Model, PhantomData};
+use std::snapshot::Snapshot;
+
+pub mod relay;
+#[cfg(test)]
+mod tests;
+
+/// Names a history for each place. A function is generic in it, and a call passes `Brand` and picks the names.
+pub trait Histories {
+    ghost name: { ℕ → ℕ };
+}
+
+impl Histories for Brand {
+    ghost name = { λ _. 0 };
+}
+
+/// A value whose lines `record` adds to a history.
+pub trait Recorded {
+    ghost lines: { Self → List (List ℕ) };
+}
+
+/// One line.
+impl Recorded for Vec<u8> {
+    ghost lines = { λ v. v.items ∷ [] };
+}
+
+/// The line that it was taken of.
+impl Recorded for Snapshot<Vec<u8>> {
+    ghost lines = { λ s. s.value.items ∷ [] };
+}
+
+/// No line.
+impl Recorded for () {
+    ghost lines = { λ _. [] };
+}
+
+/// A new history, which has no place yet.
+pub struct Blank {
+    marker: PhantomData<()>,
+    pub ghost name: { ℕ },
+}
+
+impl Model for Blank {
+    ghost also_owns = { λ b. fsep (fauth b.name (coded [])) (fobs b.name (coded [])) };
+}
+
+/// The half of a history that is kept under a lock.
+pub struct Kept<H: Histories> {
+    marker: PhantomData<H>,
+    pub ghost place: { ℕ },
+    pub ghost lines: { List (List ℕ) },
+}
+
+impl<H: Histories> Model for Kept<H> {
+    ghost also_owns = { λ k. fauth (H.name k.place) (coded k.lines) };
+}
+
+/// The half of a history that the one thread has that adds to it.
+pub struct Mine<H: Histories> {
+    marker: PhantomData<H>,
+    pub ghost place: { ℕ },
+    pub ghost lines: { List (List ℕ) },
+}
+
+impl<H: Histories> Model for Mine<H> {
+    ghost also_owns = { λ m. fobs (H.name m.place) (coded m.lines) };
+}
+
+impl Blank {
+    /// Returns a new history.
+    pub fn new() -> Blank {
+        Blank {
+            marker: PhantomData,
+        }
+    }
+
+    /// Returns the halves of the history, which has this place and no line.
+    pub fn open<H: Histories>(self, place: usize) -> (Kept<H>, Mine<H>)
+        requires { self.name ≡ H.name place }
+        ensures kept { (result.0.place ≡ place) × (result.0.lines ≡ []) }
+        ensures mine { (result.1.place ≡ place) × (result.1.lines ≡ []) }
+    {
+        let Self { marker: _ } = self;
+        (
+            Kept {
+                marker: PhantomData,
+            },
+            Mine {
+                marker: PhantomData,
+            },
+        )
+    }
+}
+
+/// Returns the halves of histories whose names were picked for the places 0, 1, 2, .. `AllocError` if memory ran out.
+pub fn open_all<H: Histories>(
+    alloc: Global,
+    blanks: Vec<Blank>,
+) -> Result<(Vec<Kept<H>>, Vec<Mine<H>>), AllocError>
+    requires { (i : ℕ) → i < vec_len blanks → slice_index (map (λ b. b.name) blanks.items) i ≡ H.name i }
+    ensures kept { IfOk result (λ halves. map (λ k. (k.place, k.lines)) halves.0.items ≡ new_histories (vec_len blanks)) }
+    ensures mine { IfOk result (λ halves. map (λ m. (m.place, m.lines)) halves.1.items ≡ new_histories (vec_len blanks)) }
+{
+    let mut all_kept = Vec::with_capacity(alloc, blanks.len())?;
+    let mut all_mine = Vec::with_capacity(alloc, blanks.len())?;
+    for blank in blanks {
+        let (kept, mine) = blank.open::<H>(all_kept.len());
+        all_kept.push_reserved(kept);
+        all_mine.push_reserved(mine);
+    }
+    Ok((all_kept, all_mine))
+}
+
+/// Adds the lines of a value to a history. Its halves had the same lines before.
+pub fn record<H: Histories, T: Recorded>(kept: &mut Kept<H>, mine: &mut Mine<H>, line: &T)
+    requires { kept.old.place ≡ mine.old.place }
+    ensures same { kept.old.lines ≡ mine.old.lines }
+    ensures kept { kept.new.lines ≡ kept.old.lines ++ T.lines line.now }
+    ensures mine { mine.new.lines ≡ mine.old.lines ++ T.lines line.now }
+    ensures place { (kept.new.place ≡ kept.old.place) × (mine.new.place ≡ mine.old.place) }
+{}
+
+/// The halves of a history have the same lines.
+#[tactic(auto, using(crate::proofs::Lists::none_left))]
+pub fn compare<H: Histories>(kept: &mut Kept<H>, mine: &mut Mine<H>)
+    requires { kept.old.place ≡ mine.old.place }
+    ensures same { kept.old.lines ≡ mine.old.lines }
+    ensures kept { kept.new.lines ≡ kept.old.lines }
+    ensures mine { mine.new.lines ≡ mine.old.lines }
+    ensures place { (kept.new.place ≡ kept.old.place) × (mine.new.place ≡ mine.old.place) }
+{
+    record(kept, mine, &())
+}
+
+impl Drop for Blank {
+    fn drop(self) {
+        let Self { marker: _ } = self;
+    }
+}
+
+impl<H: Histories> Drop for Kept<H> {
+    fn drop(self) {
+        let Self { marker: _ } = self;
+    }
+}
+
+impl<H: Histories> Drop for Mine<H> {
+    fn drop(self) {
+        let Self { marker: _ } = self;
+    }
+}
+
+// Each token has a ghost name, which any thread may have.
+unsafe impl Send for Blank {}
+
+unsafe impl<H: Histories> Send for Kept<H> {}
+
+unsafe impl<H: Histories> Send for Mine<H> {}
