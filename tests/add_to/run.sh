@@ -223,5 +223,23 @@ for file in "$work"/examples/*; do
     "$(cd "$whole/crates/$name" && rt try "${how[@]}" > "$work/out" 2> "$work/err"; echo "$? $(sed -n 's/^run=\([a-z]*\) status=0 .*/\1/p' "$work/out" "$work/err")")"
 done
 
+# ---- the permission bits of a new file, which no fake of files shows
+
+mkdir -p "$whole/crates/mode/src"
+echo 'mode: tracing_appender' >> "$whole/crates.txt"
+cat > "$whole/crates/mode/src/main.rt" <<'END'
+#![tactic(auto)]
+use std::os::unix::fs::MetadataExt;
+use std::{fs, io};
+use tracing_appender::folder::DirFolder;
+use tracing_appender::store::Folder;
+
+fn main(rt: HostRuntime) -> io::Result<()> {
+    DirFolder::new(rt, "")?.mode(0o640).open("app.log")?;
+    println!(rt; "{:o}", fs::metadata(&rt, "app.log")?.mode())
+}
+END
+check 'the mode of a new file' 100640 "$(cd "$whole/crates/mode" && rt try 2> "$work/err" | grep -o '^100[0-7]*')"
+
 echo "$passed passed, $failed failed"
 [ "$failed" = 0 ]

@@ -13,7 +13,7 @@ HEAD = """# API
 Each public item has its documentation, its signature, and its contract (`requires` before a call, `ensures` after it). Left
 out are bodies, private fields, proofs, and functions of a trait's `impl` without a contract or documentation of their own.
 In a clause `x.now` is what a reference leads to, and `x.old` and `x.new` are what a `&mut` leads to before and after the
-call. The names in it are defined in `specs/` of the crate in the table: [PROMISES](PROMISES.md) explains the main ones, and
+call. The names in it are defined in `specs/` of the crate in the table: [PROMISES](PROMISES.md) explains the main ones.
 [CALLING](CALLING.md) shows how to name them.
 """
 TAIL = "`tests/api/run.py --write` makes this page from the sources, and `.ci/run` compares it with them."

@@ -42,6 +42,7 @@ TOO_LONG = {
         "crowds::a_guard_that_waits_leaves_no_sender_asleep",
         "crowds::a_guard_without_a_place_leaves_no_sender_asleep",
         "crowds::crowds_get_through",
+        "plain_ends::a_queue_has_128000_places_by_default",
         "plain_ends::the_worker_ends_after_the_last_clone",
         "counted::tickets_are_returned_and_lines_are_in_order",
         "counting::lines_of_many_senders_are_taken_or_lost",
@@ -51,7 +52,7 @@ TOO_LONG = {
         "folders::links::a_reader_finds_a_file_at_every_moment",
         "folders::links::three_writers_of_one_link_all_make_it",
     ],
-    "appender_log": ["tests::times_rise_in_a_long_log_of_threads", "tests::two_threads_share_a_sink"],
+    "appender_log": ["tests::times::times_rise_in_a_long_log_of_threads", "tests::two_threads_share_a_sink"],
 }
 SEARCHES = ["each", "random", "pct"]
 EACH_SECONDS = 5

@@ -508,6 +508,8 @@ echo three >&9
 wait_until has_lines "$keep/latest.log" 3
 run "$audit_trail" --keep 2 "$keep" < "$lines"
 check 'audit_trail --keep, a second one' '1||another audit_trail --keep writes to the log directory' "$(told)"
+run "$audit_trail" --keep 2 "$keep" "$lines" < /dev/null
+check 'audit_trail --keep, a second one, from a file' '1||another audit_trail --keep writes to the log directory' "$(told)"
 run "$audit_trail" "$keep" < "$lines"
 check 'audit_trail beside one with --keep' '0||' "$(told)"
 exec 9>&-

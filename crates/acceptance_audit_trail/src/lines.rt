@@ -508,17 +508,21 @@ fn a_file_that_is_gone_at_a_flush_is_begun_anew(rt: HostRuntime) {
     expect_file(&rt, &folder, TEN, "b\n");
 }
 
-// The lost file is flushed before it is closed, once, and a flush that fails is counted.
+// The lost file is flushed before it is closed, once, and a flush that fails is counted, as one of a switch before is.
 #[test]
 fn a_file_that_is_gone_is_flushed(rt: HostRuntime) -> Result<(), Fail> {
-    for (refused, unsynced) in [(0, 0), (1, 1)] {
+    for (step, lost, refused, flushed, unsynced) in [
+        (60, [2].as_slice(), 0, 1, 0),
+        (60, [2].as_slice(), 1, 1, 1),
+        (1800, [3].as_slice(), 1, 2, 1),
+    ] {
         let folder = MemoryFolder::new(rt.alloc());
         let mut folder = Disturbed::new(rt.alloc(), folder, false)?;
         folder.refused = refused;
         let flushes = folder.flushes.clone()?;
-        let mut log = open_disturbed(&rt, folder, 60, &[2]);
+        let mut log = open_disturbed(&rt, folder, step, lost);
         assert!(rt; write(rt.alloc(), &mut log, "a\nb\nc\n").is_ok());
-        expect_eq(&rt, flushes.load(SeqCst), 1);
+        expect_eq(&rt, flushes.load(SeqCst), flushed);
         assert!(rt; log.flush().is_ok());
         expect_eq(&rt, log.check().counts.unsynced(), unsynced);
     }

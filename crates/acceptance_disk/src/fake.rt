@@ -62,6 +62,10 @@ impl<'a> Files for Fake<'a> {
 
     fn open_file(&self, how: &OpenOptions, path: &str) -> io::Result<FakeFile<'a>> {
         how.check()?;
+        // Its files are only for appends.
+        if !how.asks_append() {
+            return Err(unsupported_error());
+        }
         let disk = self.disk;
         disk.begin(Call::OpenFile)?;
         if how.asks_create_new() {

@@ -1,9 +1,12 @@
 // Full disks, short writes, links that are made in between, and a folder that is removed.
 
-use crate::disk::{Call, Disk};
+use crate::disk::{Call, Disk, DiskFault};
 use crate::expect::{AllocAndAbort, expect_eq_of, pair_text};
-use crate::runs::{DiskStep, Outcome};
+use crate::runs::{DiskStep, Outcome, folder_of};
 use crate::scene::{ELEVEN, START, TWELVE, disk_of, expect_texts, put_file, write_log};
+use std::io::ErrorKind;
+use tracing_appender::store::Folder;
+use tracing_appender::waiting::Faults;
 
 // A disk that holds only `other.txt`.
 fn kept_disk(rt: &impl AllocAndAbort) -> Disk {
@@ -103,6 +106,18 @@ fn counts_are_of_what_was_written(rt: HostRuntime) {
         expect_texts(&rt, &outcome, (*answers, *files, *printed), steps);
         expect_counted(&rt, &outcome, steps);
     }
+}
+
+// An append that finds no room waits, and is no failure then.
+#[test]
+fn an_append_to_a_full_disk_waits(rt: HostRuntime) {
+    let disk = kept_disk(&rt);
+    disk.fault.set(DiskFault::Kind(ErrorKind::StorageFull));
+    let mut folder = folder_of(&rt, &disk).waiting(rt, Faults::Temporary);
+    let mut file = folder.open(LOG).expect(&rt, "a file");
+    disk.fails_at.set(Some(disk.calls().saturating_add(1)));
+    let taken = folder.append(&mut file, b"one").ok();
+    expect_eq_of(&rt, LOG, (taken, folder.failures()), (Some(3), 0));
 }
 
 const LOG: &str = "app.2020-02-01-10";

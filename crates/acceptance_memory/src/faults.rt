@@ -119,6 +119,24 @@ fn queued_steps(rt: &impl AllocAndAbort) -> Vec<Step> {
     steps
 }
 
+// These rounds of four steps: a line is offered, taken and written, and the worker has nothing more.
+fn rounds(rt: &impl AllocAndAbort, count: usize) -> Vec<Step> {
+    let mut steps = Vec::new(rt.alloc());
+    for _ in 0..count {
+        let offer = Step::Offer(1, bytes(rt, "a"));
+        steps.push(offer).expect(rt, "memory");
+        push_works(rt, &mut steps, START, 3);
+    }
+    steps
+}
+
+#[test]
+fn a_run_of_ten_thousand_steps_is_played_to_its_end(rt: HostRuntime) {
+    let steps = rounds(&rt, 2500);
+    let (_, told) = play_queued(&rt, MemoryFolder::new(rt.alloc()), &steps);
+    expect_eq(&rt, (steps.len(), told), (10_000, 2500));
+}
+
 // How many bytes the bodies hold after the first two.
 fn bytes_held(folder: &MemoryFolder) -> usize {
     let mut count = 0usize;

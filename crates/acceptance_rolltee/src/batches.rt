@@ -13,7 +13,7 @@ use std::time::{Clock, Duration, Instant};
 use std::{env, fs, io, process, thread};
 use tracing_appender::non_blocking::Host;
 
-// A log that takes this many bytes, fails once, and then takes everything.
+// A log that takes this many bytes, fails once, and then takes everything. A line that is given up is marked.
 #[derive(Drop)]
 struct Failing<R: Wait> {
     rt: R,
@@ -22,8 +22,8 @@ struct Failing<R: Wait> {
     text: Arc<Mutex<Vec<u8>>, Global>,
 }
 
-impl<R: Wait> Write for Failing<R> {
-    fn write(&mut self, buf: &[u8]) -> io::Result<usize> {
+impl<R: Wait> TeeLog for Failing<R> {
+    fn put(&mut self, buf: &[u8]) -> io::Result<usize> {
         let taken = if self.failed {
             buf.len()
         } else {
@@ -38,21 +38,26 @@ impl<R: Wait> Write for Failing<R> {
         Ok(taken)
     }
 
-    fn flush(&mut self) -> io::Result<()> {
+    fn flush_all(&mut self) -> io::Result<()> {
         Ok(())
+    }
+
+    fn give_up(&mut self) {
+        let _ = self.text.lock(&self.rt).push(b'!');
     }
 }
 
-impl<R: Wait> TeeLog for Failing<R> {}
-
 static TEXT: &[u8] = b"a\nbcd\n\nef\ng";
 
-// What the log has after a fault at this byte: of the line there, only the bytes before it.
+// What the log has after a fault at this byte: of the line there, only the bytes before it, and that it was given up.
 fn cut_at(alloc: Global, place: usize) -> Result<Vec<u8>, AllocError> {
     let mut text = Vec::new(alloc);
     let mut cut = false;
     for (at, byte) in TEXT.iter().enumerate() {
-        cut = cut || at == place;
+        if at == place {
+            text.push(b'!')?;
+            cut = true;
+        }
         if !cut {
             text.push(*byte)?;
         }

@@ -4,6 +4,7 @@ use program_io::options::Options;
 use rolltee_core::tee::{Logs, TeeLog};
 use std::alloc::Global;
 use std::cell::RefCell;
+use std::io;
 use std::sync::Arc;
 use tracing_appender::rolling::{InitError, Rotation};
 
@@ -28,8 +29,28 @@ impl<L: Drop> OneLog<L> {
     }
 }
 
+/// A log that is opened by any words.
+#[derive(Drop)]
+pub(crate) struct Given<L: Drop> {
+    log: L,
+}
+
+impl<L: TeeLog + Drop> TeeLog for Given<L> {
+    fn put(&mut self, bytes: &[u8]) -> io::Result<usize> {
+        self.log.put(bytes)
+    }
+
+    fn flush_all(&mut self) -> io::Result<()> {
+        self.log.flush_all()
+    }
+
+    fn give_up(&mut self) {
+        self.log.give_up();
+    }
+}
+
 impl<L: TeeLog + Send + Drop + 'static> Logs for OneLog<L> {
-    type Log = L;
+    type Log = Given<L>;
 
     fn open_log(
         &self,
@@ -38,9 +59,12 @@ impl<L: TeeLog + Send + Drop + 'static> Logs for OneLog<L> {
         _: &str,
         _: &Options,
         _: Arc<FileCounts, Global>,
-    ) -> Result<L, InitError> {
+    ) -> Result<Given<L>, InitError> {
         match self.log.try_borrow_mut() {
-            Ok(mut log) => log.take().ok_or(InitError::Memory),
+            Ok(mut log) => match log.take() {
+                Some(log) => Ok(Given { log }),
+                None => Err(InitError::Memory),
+            },
             Err(_) => Err(InitError::Memory),
         }
     }

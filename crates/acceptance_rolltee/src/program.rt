@@ -40,18 +40,18 @@ struct Stuck<R: Clock> {
     millis: u64,
 }
 
-impl<R: Clock> Write for Stuck<R> {
-    fn write(&mut self, buf: &[u8]) -> io::Result<usize> {
+impl<R: Clock> TeeLog for Stuck<R> {
+    fn put(&mut self, buf: &[u8]) -> io::Result<usize> {
         Ok(buf.len())
     }
 
-    fn flush(&mut self) -> io::Result<()> {
+    fn flush_all(&mut self) -> io::Result<()> {
         thread::sleep(&self.rt, Duration::from_millis(self.millis));
         Ok(())
     }
-}
 
-impl<R: Clock> TeeLog for Stuck<R> {}
+    fn give_up(&mut self) {}
+}
 
 // A log that takes its time for the first write, which it interrupts once, and counts the lines that it takes.
 #[derive(Drop)]
@@ -61,8 +61,8 @@ struct Interrupting<R: Clock> {
     lines: Arc<AtomicU64, Global>,
 }
 
-impl<R: Clock> Write for Interrupting<R> {
-    fn write(&mut self, buf: &[u8]) -> io::Result<usize> {
+impl<R: Clock> TeeLog for Interrupting<R> {
+    fn put(&mut self, buf: &[u8]) -> io::Result<usize> {
         if !self.begun {
             self.begun = true;
             thread::sleep(&self.rt, Duration::from_millis(300));
@@ -76,12 +76,12 @@ impl<R: Clock> Write for Interrupting<R> {
         Ok(buf.len())
     }
 
-    fn flush(&mut self) -> io::Result<()> {
+    fn flush_all(&mut self) -> io::Result<()> {
         Ok(())
     }
-}
 
-impl<R: Clock> TeeLog for Interrupting<R> {}
+    fn give_up(&mut self) {}
+}
 
 // A log that takes one line by a write, 2 bytes of one that begins with `c`, and nothing of one that begins with `r`.
 #[derive(Drop)]
@@ -89,8 +89,8 @@ struct Narrow {
     kind: io::ErrorKind,
 }
 
-impl Write for Narrow {
-    fn write(&mut self, buf: &[u8]) -> io::Result<usize> {
+impl TeeLog for Narrow {
+    fn put(&mut self, buf: &[u8]) -> io::Result<usize> {
         match buf {
             [b'c', _, ..] => Ok(2),
             [b'r', ..] => Err(io::Error::from(self.kind)),
@@ -102,12 +102,12 @@ impl Write for Narrow {
         }
     }
 
-    fn flush(&mut self) -> io::Result<()> {
+    fn flush_all(&mut self) -> io::Result<()> {
         Ok(())
     }
-}
 
-impl TeeLog for Narrow {}
+    fn give_up(&mut self) {}
+}
 
 // Logs of only this rotation, in this folder and with this prefix.
 #[derive(Clone, Copy)]

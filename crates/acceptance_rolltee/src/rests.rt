@@ -1,11 +1,13 @@
 // A log in memory: the rest of a line, parts of lines that are ended by a newline, and a file that is gone.
+ghost use Rattle.std.specs.Prelude.{◌≡◌, [], true, IfSome};
+
 use crate::expect::expect_eq;
 use appender_store::store::{Folder, MemoryFile, MemoryFolder};
 use log_check::{FileCheck, Opens};
 use rolltee_core::logs::{FileLog, TeeLog};
 use std::alloc::Global;
 use std::cell::Cell;
-use std::io::Write;
+use std::io::{ErrorKind, Write};
 use std::test::Fail;
 use tracing_appender::rolling::{Builder, Clock, InitError, RollingFile, Rotation};
 
@@ -14,12 +16,13 @@ const FIRST: i64 = 1580551260;
 
 const NEXT: i64 = 1580554800;
 
-// What a test sets, and what it sees: the clock; whether the file is lost at the next look; how often the log was opened; how many
-// bytes two files have at a flush.
+// What a test sets, and what it sees: the clock; whether the file is lost at the next look; whether files are seen to end with a newline;
+// how often the log was opened; how many bytes two files have at a flush.
 #[derive(Drop)]
 struct Scene {
     moment: Cell<i64>,
     lost: Cell<bool>,
+    whole: Cell<bool>,
     openings: Cell<u32>,
     names: [&'static str; 2],
     lengths: Cell<(usize, usize)>,
@@ -30,6 +33,7 @@ impl Scene {
         Scene {
             moment: Cell::new(FIRST),
             lost: Cell::new(false),
+            whole: Cell::new(false),
             openings: Cell::new(0),
             names,
             lengths: Cell::new((0, 0)),
@@ -80,15 +84,18 @@ impl<'a> Opens<MemoryFolder, &'a Scene> for SceneOpener<'a> {
     }
 }
 
-// Sees what the scene says, and never the end of a file.
+// Sees what the scene says, but that a file ends with a newline only if it is empty, and the one file of its folder.
 #[derive(Drop)]
 struct SceneCheck<'a> {
     scene: &'a Scene,
 }
 
 impl<'a> FileCheck<MemoryFolder> for SceneCheck<'a> {
-    fn ends_line(&self, _: &MemoryFolder, _: &MemoryFile, _: &str) -> bool {
-        false
+    fn ends_line(&self, folder: &MemoryFolder, _: &MemoryFile, _: &str) -> bool {
+        if folder.body(1).is_some() {
+            return false;
+        }
+        self.scene.whole.get() && is_empty(folder.body(0))
     }
 
     fn length(&self, _: &MemoryFile) -> u64 {
@@ -110,6 +117,15 @@ impl<'a> FileCheck<MemoryFolder> for SceneCheck<'a> {
 
     fn unsynced(&self) -> u64 {
         0
+    }
+}
+
+fn is_empty(body: Option<&[u8]>) -> bool
+    ensures { result ≡ true → IfSome body.entry (λ bytes. bytes.now ≡ []) }
+{
+    match body {
+        Some(bytes) => bytes.is_empty(),
+        None => true,
     }
 }
 
@@ -144,13 +160,18 @@ fn log_of(
     Ok(FileLog::new(opener, SceneCheck { scene }, whole_lines)?)
 }
 
-// The beginning of a line, then its rest in the next hour, and a line. If the line is given up, the rest is a line of its own.
+// The first three bytes, then the others in the next hour, and a line. If the line is given up, or ends there, the others are a line of
+// their own.
 #[test]
 fn the_rest_of_a_line_is_in_its_file(rt: HostRuntime) -> Result<(), Fail> {
-    for (gives_up, wanted) in [(false, (7, 3)), (true, (3, 7))] {
+    for (text, gives_up, wanted) in [
+        (b"abcdef\n", false, (7, 3)),
+        (b"abcdef\n", true, (3, 7)),
+        (b"ab\ndef\n", false, (3, 7)),
+    ] {
         let scene = Scene::of_hours();
         let mut log = log_of(rt.alloc(), &scene, 0, false, 0, (2, 3))?;
-        expect_eq(&rt, log.write(b"abcdef\n")?, 3);
+        expect_eq(&rt, log.write(text)?, 3);
         if gives_up {
             log.give_up();
         }
@@ -160,19 +181,6 @@ fn the_rest_of_a_line_is_in_its_file(rt: HostRuntime) -> Result<(), Fail> {
         log.flush()?;
         expect_eq(&rt, scene.lengths.get(), wanted);
     }
-    Ok(())
-}
-
-// A short write that ends a line leaves no rest: the next line is in the file of its own moment.
-#[test]
-fn a_short_write_at_the_end_of_a_line_has_no_rest(rt: HostRuntime) -> Result<(), Fail> {
-    let scene = Scene::of_hours();
-    let mut log = log_of(rt.alloc(), &scene, 0, false, 0, (2, 2))?;
-    expect_eq(&rt, log.write(b"a\nbc\n")?, 2);
-    scene.moment.set(NEXT);
-    expect_eq(&rt, log.write(b"bc\n")?, 3);
-    log.flush()?;
-    expect_eq(&rt, scene.lengths.get(), (2, 3));
     Ok(())
 }
 
@@ -214,14 +222,16 @@ fn each_part_is_ended_once(rt: HostRuntime) -> Result<(), Fail> {
 }
 
 // A line of which three bytes were taken, and which is given up: its part is ended if that is asked for, also if the first newline
-// is refused, and only in its own file. The newline at the opening is the second call.
+// is refused, and only in its own file: not in that of the next hour, nor in a new one that is whole. The newline at the opening is
+// the second call.
 #[test]
 fn a_line_that_is_given_up_is_ended(rt: HostRuntime) -> Result<(), Fail> {
-    for (whole_lines, failing, moment, wanted) in [
-        (false, 0, FIRST, (6, 0)),
-        (true, 0, FIRST, (8, 0)),
-        (true, 4, FIRST, (8, 0)),
-        (true, 0, NEXT, (4, 4)),
+    for (whole_lines, failing, moment, lost, wanted) in [
+        (false, 0, FIRST, false, (6, 0)),
+        (true, 0, FIRST, false, (8, 0)),
+        (true, 4, FIRST, false, (8, 0)),
+        (true, 0, NEXT, false, (4, 4)),
+        (true, 0, FIRST, true, (3, 0)),
     ] {
         let scene = Scene::of_hours();
         let line = if whole_lines { 3 } else { 2 };
@@ -229,6 +239,8 @@ fn a_line_that_is_given_up_is_ended(rt: HostRuntime) -> Result<(), Fail> {
         expect_eq(&rt, log.write(b"abcdef\n")?, 3);
         log.give_up();
         scene.moment.set(moment);
+        scene.lost.set(lost);
+        scene.whole.set(lost);
         if log.write(b"gh\n").is_err() {
             log.give_up();
             expect_eq(&rt, log.write(b"gh\n")?, 3);
@@ -239,23 +251,30 @@ fn a_line_that_is_given_up_is_ended(rt: HostRuntime) -> Result<(), Fail> {
     Ok(())
 }
 
-// A file that is gone is begun anew by the next write, and no later write opens the log again. A flush looks for it too.
+// A file that is gone is begun anew by the next write, and no later write opens the log again. A flush looks for it too. A log
+// that can't be opened, since the clock can't be read, has a fault that is waited for, and the next write tries again.
 #[test]
 fn a_log_is_opened_again_once(rt: HostRuntime) -> Result<(), Fail> {
-    let scene = Scene::of_hours();
-    let mut log = log_of(rt.alloc(), &scene, 0, false, 0, (0, 0))?;
-    expect_eq(&rt, log.write(b"a\n")?, 2);
-    scene.lost.set(true);
-    for _ in 0..3u32 {
-        expect_eq(&rt, log.write(b"b\n")?, 2);
+    for (whole_lines, wanted) in [(false, (6, 0)), (true, (7, 0))] {
+        let scene = Scene::of_hours();
+        let mut log = log_of(rt.alloc(), &scene, 0, whole_lines, 0, (0, 0))?;
+        expect_eq(&rt, log.write(b"a\n")?, 2);
+        scene.lost.set(true);
+        for _ in 0..3u32 {
+            expect_eq(&rt, log.write(b"b\n")?, 2);
+        }
+        log.flush()?;
+        expect_eq(&rt, scene.openings.get(), 2);
+        expect_eq(&rt, scene.lengths.get(), wanted);
+        scene.lost.set(true);
+        log.flush()?;
+        expect_eq(&rt, scene.lost.get(), false);
+        scene.moment.set(i64::MIN);
+        let fault = log.write(b"c\n").err();
+        expect_eq(&rt, fault.map(|fault| fault.kind()), Some(ErrorKind::Other));
+        scene.moment.set(FIRST);
+        expect_eq(&rt, log.write(b"c\n")?, 2);
+        expect_eq(&rt, scene.openings.get(), 4);
     }
-    log.flush()?;
-    expect_eq(&rt, scene.openings.get(), 2);
-    expect_eq(&rt, scene.lengths.get(), (6, 0));
-    scene.lost.set(true);
-    log.flush()?;
-    expect_eq(&rt, scene.lost.get(), false);
-    expect_eq(&rt, log.write(b"c\n")?, 2);
-    expect_eq(&rt, scene.openings.get(), 3);
     Ok(())
 }

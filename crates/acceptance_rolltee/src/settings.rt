@@ -1,7 +1,9 @@
 // Runs with options.
 use crate::expect::expect_eq;
 use crate::logs::OneLog;
+use log_check::{DirCheck, FileCheck, FileCounts};
 use program_io::options::Options;
+use rolltee_core::feed::{Feed, LineQueue, WatchedLog};
 use rolltee_core::tee::{Logs, TeeLog, tee_with};
 use std::alloc::{AllocError, Global};
 use std::io::{Read, Write};
@@ -13,7 +15,9 @@ use std::sync::{Arc, Mutex, Wait};
 use std::test::Fail;
 use std::time::{Clock, Duration};
 use std::{env, fs, io, process, thread};
+use tracing_appender::folder::DirFolder;
 use tracing_appender::non_blocking::Host;
+use tracing_appender::store::{Folder, Notice};
 
 // Runs the program with options over these logs, and compares its status and what it reports.
 fn check<R: Host + Abort, L: Logs, I: Read, O: Write + Drop>(
@@ -109,8 +113,8 @@ struct Gated<R: Clock> {
     read: Arc<AtomicBool, Global>,
 }
 
-impl<R: Clock> Write for Gated<R> {
-    fn write(&mut self, buf: &[u8]) -> io::Result<usize> {
+impl<R: Clock> TeeLog for Gated<R> {
+    fn put(&mut self, buf: &[u8]) -> io::Result<usize> {
         for _ in 0..10_000u32 {
             if self.read.load(SeqCst) {
                 return Ok(buf.len());
@@ -120,12 +124,12 @@ impl<R: Clock> Write for Gated<R> {
         Err(io::Error::from(io::ErrorKind::TimedOut))
     }
 
-    fn flush(&mut self) -> io::Result<()> {
+    fn flush_all(&mut self) -> io::Result<()> {
         Ok(())
     }
-}
 
-impl<R: Clock> TeeLog for Gated<R> {}
+    fn give_up(&mut self) {}
+}
 
 // An input that sets a flag at its end.
 #[derive(Drop)]
@@ -289,7 +293,7 @@ fn after_time(line: &[u8]) -> Option<&[u8]> {
     line.get(pattern.len()..)
 }
 
-// An output that keeps what it gets.
+// An output that keeps what it gets, a thousand bytes of it at a time.
 #[derive(Drop)]
 struct Kept<R: Wait> {
     rt: R,
@@ -298,8 +302,9 @@ struct Kept<R: Wait> {
 
 impl<R: Wait> Write for Kept<R> {
     fn write(&mut self, buf: &[u8]) -> io::Result<usize> {
-        self.text.lock(&self.rt).extend_from_slice(buf)?;
-        Ok(buf.len())
+        let taken = buf.len().min(1000);
+        self.text.lock(&self.rt).extend_from_slice(&buf[..taken])?;
+        Ok(taken)
     }
 
     fn flush(&mut self) -> io::Result<()> {
@@ -366,6 +371,16 @@ impl Write for Closing {
     }
 }
 
+impl LineQueue for Closing {
+    fn send(&mut self, line: &[u8]) -> io::Result<()> {
+        self.write_all(line)
+    }
+
+    fn dropped(&self) -> u64 {
+        0
+    }
+}
+
 // The log gets all lines, though the output does not.
 #[test]
 fn the_log_continues_without_an_output(rt: HostRuntime) -> Result<(), Fail> {
@@ -382,6 +397,37 @@ fn the_log_continues_without_an_output(rt: HostRuntime) -> Result<(), Fail> {
     let content = fs::read(&rt, path.as_str())?;
     expect_eq(&rt, content.as_slice(), b"a\nb\nc\n".as_slice());
     fs::remove_dir_all(&rt, directory)?;
+    Ok(())
+}
+
+// A line that is not queued is not echoed.
+#[test]
+fn a_line_is_queued_before_it_is_echoed(rt: HostRuntime) -> Result<(), Fail> {
+    let (log, counts) = WatchedLog::new(rt.alloc(), io::sink(), 0)?;
+    let mut options = Options::new(rt.alloc());
+    options.echo = true;
+    let (queue, output) = (Closing { lines: 0 }, Closing { lines: 0 });
+    let mut feed = Feed::new(rt, queue, &counts, &options, output);
+    expect_eq(&rt, feed.write(b"a\n").is_err(), true);
+    expect_eq(&rt, feed.unechoed(), 0);
+    drop(log);
+    Ok(())
+}
+
+// Lines of 128 bytes are written together up to a sixteenth of a file's limit, and up to 64 KiB.
+#[test]
+fn lines_are_gathered_for_a_part_of_a_file(rt: HostRuntime) -> Result<(), Fail> {
+    for (limit, lines) in [(0, 512), (20_480, 10), (1 << 30, 512)] {
+        let (mut log, counts) = WatchedLog::new(rt.alloc(), Closing { lines: 0 }, limit)?;
+        let mut gathered = 0u32;
+        for _ in 0..1000u32 {
+            let _ = log.write(&[b'a'; 128]).is_ok();
+            if counts.lost() == 0 {
+                gathered = gathered.saturating_add(1);
+            }
+        }
+        expect_eq(&rt, gathered, lines);
+    }
     Ok(())
 }
 
@@ -483,6 +529,34 @@ fn a_file_that_is_gone_is_begun_anew(rt: HostRuntime) -> Result<(), Fail> {
     ] {
         check_mishap(rt, &rt, directory, mishap)?;
     }
+    fs::remove_dir_all(&rt, directory)?;
+    Ok(())
+}
+
+// A file that ends with a newline; the folder where the check reads it, its name, and what is seen. What has no name can't be compared,
+// and what isn't in that folder can't be read. Two flushes failed, and those that the folder noted: one more each time.
+#[test]
+fn what_a_check_cannot_see_is_no_whole_file(rt: HostRuntime) -> Result<(), Fail> {
+    let directory = fresh(&rt, "seen")?;
+    let directory = directory.as_str();
+    let mut folder = DirFolder::new(rt, directory)?;
+    folder.make_folder()?;
+    let mut file = folder.open("app")?;
+    folder.append(&mut file, b"a\n")?;
+    let counts = FileCounts::new(rt.alloc())?;
+    for (path, name, ends_line, is_found, unsynced) in [
+        (directory, "app", true, true, 3),
+        ("/nowhere", "app", false, true, 4),
+        (directory, "a/b", false, false, 5),
+    ] {
+        let check = DirCheck::new(rt, path, counts.clone()?)?;
+        expect_eq(&rt, check.ends_line(&folder, &file, name), ends_line);
+        expect_eq(&rt, check.finds(&folder, &file, name, 2), is_found);
+        folder.note(Notice::Flush(&io::Error::other("refused")));
+        check.count_unsynced(&folder, 2);
+        expect_eq(&rt, counts.unsynced(), unsynced);
+    }
+    expect_eq(&rt, counts.gone(), 1);
     fs::remove_dir_all(&rt, directory)?;
     Ok(())
 }

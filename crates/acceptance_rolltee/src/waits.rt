@@ -2,7 +2,7 @@
 use crate::expect::expect_eq;
 use crate::logs::OneLog;
 use program_io::options::Options;
-use rolltee_core::feed::{Feed, WatchedLog};
+use rolltee_core::feed::{Feed, LineQueue, WatchedLog};
 use rolltee_core::tee::{TeeLog, tee};
 use std::alloc::{AllocError, Global};
 use std::io::{Read, Write};
@@ -11,9 +11,9 @@ use std::sync::Arc;
 use std::sync::atomic::AtomicU64;
 use std::sync::atomic::Ordering::SeqCst;
 use std::test::Fail;
-use std::time::{Clock, Duration};
+use std::time::{Clock, Duration, Instant};
 use std::{io, thread};
-use tracing_appender::non_blocking::{Host, non_blocking};
+use tracing_appender::non_blocking::Host;
 
 // How a log behaves.
 #[derive(Clone, Copy)]
@@ -35,8 +35,8 @@ struct Slow<R: Clock> {
     bytes: Arc<AtomicU64, Global>,
 }
 
-impl<R: Clock> Write for Slow<R> {
-    fn write(&mut self, buf: &[u8]) -> io::Result<usize> {
+impl<R: Clock> TeeLog for Slow<R> {
+    fn put(&mut self, buf: &[u8]) -> io::Result<usize> {
         let millis = if self.begun {
             self.manner.other_millis
         } else {
@@ -52,12 +52,12 @@ impl<R: Clock> Write for Slow<R> {
         Ok(buf.len())
     }
 
-    fn flush(&mut self) -> io::Result<()> {
+    fn flush_all(&mut self) -> io::Result<()> {
         Ok(())
     }
-}
 
-impl<R: Clock> TeeLog for Slow<R> {}
+    fn give_up(&mut self) {}
+}
 
 // Runs the program over a log of this manner, and compares its status, what it reports, and how many bytes the log took.
 fn check<R: Host + Abort, I: Read>(
@@ -187,21 +187,19 @@ fn waits_for_a_slow_log_after_a_fault(rt: HostRuntime) -> Result<(), Fail> {
     check(rt, manner, &mut input, (1, "read failed\n"), 4)
 }
 
+// The pauses before the first bytes are 463 milliseconds in all, so it neither spins nor sleeps for long.
 #[test]
 fn waits_for_an_input_that_does_not_block(rt: HostRuntime) -> Result<(), Fail> {
-    let dry = Part::Fails(io::ErrorKind::WouldBlock);
-    let parts = [
-        dry,
-        Part::Bytes(b"a\nb"),
-        dry,
-        dry,
-        Part::Bytes(b"c\n"),
-        dry,
-        Part::Bytes(b"d"),
-        dry,
-    ];
+    let mut parts = [Part::Fails(io::ErrorKind::WouldBlock); 21];
+    parts[14] = Part::Bytes(b"a\nb");
+    parts[17] = Part::Bytes(b"c\n");
+    parts[19] = Part::Bytes(b"d");
     let mut input = Halting { parts: &parts };
-    check(rt, PROMPT, &mut input, (0, ""), 6)
+    let start = Instant::now(&rt)?;
+    check(rt, PROMPT, &mut input, (0, ""), 6)?;
+    let millis = start.elapsed(&rt)?.as_millis();
+    assert!(rt; 463 <= millis && millis < 2500, "{millis}");
+    Ok(())
 }
 
 // A disk that refuses two writes, since it is full, fails, is not writable or is read only, or for any other reason of the
@@ -228,15 +226,27 @@ fn waits_for_a_disk_that_refuses_writes(rt: HostRuntime) -> Result<(), Fail> {
     Ok(())
 }
 
+// A queue that takes all lines.
+#[derive(Drop)]
+struct Nowhere;
+
+impl LineQueue for Nowhere {
+    fn send(&mut self, _: &[u8]) -> io::Result<()> {
+        Ok(())
+    }
+
+    fn dropped(&self) -> u64 {
+        0
+    }
+}
+
 // The wait ends once the log took its lines, and if it was dropped before: then the others are lost.
 #[test]
 fn waits_for_no_worker_that_ended(rt: HostRuntime) -> Result<(), Fail> {
-    let (sender, guard) = non_blocking(rt, rt.alloc(), io::sink())?;
     for (taken, settled) in [(2u64, true), (1, false)] {
         let (mut log, watch) = WatchedLog::new(rt.alloc(), io::sink(), 0)?;
         let options = Options::new(rt.alloc());
-        let dropped = sender.error_counter()?;
-        let mut feed = Feed::new(rt, io::sink(), dropped, watch, &options, io::sink());
+        let mut feed = Feed::new(rt, Nowhere, &watch, &options, io::sink());
         for _ in 0..2u32 {
             feed.write(b"a\n")?;
         }
@@ -247,6 +257,5 @@ fn waits_for_no_worker_that_ended(rt: HostRuntime) -> Result<(), Fail> {
         expect_eq(&rt, feed.settle(), settled);
         expect_eq(&rt, feed.lost(), 2 - taken);
     }
-    drop(guard);
     Ok(())
 }

@@ -152,6 +152,8 @@ fn a_guard_counts_the_lines_that_it_leaves(rt: HostRuntime) -> Result<(), Fail> 
     assert!(rt; offers.join(&rt));
     expect_eq(&rt, closing, Closing::Done { left: 1 });
     expect_eq(&rt, seen.count(), 1);
+    // A line is not flushed by itself.
+    expect_eq(&rt, seen.last_flushes(), 2);
     Ok(())
 }
 
@@ -183,23 +185,49 @@ fn the_end_of_a_worker_wakes_its_guard(rt: HostRuntime) -> Result<(), Fail> {
     rt.panic("no guard is woken")
 }
 
-// Returns whether a guard that finds room returns before it had waited for room.
-fn is_soon<R: Host>(rt: R) -> Result<bool, Fail> {
-    let (gate, _seen) = new_gate(rt, b"")?;
-    let (_sender, guard) = NonBlockingBuilder::default()
-        .buffered_lines_limit(1)
+// Closes the guard of a queue with this limit of lines, whose worker holds a line while another one is queued, or has none. Returns how
+// long that takes, too.
+fn close_within<R: Host + Abort>(
+    rt: R,
+    limit: usize,
+    holds: bool,
+) -> Result<(Closing, Duration), Fail> {
+    let (gate, seen) = new_gate(rt, b"held")?;
+    let (mut sender, guard) = NonBlockingBuilder::default()
+        .buffered_lines_limit(limit)
         .finish(rt, rt.alloc(), gate)?;
+    if holds {
+        sender.write_all(b"held")?;
+        assert!(rt; seen.is_held(rt));
+        sender.write_all(b"a")?;
+    }
     let start = Instant::now(&rt)?;
-    let _ = guard.close();
-    Ok(start.elapsed(&rt)? < Duration::from_millis(100))
+    let closing = guard.close();
+    let time = start.elapsed(&rt)?;
+    seen.opens();
+    Ok((closing, time))
 }
 
+// A guard waits for a tenth of a second for room, and for a second for the worker's end. A busy machine may delay one or another.
+static TIMES: [(usize, bool, Closing, u64, u64); 3] = [
+    (1, false, Closing::Done { left: 0 }, 0, 100),
+    (1, true, Closing::Full, 100, 150),
+    (2, true, Closing::Pending, 1000, 1500),
+];
+
 #[test]
-fn a_guard_that_finds_room_does_not_wait(rt: HostRuntime) -> Result<(), Fail> {
-    for _ in 0..20u32 {
-        if is_soon(rt)? {
-            return Ok(());
+fn a_guard_waits_as_long_as_it_says(rt: HostRuntime) -> Result<(), Fail> {
+    for (limit, holds, wanted, least, most) in &TIMES {
+        let mut is_soon = false;
+        for _ in 0..10u32 {
+            if !is_soon {
+                let (closing, time) = close_within(rt, *limit, *holds)?;
+                expect_eq(&rt, closing, *wanted);
+                assert!(rt; time >= Duration::from_millis(*least));
+                is_soon = time < Duration::from_millis(*most);
+            }
         }
+        assert!(rt; is_soon);
     }
-    rt.panic("each guard waits")
+    Ok(())
 }

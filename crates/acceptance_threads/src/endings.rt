@@ -51,7 +51,6 @@ static STILL_GOING_ON: [WorkerStep; 6] = [
 
 #[test]
 fn a_guard_reports_a_worker_that_continues(rt: HostRuntime) {
-    play(rt, Queue::Lossy(2), b"g", &STILL_GOING_ON);
     play(rt, Queue::Waiting(2), b"g", &STILL_GOING_ON);
 }
 

@@ -29,6 +29,8 @@ mod losses;
 #[cfg(test)]
 mod plain_ends;
 #[cfg(test)]
+mod recorded;
+#[cfg(test)]
 mod scene;
 #[cfg(test)]
 mod schedules;

@@ -2,7 +2,8 @@
 use crate::expect::expect_eq;
 use crate::gate::{Gate, new_gate};
 use appender_non_blocking::non_blocking::{
-    Closing, Host, NonBlocking, NonBlockingBuilder, WorkerGuard,
+    Closing, DEFAULT_BUFFERED_LINES_LIMIT, Host, NonBlocking, NonBlockingBuilder, WorkerGuard,
+    non_blocking,
 };
 use std::io::Write;
 use std::process::Abort;
@@ -127,9 +128,13 @@ fn the_worker_ends_after_the_last_clone(rt: HostRuntime) -> Result<(), Fail> {
 // Offers this number of lines, of which none is to be dropped, and then five more, of which each is.
 fn fill<R: Host + Abort>(rt: R, limit: usize) -> Result<(), Fail> {
     let (gate, seen) = new_gate(rt, b"held")?;
-    let (mut sender, guard) = NonBlockingBuilder::default()
-        .buffered_lines_limit(limit)
-        .finish(rt, rt.alloc(), gate)?;
+    let (mut sender, guard) = if limit == DEFAULT_BUFFERED_LINES_LIMIT {
+        non_blocking(rt, rt.alloc(), gate)?
+    } else {
+        NonBlockingBuilder::default()
+            .buffered_lines_limit(limit)
+            .finish(rt, rt.alloc(), gate)?
+    };
     let counter = sender.error_counter()?;
     sender.write_all(b"held")?;
     assert!(rt; seen.is_held(rt));
@@ -142,6 +147,7 @@ fn fill<R: Host + Abort>(rt: R, limit: usize) -> Result<(), Fail> {
     }
     expect_eq(&rt, counter.dropped_lines(), 5);
     seen.opens();
+    assert!(rt; seen.come(rt, limit.saturating_add(1)));
     expect_eq(&rt, guard.close(), Closing::Done { left: 0 });
     expect_eq(&rt, seen.count(), limit.saturating_add(1));
     Ok(())
@@ -153,6 +159,11 @@ fn a_queue_has_as_many_places_as_its_limit(rt: HostRuntime) -> Result<(), Fail> 
         fill(rt, limit)?;
     }
     Ok(())
+}
+
+#[test]
+fn a_queue_has_128000_places_by_default(rt: HostRuntime) -> Result<(), Fail> {
+    fill(rt, DEFAULT_BUFFERED_LINES_LIMIT)
 }
 
 // Each sender's counter counts the lines that all of them drop.

@@ -5,3 +5,5 @@
 pub mod books;
 pub mod pace;
 pub mod state;
+#[cfg(test)]
+mod tests;

@@ -4,6 +4,7 @@ ghost use Rattle.std.specs.Prelude.{
   ◌<◌,
   ◌≤◌,
   ℕ,
+  Bool,
   length,
   true,
   false,
@@ -16,20 +17,25 @@ ghost use Rattle.std.specs.Prelude.{
   IfOk,
   IfSome,
 };
-ghost use Rattle.appender_queue.specs.Queue.{IsLawful, has_room, last_ticket_of};
+ghost use Rattle.appender_queue.specs.Queue.{Queue, IsLawful, has_room, last_ticket_of};
+ghost use Rattle.appender_queue.specs.QueueCalls.{Takes};
 ghost use Rattle.appender_queue.specs.QueueChanges.{OfferFromChanges};
 ghost use Rattle.appender_queue.specs.QueueReplies.{offer_reply};
 ghost use Rattle.appender_channel.specs.Offers.{after_offer_at};
+ghost use Rattle.appender_channel.specs.TakeCases.{IfLine, IfEnd, IfEmpty};
+ghost use Rattle.appender_channel.specs.Tally.{tally_of};
 
-use crate::books::{Books, Done, FourBooks};
+use crate::books::{Books, Done, FourBooks, LineBooks, LineShare, SenderShare};
 use crate::pace::{MOST_BYTES, MOST_SPARES, Pace};
 use appender_queue::laws::{
     offers_change_little, offers_from_change_little, other_calls_leave_last_tickets,
     shutdowns_change_little, takes_change_little,
 };
 use appender_queue::queue::{Counts, LineQueue, Refused, Shut, Taken};
+use line_history::{Histories, compare};
 use std::alloc::{AllocError, Global};
 use std::marker::Model;
+use std::snapshot::Snapshot;
 use std::sync::ledger::{Ledger, Share};
 
 /// Which threads to wake. It can't be dropped: the thread that releases the lock has to use it.
@@ -167,14 +173,32 @@ fn offer_at(queue: &mut LineQueue, place: Option<usize>, line: Vec<u8>) -> Resul
     }
 }
 
+// Counts a line that was handed to the worker, or the closing of the queue.
+#[tactic(auto, using(crate::proofs::Takes::take_is_counted))]
+#[inline(always)]
+fn count_take<B: Books>(books: &mut B, pass: &mut B::Pass, taken: &Taken)
+    requires { B.may_take pass.old }
+    ensures agree { (old new : Queue) (waits : Bool) → IsLawful old → Takes old waits taken.now new
+        → B.agree books.old (tally_of old) → B.agree books.new (tally_of new) }
+    ensures line { IfLine taken.now (λ line. (B.counts_take pass.old line pass.new) × (B.may_take pass.new)) }
+    ensures ended { (old : Queue) → B.agree books.old (tally_of old)
+        → IfEnd taken.now ((B.has_ended pass.new) × (B.counts_closing pass.old pass.new)) }
+    ensures empty { IfEmpty taken.now (pass.new ≡ pass.old) }
+{
+    match taken {
+        Taken::Line(_, line) => books.hand(pass, line),
+        Taken::Shutdown | Taken::Gone => books.close(pass),
+        Taken::Empty => {}
+    }
+}
+
 impl<B: Books> State<B> {
     ghost use Rattle.std.specs.Prelude.{◌+◌, ◌^◌, ◌≢◌, min, IsSome, IsNone, OnOk, OnErr, IfOk};
     ghost use Rattle.appender_channel.specs.Locked.{after_waiting, DecidesSenderWakeup, DecidesWakeups};
     ghost use Rattle.appender_channel.specs.Offers.{OffersWithPace};
     ghost use Rattle.appender_channel.specs.Tally.{new_tally};
-    ghost use Rattle.appender_channel.specs.TakeCases.{IfLine, IfEnd, IfEmpty};
     ghost use Rattle.appender_queue.specs.Queue.{new_queue_with, has_room, left_of};
-    ghost use Rattle.appender_queue.specs.QueueCalls.{Shuts, Takes, AddsSender, DropsSender};
+    ghost use Rattle.appender_queue.specs.QueueCalls.{Shuts, AddsSender, DropsSender};
 
     /// Returns an empty queue with no sender and this number of senders' places, beside new books.
     pub fn new(
@@ -223,7 +247,7 @@ impl<B: Books> State<B> {
         ensures sets { IfOk result.0 (λ reply. IfSome (B.place_of mine.old)
             (λ place. last_ticket_of self.new.queue place ≡ reply.0)) }
         ensures wakes { DecidesWakeups (after_waiting (is_some waited) self.old) result.1.worker result.1.sender self.new }
-        ensures counted { OnOk result.0 (B.counts_line mine.old mine.new) }
+        ensures counted { OnOk result.0 (B.counts_line mine.old line.items mine.new) }
         ensures refused { OnErr result.0 (mine.new ≡ mine.old) }
     {
         let State {
@@ -235,11 +259,12 @@ impl<B: Books> State<B> {
             ..
         } = self;
         end_waiting(waited, woken, waiting);
+        let copy = Snapshot::of(&line);
         let reply = offer_at(queue, books.place(mine), line);
         let wakeups = wake_up(asleep, woken, *waiting, queue, reply.is_ok());
         match reply {
             Ok(ticket) => {
-                books.accept(mine);
+                books.accept(mine, &copy);
                 (Ok((ticket, Pace::after(ticket, queue))), wakeups)
             }
             Err(refused) => (Err(refused), wakeups),
@@ -344,9 +369,10 @@ impl<B: Books> State<B> {
         ensures take { Takes self.old.queue request.waits result.0 self.new.queue }
         ensures worker { result.2.worker ≡ false }
         ensures sender { DecidesSenderWakeup self.old result.2.sender self.new }
-        ensures line { IfLine result.0 ((B.counts_take pass.old pass.new) × (B.may_take pass.new)
+        ensures line { IfLine result.0 (λ line. (B.counts_take pass.old line pass.new) × (B.may_take pass.new)
             × (self.new.asleep ≡ false)) }
-        ensures ended { IfEnd result.0 ((B.has_ended pass.new) × (self.new.asleep ≡ false)) }
+        ensures ended { IfEnd result.0 ((B.has_ended pass.new) × (B.counts_closing pass.old pass.new)
+            × (self.new.asleep ≡ false)) }
         ensures empty { IfEmpty result.0 ((pass.new ≡ pass.old) × (B.may_take pass.new)
             × (self.new.asleep ≡ request.sleeps)) }
     {
@@ -367,11 +393,7 @@ impl<B: Books> State<B> {
         takes_change_little();
         other_calls_leave_last_tickets();
         let taken = queue.take(waits);
-        match &taken {
-            Taken::Line(..) => books.hand(pass),
-            Taken::Shutdown | Taken::Gone => books.close(pass),
-            Taken::Empty => {}
-        }
+        count_take(books, pass, &taken);
         *asleep = false;
         let wakeups = wake_up(asleep, woken, *waiting, queue, false);
         if let Taken::Empty = &taken {
@@ -433,18 +455,77 @@ impl<A: Ledger, H: Ledger, S: Ledger, C: Ledger> State<FourBooks<A, H, S, C>> {
         ensures none_left { shutdowns.amount ≡ 0 → result.0.left ≡ 0 }
         ensures same { self.new ≡ self.old }
     {
-        let Done { handed, closings } = done;
-        let mut accepted = accepted;
-        let mut handed = handed;
-        let mut shutdowns = shutdowns;
-        let mut closings = closings;
         let State { queue, books, .. } = self;
-        books.accepted.audit(&mut accepted);
-        books.handed.audit(&mut handed);
-        books.shutdowns.audit(&mut shutdowns);
-        books.closings.audit(&mut closings);
+        let handed = audit(books, accepted, shutdowns, done);
         (queue.counts(), handed)
     }
+}
+
+impl<A: Ledger, H: Ledger, S: Ledger, C: Ledger, L: Histories> State<
+    LineBooks<FourBooks<A, H, S, C>, L>,
+> {
+    ghost use Rattle.std.specs.Prelude.{◌+◌, ◌++◌, List};
+
+    /// Returns the counts of a queue with one sender, which the worker has closed. The worker took the first of the lines
+    /// that the sender sent, in their order, and the others are left. Without a shutdown none is left.
+    pub fn final_lines(
+        &mut self,
+        sender: LineShare<SenderShare<A>, L>,
+        shutdowns: Share<S>,
+        done: LineShare<Done<H, C>, L>,
+    ) -> Counts
+        requires parts { (sender.share.share.parts ≡ A.parts) × (H.parts ≡ 1) × (shutdowns.parts ≡ S.parts) × (C.parts ≡ 1) }
+        requires places { (sender.history.place ≡ 0) × (done.history.place ≡ 1) }
+        ensures accepted { result.accepted ≡ sender.share.share.amount }
+        ensures handed { result.handed ≡ done.share.handed.amount }
+        ensures lines { (left : List (List ℕ)) × (sender.history.lines ≡ done.history.lines ++ left) × (length left ≡ result.left) }
+        ensures all { shutdowns.amount ≡ 0 → done.history.lines ≡ sender.history.lines }
+        ensures same { self.new ≡ self.old }
+    {
+        let LineShare { share, history } = sender;
+        let SenderShare {
+            share: accepted,
+            place: _,
+        } = share;
+        let LineShare {
+            share: ended,
+            history: taken,
+        } = done;
+        let State { queue, books, .. } = self;
+        audit(&mut books.books, accepted, shutdowns, ended);
+        let mut history = history;
+        let mut taken = taken;
+        compare(&mut books.sent, &mut history);
+        compare(&mut books.taken, &mut taken);
+        queue.counts()
+    }
+}
+
+// Checks the totals of the books against shares that have all their parts, and returns the worker's share of the
+// book of handed lines.
+fn audit<A: Ledger, H: Ledger, S: Ledger, C: Ledger>(
+    books: &mut FourBooks<A, H, S, C>,
+    accepted: Share<A>,
+    shutdowns: Share<S>,
+    done: Done<H, C>,
+) -> Share<H>
+    requires { (accepted.parts ≡ A.parts) × (H.parts ≡ 1) × (shutdowns.parts ≡ S.parts) × (C.parts ≡ 1) }
+    ensures totals { (books.old.accepted.total ≡ accepted.amount) × (books.old.handed.total ≡ done.handed.amount)
+        × (books.old.shutdowns.total ≡ shutdowns.amount) × (books.old.closings.total ≡ 1) }
+    ensures same { (books.new.accepted.total ≡ books.old.accepted.total) × (books.new.handed.total ≡ books.old.handed.total)
+        × (books.new.shutdowns.total ≡ books.old.shutdowns.total) × (books.new.closings.total ≡ books.old.closings.total) }
+    ensures share { (result.parts ≡ H.parts) × (result.amount ≡ done.handed.amount) }
+{
+    let Done { handed, closings } = done;
+    let mut accepted = accepted;
+    let mut handed = handed;
+    let mut shutdowns = shutdowns;
+    let mut closings = closings;
+    books.accepted.audit(&mut accepted);
+    books.handed.audit(&mut handed);
+    books.shutdowns.audit(&mut shutdowns);
+    books.closings.audit(&mut closings);
+    handed
 }
 
 // Keeps a buffer for a sender, or returns it if enough are kept.

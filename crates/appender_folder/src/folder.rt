@@ -24,6 +24,9 @@ pub trait FilesHost: Files + AllocGlobal + Eprint + Clone + Drop {}
 
 impl<R: Files + AllocGlobal + Eprint + Clone + Drop> FilesHost for R {}
 
+// The permission bits of a new file, before the umask.
+const MODE: u32 = 0o666;
+
 /// A folder of the file system. No contract says what it contains, since other programs write to the disk
 /// too. `failures` counts each call that returns an `Err`, also if an opening goes on after it (a folder or
 /// a link that is absent). Every call rejects a name that is not a single path component with
@@ -35,6 +38,8 @@ pub struct DirFolder<R = HostRuntime, P = NoRetry> {
     path: String,
     // Whether each flush also syncs.
     syncs: bool,
+    // The permission bits of new files.
+    mode: u32,
     // How an append is made.
     policy: P,
     // Whether the last opening that succeeded made its file.
@@ -74,6 +79,7 @@ impl<R: FilesHost> DirFolder<R> {
             rt,
             path: base,
             syncs: false,
+            mode: MODE,
             policy: NoRetry,
             made_file: false,
             failures: 0,
@@ -92,6 +98,7 @@ impl<R: FilesHost> DirFolder<R> {
             rt,
             path,
             syncs,
+            mode,
             policy: _,
             made_file,
             failures,
@@ -101,6 +108,7 @@ impl<R: FilesHost> DirFolder<R> {
             rt,
             path,
             syncs,
+            mode,
             policy: Retries::new(waiter, faults),
             made_file,
             failures,
@@ -117,27 +125,21 @@ impl<R: FilesHost, P: RetryPolicy> DirFolder<R, P> {
     /// Makes each flush of a file also sync its data to the disk (`fdatasync`), so that what was written before
     /// survives a loss of power.
     #[must_use]
-    pub fn synced(self) -> DirFolder<R, P>
+    pub fn synced(mut self) -> DirFolder<R, P>
         ensures { result ≡ self }
     {
-        let DirFolder {
-            rt,
-            path,
-            syncs: _,
-            policy,
-            made_file,
-            failures,
-            noted,
-        } = self;
-        DirFolder {
-            rt,
-            path,
-            syncs: true,
-            policy,
-            made_file,
-            failures,
-            noted,
-        }
+        self.syncs = true;
+        self
+    }
+
+    /// Sets the permission bits of files that are made from then on, such as `0o640`, instead of `0o666`. The system
+    /// clears those of the process's umask. A file that is there keeps its own.
+    #[must_use]
+    pub fn mode(mut self, mode: u32) -> DirFolder<R, P>
+        ensures { result ≡ self }
+    {
+        self.mode = mode;
+        self
     }
 
     /// Returns whether a name leads to this open file. It doesn't if the file was removed, renamed or
@@ -260,7 +262,7 @@ impl<R: FilesHost, P: RetryPolicy> Folder for DirFolder<R, P> {
     }
 
     fn open(&mut self, name: &str) -> io::Result<R::File> {
-        let answer = match open_plain(&self.rt, self.path.as_str(), name) {
+        let answer = match open_plain(&self.rt, self.path.as_str(), name, self.mode) {
             Ok((file, made)) => {
                 self.made_file = made;
                 Ok(file)

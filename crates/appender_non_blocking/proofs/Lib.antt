@@ -1,3 +1,5 @@
-pub mod Endings
+pub mod Histories
 pub mod Jobs
+pub mod Refused
+pub mod Serving
 pub mod Work

@@ -1,2 +1,3 @@
 -- Definitions for bodies only. No clause of a public function cites them.
 pub mod Jobs
+pub mod Served

@@ -4,4 +4,6 @@ pub mod Inside
 pub mod Losses
 pub mod Mode
 pub mod Refusal
+pub mod RunLines
+pub mod SentLines
 pub mod Work

@@ -273,13 +273,13 @@ fn returns_a_fault_that_lasts(rt: HostRuntime) {
     check(&rt, &[Answer::Fails(os_error(EIO)), denied], wanted);
 }
 
-// All faults are waited for but these, if that is asked for.
+// All faults are waited for but these, if that is asked for, however often they come.
 #[test]
 fn waits_for_any_fault(rt: HostRuntime) {
     let recorder = Recorder::new(&rt);
     for fault in [os_error(EACCES), io::Error::other("not plain")] {
         let mut kept = Vec::new(rt.alloc());
-        let answers = [Answer::Fails(fault), Answer::Fails(fault)];
+        let answers = [Answer::Fails(fault); 30];
         let mut disk = Disk {
             answers: &answers,
             kept: &mut kept,
@@ -304,11 +304,11 @@ fn waits_for_any_fault(rt: HostRuntime) {
         expect_eq(&rt, fault, Some(kind));
     }
     let Recorder { pauses, .. } = recorder;
-    expect_eq(
-        &rt,
-        pauses.into_inner().as_slice(),
-        [100u128, 200, 100, 200].as_slice(),
-    );
+    let mut millis = 0u128;
+    for pause in pauses.into_inner().as_slice() {
+        millis = millis.saturating_add(*pause);
+    }
+    expect_eq(&rt, millis, 55_000);
 }
 
 // No byte makes no write, and a flush is not waited for.

@@ -1,6 +1,8 @@
 -- Lines that are written together, one after another.
 use Rattle.std.proofs.Common.{◌≡◌, ℕ, zero, suc, ◌+◌, ◌-◌, ◌^◌, ◌<◌, ◌≤◌, List, [], ◌∷◌, ◌++◌, Bool, true, false, not, cond, length, get_or, take, drop, map, sum, sum_by, count_by, flat_map, filter, Option, min, ap, sym, refl, ◌∙◌, subst, arith, append_assoc, append-nil, take_all, length-drop, length-take, take-append-drop, drop-drop, take-add, take-take, add-zero, add-suc}
-use Rattle.std.specs.Prelude.{nat_lt, ◌||◌}
+use Rattle.std.specs.Prelude.{nat_lt, ◌||◌, None}
+use Rattle.std.specs.Option.{option_map, option_or}
+use Rattle.std.specs.declared.io.ErrorKind.{ErrorKind}
 use Rattle.std.specs.Io.KnownBytes.{Appends}
 use Rattle.std.proofs.KnownBytes.{Appends-nil, Appends-trans}
 use Rattle.std.proofs.lemmas.List.{drop_more, drop_all, map-append, nil_from_length, take_rest, take-append-le, drop-append-le}
@@ -10,10 +12,10 @@ use Rattle.std.proofs.lemmas.List.Sums.{sum_by-cons, sum_by_push}
 use Rattle.std.proofs.lemmas.Bool.Decides.{nat_tests}
 use Rattle.appender_worker.specs.Batch.{saturating_sum}
 use Rattle.appender_worker.specs.Parts.{Part, part, line_of, written_of, is_whole, is_cut}
-use Rattle.appender_worker.specs.Tries.{WriteTry, write_try, is_failed, TriesWrites, FailsWithin, FailWithin}
+use Rattle.appender_worker.specs.Tries.{WriteTry, write_try, is_failed, reported_kind, first_fault, TriesWrites, FailsWithin, FailWithin}
 use Rattle.appender_queue.specs.Queue.{saturating_next}
 use Rattle.appender_worker.specs.Inside.Gathered.{lines_of_lengths}
-use Rattle.appender_worker.proofs.Asking.{asked_join, asked_one, fail_join}
+use Rattle.appender_worker.proofs.Asking.{asked_join, asked_one, fail_join, first_push}
 
 -- whether one of these writes failed, and then what it did not take
 abbrev pub Failed : Bool → List ℕ → List WriteTry → Type 0
@@ -22,7 +24,7 @@ Failed true rest ts = (t : WriteTry) × (filter is_failed ts ≡ t ∷ []) × (d
 
 -- the lines before the place i, which ends there, were written as their parts say, and of the bytes after `end` so many that
 -- all up to `sent` were written; the last writes may have failed there
-pub record At {W : Type 0} (contents : W → Option (List ℕ)) (tries : W → List ℕ → ℕ → W → Type 0) (old new : W) (lengths bytes : List ℕ) (i end sent taken lost : ℕ) (given_up : Bool) : Type 0 where
+pub record At {W : Type 0} (contents : W → Option (List ℕ)) (tries : W → List ℕ → ℕ → Option ErrorKind → W → Type 0) (old new : W) (lengths bytes : List ℕ) (i end sent taken lost : ℕ) (given_up : Bool) (kind : Option ErrorKind) : Type 0 where
   pub parts : List Part
   pub order : map line_of parts ++ lines_of_lengths (drop i lengths) (drop end bytes) ≡ lines_of_lengths lengths bytes
   pub total : end + sum (drop i lengths) ≡ length bytes
@@ -36,6 +38,7 @@ pub record At {W : Type 0} (contents : W → Option (List ℕ)) (tries : W → L
   pub were_asked : TriesWrites tries old (asked ++ last) new
   pub failed_within : FailWithin (filter is_failed asked) (filter is_cut parts)
   pub last_failed : Failed given_up (drop sent bytes) last
+  pub kind_is : kind ≡ first_fault (asked ++ last)
 
 -- the list of lines is one longer
 order_more : (xs : List (List ℕ)) (lengths bytes : List ℕ) (i end n : ℕ) → drop i lengths ≡ n ∷ drop (i + 1) lengths
@@ -71,22 +74,22 @@ drop_split k n xs few within =
     ap (λ t. drop k t) (sym (take-append-drop n xs)) ∙ drop-append-le k (take n xs) (drop n xs) (omega (arith, few, within, length-take n xs))
 
 -- one write of all the bytes that were left
-one_failed : (failed : Bool) (bytes : List ℕ) (sent k : ℕ) → (failed ≡ false → k ≡ length (drop sent bytes)) → (failed ≡ true → k < length (drop sent bytes))
-    → Failed failed (drop (sent + k) bytes) (write_try (drop sent bytes) k ∷ [])
-one_failed false bytes sent k all some =
+one_failed : (failed : Bool) (bytes : List ℕ) (sent k : ℕ) (fault : Option ErrorKind) → (failed ≡ false → k ≡ length (drop sent bytes)) → (failed ≡ true → k < length (drop sent bytes))
+    → Failed failed (drop (sent + k) bytes) (write_try (drop sent bytes) k fault ∷ [])
+one_failed false bytes sent k fault all some =
     let same = all refl in
     let not_less : nat_lt k (length (drop sent bytes)) ≡ false = grind (arith, nat_tests, same) in
-    ap (λ b. cond b (write_try (drop sent bytes) k ∷ []) []) not_less
-one_failed true bytes sent k all some =
+    ap (λ b. cond b (write_try (drop sent bytes) k fault ∷ []) []) not_less
+one_failed true bytes sent k fault all some =
     let few = some refl in
     let less : nat_lt k (length (drop sent bytes)) ≡ true = grind (arith, nat_tests, few) in
-    (write_try (drop sent bytes) k, ap (λ b. cond b (write_try (drop sent bytes) k ∷ []) []) less, drop-drop k sent bytes)
+    (write_try (drop sent bytes) k fault, ap (λ b. cond b (write_try (drop sent bytes) k fault ∷ []) []) less, drop-drop k sent bytes)
 
 -- a line within what was written
-pub whole_more : {W : Type 0} (contents : W → Option (List ℕ)) (tries : W → List ℕ → ℕ → W → Type 0) (old new : W) (lengths bytes : List ℕ) (i end sent taken lost n : ℕ) (given_up : Bool)
-    → i < length lengths → n ≡ get_or lengths i 0 → end + n ≤ sent → At contents tries old new lengths bytes i end sent taken lost given_up
-    → At contents tries old new lengths bytes (i + 1) (end + n) sent (taken + 1) lost given_up
-whole_more contents tries old new lengths bytes i end sent taken lost n given_up lt e within at =
+pub whole_more : {W : Type 0} (contents : W → Option (List ℕ)) (tries : W → List ℕ → ℕ → Option ErrorKind → W → Type 0) (old new : W) (lengths bytes : List ℕ) (i end sent taken lost n : ℕ) (given_up : Bool) (kind : Option ErrorKind)
+    → i < length lengths → n ≡ get_or lengths i 0 → end + n ≤ sent → At contents tries old new lengths bytes i end sent taken lost given_up kind
+    → At contents tries old new lengths bytes (i + 1) (end + n) sent (taken + 1) lost given_up kind
+whole_more contents tries old new lengths bytes i end sent taken lost n given_up kind lt e within at =
     let next = next_place lengths i n lt e in
     let rest = drop end bytes in
     let p = part (take n rest) n in
@@ -116,13 +119,14 @@ whole_more contents tries old new lengths bytes i end sent taken lost n given_up
       were_asked = at.were_asked;
       failed_within = subst (λ t. FailWithin (filter is_failed at.asked) t) (sym (no_cut_more at.parts p whole)) at.failed_within;
       last_failed = at.last_failed;
+      kind_is = at.kind_is;
     }
 
 -- a line that was cut, and is left
-pub cut_more : {W : Type 0} (contents : W → Option (List ℕ)) (tries : W → List ℕ → ℕ → W → Type 0) (old new : W) (lengths bytes : List ℕ) (i end sent taken lost n : ℕ)
-    → i < length lengths → n ≡ get_or lengths i 0 → sent < end + n → At contents tries old new lengths bytes i end sent taken lost true
-    → At contents tries old new lengths bytes (i + 1) (end + n) (end + n) taken (lost + 1) false
-cut_more contents tries old new lengths bytes i end sent taken lost n lt e within at =
+pub cut_more : {W : Type 0} (contents : W → Option (List ℕ)) (tries : W → List ℕ → ℕ → Option ErrorKind → W → Type 0) (old new : W) (lengths bytes : List ℕ) (i end sent taken lost n : ℕ) (kind : Option ErrorKind)
+    → i < length lengths → n ≡ get_or lengths i 0 → sent < end + n → At contents tries old new lengths bytes i end sent taken lost true kind
+    → At contents tries old new lengths bytes (i + 1) (end + n) (end + n) taken (lost + 1) false kind
+cut_more contents tries old new lengths bytes i end sent taken lost n kind lt e within at =
     let next = next_place lengths i n lt e in
     let rest = drop end bytes in
     let p = part (take n rest) (sent - end) in
@@ -160,14 +164,15 @@ cut_more contents tries old new lengths bytes i end sent taken lost n lt e withi
           (subst (λ t. FailWithin (filter is_failed at.asked ++ failed.0 ∷ []) t) (sym (cut_push at.parts p cut))
           (fail_join (filter is_failed at.asked) (failed.0 ∷ []) (filter is_cut at.parts) (p ∷ []) at.failed_within (left, tt)));
       last_failed = refl;
+      kind_is = at.kind_is ∙ ap first_fault (sym (append-nil (at.asked ++ at.last)));
     }
 
 -- k more bytes were written
-pub sent_more : {W : Type 0} (contents : W → Option (List ℕ)) (tries : W → List ℕ → ℕ → W → Type 0) (old mid new : W) (lengths bytes : List ℕ) (i end sent taken lost k : ℕ) (failed : Bool)
+pub sent_more : {W : Type 0} (contents : W → Option (List ℕ)) (tries : W → List ℕ → ℕ → Option ErrorKind → W → Type 0) (old mid new : W) (lengths bytes : List ℕ) (i end sent taken lost k : ℕ) (failed : Bool) (fault before after : Option ErrorKind)
     → k ≤ length (drop sent bytes) → (failed ≡ false → k ≡ length (drop sent bytes)) → (failed ≡ true → k < length (drop sent bytes))
-    → Appends (contents mid) (contents new) (take k (drop sent bytes)) → tries mid (drop sent bytes) k new
-    → At contents tries old mid lengths bytes i end sent taken lost false → At contents tries old new lengths bytes i end (sent + k) taken lost failed
-sent_more contents tries old mid new lengths bytes i end sent taken lost k failed few all some h asks at =
+    → Appends (contents mid) (contents new) (take k (drop sent bytes)) → tries mid (drop sent bytes) k fault new → after ≡ option_or before (option_map reported_kind fault)
+    → At contents tries old mid lengths bytes i end sent taken lost false before → At contents tries old new lengths bytes i end (sent + k) taken lost failed after
+sent_more contents tries old mid new lengths bytes i end sent taken lost k failed fault before after few all some h asks first at =
     let rest = drop end bytes in
     let past = at.past in
     let within = at.within in
@@ -190,16 +195,17 @@ sent_more contents tries old mid new lengths bytes i end sent taken lost k faile
       taken_is = at.taken_is;
       lost_is = at.lost_is;
       asked = at.asked ++ at.last;
-      last = write_try (drop sent bytes) k ∷ [];
-      were_asked = asked_join tries old (at.asked ++ at.last) (write_try (drop sent bytes) k ∷ []) mid new at.were_asked (asked_one tries mid (drop sent bytes) k new asks);
+      last = write_try (drop sent bytes) k fault ∷ [];
+      were_asked = asked_join tries old (at.asked ++ at.last) (write_try (drop sent bytes) k fault ∷ []) mid new at.were_asked (asked_one tries mid (drop sent bytes) k fault new asks);
       failed_within = subst (λ t. FailWithin t (filter is_cut at.parts)) (sym none_more) at.failed_within;
-      last_failed = one_failed failed bytes sent k all some;
+      last_failed = one_failed failed bytes sent k fault all some;
+      kind_is = first ∙ ap (λ o. option_or o (option_map reported_kind fault)) at.kind_is ∙ sym (first_push (at.asked ++ at.last) (drop sent bytes) k fault);
     }
 
 -- the lines up to `sent`, before it is known whether the next one is whole, which ends n bytes on; whether the line at `sent` was
--- given up, and whether there was a fault
-pub record Sent {W : Type 0} (contents : W → Option (List ℕ)) (tries : W → List ℕ → ℕ → W → Type 0) (old new : W) (lengths bytes : List ℕ) (i end sent taken lost n : ℕ) (given_up fault : Bool) : Type 0 where
-  pub at : At contents tries old new lengths bytes i end sent taken lost given_up
+-- given up, whether there was a fault, and the kind that is reported for the first one
+pub record Sent {W : Type 0} (contents : W → Option (List ℕ)) (tries : W → List ℕ → ℕ → Option ErrorKind → W → Type 0) (old new : W) (lengths bytes : List ℕ) (i end sent taken lost n : ℕ) (given_up fault : Bool) (kind : Option ErrorKind) : Type 0 where
+  pub at : At contents tries old new lengths bytes i end sent taken lost given_up kind
   pub behind : given_up ≡ true → sent < length bytes
   pub told : fault ≡ (given_up || nat_lt 0 lost)
   pub why : sent < end + n → given_up ≡ true
@@ -208,22 +214,23 @@ no_line_left : (lengths bytes : List ℕ) (i end n : ℕ) → i < length lengths
 no_line_left lengths bytes i end n lt e total = omega (arith, total_more lengths bytes i end n (next_place lengths i n lt e) total)
 
 -- after a write of all that was left, of which k bytes were taken
-pub sent_by_write : {W : Type 0} (contents : W → Option (List ℕ)) (tries : W → List ℕ → ℕ → W → Type 0) (old mid new : W) (lengths bytes : List ℕ) (i end sent taken lost n k : ℕ) (given_up failed first fault : Bool)
-    → i < length lengths → n ≡ get_or lengths i 0 → At contents tries old mid lengths bytes i end sent taken lost given_up → given_up ≡ false → first ≡ (given_up || nat_lt 0 lost)
+pub sent_by_write : {W : Type 0} (contents : W → Option (List ℕ)) (tries : W → List ℕ → ℕ → Option ErrorKind → W → Type 0) (old mid new : W) (lengths bytes : List ℕ) (i end sent taken lost n k : ℕ) (given_up failed first fault : Bool) (kind before after : Option ErrorKind)
+    → i < length lengths → n ≡ get_or lengths i 0 → At contents tries old mid lengths bytes i end sent taken lost given_up before → given_up ≡ false → first ≡ (given_up || nat_lt 0 lost)
     → fault ≡ (failed || first) → k ≤ length (take (length bytes - sent) (drop sent bytes)) → (failed ≡ false → k ≡ length (take (length bytes - sent) (drop sent bytes)))
     → (failed ≡ true → k < length (take (length bytes - sent) (drop sent bytes))) → Appends (contents mid) (contents new) (take k (take (length bytes - sent) (drop sent bytes)))
-    → tries mid (take (length bytes - sent) (drop sent bytes)) k new
-    → Sent contents tries old new lengths bytes i end (sent + k) taken lost n failed fault
-sent_by_write contents tries old mid new lengths bytes i end sent taken lost n k given_up failed first fault lt e at not_given told first_is bound all some bytes_are asks =
+    → tries mid (take (length bytes - sent) (drop sent bytes)) k kind new → after ≡ option_or before (option_map reported_kind kind)
+    → Sent contents tries old new lengths bytes i end (sent + k) taken lost n failed fault after
+sent_by_write contents tries old mid new lengths bytes i end sent taken lost n k given_up failed first fault kind before after lt e at not_given told first_is bound all some bytes_are asks kind_is =
     let rest = take_rest bytes sent in
     let size = length-drop sent bytes in
     let few : k ≤ length (drop sent bytes) = rw rest at bound in
     let within = at.within in
     let none : first ≡ nat_lt 0 lost = told ∙ ap (λ b. b || nat_lt 0 lost) not_given in
-    let before : At contents tries old mid lengths bytes i end sent taken lost false = subst (λ b. At contents tries old mid lengths bytes i end sent taken lost b) not_given at in
+    let at_before : At contents tries old mid lengths bytes i end sent taken lost false before =
+    subst (λ b. At contents tries old mid lengths bytes i end sent taken lost b before) not_given at in
     record {
-      at = sent_more contents tries old mid new lengths bytes i end sent taken lost k failed few (λ is. rw rest at (all is)) (λ is. rw rest at (some is)) (rw rest at bytes_are)
-          (subst (λ t. tries mid t k new) rest asks) before;
+      at = sent_more contents tries old mid new lengths bytes i end sent taken lost k failed kind before after few (λ is. rw rest at (all is)) (λ is. rw rest at (some is)) (rw rest at bytes_are)
+          (subst (λ t. tries mid t k kind new) rest asks) kind_is at_before;
       behind = λ is. let less : k < length (drop sent bytes) = rw rest at (some is) in omega (arith, less, size);
       told = first_is ∙ ap (λ b. failed || b) none;
       why = λ short. given_by failed (λ not.
@@ -237,8 +244,8 @@ sent_by_write contents tries old mid new lengths bytes i end sent taken lost n k
     given_by false f = absurd (f refl)
 
 -- before the first line
-pub at_start : {W : Type 0} (contents : W → Option (List ℕ)) (tries : W → List ℕ → ℕ → W → Type 0) (old : W) (lengths bytes : List ℕ) → sum lengths ≡ length bytes
-    → At contents tries old old lengths bytes 0 0 0 0 0 false
+pub at_start : {W : Type 0} (contents : W → Option (List ℕ)) (tries : W → List ℕ → ℕ → Option ErrorKind → W → Type 0) (old : W) (lengths bytes : List ℕ) → sum lengths ≡ length bytes
+    → At contents tries old old lengths bytes 0 0 0 0 0 false None
 at_start contents tries old lengths bytes total = record {
   parts = [];
   order = refl;
@@ -253,14 +260,15 @@ at_start contents tries old lengths bytes total = record {
   were_asked = refl;
   failed_within = tt;
   last_failed = refl;
+  kind_is = refl;
 }
 
 -- after the last line
-pub at_end : {W : Type 0} (contents : W → Option (List ℕ)) (tries : W → List ℕ → ℕ → W → Type 0) (old new : W) (lengths bytes : List ℕ) (i end sent taken lost : ℕ) (given_up : Bool)
-    → length lengths ≤ i → (given_up ≡ true → sent < length bytes) → (at : At contents tries old new lengths bytes i end sent taken lost given_up)
+pub at_end : {W : Type 0} (contents : W → Option (List ℕ)) (tries : W → List ℕ → ℕ → Option ErrorKind → W → Type 0) (old new : W) (lengths bytes : List ℕ) (i end sent taken lost : ℕ) (given_up : Bool) (kind : Option ErrorKind)
+    → length lengths ≤ i → (given_up ≡ true → sent < length bytes) → (at : At contents tries old new lengths bytes i end sent taken lost given_up kind)
     → (sent ≡ length bytes) × (lines_of_lengths lengths bytes ≡ map line_of at.parts) × Appends (contents old) (contents new) (flat_map written_of at.parts)
     × FailWithin (filter is_failed (at.asked ++ at.last)) (filter is_cut at.parts)
-at_end contents tries old new lengths bytes i end sent taken lost given_up past not_there at =
+at_end contents tries old new lengths bytes i end sent taken lost given_up kind past not_there at =
     let none = drop_all i lengths past in
     let total : end ≡ length bytes = omega (arith, (rw none at at.total)) in
     let whole : sent ≡ length bytes = omega (arith, total, at.past, at.within) in

@@ -2,3 +2,4 @@ pub mod Written
 pub mod Asking
 pub mod Gathered
 pub mod Batches
+pub mod Served

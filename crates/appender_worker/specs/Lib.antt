@@ -5,4 +5,5 @@ pub mod Counting
 pub mod Parts
 pub mod Tries
 pub mod Batch
+pub mod Served
 pub mod Inside

@@ -21,10 +21,11 @@ ghost use Rattle.std.specs.Prelude.{
   true,
   false,
 };
+ghost use Rattle.std.specs.Option.{option_or};
 ghost use Rattle.std.specs.IoError.{error_kind};
 ghost use Rattle.std.specs.Io.KnownBytes.{Appends};
 ghost use Rattle.appender_worker.specs.Batch.{most_lines};
-ghost use Rattle.appender_worker.specs.Inside.Gathered.{lines_of_lengths, WritesGathered};
+ghost use Rattle.appender_worker.specs.Inside.Gathered.{lines_of_lengths, WritesGathered, TriesOn};
 
 use crate::counting::{LineCounts, SharedCounts, reported};
 use crate::sink::LineSink;
@@ -56,7 +57,7 @@ pub struct BatchWriter<W: LineSink + Drop> {
 }
 
 impl<W: LineSink + Drop> Model for BatchWriter<W> {
-    ghost use Rattle.std.specs.Prelude.{◌≡◌, ◌≤◌, sum, length, is_some, vec_capacity};
+    ghost use Rattle.std.specs.Prelude.{◌≡◌, ◌≤◌, sum, length, vec_capacity};
     ghost use Rattle.appender_worker.specs.Batch.{Batch, most_lines};
     ghost use Rattle.appender_worker.specs.Inside.Gathered.{lines_of_lengths};
 
@@ -68,7 +69,7 @@ impl<W: LineSink + Drop> Model for BatchWriter<W> {
       waiting = lines_of_lengths b.lengths.items b.bytes.items;
       taken = b.taken;
       lost = b.lost;
-      failed = is_some b.fault;
+      fault = b.fault;
     } };
 
     ghost invariant = { λ b. (sum b.lengths.items ≡ length b.bytes.items)
@@ -122,6 +123,28 @@ impl<W: LineSink + Drop> BatchWriter<W> {
         Ok((batch, counts))
     }
 
+    /// Returns the writer.
+    pub fn get_ref(&self) -> &W
+        ensures { result.now ≡ self.now.writer }
+    {
+        &self.writer
+    }
+
+    /// Returns the number of lines that the writer did not take whole.
+    pub fn lost(&self) -> u64
+        ensures { result ≡ self.now.lost }
+    {
+        self.lost
+    }
+
+    /// Returns the number of lines that wait.
+    #[tactic(auto, using(crate::proofs::Gathered::number_of_lines))]
+    pub fn waiting(&self) -> usize
+        ensures { result ≡ length self.now.waiting }
+    {
+        self.lengths.len()
+    }
+
     // Returns whether a line of this length can wait.
     #[tactic(auto, using(crate::proofs::Gathered::length_in_lines, crate::proofs::Gathered::number_of_lines))]
     #[inline(always)]
@@ -150,16 +173,14 @@ impl<W: LineSink + Drop> BatchWriter<W> {
         ensures { self.new ≡ record self.old {
           taken = saturating_sum self.old.taken outcome.taken;
           lost = saturating_sum self.old.lost outcome.lost;
-          failed = (self.old.failed || is_some outcome.fault);
+          fault = option_or self.old.fault outcome.fault;
         } }
     {
         let Outcome { taken, lost, fault } = outcome;
         self.taken = self.taken.saturating_add(taken);
         self.lost = self.lost.saturating_add(lost);
         self.shared.store(self.taken, self.lost);
-        if self.fault.is_none() {
-            self.fault = fault;
-        }
+        self.fault = self.fault.take().or(fault);
     }
 
     // Writes the lines that wait, and then gathers this one, or writes it by itself.
@@ -199,10 +220,10 @@ impl<W: LineSink + Drop> BatchWriter<W> {
     fn write_alone(&mut self, line: &[u8]) -> io::Result<usize>
         requires { self.old.waiting ≡ [] }
         ensures none_waits { self.new.waiting ≡ [] }
-        ensures ok { IfOk result (λ n. (n ≡ length line.now) × (self.new.failed ≡ self.old.failed)
+        ensures ok { IfOk result (λ n. (n ≡ length line.now) × (self.new.fault ≡ self.old.fault)
             × WritesLine W.contents W.tries line.now n self.old self.new) }
         ensures kind { IfErr result (λ error. error_kind error ≢ ErrorKind.Interrupted) }
-        ensures err { OnErr result (self.new.failed ≡ true) }
+        ensures err { OnErr result (is_some self.new.fault ≡ true) }
         ensures cut { OnErr result ((n : ℕ) × (n < length line.now)
             × WritesLine W.contents W.tries line.now n self.old self.new) }
     {
@@ -237,6 +258,7 @@ impl<W: LineSink + Drop> Write for BatchWriter<W> {
     /// Gathers one whole line. If there is no room for it, the lines that wait are written first. A line longer than the
     /// capacity is written by itself, and only this can fail: the error is that of its last write, but never `Interrupted`.
     /// The next flush reports the fault of another line.
+    #[tactic(auto, using(crate::proofs::Batches::gathers_line))]
     #[inline(always)]
     fn write(&mut self, line: &[u8]) -> io::Result<usize>
         ensures bound { WritesAtMost result line.now }
@@ -261,10 +283,10 @@ impl<W: LineSink + Drop> Write for BatchWriter<W> {
     fn flush(&mut self) -> io::Result<()>
         ensures bytes { Keeps None None }
         ensures empty { self.new.waiting ≡ [] }
-        ensures empties { WritesAndFlushes W.contents W.tries result self.old self.new }
+        ensures empties { WritesAndFlushes W.contents W.tries W.flushes result self.old self.new }
     {
         self.write_waiting();
-        let flushed = self.writer.flush();
+        let flushed = self.writer.flush_once();
         match self.fault.take() {
             Some(fault) => Err(fault),
             None => flushed,
@@ -329,13 +351,13 @@ fn write_on<W: LineSink>(
     ensures some { result.1 ≡ true → result.0 < length rest.now }
     ensures told { is_some result.2 ≡ (result.1 || is_some first) }
     ensures bytes { Appends (W.contents writer.old) (W.contents writer.new) (take result.0 rest.now) }
-    ensures tried { W.tries writer.old rest.now result.0 writer.new }
+    ensures tried { TriesOn W.tries writer.old rest.now result.0 first result.2 writer.new }
 {
     match writer.write_line(rest) {
         Ok(()) => (rest.len(), false, first),
         Err(fault) => {
             let taken = fault.taken;
-            (taken, true, Some(first.unwrap_or(reported(fault))))
+            (taken, true, first.or(Some(reported(fault))))
         }
     }
 }

@@ -1,6 +1,7 @@
 //! A writer that counts lines.
 ghost use Rattle.std.specs.Prelude.{◌≡◌, ◌≢◌, IfOk, IfErr, length};
 ghost use Rattle.std.specs.IoError.{error_kind};
+ghost use Rattle.appender_worker.specs.Tries.{reported_kind};
 
 use crate::worker::{LineFault, run_line};
 use std::alloc::{AllocError, Global};
@@ -141,7 +142,8 @@ impl<W: Write> Write for CountingWriter<W> {
 
 // Returns the error of a line for its caller.
 pub(crate) fn reported(fault: LineFault) -> io::Error
-    ensures { error_kind result ≢ ErrorKind.Interrupted }
+    ensures retried { error_kind result ≢ ErrorKind.Interrupted }
+    ensures kind { error_kind result ≡ reported_kind (error_kind fault.error) }
 {
     match fault.error.kind() {
         ErrorKind::Interrupted => io::Error::other("interrupted too often"),

@@ -4,5 +4,6 @@
 
 mod batching;
 mod counting;
+pub mod laws;
 mod sink;
 pub mod worker;

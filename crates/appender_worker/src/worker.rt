@@ -139,14 +139,14 @@ impl WorkerCore {
     }
 
     /// Makes one write of the rest of the line in hand, and passes on its result.
-    pub fn write<W: Write>(&mut self, writer: &mut W)
+    pub fn write<W: LineSink>(&mut self, writer: &mut W)
         requires { is_writing self.old ≡ true }
-        ensures { WritesOnce self.old self.new (W.contents writer.old) (W.contents writer.new) }
+        ensures { WritesOnce W.contents W.writes writer.old writer.new self.old self.new }
     {
         let Want::Write(rest) = self.want() else {
             unreachable!()
         };
-        let answer = writer.write(rest);
+        let answer = writer.write_once(rest);
         self.wrote(answer);
     }
 

@@ -10,6 +10,7 @@ pub mod non_blocking_builder;
 pub mod rolling_file;
 pub mod rolling_file_appender;
 pub mod run_counted;
+pub mod run_lines;
 #[cfg(test)]
 mod tests;
 pub mod worker_guard;

@@ -3,7 +3,7 @@
 #![tactic(auto)]
 
 ghost use Rattle.std.specs.Prelude.{◌≡◌, ◌<◌, ℕ, List, [], ◌∷◌, ◌++◌, map, slice_index, vec_len, IfOk};
-ghost use base.Fml.{fsep, fobs, fauth};
+ghost use base.Fml.{fsep, fobs, fauth, ftrue};
 ghost use Rattle.line_history.specs.Lines.{coded, new_histories};
 
 use std::alloc::{AllocError, Global};
@@ -141,6 +141,51 @@ pub fn compare<H: Histories>(kept: &mut Kept<H>, mine: &mut Mine<H>)
     record(kept, mine, &())
 }
 
+/// Lines that its owner noted.
+pub struct Tape {
+    marker: PhantomData<()>,
+    pub ghost lines: { List (List ℕ) },
+}
+
+impl Model for Tape {
+    ghost also_owns = { λ _. ftrue };
+}
+
+impl Tape {
+    /// Returns a tape with the lines of a value.
+    pub fn of<T: Recorded>(value: &T) -> Tape
+        ensures { result.lines ≡ T.lines value.now }
+    {
+        Tape {
+            marker: PhantomData,
+        }
+    }
+
+    /// Notes a line.
+    pub fn note(&mut self, line: &[u8])
+        ensures { self.new.lines ≡ self.old.lines ++ line.now ∷ [] }
+    {
+        *self = Tape::of(&Noted { tape: self, line });
+    }
+}
+
+// A tape and its next line.
+#[derive(Drop)]
+struct Noted<'a> {
+    tape: &'a Tape,
+    line: &'a [u8],
+}
+
+impl<'a> Recorded for Noted<'a> {
+    ghost lines = { λ n. n.tape.now.lines ++ n.line.now ∷ [] };
+}
+
+impl Drop for Tape {
+    fn drop(self) {
+        let Self { marker: _ } = self;
+    }
+}
+
 impl Drop for Blank {
     fn drop(self) {
         let Self { marker: _ } = self;
@@ -161,6 +206,8 @@ impl<H: Histories> Drop for Mine<H> {
 
 // Each token has a ghost name, which any thread may have.
 unsafe impl Send for Blank {}
+
+unsafe impl Send for Tape {}
 
 unsafe impl<H: Histories> Send for Kept<H> {}
 

@@ -1,1 +1,4 @@
+pub mod Counts
 pub mod Outcome
+pub mod Sent
+pub mod Taken

@@ -13,7 +13,7 @@ use Rattle.program_io.specs.declared.CopyFault.TheVariants.{Read as Failed, Writ
 use Rattle.program_io.specs.declared.options.OptionFault.{OptionFault}
 use Rattle.program_io.specs.declared.options.OptionFault.TheVariants.{Unknown as UnknownWord, Wrong, Memory as NoMemory}
 use Rattle.rolltee_core.specs.declared.tee.Fault.{Fault}
-use Rattle.rolltee_core.specs.declared.tee.Fault.TheVariants.{Usage, Unknown, Option as OfOption, Argument, Open, Thread, Read, Write, Lost, Pending, Full, Memory}
+use Rattle.rolltee_core.specs.declared.tee.Fault.TheVariants.{Usage, Unknown, Option as OfOption, Argument, Open, Thread, Read, Write, Lost, Pending, Memory}
 
 -- the first argument is the word for no rotation
 abbrev pub NamesNoRotation : List (String Global) → Type 0
@@ -59,7 +59,6 @@ tee_status Read = 1
 tee_status Write = 1
 tee_status (Lost losses) = 1
 tee_status Pending = 1
-tee_status Full = 1
 tee_status Memory = 3
 
 -- the report of a fault, on a line; a fault with an error, a word or a number has further words
@@ -74,7 +73,6 @@ tee_fault_words Read = Some (codes "read failed" ++ (10 ∷ []))
 tee_fault_words Write = Some (codes "write failed" ++ (10 ∷ []))
 tee_fault_words (Lost losses) = None
 tee_fault_words Pending = Some (codes "shutdown pending" ++ (10 ∷ []))
-tee_fault_words Full = Some (codes "shutdown full" ++ (10 ∷ []))
 tee_fault_words Memory = Some (codes "no memory" ++ (10 ∷ []))
 
 -- the status is that of the fault, and a prefix of its words, if those are known, was added to the errors

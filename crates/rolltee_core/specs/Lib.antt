@@ -1,2 +1,5 @@
 pub mod Fault
+pub mod Feed
 pub mod Log
+pub mod Losses
+pub mod Taken

@@ -1,12 +1,12 @@
 -- The log of a run. `kind` has the ghost members of a kind of folder, and `time` those of a kind of clock.
-use Rattle.std.specs.Prelude.{◌≡◌, ◌≢◌, ◌⊎◌, ℕ, ℤ, ◌+◌, List, [], ◌∷◌, length, Ok, Err, Result, Bool, true, false, string_bytes}
+use Rattle.std.specs.Prelude.{◌≡◌, ◌≢◌, ◌⊎◌, ℕ, ℤ, ◌+◌, List, [], ◌∷◌, length, take, Ok, Err, Result, Bool, true, false, string_bytes}
 use Rattle.std.specs.declared.io.Error.{Error}
 use Rattle.appender_names.specs.declared.rotation.Rotation.{Rotation}
 use Rattle.appender_store.specs.declared.store.Folder.{Ghosts}
 use Rattle.appender_rolling.specs.declared.rolling.Switch.{Switch}
 use Rattle.appender_rolling.specs.declared.rolling.Switch.TheVariants.{Opened as Switched}
 use Rattle.appender_runtime.specs.declared.clock.Clock.{Ghosts as Readings}
-use Rattle.appender_rolling.specs.Appender.{Appending, AppendsNow}
+use Rattle.appender_rolling.specs.Appender.{Appending, AppendsNow, FlushesNow}
 use Rattle.appender_rolling.specs.Config.{Config}
 use Rattle.appender_rolling.specs.Roller.{ChecksClock}
 use Rattle.log_check.specs.Log.{OpensAnew, newline_length}
@@ -87,3 +87,18 @@ PutsNone {S} {F} {C} kind time bytes error old new =
     (new ≡ old.log)
     ⊎ ((looked : Appending S F C) × FindsLog kind time (length bytes) old looked true × EndsNoPart kind looked new)
     ⊎ PutsBytes kind time bytes (Err error) old new
+
+-- the bytes that a write took, by its answer
+abbrev pub taken_of : Result ℕ Error → List ℕ → List ℕ
+taken_of (Ok n) bytes = take n bytes
+taken_of (Err error) bytes = []
+
+-- One call took exactly these bytes: they were added to the log as the first of some, or none were, since their write failed, the log was
+-- flushed or a line was given up.
+pub record TakesPiece {S F C : Type 0} (kind : Ghosts S F) (time : Readings C) (old : ReopenableLog S F C) (taken : List ℕ) (new : ReopenableLog S F C) : Type 0 where
+  pub config : new.config ≡ old.config
+  pub call :
+      ((bytes : List ℕ) × (n : ℕ) × (taken ≡ take n bytes) × PutsBytes kind time bytes (Ok n) old new.log)
+      ⊎ ((taken ≡ []) × (bytes : List ℕ) × (error : Error) × PutsNone kind time bytes error old new.log)
+      ⊎ ((taken ≡ []) × (answer : Result Unit Error) × FlushesNow kind answer old.log new.log)
+      ⊎ ((taken ≡ []) × (new.log ≡ old.log))

@@ -1,13 +1,25 @@
 //! The way of lines to a log through a queue, and how many of them are on it.
-use jiff::Timestamp;
+ghost use Rattle.std.specs.Prelude.{◌≡◌, ◌≢◌, ℕ, List, [], Option, ◌&&◌, not, length, true, false, None, Some, IfOk, OnOk, OnErr, MatchResult};
+ghost use Rattle.std.specs.List.{concat};
+ghost use Rattle.std.specs.Io.{WritesAtMost};
+ghost use Rattle.std.specs.Io.BufRead.{ends_with_byte};
+ghost use Rattle.std.specs.Io.KnownBytes.{Appends, Keeps, WriteAppends};
+ghost use Rattle.appender_worker.specs.Batch.{new_batch};
+ghost use Rattle.rolltee_core.specs.Feed.{IsTextOf, Echoes, Sends, KeepsOptions, fed_in};
+ghost use Rattle.rolltee_core.specs.Taken.{PassesLine};
+
+use jiff_core::Timestamp;
+use jiff_fmt::temporal::DateTimePrinter;
+use line_history::{Recorded, Tape};
 use program_io::options::Options;
 use program_io::report::report;
 use std::alloc::{AllocError, Global};
 use std::io::Write;
+use std::marker::Model;
 use std::sync::{Arc, Wait};
 use std::time::{Clock, Duration};
 use std::{io, mem, thread};
-use tracing_appender::non_blocking::ErrorCounter;
+use tracing_appender::non_blocking::RecordedSender;
 use tracing_appender::worker::{BatchWriter, LineCounts};
 
 // The most bytes of lines that are written together.
@@ -42,6 +54,14 @@ pub struct WatchedCounts {
     owner: Arc<(), Global>,
 }
 
+impl<W: Write + Drop> Model for WatchedLog<W> {
+    ghost use Rattle.appender_worker.specs.Batch.{Batch};
+
+    ghost Value = { Batch W };
+
+    ghost view = { λ w. w.log };
+}
+
 impl<W: Write + Drop> WatchedLog<W> {
     /// Returns the log of a worker, whose files have this limit of bytes, or none if it is 0, and what shows its counts.
     /// `AllocError` if memory is refused; then the log is dropped.
@@ -49,7 +69,9 @@ impl<W: Write + Drop> WatchedLog<W> {
         alloc: Global,
         log: W,
         limit: u64,
-    ) -> Result<(WatchedLog<W>, WatchedCounts), AllocError> {
+    ) -> Result<(WatchedLog<W>, WatchedCounts), AllocError>
+        ensures { IfOk result (λ made. (capacity : ℕ) × (made.0 ≡ new_batch log capacity)) }
+    {
         let (log, counts) = BatchWriter::new(alloc, log, capacity(limit))?;
         let owner = Arc::new(alloc, ()).map_err(AllocError::from)?;
         let watched = WatchedLog {
@@ -58,12 +80,32 @@ impl<W: Write + Drop> WatchedLog<W> {
         };
         Ok((watched, WatchedCounts { counts, owner }))
     }
+
+    /// Returns the log.
+    pub fn get_ref(&self) -> &W
+        ensures { result.now ≡ self.now.writer }
+    {
+        self.log.get_ref()
+    }
+
+    /// Returns the number of lines that the log did not take whole, those that wait too.
+    pub fn unwritten(&self) -> u64
+        ensures { result ≡ 0 → (self.now.lost ≡ 0) × (self.now.waiting ≡ []) }
+    {
+        self.log.lost().max(self.log.waiting() as u64)
+    }
 }
 
 impl<W: Write + Drop> Write for WatchedLog<W> {
     /// Takes one whole line. It is written and counted by the next flush, or before. If it is given up, the log is flushed
     /// here, since a worker that gave up a line does not flush before it sleeps.
-    fn write(&mut self, line: &[u8]) -> io::Result<usize> {
+    fn write(&mut self, line: &[u8]) -> io::Result<usize>
+        ensures bound { WritesAtMost result line.now }
+        ensures bytes { WriteAppends None None result line.now }
+        ensures whole { IfOk result (λ n. n ≡ length line.now) }
+        ensures passes { OnOk result (PassesLine W.contents line.now self.old self.new) }
+        ensures lost { OnErr result (self.new.lost ≢ 0) }
+    {
         let taken = self.log.write(line);
         if taken.is_err() {
             let _ = self.log.flush();
@@ -71,7 +113,10 @@ impl<W: Write + Drop> Write for WatchedLog<W> {
         taken
     }
 
-    fn flush(&mut self) -> io::Result<()> {
+    fn flush(&mut self) -> io::Result<()>
+        ensures bytes { Keeps None None }
+        ensures passes { PassesLine W.contents [] self.old self.new }
+    {
         self.log.flush()
     }
 }
@@ -102,35 +147,90 @@ const FIRST_MILLIS: u64 = 1;
 
 const LONGEST_MILLIS: u64 = 50;
 
-// The lines on their way to a log.
-#[derive(Drop)]
-struct Progress {
-    check: WatchedCounts,
-    dropped: ErrorCounter,
-    // The number of lines that the queue took or dropped.
-    sent: u64,
+/// A queue of lines.
+pub trait LineQueue {
+    /// The bytes of the lines that were sent, if they are known.
+    ghost sent: { Self → Option (List ℕ) } = { λ _. None };
+
+    /// Sends a line, which a lossy queue may drop. After an error it was not sent.
+    fn send(&mut self, line: &[u8]) -> io::Result<()>
+        ensures { MatchResult result (λ _. Appends (sent self.old) (sent self.new) line.now)
+            (λ _. Keeps (sent self.old) (sent self.new)) };
+
+    /// Returns the number of lines that were dropped.
+    fn dropped(&self) -> u64;
 }
 
-impl Progress {
-    // Returns the number of lines that the log neither took nor lost until now.
-    fn left(&self) -> u64 {
-        self.sent
-            .saturating_sub(self.dropped())
-            .saturating_sub(self.check.done())
+/// The queue of a recorded sender.
+#[derive(Drop)]
+pub struct SenderQueue<S: RecordedSender + Drop> {
+    sender: S,
+    // The lines that it was offered.
+    offered: Tape,
+}
+
+impl<S: RecordedSender + Drop> Model for SenderQueue<S> {
+    ghost use Rattle.std.specs.Prelude.{◌≡◌};
+    ghost use Rattle.rolltee_core.specs.Feed.{Offering};
+
+    ghost Value = { Offering };
+
+    ghost view = { λ q. record { sent = S.sent q.sender; offered = q.offered.lines } };
+
+    // Each line that was not dropped was queued.
+    ghost invariant = { λ q. (S.sent q.sender).dropped ≡ 0 → (S.sent q.sender).lines ≡ q.offered.lines };
+}
+
+// A sender that has sent lines.
+#[derive(Drop)]
+struct Before<'a, S> {
+    sender: &'a S,
+}
+
+impl<'a, S: RecordedSender> Recorded for Before<'a, S> {
+    ghost lines = { λ b. (S.sent b.sender.now).lines };
+}
+
+impl<S: RecordedSender + Drop> SenderQueue<S> {
+    /// Returns the queue of this sender.
+    pub fn new(sender: S) -> SenderQueue<S>
+        ensures { result ≡ record { sent = S.sent sender; offered = (S.sent sender).lines } }
+    {
+        let offered = Tape::of(&Before { sender: &sender });
+        SenderQueue { sender, offered }
     }
 
-    // Returns the number of lines that a lossy queue dropped.
+    /// Returns the sender. If it dropped no line, it queued all lines that it was offered.
+    pub fn into_sender(self) -> S
+        ensures sender { S.sent result ≡ self.sent }
+        ensures queued { self.sent.dropped ≡ 0 → self.sent.lines ≡ self.offered }
+    {
+        self.sender
+    }
+}
+
+impl<S: RecordedSender + Drop> LineQueue for SenderQueue<S> {
+    ghost sent = { λ q. Some (concat q.offered) };
+
+    fn send(&mut self, line: &[u8]) -> io::Result<()> {
+        self.sender.write_line(line)?;
+        self.offered.note(line);
+        Ok(())
+    }
+
     fn dropped(&self) -> u64 {
-        self.dropped.dropped_lines() as u64
+        self.sender.dropped() as u64
     }
 }
 
 /// Queues lines for a log, and waits for that.
 #[derive(Drop)]
-pub struct Feed<R, Q, O> {
+pub struct Feed<'a, R, Q, O> {
     rt: R,
     queue: Q,
-    progress: Progress,
+    check: &'a WatchedCounts,
+    // The number of lines that the queue took or dropped.
+    sent: u64,
     // The number of bytes that the queue took after it was last known to be empty.
     unwritten: usize,
     // Whether it waits if there are many bytes in the queue.
@@ -151,26 +251,40 @@ pub struct Feed<R, Q, O> {
     reported: bool,
 }
 
-impl<R: Wait + Clock + AllocGlobal, Q, O> Feed<R, Q, O> {
-    /// Returns a feed by this queue, which counts the lines that it drops, and whose worker has the log of the check. What
-    /// is done with each line is in the options.
+impl<'a, R, Q, O> Model for Feed<'a, R, Q, O> {
+    ghost use Rattle.rolltee_core.specs.Feed.{Feeding};
+
+    ghost Value = { Feeding Q O };
+
+    ghost view = { λ f. record { queue = f.queue; output = f.output; timestamps = f.timestamps; echo = f.echo; within = f.within; unechoed = f.unechoed } };
+}
+
+impl<'a, R: Drop, Q, O: Drop> Feed<'a, R, Q, O> {
+    /// Returns the queue.
+    pub fn into_queue(self) -> Q
+        ensures { result ≡ self.entry.queue }
+    {
+        self.queue
+    }
+}
+
+impl<'a, R: Wait + Clock + AllocGlobal, Q: LineQueue, O> Feed<'a, R, Q, O> {
+    /// Returns a feed by this queue, whose worker has the log of the check. What is done with each line is in the options.
     pub fn new(
         rt: R,
         queue: Q,
-        dropped: ErrorCounter,
-        check: WatchedCounts,
+        check: &'a WatchedCounts,
         options: &Options,
         output: O,
-    ) -> Feed<R, Q, O> {
+    ) -> Feed<'a, R, Q, O>
+        ensures { result ≡ record { queue = queue; output = output; timestamps = options.now.timestamps; echo = options.now.echo; within = false; unechoed = 0 } }
+    {
         let stamped = Vec::new(rt.alloc());
         Feed {
             rt,
             queue,
-            progress: Progress {
-                check,
-                dropped,
-                sent: 0,
-            },
+            check,
+            sent: 0,
             unwritten: 0,
             waits: !options.lossy,
             timestamps: options.timestamps,
@@ -185,12 +299,14 @@ impl<R: Wait + Clock + AllocGlobal, Q, O> Feed<R, Q, O> {
 
     /// Waits until the log took or lost each line that was queued, as long as that takes. Returns whether it did: not if
     /// the worker ended before.
-    pub fn settle(&mut self) -> bool {
+    pub fn settle(&mut self) -> bool
+        ensures { self.new ≡ self.old }
+    {
         let mut millis = FIRST_MILLIS;
         for _ in self.rt.forever() {
             // A log that was dropped counts no more.
-            let has_ended = self.progress.check.has_ended();
-            if self.progress.left() == 0 {
+            let has_ended = self.check.has_ended();
+            if left(&self.queue, self.check, self.sent) == 0 {
                 break;
             }
             if has_ended {
@@ -203,17 +319,10 @@ impl<R: Wait + Clock + AllocGlobal, Q, O> Feed<R, Q, O> {
         true
     }
 
-    /// Returns the number of lines that a lossy queue dropped.
-    pub fn dropped(&self) -> u64 {
-        self.progress.dropped()
-    }
-
     /// Returns the number of lines that the log did not take whole, those that it has not taken yet too.
     pub fn lost(&self) -> u64 {
-        self.progress
-            .check
-            .lost()
-            .saturating_add(self.progress.left())
+        let left = left(&self.queue, self.check, self.sent);
+        self.check.lost().saturating_add(left)
     }
 
     /// Returns the number of lines that were not written whole to the output.
@@ -222,16 +331,27 @@ impl<R: Wait + Clock + AllocGlobal, Q, O> Feed<R, Q, O> {
     }
 }
 
-impl<R: Wait + Clock + AllocGlobal + Eprint, Q: Write, O: Write> Feed<R, Q, O> {
+impl<'a, R: Wait + Clock + AllocGlobal + Eprint, Q: LineQueue, O: Write> Feed<'a, R, Q, O> {
     // Queues a line as it is, and writes it to the output if that is asked for.
-    fn send(&mut self, line: &[u8]) -> io::Result<()> {
-        let taken = self.queue.write(line)?;
-        self.progress.sent = self.progress.sent.saturating_add(1);
-        self.unwritten = self.unwritten.saturating_add(taken);
+    fn send(&mut self, line: &[u8]) -> io::Result<()>
+        ensures sent { OnOk result (Sends Q.sent O.contents line.now self.old self.new) }
+        ensures not_sent { OnErr result (Keeps (Q.sent self.old.queue) (Q.sent self.new.queue)) }
+        ensures options { KeepsOptions self.old self.new }
+        ensures within { self.new.within ≡ self.old.within }
+    {
+        self.wait_for_room()?;
+        self.queue.send(line)?;
+        self.sent = self.sent.saturating_add(1);
+        self.unwritten = self.unwritten.saturating_add(line.len());
         self.report_drops();
-        if self.echo {
-            self.echo_line(line);
-        }
+        self.echo_line(line);
+        Ok(())
+    }
+
+    // Waits if there are many bytes in a queue that isn't lossy. The error is `Other` if the worker ended.
+    fn wait_for_room(&mut self) -> io::Result<()>
+        ensures { self.new ≡ self.old }
+    {
         if self.waits && self.unwritten >= MOST_BYTES && !self.settle() {
             return Err(io::Error::other("the worker ended"));
         }
@@ -239,15 +359,23 @@ impl<R: Wait + Clock + AllocGlobal + Eprint, Q: Write, O: Write> Feed<R, Q, O> {
     }
 
     // Reports the first line that a lossy queue drops, at once.
-    fn report_drops(&mut self) {
-        if !self.waits && !self.reported && self.dropped() > 0 {
+    fn report_drops(&mut self)
+        ensures { self.new ≡ self.old }
+    {
+        if !self.waits && !self.reported && self.queue.dropped() > 0 {
             self.reported = true;
             let _ = eprintln!(self.rt; "lines are dropped: the queue is full");
         }
     }
 
-    // Writes a line to the output. A fault is reported at once, and then no more is written there.
-    fn echo_line(&mut self, line: &[u8]) {
+    // Writes a line to the output if that is asked for. A fault is reported at once, and then no more is written there.
+    fn echo_line(&mut self, line: &[u8])
+        ensures echoed { Echoes O.contents line.now self.old self.new }
+        ensures same { record self.new { output = self.old.output; unechoed = self.old.unechoed } ≡ self.old }
+    {
+        if !self.echo {
+            return;
+        }
         if self.unechoed == 0 {
             match report(&mut self.output, line) {
                 Ok(()) => return,
@@ -260,21 +388,37 @@ impl<R: Wait + Clock + AllocGlobal + Eprint, Q: Write, O: Write> Feed<R, Q, O> {
     }
 
     // Queues a line after the time.
-    fn send_stamped(&mut self, line: &[u8]) -> io::Result<()> {
+    fn send_stamped(&mut self, line: &[u8]) -> io::Result<()>
+        ensures sent { OnOk result ((text : List ℕ) × IsTextOf true line.now text
+            × Sends Q.sent O.contents text self.old self.new) }
+        ensures not_sent { OnErr result (Keeps (Q.sent self.old.queue) (Q.sent self.new.queue)) }
+        ensures options { KeepsOptions self.old self.new }
+        ensures within { self.new.within ≡ self.old.within }
+    {
         let mut stamped = mem::replace(&mut self.stamped, Vec::new(self.rt.alloc()));
-        stamped.clear();
-        write!(stamped, "{:.6} ", now(&self.rt))?;
-        stamped.extend_from_slice(line)?;
+        stamp(&mut stamped, now(&self.rt), line)?;
         let sent = self.send(stamped.as_slice());
         self.stamped = stamped;
         sent
     }
 }
 
-impl<R: Wait + Clock + AllocGlobal + Eprint, Q: Write, O: Write> Write for Feed<R, Q, O> {
-    /// Queues one line, after its time if that is asked for. If there are 16 MiB in a queue that isn't lossy, waits until
-    /// they are written; then the error is `Other` if the worker ended before. Other errors are those of the queue.
-    fn write(&mut self, line: &[u8]) -> io::Result<usize> {
+impl<'a, R: Wait + Clock + AllocGlobal + Eprint, Q: LineQueue, O: Write> Write
+    for Feed<'a, R, Q, O> {
+    ghost contents = { λ f. fed_in Q.sent f };
+
+    /// Queues one line, after its time if that is asked for. If there are 16 MiB in a queue that isn't lossy, waits before until
+    /// they are written; the error is `Other` if the worker ended before. Other errors are those of the queue.
+    fn write(&mut self, line: &[u8]) -> io::Result<usize>
+        ensures bound { WritesAtMost result line.now }
+        ensures bytes { WriteAppends (fed_in Q.sent self.old) (fed_in Q.sent self.new) result line.now }
+        ensures whole { IfOk result (λ n. n ≡ length line.now) }
+        ensures sent { OnOk result ((text : List ℕ)
+            × IsTextOf (self.old.timestamps && not self.old.within) line.now text
+            × Sends Q.sent O.contents text self.old self.new) }
+        ensures options { KeepsOptions self.old self.new }
+        ensures within { self.new.within ≡ not (ends_with_byte 10 line.now) }
+    {
         let begins = !self.within;
         self.within = line.last() != Some(&b'\n');
         if self.timestamps && begins {
@@ -286,8 +430,26 @@ impl<R: Wait + Clock + AllocGlobal + Eprint, Q: Write, O: Write> Write for Feed<
     }
 
     fn flush(&mut self) -> io::Result<()> {
-        self.queue.flush()
+        Ok(())
     }
+}
+
+// Returns how many of the lines that were sent the log neither took nor lost until now.
+fn left<Q: LineQueue>(queue: &Q, check: &WatchedCounts, sent: u64) -> u64 {
+    sent.saturating_sub(queue.dropped())
+        .saturating_sub(check.done())
+}
+
+// Puts a time, a space and a line into `stamped`, in place of what that contained.
+fn stamp(stamped: &mut Vec<u8>, time: Timestamp, line: &[u8]) -> Result<(), AllocError>
+    ensures { OnOk result (IsTextOf true line.now stamped.new.items) }
+{
+    let printer = DateTimePrinter::new().precision(Some(6));
+    stamped.clear();
+    stamped.extend_from_slice(printer.timestamp_text(time).as_str().as_bytes())?;
+    stamped.extend_from_slice(b" ")?;
+    stamped.extend_from_slice(line)?;
+    Ok(())
 }
 
 // Returns the time of the system's clock, or 1970 if that can't be read.

@@ -1,6 +1,9 @@
 //! The log of a run in the file system, with the options that are asked for.
-ghost use Rattle.std.specs.Prelude.{◌≡◌, IfOk};
-ghost use Rattle.rolltee_core.specs.Log.{config_of};
+ghost use Rattle.std.specs.Prelude.{◌≡◌, [], ℕ, List, IfOk};
+ghost use Rattle.std.specs.Io.{WritesAtMost};
+ghost use Rattle.rolltee_core.specs.Log.{config_of, taken_of};
+ghost use Rattle.appender_names.specs.declared.rotation.Rotation.{Rotation};
+ghost use Rattle.program_io.specs.declared.options.Options.{Options};
 
 use crate::tee::Fault;
 use log_check::{
@@ -18,14 +21,41 @@ use tracing_appender::rolling::{
 };
 use tracing_appender::store::Folder;
 
-/// A log of lines.
-pub trait TeeLog: Write {
+/// A log of lines. Where a contract is proved for any log, only a call can meet a clause on `opens` or `takes`. So such a clause says
+/// that the call was made.
+pub trait TeeLog {
+    /// Whether the log was opened with this rotation, this folder, this beginning of the names and these options.
+    ghost opens: { Rotation → List ℕ → List ℕ → Options → Self → Type 0 } = { λ _ _ _ _ _. Unit {0} };
+
+    /// Whether one call took exactly these bytes, between these two states.
+    ghost takes: { Self → List ℕ → Self → Type 0 } = { λ _ _ _. Unit {0} };
+
+    /// Writes the first of some bytes, and returns how many. After an error none of them was written.
+    fn put(&mut self, bytes: &[u8]) -> io::Result<usize>
+        ensures bound { WritesAtMost result bytes.now }
+        ensures taken { takes self.old (taken_of result bytes.now) self.new };
+
+    /// Flushes what was written.
+    fn flush_all(&mut self) -> io::Result<()>
+        ensures { takes self.old [] self.new };
+
     /// Abandons the line whose write failed. The next write begins a line.
-    fn give_up(&mut self) {}
+    fn give_up(&mut self)
+        ensures { takes self.old [] self.new };
 }
 
 /// A log that takes everything.
-impl TeeLog for io::Sink {}
+impl TeeLog for io::Sink {
+    fn put(&mut self, bytes: &[u8]) -> io::Result<usize> {
+        Ok(bytes.len())
+    }
+
+    fn flush_all(&mut self) -> io::Result<()> {
+        Ok(())
+    }
+
+    fn give_up(&mut self) {}
+}
 
 /// Opens logs: those of the file system, or a test's own.
 pub trait Logs {
@@ -41,12 +71,11 @@ pub trait Logs {
         prefix: &str,
         options: &Options,
         counts: Arc<FileCounts, Global>,
-    ) -> Result<Self::Log, InitError>;
+    ) -> Result<Self::Log, InitError>
+        ensures { IfOk result (λ log. Self.Log.opens rotation directory.now prefix.now options.now log) };
 }
 
 impl Logs for HostRuntime {
-    ghost use Rattle.log_check.specs.Log.{OpensLog};
-
     type Log = DirLog<HostRuntime>;
 
     fn open_log(
@@ -56,11 +85,7 @@ impl Logs for HostRuntime {
         prefix: &str,
         options: &Options,
         counts: Arc<FileCounts, Global>,
-    ) -> Result<DirLog<HostRuntime>, InitError>
-        ensures opens { IfOk result (λ opened. OpensLog ⟦<DirFolder<HostRuntime> as Folder>⟧
-            ⟦<SystemClock<HostRuntime> as Clock>⟧ (config_of rotation prefix.now options.now) opened.log) }
-        ensures config { IfOk result (λ opened. opened.config ≡ config_of rotation prefix.now options.now) }
-    {
+    ) -> Result<DirLog<HostRuntime>, InitError> {
         let opener = DirOpener::new(*self, rotation, directory, prefix, options)?;
         let check = DirCheck::new(*self, directory, counts)?;
         FileLog::new(opener, check, options.whole_lines)
@@ -282,6 +307,7 @@ impl<S: Folder, C: Clock, W: FileCheck<S>, O: Opens<S, C>> Write for FileLog<S, 
     fn flush(&mut self) -> io::Result<()>
         ensures bytes { Keeps None None }
         ensures flushes { FlushesNow S.Folder result self.old.log self.new.log }
+        ensures config { self.new.config ≡ self.old.config }
         ensures short { self.new.short ≡ self.old.short }
     {
         self.checked.flush()
@@ -289,6 +315,23 @@ impl<S: Folder, C: Clock, W: FileCheck<S>, O: Opens<S, C>> Write for FileLog<S, 
 }
 
 impl<S: Folder, C: Clock, W: FileCheck<S>, O: Opens<S, C>> TeeLog for FileLog<S, C, W, O> {
+    ghost use Rattle.std.specs.Prelude.{◌≡◌};
+    ghost use Rattle.log_check.specs.Log.{OpensLog};
+    ghost use Rattle.rolltee_core.specs.Log.{TakesPiece, config_of};
+
+    ghost opens = { λ rotation _ prefix options opened. OpensLog S.Folder C.Clock (config_of rotation prefix options) opened.log
+        × (opened.config ≡ config_of rotation prefix options) };
+
+    ghost takes = { λ old taken new. TakesPiece S.Folder C.Clock old taken new };
+
+    fn put(&mut self, bytes: &[u8]) -> io::Result<usize> {
+        self.write(bytes)
+    }
+
+    fn flush_all(&mut self) -> io::Result<()> {
+        self.flush()
+    }
+
     fn give_up(&mut self) {
         self.short = false;
         self.owed = self.owed || (self.whole_lines && self.checked.is_cut());

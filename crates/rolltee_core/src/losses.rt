@@ -1,4 +1,7 @@
 //! What a run lost.
+ghost use Rattle.std.specs.Prelude.{◌≡◌, map, Some};
+ghost use Rattle.rolltee_core.specs.Losses.{losses_counts, losses_text};
+
 use std::fmt;
 use std::fmt::{Display, Formatter};
 
@@ -28,7 +31,9 @@ impl TeeLosses {
     };
 
     // The counts with their words, in the order in which they are reported.
-    fn counts(&self) -> [(&'static str, u64); 5] {
+    fn counts(&self) -> [(&'static str, u64); 5]
+        ensures { map (λ count. (count.0.now, count.1)) result ≡ losses_counts self.now }
+    {
         [
             ("lines not written whole", self.unwritten),
             ("lines dropped", self.dropped),
@@ -39,8 +44,10 @@ impl TeeLosses {
     }
 }
 
-/// The counts that aren't 0.
+/// Each count that isn't 0 after its words, separated by `; `.
 impl Display for TeeLosses {
+    ghost output = { λ losses. Some (losses_text losses) };
+
     fn fmt<W: fmt::Write>(&self, f: &mut Formatter<W>) -> fmt::Result {
         let mut separator = "";
         for (words, count) in self.counts() {

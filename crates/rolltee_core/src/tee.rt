@@ -1,30 +1,40 @@
 //! Lines from an input to a rolling log, through a non-blocking writer.
-ghost use Rattle.std.specs.Prelude.{◌≡◌, ◌≢◌, ◌≤◌, [], length, Err, IfSome};
+ghost use Rattle.std.specs.Prelude.{◌≡◌, ◌≢◌, ◌≤◌, ℕ, List, [], ◌++◌, length, false, Some, None, Ok, Err, IfOk, IfSome, OnOk, string_bytes};
+ghost use Rattle.std.specs.List.{concat};
 ghost use Rattle.std.specs.Io.KnownBytes.{Keeps};
 ghost use Rattle.std.specs.IoError.{error_kind};
+ghost use Rattle.program_io.specs.Options.{AreDefaults};
+ghost use Rattle.program_io.specs.declared.options.Options.{Options};
+ghost use Rattle.rolltee_core.specs.Taken.{IsCopied, WasOpened, LogsText, TookText};
 ghost use Rattle.rolltee_core.specs.Fault.{tee_status, tee_fault_unless_memory, tee_fault_words, HasNoFolder, NamesNoRotation, ReportsTeeFault};
-ghost use Rattle.appender_names.specs.RotationText.{IsNoRotation};
+ghost use Rattle.appender_names.specs.RotationText.{IsNoRotation, rotation_word};
 
-use crate::feed::{Feed, WatchedLog};
+use crate::feed::{Feed, SenderQueue, WatchedCounts};
 pub use crate::logs::{Logs, TeeLog};
 use crate::losses::TeeLosses;
-use crate::waiting::WaitingLog;
+use crate::waiting::{Asked, LogPlace, Opened, TeeWriter};
 use log_check::FileCounts;
 use program_io::blocking::BlockingInput;
 use program_io::options::{OptionError, OptionFault, Options};
 use program_io::report::report;
 use program_io::{ArgumentFault, CopyFault, copy_lines};
-use std::alloc::AllocError;
+use std::alloc::{AllocError, Global};
 use std::io;
-use std::io::{BufReader, ErrorKind, Read, Write};
-use std::sync::Wait;
-use std::time::Clock;
+use std::io::{BufRead, BufReader, ErrorKind, Read, Write};
+use std::marker::{Brand, Model, PhantomData};
+use std::sync::Arc;
+use std::time::Duration;
 use thiserror::Error;
-use tracing_appender::non_blocking::{Closing, Host, NonBlocking, NonBlockingBuilder, WorkerGuard};
+use tracing_appender::non_blocking::{
+    Host, NonBlockingBuilder, Ran, RecordedSender, RecordedWork, Written,
+};
 use tracing_appender::rolling::{InitError, Rotation};
 
 /// The greatest number of queued lines, if no option sets it.
 const LIMIT: usize = 1024;
+
+// How long the last flush of the log may take.
+const END_MILLIS: u64 = 1000;
 
 /// Why not all lines were written.
 #[derive(Debug, Drop, Error)]
@@ -59,9 +69,6 @@ pub enum Fault {
     /// The log was still being flushed a second after its last line.
     #[error("shutdown pending")]
     Pending,
-    /// The queue stayed full at the end.
-    #[error("shutdown full")]
-    Full,
     /// Memory was refused, but not by the opening of the log.
     #[error("no memory")]
     Memory,
@@ -89,7 +96,6 @@ impl Fault {
             Fault::Read => b"read failed\n",
             Fault::Write => b"write failed\n",
             Fault::Pending => b"shutdown pending\n",
-            Fault::Full => b"shutdown full\n",
             Fault::Memory => b"no memory\n",
             _ => b"",
         }
@@ -185,6 +191,8 @@ pub fn tee<R: Host, L: Logs, I: Read, E: Write>(
     ensures no_folder { HasNoFolder arguments.now → result ≡ 2 }
     ensures silent { result ≡ 0 → Keeps (E.contents errors.old) (E.contents errors.new) }
     ensures reported { 1 ≤ result → (fault : Fault) × ReportsTeeFault fault result (E.contents errors.old) (E.contents errors.new) }
+    ensures written { result ≡ 0 → (text : List ℕ) → I.remaining input.old ≡ Some text →
+        (options : Options) × AreDefaults options × LogsText L.Log.opens options L.Log.takes arguments.now text }
 {
     let options = Options::new(rt.alloc());
     tee_with(rt, logs, &options, arguments, input, io::sink(), errors)
@@ -208,6 +216,8 @@ pub fn tee_with<R: Host, L: Logs, I: Read, O: Write + Drop, E: Write>(
     ensures no_folder { HasNoFolder arguments.now → result ≡ 2 }
     ensures silent { result ≡ 0 → Keeps (E.contents errors.old) (E.contents errors.new) }
     ensures reported { 1 ≤ result → (fault : Fault) × ReportsTeeFault fault result (E.contents errors.old) (E.contents errors.new) }
+    ensures written { result ≡ 0 → options.now.timestamps ≡ false → (text : List ℕ) → I.remaining input.old ≡ Some text →
+        LogsText L.Log.opens options.now L.Log.takes arguments.now text }
 {
     match copy_through(rt, logs, options, arguments, input, output) {
         Ok(()) => 0,
@@ -228,6 +238,7 @@ pub fn report_fault<E: Write>(fault: &Fault, errors: &mut E) -> u8
     fault.status()
 }
 
+// Copies the input, and returns nothing if all of it was written.
 fn copy_through<R: Host, L: Logs, I: Read, O: Write + Drop>(
     rt: R,
     logs: &L,
@@ -239,6 +250,8 @@ fn copy_through<R: Host, L: Logs, I: Read, O: Write + Drop>(
     ensures usage { length arguments.now ≢ 3 → result ≡ Err Fault.Usage }
     ensures no_rotation { NamesNoRotation arguments.now → result ≡ Err Fault.Usage }
     ensures no_folder { HasNoFolder arguments.now → result ≡ Err Fault.Usage }
+    ensures written { OnOk result (options.now.timestamps ≡ false → (text : List ℕ) → I.remaining input.old ≡ Some text →
+        LogsText L.Log.opens options.now L.Log.takes arguments.now text) }
 {
     let [rotation, directory, prefix] = arguments else {
         return Err(Fault::Usage);
@@ -247,36 +260,179 @@ fn copy_through<R: Host, L: Logs, I: Read, O: Write + Drop>(
         return Err(Fault::Usage);
     }
     let rotation = rotation_of(rotation.as_str(), options)?;
+    copy_to::<Brand, R, L, I, O>(
+        rt, logs, rotation, directory, prefix, options, input, output,
+    )
+}
+
+// What a log is opened by.
+#[derive(Drop)]
+struct LogOpening<'a, L: Logs, N: Asked> {
+    logs: &'a L,
+    rotation: Rotation,
+    directory: &'a str,
+    prefix: &'a str,
+    options: &'a Options,
+    opening: PhantomData<N>,
+}
+
+impl<'a, L: Logs, N: Asked> Model for LogOpening<'a, L, N> {
+    ghost use Rattle.program_io.specs.Options.{AreDefaults};
+    ghost use Rattle.program_io.specs.declared.options.Options.{Options};
+
+    ghost Value = { Options };
+
+    ghost view = { λ o. o.options.now };
+
+    ghost invariant = { λ o. N.asked o.rotation o.directory.now o.prefix.now o.options.now };
+}
+
+// The same, if `N` says by what the log is opened.
+fn copy_to<N: Asked + Send + 'static, R: Host, L: Logs, I: Read, O: Write + Drop>(
+    rt: R,
+    logs: &L,
+    rotation: Rotation,
+    directory: &String,
+    prefix: &String,
+    options: &Options,
+    input: &mut I,
+    output: O,
+) -> Result<(), Fault>
+    requires { N.asked rotation (string_bytes directory.now) (string_bytes prefix.now) options.now }
+    ensures { OnOk result (options.now.timestamps ≡ false → (text : List ℕ) → I.remaining input.old ≡ Some text →
+        TookText (WasOpened L.Log.opens N.asked) L.Log.takes text) }
+{
     let files = FileCounts::new(rt.alloc())?;
-    let mut input = BufReader::new(rt.alloc(), BlockingInput::new(rt, input))?;
-    // The log is opened last, so a start that fails for want of memory or of a thread makes no file.
-    let (log, place) = WaitingLog::new(rt, !options.no_wait)?;
-    let (mut feed, guard) = start(rt, log, options, output)?;
-    let (directory, prefix) = (directory.as_str(), prefix.as_str());
-    let log = logs
-        .open_log(rotation, directory, prefix, options, files.clone()?)
-        .map_err(Fault::Open)?;
-    place.put(&rt, log);
-    // The lines that were read are waited for also after a fault, and only then counted. The guard waits for a second
-    // only, which loses the lines of a slow disk.
-    let copied = copy_lines(rt.alloc(), &mut input, &mut feed).map_err(Fault::from);
-    feed.settle();
-    let closed = end(guard);
-    copied.and(closed)?;
+    let input = BufReader::new(rt.alloc(), BlockingInput::new(rt, input))?;
+    let limit = if options.queue == 0 {
+        LIMIT
+    } else {
+        options.queue
+    };
+    let (writer, place, check) = TeeWriter::<R, L::Log, N>::new(
+        rt,
+        !options.no_wait,
+        options.max_bytes,
+    )?;
+    let opening = LogOpening {
+        logs,
+        rotation,
+        directory: directory.as_str(),
+        prefix: prefix.as_str(),
+        options,
+        opening: PhantomData,
+    };
+    let work = TeeWork {
+        rt,
+        opening,
+        files: &files,
+        place,
+        check,
+        input,
+        output,
+        outcome: Ok(TeeLosses::NONE),
+    };
+    let builder = NonBlockingBuilder::default()
+        .lossy(options.lossy)
+        .buffered_lines_limit(limit);
+    let most = Some(Duration::from_millis(END_MILLIS));
+    let Ran { work, written } = match builder.run_lines(rt, rt.alloc(), writer, work, most) {
+        Ok(ran) => ran,
+        Err(error) => return Err(Fault::Thread.unless_memory(error.kind())),
+    };
+    let lost = work.outcome?;
+    let Some(Written { writer, given_up }) = written else {
+        return Err(Fault::Pending);
+    };
     let lost = TeeLosses {
-        unwritten: feed.lost(),
-        dropped: feed.dropped(),
-        unechoed: feed.unechoed(),
+        unwritten: lost.unwritten.max(given_up).max(writer.unwritten()),
         gone: files.gone(),
         unsynced: files.unsynced(),
+        ..lost
     };
     all_written(lost, options.is_plain())
+}
+
+// Opens the log, and copies the input to it.
+#[derive(Drop)]
+struct TeeWork<'a, R: Host, L: Logs, I, O, N: Asked> {
+    rt: R,
+    opening: LogOpening<'a, L, N>,
+    files: &'a Arc<FileCounts, Global>,
+    place: LogPlace<L::Log, N>,
+    check: WatchedCounts,
+    input: I,
+    output: O,
+    // What was lost until the end of the input.
+    outcome: Result<TeeLosses, Fault>,
+}
+
+impl<'a, R: Host, L: Logs, I: BufRead, O: Write, N: Asked> RecordedWork
+    for TeeWork<'a, R, L, I, O, N> {
+    ghost does = { λ old start new ended.
+        IfOk new.outcome (λ lost. IsCopied (WasOpened L.Log.opens N.asked) (I.remaining old.input) old.opening.timestamps start ended lost.dropped) };
+
+    // The log is opened last, so a start that fails for want of memory or of a thread makes no file. The lines that were
+    // read are waited for also after a fault, and only then counted: the worker's end is waited for a second only, which
+    // loses the lines of a slow disk.
+    fn run<S: RecordedSender + Drop>(&mut self, sender: S) -> S {
+        let TeeWork {
+            rt,
+            opening,
+            files,
+            place,
+            check,
+            input,
+            output,
+            outcome,
+        } = self;
+        let files = match files.clone() {
+            Ok(files) => files,
+            Err(error) => {
+                *outcome = Err(Fault::from(error));
+                return sender;
+            }
+        };
+        let (directory, prefix) = (opening.directory, opening.prefix);
+        let log = match opening.logs.open_log(
+            opening.rotation,
+            directory,
+            prefix,
+            opening.options,
+            files,
+        ) {
+            Ok(log) => Opened::new(log),
+            Err(error) => {
+                *outcome = Err(Fault::Open(error));
+                return sender;
+            }
+        };
+        place.put(rt, log);
+        let queue = SenderQueue::new(sender);
+        let mut feed = Feed::new(*rt, queue, check, opening.options, output);
+        let copied = copy_lines(rt.alloc(), input, &mut feed);
+        feed.settle();
+        let (unwritten, unechoed) = (feed.lost(), feed.unechoed());
+        let sender = feed.into_queue().into_sender();
+        let dropped = sender.dropped() as u64;
+        *outcome = match copied {
+            Ok(()) => Ok(TeeLosses {
+                unwritten,
+                dropped,
+                unechoed,
+                ..TeeLosses::NONE
+            }),
+            Err(fault) => Err(Fault::from(fault)),
+        };
+        sender
+    }
 }
 
 // Returns the rotation that this word names. A fault if it names none, or one that does not allow the options: there are
 // no files to count, and no numbers, without a rotation.
 fn rotation_of(word: &str, options: &Options) -> Result<Rotation, Fault>
     ensures no_rotation { IsNoRotation word.now → result ≡ Err Fault.Usage }
+    ensures rotation { IfOk result (λ rotation. word.now ≡ rotation_word rotation) }
 {
     let rotation = word.parse::<Rotation>().map_err(|_| Fault::Usage)?;
     if rotation != Rotation::NEVER {
@@ -293,48 +449,14 @@ fn rotation_of(word: &str, options: &Options) -> Result<Rotation, Fault>
 
 // Returns a fault if something was lost: status 0 says that each line is in the log. A run without options reports lines
 // that the log did not take whole by two words, which programs that call it know.
-fn all_written(lost: TeeLosses, is_plain: bool) -> Result<(), Fault> {
+fn all_written(lost: TeeLosses, is_plain: bool) -> Result<(), Fault>
+    ensures { OnOk result (lost ≡ TeeLosses.NONE) }
+{
     if lost == TeeLosses::NONE {
         Ok(())
     } else if is_plain && lost.gone == 0 {
         Err(Fault::Write)
     } else {
         Err(Fault::Lost(lost))
-    }
-}
-
-// Starts the worker that writes to the log, and returns the way to it.
-fn start<R: Host, W: Write + Send + Drop + 'static, O: Write + Drop>(
-    rt: R,
-    log: W,
-    options: &Options,
-    output: O,
-) -> Result<(Feed<R, NonBlocking<R>, O>, WorkerGuard<R>), Fault> {
-    let limit = if options.queue == 0 {
-        LIMIT
-    } else {
-        options.queue
-    };
-    let (log, check) = WatchedLog::new(rt.alloc(), log, options.max_bytes)?;
-    let builder = NonBlockingBuilder::default()
-        .lossy(options.lossy)
-        .buffered_lines_limit(limit);
-    let (sender, guard) = match builder.finish(rt, rt.alloc(), log) {
-        Ok(made) => made,
-        Err(error) => return Err(Fault::Thread.unless_memory(error.kind())),
-    };
-    let dropped = sender.error_counter()?;
-    Ok((
-        Feed::new(rt, sender, dropped, check, options, output),
-        guard,
-    ))
-}
-
-// Waits until the log is flushed.
-fn end<R: Host>(guard: WorkerGuard<R>) -> Result<(), Fault> {
-    match guard.close() {
-        Closing::Done { .. } | Closing::Ended => Ok(()),
-        Closing::Pending => Err(Fault::Pending),
-        Closing::Full => Err(Fault::Full),
     }
 }

@@ -1,50 +1,182 @@
 //! The log of a worker: it waits while the system refuses its writes, unless that is not wanted.
-ghost use Rattle.std.specs.Prelude.{None};
+ghost use Rattle.std.specs.Prelude.{◌≡◌, ◌⊎◌, [], Some, IfOk};
 ghost use Rattle.std.specs.Io.{WritesAtMost};
 ghost use Rattle.std.specs.Io.KnownBytes.{Keeps, WriteAppends};
+ghost use Rattle.rolltee_core.specs.Taken.{WasOpened, TookText};
 
+use crate::feed::{WatchedCounts, WatchedLog};
 use crate::logs::TeeLog;
+use line_history::Tape;
 use std::alloc::{AllocError, Global};
 use std::io;
 use std::io::{ErrorKind, Write};
+use std::marker::{Brand, Model, PhantomData};
 use std::sync::{Arc, Mutex, Wait};
 use std::time::Clock;
 use tracing_appender::waiting::{Faults, write_waiting};
+
+/// Says by what the log of a run is opened: its rotation, its folder, the beginning of its names, and the options. A function is
+/// generic in it, and a call passes `Brand` and picks what is said.
+pub trait Asked {
+    ghost use Rattle.std.specs.Prelude.{ℕ, List};
+    ghost use Rattle.appender_names.specs.declared.rotation.Rotation.{Rotation};
+    ghost use Rattle.program_io.specs.declared.options.Options.{Options};
+
+    ghost asked: { Rotation → List ℕ → List ℕ → Options → Type 0 };
+}
+
+impl Asked for Brand {
+    ghost asked = { λ _ _ _ _. ⊥ };
+}
+
+/// A log that was opened as it is said.
+#[derive(Drop)]
+pub struct Opened<W: TeeLog + Drop, N: Asked> {
+    log: W,
+    opening: PhantomData<N>,
+}
+
+impl<W: TeeLog + Drop, N: Asked> Model for Opened<W, N> {
+    ghost use Rattle.rolltee_core.specs.Taken.{WasOpened};
+
+    ghost Value = { W };
+
+    ghost view = { λ o. o.log };
+
+    ghost invariant = { λ o. WasOpened W.opens N.asked o.log };
+}
+
+impl<W: TeeLog + Drop, N: Asked> Opened<W, N> {
+    /// Returns this log, which was opened so.
+    pub fn new(log: W) -> Opened<W, N>
+        requires { WasOpened W.opens N.asked log }
+        ensures { result ≡ log }
+    {
+        Opened {
+            log,
+            opening: PhantomData,
+        }
+    }
+}
+
+// A log and what it took.
+#[derive(Drop)]
+struct NotedLog<W: TeeLog + Drop, N: Asked> {
+    log: W,
+    taken: Tape,
+    opening: PhantomData<N>,
+}
+
+impl<W: TeeLog + Drop, N: Asked> Model for NotedLog<W, N> {
+    ghost use Rattle.std.specs.Prelude.{List, ℕ};
+    ghost use Rattle.std.specs.List.{concat};
+    ghost use Rattle.rolltee_core.specs.Taken.{WasOpened, TakesPieces};
+
+    ghost Value = { List ℕ };
+
+    ghost view = { λ l. concat l.taken.lines };
+
+    ghost invariant = { λ l. TakesPieces (WasOpened W.opens N.asked) W.takes l.taken.lines l.log };
+}
+
+impl<W: TeeLog + Drop, N: Asked> NotedLog<W, N> {
+    // Returns a log that took nothing yet.
+    fn new(opened: Opened<W, N>) -> NotedLog<W, N>
+        ensures { result ≡ [] }
+    {
+        let Opened { log, opening } = opened;
+        NotedLog {
+            log,
+            taken: Tape::of(&()),
+            opening,
+        }
+    }
+
+    // Abandons the line whose write failed.
+    fn give_up(&mut self)
+        ensures { self.new ≡ self.old }
+    {
+        self.log.give_up();
+        self.taken.note(b"");
+    }
+
+    // Says what the log took.
+    fn tell(&self)
+        ensures { TookText (WasOpened W.opens N.asked) W.takes self.now }
+    {
+        let _ = &self.log;
+    }
+}
+
+impl<W: TeeLog + Drop, N: Asked> Write for NotedLog<W, N> {
+    ghost contents = { λ taken. Some taken };
+
+    fn write(&mut self, bytes: &[u8]) -> io::Result<usize>
+        ensures bound { WritesAtMost result bytes.now }
+        ensures bytes { WriteAppends (Some self.old) (Some self.new) result bytes.now }
+    {
+        let answer = self.log.put(bytes);
+        match &answer {
+            Ok(taken) => self.taken.note(&bytes[..*taken]),
+            Err(_) => self.taken.note(b""),
+        }
+        answer
+    }
+
+    fn flush(&mut self) -> io::Result<()>
+        ensures bytes { Keeps (Some self.old) (Some self.new) }
+    {
+        let flushed = self.log.flush_all();
+        self.taken.note(b"");
+        flushed
+    }
+}
 
 /// A log whose writes may wait after each fault of the system. A process that is supervised must not lose lines to a disk that
 /// is taken away or a folder that can't be entered. Each write returns how much the log took at once, and its error means
 /// that none of the bytes was written. So it is known which of the lines that are written together are in the log. An error
 /// of a `WaitingWriter` does not say how much was taken before it.
 #[derive(Drop)]
-pub struct WaitingLog<R, W: Drop> {
+pub struct WaitingLog<R, W: TeeLog + Drop, N: Asked> {
     rt: R,
     waits: bool,
     // The log that was put into the place, after it was first looked for.
-    log: Option<W>,
-    place: Arc<Mutex<Option<W>>, Global>,
+    log: Option<NotedLog<W, N>>,
+    place: Arc<Mutex<Option<Opened<W, N>>>, Global>,
     // Whether it was reported that lines are lost.
     reported: bool,
+}
+
+impl<R, W: TeeLog + Drop, N: Asked> Model for WaitingLog<R, W, N> {
+    ghost use Rattle.std.specs.Prelude.{List, ℕ};
+    ghost use Rattle.rolltee_core.specs.Taken.{taken_in};
+
+    ghost Value = { List ℕ };
+
+    ghost view = { λ w. taken_in w.log };
 }
 
 /// The place where a `WaitingLog` finds its log. So a worker is started before its log is opened, and a start that fails
 /// for want of memory or of a thread opens none.
 #[derive(Drop)]
-pub struct LogPlace<W: Drop> {
-    place: Arc<Mutex<Option<W>>, Global>,
+pub struct LogPlace<W: TeeLog + Drop, N: Asked> {
+    place: Arc<Mutex<Option<Opened<W, N>>>, Global>,
 }
 
-impl<W: Drop> LogPlace<W> {
+impl<W: TeeLog + Drop, N: Asked> LogPlace<W, N> {
     /// Puts the log, before the first line is queued.
-    pub fn put<R: Wait>(&self, rt: &R, log: W) {
+    pub fn put<R: Wait>(&self, rt: &R, log: Opened<W, N>) {
         *self.place.lock(rt) = Some(log);
     }
 }
 
-impl<R: AllocGlobal + Drop, W: Drop> WaitingLog<R, W> {
+impl<R: AllocGlobal + Drop, W: TeeLog + Drop, N: Asked> WaitingLog<R, W, N> {
     /// Returns a log that waits by the clock of `rt`, and prints on its standard error; without `waits` it returns each
     /// fault, and prints the first. What it prints is no part of the errors of a run, since another thread prints it, and at
     /// once. The place is empty. `AllocError` if memory is refused.
-    pub fn new(rt: R, waits: bool) -> Result<(WaitingLog<R, W>, LogPlace<W>), AllocError> {
+    pub fn new(rt: R, waits: bool) -> Result<(WaitingLog<R, W, N>, LogPlace<W, N>), AllocError>
+        ensures { IfOk result (λ made. made.0 ≡ []) }
+    {
         let place = Arc::new(rt.alloc(), Mutex::new(None)).map_err(AllocError::from)?;
         let shared = place.clone()?;
         let log = WaitingLog {
@@ -58,21 +190,37 @@ impl<R: AllocGlobal + Drop, W: Drop> WaitingLog<R, W> {
     }
 }
 
-impl<R: Wait, W: Drop> WaitingLog<R, W> {
+impl<R: Wait, W: TeeLog + Drop, N: Asked> WaitingLog<R, W, N> {
     // Takes the log from its place, if it is there.
-    fn find(&mut self) {
+    fn find(&mut self)
+        ensures { self.new ≡ self.old }
+    {
         if self.log.is_none() {
-            self.log = self.place.lock(&self.rt).take();
+            let opened = self.place.lock(&self.rt).take();
+            if let Some(opened) = opened {
+                self.log = Some(NotedLog::new(opened));
+            }
+        }
+    }
+
+    // Says what the log took, if it was found.
+    fn tell(&self)
+        ensures { (self.now ≡ []) ⊎ TookText (WasOpened W.opens N.asked) W.takes self.now }
+    {
+        if let Some(log) = &self.log {
+            log.tell();
         }
     }
 }
 
-impl<R: Wait + Clock + Eprint, W: TeeLog + Drop> Write for WaitingLog<R, W> {
+impl<R: Wait + Clock + Eprint, W: TeeLog + Drop, N: Asked> Write for WaitingLog<R, W, N> {
+    ghost contents = { λ taken. Some taken };
+
     /// Writes the first of the bytes. After an error that isn't `Interrupted` the line in which they are is not written on.
     /// `NotFound` if the log was not put.
     fn write(&mut self, bytes: &[u8]) -> io::Result<usize>
         ensures bound { WritesAtMost result bytes.now }
-        ensures bytes { WriteAppends None None result bytes.now }
+        ensures bytes { WriteAppends (Some self.old) (Some self.new) result bytes.now }
     {
         self.find();
         let WaitingLog {
@@ -106,12 +254,78 @@ impl<R: Wait + Clock + Eprint, W: TeeLog + Drop> Write for WaitingLog<R, W> {
 
     /// Flushes the log, and does not wait after a fault of that.
     fn flush(&mut self) -> io::Result<()>
-        ensures bytes { Keeps None None }
+        ensures bytes { Keeps (Some self.old) (Some self.new) }
     {
         self.find();
         match &mut self.log {
             Some(log) => log.flush(),
             None => Ok(()),
         }
+    }
+}
+
+/// The writer of a worker: a log that gathers lines, and may wait. Its contents are the lines that it was given.
+#[derive(Drop)]
+pub struct TeeWriter<R: Wait + Clock + Eprint + Drop, W: TeeLog + Drop, N: Asked> {
+    log: WatchedLog<WaitingLog<R, W, N>>,
+    given: Tape,
+}
+
+impl<R: Wait + Clock + Eprint + Drop, W: TeeLog + Drop, N: Asked> Model for TeeWriter<R, W, N> {
+    ghost use Rattle.std.specs.Prelude.{◌≡◌, ◌++◌, List, ℕ};
+    ghost use Rattle.std.specs.List.{concat};
+
+    ghost Value = { List ℕ };
+
+    ghost view = { λ w. concat w.given.lines };
+
+    // Unless a line was not written whole, the log took all lines but those that wait.
+    ghost invariant = { λ w. w.log.lost ≡ 0 → concat w.given.lines ≡ w.log.writer ++ concat w.log.waiting };
+}
+
+impl<R: Wait + Clock + Eprint + AllocGlobal + Drop, W: TeeLog + Drop, N: Asked> TeeWriter<R, W, N> {
+    /// Returns a writer whose log is not opened yet, the place for that, and what shows the counts of lines. Without `waits`
+    /// each fault loses a line. The log's files have this limit of bytes, or none if it is 0. `AllocError` if memory is refused.
+    pub fn new(
+        rt: R,
+        waits: bool,
+        limit: u64,
+    ) -> Result<(TeeWriter<R, W, N>, LogPlace<W, N>, WatchedCounts), AllocError>
+        ensures { IfOk result (λ made. made.0 ≡ []) }
+    {
+        let alloc = rt.alloc();
+        let (log, place) = WaitingLog::new(rt, waits)?;
+        let (log, counts) = WatchedLog::new(alloc, log, limit)?;
+        let given = Tape::of(&());
+        Ok((TeeWriter { log, given }, place, counts))
+    }
+
+    /// Returns the number of lines that the log did not take whole. If that is 0, the log took exactly the lines that the
+    /// writer was given, unless there were none.
+    pub fn unwritten(&self) -> u64
+        ensures { result ≡ 0 → (self.now ≡ []) ⊎ TookText (WasOpened W.opens N.asked) W.takes self.now }
+    {
+        self.log.get_ref().tell();
+        self.log.unwritten()
+    }
+}
+
+impl<R: Wait + Clock + Eprint + Drop, W: TeeLog + Drop, N: Asked> Write for TeeWriter<R, W, N> {
+    ghost contents = { λ given. Some given };
+
+    /// Takes one whole line.
+    fn write(&mut self, line: &[u8]) -> io::Result<usize>
+        ensures bound { WritesAtMost result line.now }
+        ensures bytes { WriteAppends (Some self.old) (Some self.new) result line.now }
+    {
+        let taken = self.log.write(line)?;
+        self.given.note(line);
+        Ok(taken)
+    }
+
+    fn flush(&mut self) -> io::Result<()>
+        ensures bytes { Keeps (Some self.old) (Some self.new) }
+    {
+        self.log.flush()
     }
 }

@@ -193,20 +193,26 @@ impl time::Clock for Stopped {
     }
 }
 
-// Seconds and nanoseconds around 10:01:00, and the second that they are rounded down to.
-static FRACTIONS: [(u64, u32, i64); 5] = [
-    (1_580_551_259, 999_999_999, START - 1),
-    (1_580_551_260, 0, START),
-    (1_580_551_260, 1, START),
-    (1_580_551_260, 500_000_000, START),
-    (1_580_551_260, 999_999_999, START),
+// Seconds and nanoseconds around 10:01:00, the second that they are rounded down to, and all of it in nanoseconds.
+static FRACTIONS: [(u64, u32, i64, i128); 5] = [
+    (
+        1_580_551_259,
+        999_999_999,
+        START - 1,
+        1_580_551_259_999_999_999,
+    ),
+    (1_580_551_260, 0, START, 1_580_551_260_000_000_000),
+    (1_580_551_260, 1, START, 1_580_551_260_000_000_001),
+    (1_580_551_260, 500_000_000, START, 1_580_551_260_500_000_000),
+    (1_580_551_260, 999_999_999, START, 1_580_551_260_999_999_999),
 ];
 
 #[test]
 fn the_system_clock_rounds_down(rt: HostRuntime) {
-    for (seconds, nanos, moment) in &FRACTIONS {
+    for (seconds, nanos, moment, whole) in &FRACTIONS {
         let fraction = Duration::from_nanos(u64::from(*nanos));
         let time = Duration::from_secs(*seconds).saturating_add(fraction);
-        expect_eq(&rt, SystemClock::new(Stopped { time }).now(), *moment);
+        let clock = SystemClock::new(Stopped { time });
+        expect_eq(&rt, (clock.now(), clock.now_nanos()), (*moment, *whole));
     }
 }

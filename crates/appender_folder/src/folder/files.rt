@@ -6,15 +6,17 @@ use appender_names::names::is_entry_name;
 use std::alloc::Global;
 use std::fs::{Metadata, OpenFile, OpenOptions};
 use std::io::{Error, ErrorKind};
-use std::os::unix::fs::MetadataExt;
+use std::os::unix::fs::{MetadataExt, OpenOptionsExt};
 use std::rt::Files;
 use std::{fs, io};
 
-/// Opens a plain file for appends, or makes an empty one if the name is free. Returns whether it made the file.
+/// Opens a plain file for appends, or makes an empty one with these permission bits if the name is free. Returns whether it
+/// made the file.
 pub(super) fn open_plain<R: Files + AllocGlobal>(
     rt: &R,
     folder: &str,
     name: &str,
+    mode: u32,
 ) -> io::Result<(R::File, bool)>
     ensures { OnOk result (IsEntry name.now) }
 {
@@ -22,17 +24,18 @@ pub(super) fn open_plain<R: Files + AllocGlobal>(
     let path = path.as_str();
     match fs::symlink_metadata(rt, path) {
         Ok(found) => Ok((open_found(rt, path, &found)?, false)),
-        Err(fault) if fault.kind() == ErrorKind::NotFound => make_plain(rt, path),
+        Err(fault) if fault.kind() == ErrorKind::NotFound => make_plain(rt, path, mode),
         Err(fault) => Err(fault),
     }
 }
 
 // Another program may have made the file since the name was found free: then that one is opened. `create_new`
 // fails if the name is in use, and does not follow a link that was made meanwhile.
-fn make_plain<R: Files>(rt: &R, path: &str) -> io::Result<(R::File, bool)> {
+fn make_plain<R: Files>(rt: &R, path: &str, mode: u32) -> io::Result<(R::File, bool)> {
     let made = OpenOptions::new()
         .append(true)
         .create_new(true)
+        .mode(mode)
         .open(rt, path);
     match made {
         Err(fault) if fault.kind() == ErrorKind::AlreadyExists => {

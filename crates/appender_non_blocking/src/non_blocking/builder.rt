@@ -44,9 +44,9 @@ const DEFAULT_NAME: &str = "tracing-appender";
 /// ```
 #[derive(Debug, Drop)]
 pub struct NonBlockingBuilder {
-    limit: usize,
-    lossy: bool,
-    name: Option<String>,
+    pub(super) limit: usize,
+    pub(super) lossy: bool,
+    pub(super) name: Option<String>,
 }
 
 impl Model for NonBlockingBuilder {
@@ -249,12 +249,15 @@ fn start_counted<
     let job = move || -> Done<H, C>
         requires { (pass.handed.parts ≡ 1) × (H.parts ≡ 1) × (pass.closings.parts ≡ 1) × (C.parts ≡ 1)
             × (pass.closings.amount ≡ 0) }
-    { serve(&rt, &*shared, &mut writer, pass) };
+    {
+        let (done, _) = serve(&rt, &*shared, &mut writer, pass);
+        done
+    };
     thread::Builder::new().name(name).spawn(&rt, job)
 }
 
 // The name of a worker's thread.
-fn name_or_default(alloc: Global, name: Option<String>) -> Result<String, AllocError> {
+pub(super) fn name_or_default(alloc: Global, name: Option<String>) -> Result<String, AllocError> {
     match name {
         Some(name) => Ok(name),
         None => DEFAULT_NAME.to_string(alloc),

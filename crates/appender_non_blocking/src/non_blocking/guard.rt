@@ -157,12 +157,7 @@ fn send_shutdown<B: Books, R: Wait + Clock>(
 }
 
 fn wait_for_end<B: Books, R: Wait + Clock>(rt: &R, shared: &Shared<B>) -> Closing {
-    let time = Duration::from_millis(END_MILLIS);
-    let (ended, result) = shared
-        .end
-        .wait_timeout_while(rt, shared.ended.lock(rt), time, |ended| !*ended);
-    drop(ended);
-    if result.timed_out() {
+    if !shared.ends_within(rt, Duration::from_millis(END_MILLIS)) {
         return Closing::Pending;
     }
     Closing::Done {

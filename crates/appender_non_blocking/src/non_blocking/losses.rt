@@ -1,5 +1,7 @@
 // What a log lost.
-ghost use Rattle.std.specs.Prelude.{◌≡◌, ◌↔◌, ◌+◌, ◌-◌, ◌^◌, min, true, IsOk};
+ghost use Rattle.std.specs.Prelude.{◌≡◌, ◌↔◌, ◌+◌, ◌-◌, ◌^◌, min, true, IfErr, IsOk};
+ghost use Rattle.std.specs.IoError.{error_kind};
+ghost use Rattle.std.specs.declared.io.ErrorKind.TheVariants.{Other};
 ghost use Rattle.appender_non_blocking.specs.Losses.{no_losses, losses_at};
 
 use super::guard::Closing;
@@ -75,7 +77,8 @@ impl Losses {
 
     /// Returns an error of the kind `Other` if something was lost. Its text is that of `Display`, up to 80 bytes.
     pub fn check(&self) -> io::Result<()>
-        ensures { IsOk result ↔ (self.now ≡ no_losses) }
+        ensures none { IsOk result ↔ (self.now ≡ no_losses) }
+        ensures kind { IfErr result (λ error. error_kind error ≡ Other) }
     {
         if self.is_none() {
             Ok(())

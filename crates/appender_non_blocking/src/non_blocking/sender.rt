@@ -33,7 +33,7 @@ use std::io::{ErrorKind, Write};
 use std::marker::Model;
 use std::sync::atomic::Ordering::SeqCst;
 use std::sync::{Arc, MutexGuard, Wait};
-use std::{fmt, io, mem};
+use std::{fmt, io, mem, thread};
 
 /// What became of a line.
 #[derive(Clone, Copy, PartialEq, Eq, Debug)]
@@ -289,7 +289,7 @@ pub(super) fn send<B: Books, R: Wait>(
     mine: &mut B::Mine,
 ) -> Option<Sent>
     requires { B.may_accept mine.old }
-    ensures queued { (ticket : ℕ) → result ≡ Some (Sent.Queued ticket) → B.counts_line mine.old mine.new }
+    ensures queued { (ticket : ℕ) → result ≡ Some (Sent.Queued ticket) → B.counts_line mine.old line.items mine.new }
     ensures dropped { result ≡ Some Sent.Dropped → mine.new ≡ mine.old }
     ensures closed { result ≡ None → mine.new ≡ mine.old }
     ensures waiting { local.old.lossy ≡ false → result ≢ Some Sent.Dropped }
@@ -301,6 +301,7 @@ pub(super) fn send<B: Books, R: Wait>(
 }
 
 // Makes one offer under the lock, and does the rest of `send`.
+#[tactic(auto, using(crate::proofs::Refused::same_line))]
 #[inline(always)]
 fn offer<B: Books, R: Wait>(
     rt: &R,
@@ -311,7 +312,7 @@ fn offer<B: Books, R: Wait>(
     mine: &mut B::Mine,
 ) -> Option<Sent>
     requires { B.may_accept mine.old }
-    ensures queued { (ticket : ℕ) → result ≡ Some (Sent.Queued ticket) → B.counts_line mine.old mine.new }
+    ensures queued { (ticket : ℕ) → result ≡ Some (Sent.Queued ticket) → B.counts_line mine.old line.items mine.new }
     ensures dropped { result ≡ Some Sent.Dropped → mine.new ≡ mine.old }
     ensures closed { result ≡ None → mine.new ≡ mine.old }
     ensures waiting { local.old.lossy ≡ false → result ≢ Some Sent.Dropped }
@@ -334,6 +335,8 @@ fn offer<B: Books, R: Wait>(
             drop(state);
             shared.wake(wakeups);
             recycle(&mut local.spare, refused);
+            // Else this sender takes the lock again before the worker has made room.
+            thread::yield_now();
             Some(Sent::Dropped)
         }
         Err(Refused::Closed(_)) => {
@@ -360,7 +363,7 @@ fn send_later<B: Books, R: Wait>(
     mine: &mut B::Mine,
 ) -> Option<Sent>
     requires { B.may_accept mine.old }
-    ensures queued { (ticket : ℕ) → result ≡ Some (Sent.Queued ticket) → B.counts_line mine.old mine.new }
+    ensures queued { (ticket : ℕ) → result ≡ Some (Sent.Queued ticket) → B.counts_line mine.old line.items mine.new }
     ensures dropped { result ≡ Some Sent.Dropped → mine.new ≡ mine.old }
     ensures closed { result ≡ None → mine.new ≡ mine.old }
     ensures waiting { result ≢ Some Sent.Dropped }

@@ -12,6 +12,7 @@ use std::sync::atomic::AtomicUsize;
 use std::sync::ledger::{Ledger, Share};
 use std::sync::{Arc, Condvar, Mutex, MutexGuard, Wait};
 use std::thread::Threads;
+use std::time::{Clock, Duration};
 
 #[derive(Drop)]
 pub(super) struct Shared<B: Books> {
@@ -22,8 +23,8 @@ pub(super) struct Shared<B: Books> {
     // Senders and the guard wait for room here.
     pub(super) room: Condvar,
     // Whether the worker has ended, and where the guard waits for that.
-    pub(super) ended: Mutex<bool>,
-    pub(super) end: Condvar,
+    ended: Mutex<bool>,
+    end: Condvar,
     // A copy of the count of dropped lines, stored while the lock is held.
     pub(super) dropped: AtomicUsize,
     // Whether the process has just one processor.
@@ -120,6 +121,15 @@ impl<B: Books> Shared<B> {
     pub(super) fn announce_end<R: Wait>(&self, rt: &R) {
         *self.ended.lock(rt) = true;
         self.end.notify_all();
+    }
+
+    /// Waits for the worker's end, at most this long. Returns whether it has ended.
+    pub(super) fn ends_within<R: Wait + Clock>(&self, rt: &R, most: Duration) -> bool {
+        let (ended, result) = self
+            .end
+            .wait_timeout_while(rt, self.ended.lock(rt), most, |ended| !*ended);
+        drop(ended);
+        !result.timed_out()
     }
 }
 

@@ -1,7 +1,8 @@
 // Each example, and what comes of it: the files in `logs`, or what a log was given.
 use super::{
     builder, daily, line_queue, log_sink, make_writer, memory_folder, non_blocking,
-    non_blocking_builder, rolling_file, rolling_file_appender, run_counted, worker_guard,
+    non_blocking_builder, rolling_file, rolling_file_appender, run_counted, run_lines,
+    worker_guard,
 };
 use std::io::Write;
 use std::test::Fail;
@@ -139,6 +140,14 @@ fn an_account(rt: HostRuntime) -> Result<(), Fail> {
     let account = run_counted::greet(rt, log)?;
     assert_eq!(rt; (account.accepted(), account.handed()), (2, 2));
     assert_eq!(rt; text_of(&rt, "account")?.as_str(), "hello\nhello\n");
+    Ok(())
+}
+
+#[test]
+fn a_log_that_took_a_line(rt: HostRuntime) -> Result<(), Fail> {
+    let log = open(rt, "lines")?;
+    assert!(rt; run_lines::greet(rt, log)?);
+    assert_eq!(rt; text_of(&rt, "lines")?.as_str(), "hello\n");
     Ok(())
 }
 

@@ -1,10 +1,9 @@
-use Rattle.std.proofs.Common.{◌≡◌, true, false}
-use Rattle.appender_non_blocking.proofs.Endings.{is_ending}
+use Rattle.appender_non_blocking.proofs.Serving.{Serving}
 use Rattle.appender_non_blocking.proofs.non_blocking.worker.serve.Given as goal
 
--- the worker may take until it is told of the end
+-- the worker may take until it is told of the end, and wrote what it took
 abbrev pub invariant-loop : goal.invariant-loop
-invariant-loop g l = record {
-  may : is_ending l.core ≡ false → g.B.Books.may_take l.pass;
-  ended : is_ending l.core ≡ true → g.B.Books.has_ended l.pass;
-}
+invariant-loop g l =
+    let books = g.B.Books in
+    let contents = g.W.Write.contents in
+    Serving books.counts_take books.counts_closing books.may_take books.has_ended l.fn.pass (contents l.fn.writer) l.pass (contents l.writer) l.core l.given_up

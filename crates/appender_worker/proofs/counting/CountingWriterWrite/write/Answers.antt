@@ -3,7 +3,7 @@ use Rattle.appender_worker.proofs.counting.CountingWriterWrite.write.Goals as go
 
 pub returns-in-Err-clause-err : goal.returns-in-Err-clause-err
 returns-in-Err-clause-err g c = (
-  c.reported.ensures,
+  c.reported.ensures.retried,
   record {
     length_written = c.in-Err.fault.taken;
     cut = search rules;

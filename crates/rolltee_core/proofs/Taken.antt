@@ -1,0 +1,152 @@
+-- What a log took, and what a batch passed on.
+use Rattle.std.proofs.Common.{◌≡◌, ◌≢◌, ℕ, zero, suc, ◌+◌, ◌<◌, ◌≤◌, List, [], ◌∷◌, ◌++◌, Bool, true, false, cond, not, length, map, flat_map, count_by, ◌⊎◌, inl, inr, ap, sym, refl, ◌∙◌, subst, arith, append_assoc, append-nil, max, if◌then◌else◌, ◌==◌}
+use Rattle.std.specs.Prelude.{Option, None, Some, Result}
+use Rattle.std.specs.List.{FoldsTo, concat}
+use Rattle.std.specs.Io.KnownBytes.{Appends, Keeps, prepend_known}
+use Rattle.std.specs.Io.Buffered.{reader_buffer, reader_capacity, reader_inner, reader_remaining}
+use Rattle.std.specs.declared.io.buffered.BufReader.{BufReader}
+use Rattle.std.specs.declared.io.ErrorKind.{ErrorKind}
+use Rattle.std.specs.declared.io.Error.{Error}
+use Rattle.std.proofs.lemmas.List.Folds.{concat-append}
+use Rattle.std.proofs.lemmas.List.Sums.{sum_by-append}
+use Rattle.std.proofs.lemmas.Bool.Decides.{nat_tests}
+use Rattle.appender_worker.specs.Batch.{Batch, saturating_sum, WritesParts, Gathers, LosesLine, WritesAndFlushes}
+use Rattle.appender_worker.specs.Parts.{Part, part, line_of, written_of, is_cut}
+use Rattle.appender_worker.specs.Served.{ServesLines}
+use Rattle.appender_worker.proofs.Served.{whole_lines, served_whole}
+use Rattle.appender_non_blocking.specs.SentLines.{SentLines, no_lines}
+use Rattle.appender_names.specs.declared.rotation.Rotation.{Rotation}
+use Rattle.program_io.specs.declared.options.Options.{Options}
+use Rattle.rolltee_core.specs.Taken.{AskedFor, IsCopied, WasOpened, PassesLine, TakesPieces, TookText}
+
+folds_on : {P A : Type 0} (step : P → A → P → Type 0) (p : P) (xs : List A) (q : P) (x : A) (r : P) → FoldsTo step p xs q → step q x r → FoldsTo step p (xs ++ x ∷ []) r
+folds_on step p [] q x r before last = (r, subst (λ s. step s x r) (sym before) last, refl)
+folds_on step p (y ∷ ys) q x r before last = (before.0, before.1, folds_on step before.0 ys q x r before.2 last)
+
+-- one call more
+pub takes_one : {W : Type 0} {is_opened : W → Type 0} {takes : W → List ℕ → W → Type 0} {pieces : List (List ℕ)} {old new : W} {piece : List ℕ}
+    → TakesPieces is_opened takes pieces old → takes old piece new → TakesPieces is_opened takes (pieces ++ piece ∷ []) new
+takes_one {W} {is_opened} {takes} {pieces} {old} {new} {piece} t last = record { first = t.first; opened = t.opened; took = folds_on takes t.first pieces old piece new t.took last }
+
+-- one line more
+pub concat_on : (lines : List (List ℕ)) (line : List ℕ) → concat (lines ++ line ∷ []) ≡ concat lines ++ line
+concat_on lines line = concat-append lines (line ∷ []) ∙ ap (λ t. concat lines ++ t) (append-nil line)
+
+-- the same of what is noted
+pub noted_on : (lines : List (List ℕ)) (line : List ℕ) {noted : List (List ℕ)} → noted ≡ lines ++ line ∷ [] → concat noted ≡ concat lines ++ line
+noted_on lines line e = ap concat e ∙ concat_on lines line
+
+-- a piece without a byte
+pub noted_none : (lines : List (List ℕ)) {noted : List (List ℕ)} → noted ≡ lines ++ [] ∷ [] → concat noted ≡ concat lines
+noted_none lines e = noted_on lines [] e ∙ append-nil (concat lines)
+
+none_before : (n k : ℕ) → saturating_sum n k ≡ 0 → n ≡ 0
+none_before n zero e = e
+none_before n (suc k) e = absurd (omega (arith, e))
+
+none_more : (n k : ℕ) → saturating_sum n k ≡ 0 → k ≡ 0
+none_more n zero e = refl
+none_more n (suc k) e = absurd (omega (arith, e))
+
+keeps_after : (first mid last : Option (List ℕ)) (bytes : List ℕ) → Appends first mid bytes → Keeps mid last → Appends first last bytes
+keeps_after None mid last bytes a k = tt
+keeps_after (Some x) None last bytes a k = absurd a
+keeps_after (Some x) (Some y) None bytes a k = absurd k
+keeps_after (Some x) (Some y) (Some z) bytes a k = k ∙ a
+
+pub parts_all : {W : Type 0} {contents : W → Option (List ℕ)} {tries : W → List ℕ → ℕ → Option ErrorKind → W → Type 0} {parts : List Part} {lines : List (List ℕ)} {old new : Batch W}
+    → WritesParts contents tries parts lines old new → new.lost ≡ 0 → concat lines ≡ flat_map written_of parts ++ concat new.waiting
+parts_all {W} {contents} {tries} {parts} {lines} {old} {new} p none =
+    let whole = whole_lines parts (none_more old.lost (count_by is_cut parts) (sym p.lost ∙ none)) in
+    ap concat p.order ∙ concat-append (map line_of parts) new.waiting ∙ ap (λ t. t ++ concat new.waiting) (sym whole)
+
+parts_before : {W : Type 0} {contents : W → Option (List ℕ)} {tries : W → List ℕ → ℕ → Option ErrorKind → W → Type 0} {parts : List Part} {lines : List (List ℕ)} {old new : Batch W}
+    → WritesParts contents tries parts lines old new → new.lost ≡ 0 → old.lost ≡ 0
+parts_before {W} {contents} {tries} {parts} {lines} {old} {new} p none = none_before old.lost (count_by is_cut parts) (sym p.lost ∙ none)
+
+pub gathers_passes : {W : Type 0} {contents : W → Option (List ℕ)} {tries : W → List ℕ → ℕ → Option ErrorKind → W → Type 0} {line : List ℕ} {old new : Batch W}
+    → Gathers contents tries line old new → PassesLine contents line old new
+gathers_passes {W} {contents} {tries} {line} {old} {new} g = record {
+  before = parts_before g.passes;
+  written = flat_map written_of g.parts;
+  bytes = g.passes.bytes;
+  all = λ none. sym (concat_on old.waiting line) ∙ parts_all g.passes none;
+}
+
+pub flush_passes : {W : Type 0} {contents : W → Option (List ℕ)} {tries : W → List ℕ → ℕ → Option ErrorKind → W → Type 0} {flushes : W → Result Unit Error → W → Type 0} {result : Result Unit Error} {old new : Batch W}
+    → WritesAndFlushes contents tries flushes result old new → PassesLine contents [] old new
+flush_passes {W} {contents} {tries} {flushes} {result} {old} {new} f =
+    let passes = f.writes.passes in
+    let lost : new.lost ≡ f.written.lost = ap (λ b. b.lost) f.same in
+    let waiting : new.waiting ≡ f.written.waiting = ap (λ b. b.waiting) f.same in
+    record {
+      before = λ none. parts_before passes (sym lost ∙ none);
+      written = flat_map written_of f.writes.parts;
+      bytes = keeps_after (contents old.writer) (contents f.written.writer) (contents new.writer) _ passes.bytes f.bytes;
+      all = λ none. append-nil (concat old.waiting) ∙ parts_all passes (sym lost ∙ none) ∙ ap (λ t. flat_map written_of f.writes.parts ++ concat t) (sym waiting);
+    }
+
+one_cut : (p : Part) → p.written < length p.line → count_by is_cut (p ∷ []) ≡ 1
+one_cut p short = let cut : is_cut p ≡ true = grind (arith, nat_tests, short) in ap (λ b. 0 + cond b 1 0) cut
+
+pub loses_one : {W : Type 0} {contents : W → Option (List ℕ)} {tries : W → List ℕ → ℕ → Option ErrorKind → W → Type 0} {line : List ℕ} {old new : Batch W}
+    → LosesLine contents tries line old new → new.lost ≢ 0
+loses_one {W} {contents} {tries} {line} {old} {new} l none =
+    let last = part line l.length_written in
+    let all : count_by is_cut (l.parts ++ last ∷ []) ≡ 0 = none_more old.lost _ (sym l.passes.lost ∙ none) in
+    let split = sum_by-append (λ x. cond (is_cut x) 1 0) l.parts (last ∷ []) in
+    let one = one_cut last l.cut in
+    omega (arith, all, split, one)
+
+-- what a writer was given, after one line more
+pub given_on : (given : List (List ℕ)) (line : List ℕ) {old new : Batch (List ℕ)} → PassesLine (λ t. Some t) line old new
+    → (old.lost ≡ 0 → concat given ≡ old.writer ++ concat old.waiting) → new.lost ≡ 0 → concat given ++ line ≡ new.writer ++ concat new.waiting
+given_on given line {old} {new} p before none =
+    ap (λ t. t ++ line) (before (p.before none)) ∙ append_assoc old.writer (concat old.waiting) line ∙ ap (λ t. old.writer ++ t) (p.all none)
+    ∙ sym (append_assoc old.writer p.written (concat new.waiting)) ∙ ap (λ t. t ++ concat new.waiting) (sym p.bytes)
+
+-- a log took what a writer was given, once no line waits
+pub all_taken : {W : Type 0} {is_opened : W → Type 0} {takes : W → List ℕ → W → Type 0} {given log waiting : List ℕ} → given ≡ log ++ waiting → waiting ≡ []
+    → (log ≡ []) ⊎ TookText is_opened takes log → (given ≡ []) ⊎ TookText is_opened takes given
+all_taken {W} {is_opened} {takes} {given} {log} {waiting} all none took =
+    let same : log ≡ given = sym (all ∙ ap (λ t. log ++ t) none ∙ append-nil log) in
+    subst (λ t. (t ≡ []) ⊎ TookText is_opened takes t) same took
+
+-- an opened log took nothing
+takes_none : {W : Type 0} {is_opened : W → Type 0} {takes : W → List ℕ → W → Type 0} (log : W) → is_opened log → TookText is_opened takes []
+takes_none log opened = record { last = log; pieces = []; took = record { first = log; opened = opened; took = refl }; text_is = refl }
+
+takes_given : {W : Type 0} {is_opened : W → Type 0} {takes : W → List ℕ → W → Type 0} {given : List ℕ} (log : W) → is_opened log → (given ≡ []) ⊎ TookText is_opened takes given
+    → TookText is_opened takes given
+takes_given {W} {is_opened} {takes} log opened (inl none) = subst (λ t. TookText is_opened takes t) (sym none) (takes_none log opened)
+takes_given log opened (inr took) = took
+
+-- a log took the whole input
+pub all_logged : {W : Type 0} {is_opened : W → Type 0} {takes : W → List ℕ → W → Type 0} {remaining : Option (List ℕ)} {timestamps lossy : Bool} {ended : SentLines} {dropped given_up : ℕ} {given : List ℕ}
+    → IsCopied is_opened remaining timestamps (no_lines lossy) ended dropped → ServesLines (Some []) (Some given) ended.lines given_up → (given ≡ []) ⊎ TookText is_opened takes given
+    → dropped ≡ 0 → given_up ≡ 0 → timestamps ≡ false → (text : List ℕ) → remaining ≡ Some text → TookText is_opened takes text
+all_logged {W} {is_opened} {takes} {remaining} {timestamps} {lossy} {ended} {dropped} {given_up} {given} copied served took none whole plain text is =
+    let given_is : given ≡ text =
+    served_whole (Some []) (Some given) ended.lines (subst (λ n. ServesLines (Some []) (Some given) ended.lines n) whole served) ∙ copied.lines plain none text is in
+    subst (λ t. TookText is_opened takes t) given_is (takes_given copied.log copied.opened took)
+
+pub max_none : (m n : ℕ) → max m n ≡ 0 → (m ≡ 0) × (n ≡ 0)
+max_none m n e = (omega (arith, e), omega (arith, e))
+
+-- a new reader has what its input has
+pub reader_new : {T A : Type 0} (remaining : T → Option (List ℕ)) (r : BufReader T A) (text : List ℕ) → reader_capacity r ≡ 8192 → reader_buffer r ≡ [] → remaining (reader_inner r) ≡ Some text
+    → reader_remaining remaining r ≡ Some text
+reader_new remaining r text capacity empty is =
+    ap (λ n. if n == 0 then None else prepend_known (reader_buffer r) (remaining r.inner)) capacity ∙ ap (λ b. prepend_known b (remaining r.inner)) empty ∙ ap (λ t. prepend_known [] t) is
+
+-- a log that was opened by what was asked for alone
+pub takes_asked : {W : Type 0} {opens : Rotation → List ℕ → List ℕ → Options → W → Type 0} {takes : W → List ℕ → W → Type 0} {text : List ℕ} {rotation : Rotation} {directory prefix : List ℕ} {options : Options}
+    → TookText (WasOpened opens (AskedFor rotation directory prefix options)) takes text → TookText (opens rotation directory prefix options) takes text
+takes_asked {W} {opens} t =
+    let o = t.took.opened in
+    let log = t.took.first in
+    let r = subst (λ x. opens x o.1 o.2 o.3 log) o.4.0 o.5 in
+    let d = subst (λ x. opens _ x o.2 o.3 log) o.4.1 r in
+    let p = subst (λ x. opens _ _ x o.3 log) o.4.2 d in
+    let q = subst (λ x. opens _ _ _ x log) o.4.3 p in
+    record { last = t.last; pieces = t.pieces; took = record { first = log; opened = q; took = t.took.took }; text_is = t.text_is }

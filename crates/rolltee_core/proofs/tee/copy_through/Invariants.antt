@@ -1,0 +1,7 @@
+use Rattle.std.specs.Prelude.{string_bytes}
+use Rattle.rolltee_core.specs.Taken.{AskedFor}
+use Rattle.rolltee_core.proofs.tee.copy_through.Given as goal
+
+-- by what the log of this run is opened
+abbrev pub ghosts-copy_to : goal.ghosts-copy_to
+ghosts-copy_to g a = record { asked = AskedFor a.rotation (string_bytes a.directory.now) (string_bytes a.prefix.now) a.options.now }

@@ -1,0 +1,51 @@
+-- What is queued and echoed of the lines of an input.
+use Rattle.std.specs.Prelude.{◌≡◌, ℕ, ◌+◌, ◌-◌, ◌^◌, ◌<◌, min, List, ◌∷◌, ◌++◌, Bool, true, false, cond, Option, None, Some}
+use Rattle.std.specs.Io.KnownBytes.{Appends}
+use Rattle.jiff_core.specs.declared.civil.datetime.DateTime.{DateTime}
+use Rattle.jiff_fmt.specs.Text.{datetime_text, zulu_text}
+use Rattle.program_io.specs.Report.{AppendsBeginning}
+use Rattle.appender_non_blocking.specs.SentLines.{SentLines}
+
+-- A queue, and an output to which each line is also written until that fails.
+pub record Feeding (Q O : Type 0) : Type 0 where
+  pub queue : Q
+  pub output : O
+  -- whether each line begins with a time
+  pub timestamps : Bool
+  pub echo : Bool
+  -- whether the last piece of a line had no newline
+  pub within : Bool
+  -- the number of pieces that were not echoed whole
+  pub unechoed : ℕ
+
+-- the piece, or with a time of UTC in microseconds (RFC 3339) and a space before it
+abbrev pub IsTextOf : Bool → List ℕ → List ℕ → Type 0
+IsTextOf false piece text = text ≡ piece
+IsTextOf true piece text = (at : DateTime) × (text ≡ datetime_text false 84 (Some 6) at ++ zulu_text false ++ (32 ∷ piece))
+
+-- If lines are echoed, the text was added to the output, or a beginning of it by the first write that failed; nothing is added later.
+pub record Echoes {Q O : Type 0} (contents : O → Option (List ℕ)) (text : List ℕ) (old new : Feeding Q O) : Type 0 where
+  pub off : old.echo ≡ false → (new.output ≡ old.output) × (new.unechoed ≡ old.unechoed)
+  pub whole : old.echo ≡ true → new.unechoed ≡ 0 → Appends (contents old.output) (contents new.output) text
+  pub beginning : old.echo ≡ true → old.unechoed ≡ 0 → AppendsBeginning (contents old.output) (contents new.output) text
+  pub ended : 0 < old.unechoed → new.output ≡ old.output
+  pub counted : old.echo ≡ true → 0 < new.unechoed → new.unechoed ≡ min (old.unechoed + 1) (2 ^ 64 - 1)
+
+-- The text was added to the queue, and then echoed.
+pub record Sends {Q O : Type 0} (queued : Q → Option (List ℕ)) (echoed : O → Option (List ℕ)) (text : List ℕ) (old new : Feeding Q O) : Type 0 where
+  pub queue : Appends (queued old.queue) (queued new.queue) text
+  pub output : Echoes echoed text old new
+
+-- what stays when a line is sent
+pub record KeepsOptions {Q O : Type 0} (old new : Feeding Q O) : Type 0 where
+  pub timestamps : new.timestamps ≡ old.timestamps
+  pub echo : new.echo ≡ old.echo
+
+-- what a feed was given, if its lines are queued without times
+abbrev pub fed_in : {Q O : Type 0} → (Q → Option (List ℕ)) → Feeding Q O → Option (List ℕ)
+fed_in sent f = cond f.timestamps None (sent f.queue)
+
+-- what a sender sent, and the lines that it was offered
+pub record Offering : Type 0 where
+  pub sent : SentLines
+  pub offered : List (List ℕ)
