@@ -73,6 +73,7 @@ first="./HANDLES: Handles allowed: Threads, Wait.
 check 'no argument' "2||usage: $library/add-to REPOSITORY" "$(add)"
 check 'two arguments' "2||usage: $library/add-to REPOSITORY" "$(add "$work/a" "$work/b")"
 check 'an empty argument' "2||usage: $library/add-to REPOSITORY" "$(add '')"
+check 'an option' "2||usage: $library/add-to REPOSITORY" "$(cd "$work" && add --help)"
 check 'a file' "2||usage: $library/add-to REPOSITORY" "$(add "$library/LICENSE")"
 check 'itself' "2||$library/add-to: $library is the library itself" "$(add "$library/crates/..")"
 

@@ -13,6 +13,8 @@ version="$(sed -n 's/^## \([0-9.]*\).*/\1/p' "$top/CHANGELOG.md" | head -n 1) (p
 
 # ---- installed with their pages
 
+PREFIX=$work/prefix run "$top/install" --help
+check 'install --help' "2||usage: [PREFIX=FOLDER] $top/install" "$(told)"
 PREFIX=$work/prefix run "$top/install"
 check 'install' '0||' "$(told)"
 check 'install: the files' 'bin/audit_trail bin/rolltee share/man/man1/audit_trail.1 share/man/man1/rolltee.1' \
