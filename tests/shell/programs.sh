@@ -260,8 +260,8 @@ fi
 # Two that begin a log at once, in a folder that is not there.
 seq 100 > "$work/hundred"
 for ((i = 0; i < 25; i++)); do
-  "$rolltee" never "$work/at_once.$i" app < "$work/hundred" 2>> "$work/at_once" &
-  "$rolltee" never "$work/at_once.$i" app < "$work/hundred" 2>> "$work/at_once"
+  timeout 9 "$rolltee" never "$work/at_once.$i" app < "$work/hundred" 2>> "$work/at_once" &
+  timeout 9 "$rolltee" never "$work/at_once.$i" app < "$work/hundred" 2>> "$work/at_once"
   wait $!
 done
 check 'two rolltee at once' '|5000' "$(cat "$work/at_once")|$(cat "$work"/at_once.*/app | wc -l)"
@@ -401,6 +401,21 @@ if mount -t tmpfs -o size=16k programs "$disk" 2> "$err"; then
   waits rolltee '' "$rolltee" never "$disk/logs" app
   waits audit_trail '' "$audit_trail" "$disk/logs"
   waits 'audit_trail from a file' 'accepted 400 handed 400 left 0 dropped 0' "$audit_trail" "$disk/logs" "$many"
+  # The file is removed while it has a part of a line. That line is lost, and the next file begins with one.
+  mount -o remount,size=16k "$disk"
+  : > "$err"
+  timeout 9 "$rolltee" never "$disk/logs" app < <(seq 9999) > "$out" 2> "$err" &
+  running=$!
+  wait_until says 'writes pause'
+  rm "$disk/logs/app"
+  mount -o remount,size=1m "$disk"
+  wait "$running"
+  check 'rolltee, a file that is removed amid a line' 1 "$?"
+  check 'rolltee, a file that is removed amid a line: it says so' \
+    'lines not written whole: 1; log files not found again: 1' "$(tail -n 1 "$err")"
+  check 'rolltee, a file that is removed amid a line: the next file' \
+    "$(seq 3500 9999 | cksum)" "$(cksum < "$disk/logs/app")"
+  rm -r "$disk/logs"
   run "$rolltee" never "$disk/logs" app < "$lines"
   check 'rolltee, a disk with room' '0||' "$(told)"
   check 'rolltee, a disk with room: the log' $'[one\ntwo]' "$(content "$disk/logs/app")"

@@ -10,6 +10,7 @@ use std::cell::Cell;
 use std::io::{ErrorKind, Write};
 use std::test::Fail;
 use tracing_appender::rolling::{Builder, Clock, InitError, RollingFile, Rotation};
+use tracing_appender::waiting::Faults;
 
 // 10:01 and 11:00 on the first of February 2020.
 const FIRST: i64 = 1580551260;
@@ -181,6 +182,25 @@ fn the_rest_of_a_line_is_in_its_file(rt: HostRuntime) -> Result<(), Fail> {
         log.flush()?;
         expect_eq(&rt, scene.lengths.get(), wanted);
     }
+    Ok(())
+}
+
+// Three bytes of a line, and then the file is gone. The rest is refused, by a fault that is not waited for, and the next line begins
+// the new file.
+#[test]
+fn the_rest_of_a_line_is_in_no_other_file(rt: HostRuntime) -> Result<(), Fail> {
+    let scene = Scene::of_hours();
+    let mut log = log_of(rt.alloc(), &scene, 0, false, 0, (2, 3))?;
+    expect_eq(&rt, log.write(b"abcdef\n")?, 3);
+    scene.lost.set(true);
+    let fault = log.write(b"def\n").err();
+    let refused = fault.is_some_and(|fault| !Faults::Any.contain(&fault));
+    expect_eq(&rt, refused, true);
+    log.give_up();
+    expect_eq(&rt, log.write(b"gh\n")?, 3);
+    log.flush()?;
+    expect_eq(&rt, scene.openings.get(), 2);
+    expect_eq(&rt, scene.lengths.get(), (3, 0));
     Ok(())
 }
 

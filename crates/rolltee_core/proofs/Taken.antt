@@ -1,5 +1,5 @@
 -- What a log took, and what a batch passed on.
-use Rattle.std.proofs.Common.{◌≡◌, ◌≢◌, ℕ, zero, suc, ◌+◌, ◌<◌, ◌≤◌, List, [], ◌∷◌, ◌++◌, Bool, true, false, cond, not, length, map, flat_map, count_by, ◌⊎◌, inl, inr, ap, sym, refl, ◌∙◌, subst, arith, append_assoc, append-nil, max, if◌then◌else◌, ◌==◌}
+use Rattle.std.proofs.Common.{◌≡◌, ◌≢◌, ℕ, zero, suc, ◌+◌, ◌<◌, List, [], ◌∷◌, ◌++◌, Bool, true, false, cond, length, map, flat_map, count_by, ◌⊎◌, inl, inr, ap, sym, refl, ◌∙◌, subst, arith, append_assoc, append-nil, max, if◌then◌else◌, ◌==◌}
 use Rattle.std.specs.Prelude.{Option, None, Some, Result}
 use Rattle.std.specs.List.{FoldsTo, concat}
 use Rattle.std.specs.Io.KnownBytes.{Appends, Keeps, prepend_known}

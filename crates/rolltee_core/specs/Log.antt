@@ -34,9 +34,13 @@ pub record ReopenableLog (S F C : Type 0) : Type 0 where
   -- whether a newline is to be written first
   pub owed : Bool
 
--- The log is the one of before, or was opened again, and the file of before was flushed.
+-- The log is the one of before, or was opened again, and the file of before was flushed. It was not opened again for the rest of a line.
 abbrev pub IsSameOrReopened : {S F C : Type 0} → Ghosts S F → Readings C → ReopenableLog S F C → ReopenableLog S F C → Type 0
-IsSameOrReopened kind time old found = (found ≡ old) ⊎ OpensAnew kind time old.config old.log found.log
+IsSameOrReopened kind time old found = (found ≡ old) ⊎ ((old.short ≡ false) × OpensAnew kind time old.config old.log found.log)
+
+-- The log is the one of before, or the rest of a line was due, and the log was opened again in place of writing it.
+abbrev pub IsSameOrLosesRest : {S F C : Type 0} → Ghosts S F → Readings C → ReopenableLog S F C → Appending S F C → Type 0
+IsSameOrLosesRest kind time old new = (new ≡ old.log) ⊎ ((old.short ≡ true) × OpensAnew kind time old.config old.log new)
 
 -- a newline was added if one was to be, and else nothing
 abbrev pub EndsOwed : {S F C : Type 0} → Ghosts S F → Bool → Appending S F C → Appending S F C → Type 0
@@ -81,10 +85,11 @@ pub record PutsBytes {S F C : Type 0} (kind : Ghosts S F) (time : Readings C) (b
   pub ends : EndsOwed kind owed looked ended
   pub appends : AppendsNow kind bytes answer ended new
 
--- None of the bytes was added: the log was not opened again, or a newline was not added before them, or their append failed.
+-- None of the bytes was added: the log was not opened again, or was opened again in place of that, or a newline was not added before them,
+-- or their append failed.
 abbrev pub PutsNone : {S F C : Type 0} → Ghosts S F → Readings C → List ℕ → Error → ReopenableLog S F C → Appending S F C → Type 0
 PutsNone {S} {F} {C} kind time bytes error old new =
-    (new ≡ old.log)
+    IsSameOrLosesRest kind time old new
     ⊎ ((looked : Appending S F C) × FindsLog kind time (length bytes) old looked true × EndsNoPart kind looked new)
     ⊎ PutsBytes kind time bytes (Err error) old new
 

@@ -6,4 +6,4 @@ pub mod feed;
 pub mod logs;
 pub mod losses;
 pub mod tee;
-pub mod waiting;
+mod waiting;

@@ -197,7 +197,7 @@ impl<S: Folder, C: Clock, W: FileCheck<S>, O: Opens<S, C>> FileLog<S, C, W, O> {
     ghost use Rattle.std.specs.Io.{WritesAtMost};
     ghost use Rattle.appender_rolling.specs.Appender.{AppendsNow};
     ghost use Rattle.log_check.specs.Log.{OpensLog};
-    ghost use Rattle.rolltee_core.specs.Log.{EndsNoPart, EndsOwed, IsSameOrReopened, MayCheckOnce};
+    ghost use Rattle.rolltee_core.specs.Log.{EndsNoPart, EndsOwed, IsSameOrLosesRest, IsSameOrReopened, MayCheckOnce};
 
     /// Opens the log.
     pub fn new(opener: O, check: W, whole_lines: bool) -> Result<FileLog<S, C, W, O>, InitError>
@@ -215,18 +215,23 @@ impl<S: Folder, C: Clock, W: FileCheck<S>, O: Opens<S, C>> FileLog<S, C, W, O> {
         })
     }
 
-    // Opens the log again if its file is not found.
+    // Opens the log again if its file is not found. Then it is `WriteZero` if that file has the beginning of a line, whose rest no
+    // other file takes.
     fn find_file(&mut self) -> io::Result<()>
         ensures found { OnOk result (IsSameOrReopened S.Folder C.Clock self.old self.new) }
-        ensures lost { OnErr result (self.new ≡ self.old) }
+        ensures lost { OnErr result (IsSameOrLosesRest S.Folder C.Clock self.old self.new.log) }
         ensures config { self.new.config ≡ self.old.config }
         ensures short { self.new.short ≡ true → self.old.short ≡ true }
     {
         match self.checked.find_file() {
             Ok(false) => Ok(()),
             Ok(true) => {
+                let begun = self.short;
                 self.short = false;
                 self.owed = self.whole_lines && self.checked.is_cut();
+                if begun {
+                    return Err(io::Error::from(ErrorKind::WriteZero));
+                }
                 Ok(())
             }
             Err(error) => Err(cause_of(&error)),

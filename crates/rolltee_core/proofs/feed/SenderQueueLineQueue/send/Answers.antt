@@ -1,4 +1,4 @@
-use Rattle.std.proofs.Common.{ap, sym, ◌∙◌, ◌++◌}
+use Rattle.std.proofs.Common.{ap, ◌∙◌, ◌++◌}
 use Rattle.std.specs.List.{concat}
 use Rattle.rolltee_core.proofs.Taken.{noted_on}
 use Rattle.rolltee_core.proofs.feed.SenderQueueLineQueue.send.Goals as goal

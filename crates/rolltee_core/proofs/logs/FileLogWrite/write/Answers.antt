@@ -1,4 +1,4 @@
-use Rattle.std.proofs.Common.{ap, inl, inr, subst, true, length}
+use Rattle.std.proofs.Common.{ap, inl, inr, subst, length}
 use Rattle.appender_rolling.specs.Appender.{AppendsNow}
 use Rattle.rolltee_core.specs.Log.{FindsLog, PutsBytes, ReopenableLog}
 use Rattle.rolltee_core.proofs.Outcome.{if_err, on_ok}

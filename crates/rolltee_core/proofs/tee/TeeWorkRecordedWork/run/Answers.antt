@@ -1,4 +1,4 @@
-use Rattle.std.proofs.Common.{◌≡◌, ◌++◌, sym, ap, ◌∙◌}
+use Rattle.std.proofs.Common.{◌++◌, sym, ap, ◌∙◌}
 use Rattle.std.specs.List.{concat}
 use Rattle.rolltee_core.proofs.Sent.{fed_all}
 use Rattle.rolltee_core.proofs.tee.TeeWorkRecordedWork.run.Goals as goal

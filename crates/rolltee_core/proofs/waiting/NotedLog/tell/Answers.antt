@@ -1,4 +1,3 @@
-use Rattle.std.proofs.Common.{refl}
 use Rattle.rolltee_core.proofs.waiting.NotedLog.tell.Goals as goal
 
 pub returns : goal.returns

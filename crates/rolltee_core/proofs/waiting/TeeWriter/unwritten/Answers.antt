@@ -1,4 +1,4 @@
-use Rattle.std.proofs.Common.{◌≡◌, [], ◌⊎◌, subst, sym, ap, ◌∙◌}
+use Rattle.std.proofs.Common.{◌≡◌, [], ◌⊎◌, subst, ap}
 use Rattle.std.specs.List.{concat}
 use Rattle.rolltee_core.specs.Taken.{WasOpened, TookText}
 use Rattle.rolltee_core.proofs.Taken.{all_taken}
