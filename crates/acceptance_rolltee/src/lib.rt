@@ -5,6 +5,8 @@
 #[cfg(test)]
 mod batches;
 #[cfg(test)]
+mod direct;
+#[cfg(test)]
 mod expect;
 #[cfg(test)]
 mod logs;

@@ -28,14 +28,14 @@ fn check<R: AllocGlobal + Abort>(rt: &R, words: &str, wanted: &str) -> Result<()
 
 static NONE: &str = concat!(
     "Run(Options { keep: 0, max_bytes: 0, suffix: \"\", link: \"\", queue: 0, lossy: false, ",
-    "no_wait: false, sync: false, echo: false, timestamps: false, whole_lines: false }, ",
+    "no_wait: false, sync: false, echo: false, timestamps: false, whole_lines: false, direct: false }, ",
     "[\"hourly\", \"dir\", \"app\"])",
 );
 
 static ALL: &str = concat!(
     "Run(Options { keep: 3, max_bytes: 10485760, suffix: \"log\", link: \"-x\", queue: 7, ",
     "lossy: true, no_wait: true, sync: true, echo: true, timestamps: true, ",
-    "whole_lines: true }, [\"hourly\", \"dir\", \"app\"])",
+    "whole_lines: true, direct: false }, [\"hourly\", \"dir\", \"app\"])",
 );
 
 #[test]

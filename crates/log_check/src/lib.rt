@@ -11,7 +11,7 @@ use appender_folder::folder::{DirFolder, FilesHost};
 use appender_runtime::policy::RetryPolicy;
 use appender_store::store::{Folder, NoticeKind};
 pub use log::{CheckedLog, Opens, ends_line, length_with};
-pub use opening::{WaitingOpener, cause_of, open_dir};
+pub use opening::{cause_of, open_dir};
 use std::alloc::{AllocError, Global};
 use std::fs::{OpenFile, OpenOptions};
 use std::io;

@@ -170,14 +170,6 @@ impl<S: Folder, C: Clock, W: FileCheck<S>, O: Opens<S, C>> CheckedLog<S, C, W, O
         answer
     }
 
-    /// Sets whether the open file may end with a part of a line.
-    pub fn set_cut(&mut self, cut: bool)
-        requires { cut ≡ false → EndsWhole S.Folder self.old.log }
-        ensures { self.new ≡ record self.old { cut = cut } }
-    {
-        self.cut = cut;
-    }
-
     /// Flushes the open file, and compares it with what its name leads to. A flush that fails is counted.
     pub fn flush(&mut self) -> io::Result<()>
         ensures flush { FlushesNow S.Folder result self.old.log self.new.log }
@@ -199,33 +191,6 @@ impl<S: Folder, C: Clock, W: FileCheck<S>, O: Opens<S, C>> CheckedLog<S, C, W, O
         ensures whole { result ≡ false → EndsWhole S.Folder self.now.log }
     {
         self.cut
-    }
-
-    /// Returns whether the log was ever opened anew.
-    pub fn is_anew(&self) -> bool
-        ensures { result ≡ self.now.opening.anew }
-    {
-        self.anew
-    }
-
-    /// Returns the log.
-    pub fn log(&self) -> &RollingFile<S, C>
-        ensures { result.now ≡ self.now.log }
-    {
-        &self.log
-    }
-
-    /// Returns what watches its open file.
-    pub fn check(&self) -> &W {
-        &self.check
-    }
-
-    /// Closes the open file, and returns the folder and the clock.
-    pub fn into_parts(self) -> (S, C)
-        ensures folder { result.0 ≡ self.log.roller.folder }
-        ensures clock { result.1 ≡ self.log.clock }
-    {
-        self.log.into_parts()
     }
 }
 

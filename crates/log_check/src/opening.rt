@@ -3,17 +3,13 @@ ghost use Rattle.std.specs.Prelude.{◌≡◌, false, IfOk};
 ghost use Rattle.appender_rolling.specs.Appender.{OpensNow};
 ghost use Rattle.log_check.specs.Log.{OpensLog};
 
-use crate::log::Opens;
 use appender_folder::folder::{DirFolder, FilesHost};
 use appender_rolling::rolling::{Builder, Clock, InitError, RollingFile, SystemClock};
 use appender_runtime::policy::RetryPolicy;
-use appender_runtime::waiting::{Faults, Pauses};
 use appender_store::store::Folder;
 use std::alloc::Global;
 use std::io::{Error, ErrorKind};
-use std::marker::Model;
 use std::rt::Files;
-use std::sync::Wait;
 use std::{fs, io, time};
 
 // The most bytes of a link's name that are in the name of a new one, as `DirFolder` has it.
@@ -117,53 +113,6 @@ fn check_entry<R: Files + AllocGlobal>(
             Err(InitError::Symlink(fault))
         }
         _ => Ok(()),
-    }
-}
-
-/// Opens a log, and waits while that is refused. Contracts see it as the opener below.
-#[derive(Drop)]
-pub struct WaitingOpener<H, O> {
-    host: H,
-    opener: O,
-}
-
-impl<H, O> Model for WaitingOpener<H, O> {
-    ghost Value = { O };
-
-    ghost view = { λ w. w.opener };
-}
-
-impl<H, O> WaitingOpener<H, O> {
-    /// Returns an opener that waits by the clock of `host`, and prints on its standard error.
-    pub fn new(host: H, opener: O) -> WaitingOpener<H, O>
-        ensures { result ≡ opener }
-    {
-        WaitingOpener { host, opener }
-    }
-}
-
-impl<H: Wait + time::Clock + Eprint + Drop, S: Folder, C: Clock, O: Opens<S, C>> Opens<S, C>
-    for WaitingOpener<H, O> {
-    ghost config = { λ w. O.config w };
-
-    /// Opens the log. While that has one of `Faults::Any`, it waits as `Pauses` do, and tries again; after an interruption it
-    /// tries again at once. Any other error is returned.
-    fn open(&self) -> Result<RollingFile<S, C>, InitError> {
-        let mut pauses = Pauses::new();
-        for _ in self.host.forever() {
-            match self.opener.open() {
-                Ok(log) => {
-                    pauses.end(&self.host);
-                    return Ok(log);
-                }
-                Err(error) => match error.source() {
-                    Some(cause) if Faults::Any.contain(&cause) => pauses.wait(&self.host, &cause),
-                    Some(cause) if cause.kind() == ErrorKind::Interrupted => {}
-                    _ => return Err(error),
-                },
-            }
-        }
-        unreachable!()
     }
 }
 

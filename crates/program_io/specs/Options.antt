@@ -7,7 +7,7 @@ use Rattle.program_io.specs.declared.options.Options.{Options}
 use Rattle.program_io.specs.declared.options.Valued.{Valued}
 use Rattle.program_io.specs.declared.options.Valued.TheVariants.{Keep, MaxBytes, Suffix, Link, Queue}
 use Rattle.program_io.specs.declared.options.Flag.{Flag}
-use Rattle.program_io.specs.declared.options.Flag.TheVariants.{Lossy, NoWait, Sync, Echo, Timestamps, WholeLines}
+use Rattle.program_io.specs.declared.options.Flag.TheVariants.{Lossy, NoWait, Sync, Echo, Timestamps, WholeLines, Direct}
 use Rattle.program_io.specs.declared.options.OptionError.{OptionError}
 use Rattle.program_io.specs.declared.options.OptionError.TheVariants.{Missing, Twice, Count, ByteCount}
 use Rattle.program_io.specs.declared.options.OptionFault.{OptionFault}
@@ -75,6 +75,7 @@ flag_word Sync = codes "--sync"
 flag_word Echo = codes "--echo"
 flag_word Timestamps = codes "--timestamps"
 flag_word WholeLines = codes "--whole-lines"
+flag_word Direct = codes "--direct"
 
 -- no option is set
 pub record AreDefaults (o : Options) : Type 0 where
@@ -89,18 +90,7 @@ pub record AreDefaults (o : Options) : Type 0 where
   pub echo : o.echo ≡ false
   pub timestamps : o.timestamps ≡ false
   pub whole_lines : o.whole_lines ≡ false
-
--- no option is set but the numbers of files and of bytes
-pub record AreLimits (o : Options) : Type 0 where
-  pub suffix : string_bytes o.suffix ≡ []
-  pub link : string_bytes o.link ≡ []
-  pub queue : o.queue ≡ 0
-  pub lossy : o.lossy ≡ false
-  pub no_wait : o.no_wait ≡ false
-  pub sync : o.sync ≡ false
-  pub echo : o.echo ≡ false
-  pub timestamps : o.timestamps ≡ false
-  pub whole_lines : o.whole_lines ≡ false
+  pub direct : o.direct ≡ false
 
 -- a text that is not empty
 abbrev pub is_some_text : List ℕ → Bool
@@ -135,6 +125,7 @@ with_flag Sync o = record o { sync = true }
 with_flag Echo o = record o { echo = true }
 with_flag Timestamps o = record o { timestamps = true }
 with_flag WholeLines o = record o { whole_lines = true }
+with_flag Direct o = record o { direct = true }
 
 -- the flag was set
 abbrev pub has_flag : Flag → Options → Bool
@@ -144,6 +135,7 @@ has_flag Sync o = o.sync
 has_flag Echo o = o.echo
 has_flag Timestamps o = o.timestamps
 has_flag WholeLines o = o.whole_lines
+has_flag Direct o = o.direct
 
 -- the flag was not set before, and is now; nothing else changed
 abbrev pub SetsFlag : Flag → Options → Options → Type 0
@@ -299,19 +291,6 @@ abbrev pub NamesSomeWord : List (String Global) → OptionFault → Type 0
 NamesSomeWord words NoMemory = Unit {0}
 NamesSomeWord words fault = (word : String Global) × Contains words word × NamesWord (string_bytes word) fault
 
--- this is the word of an option that is set, other than those of the limits
-abbrev pub IsOtherOption : List ℕ → Options → Type 0
-IsOtherOption word o =
-    ((option : Valued) × (option ≢ Keep) × (option ≢ MaxBytes) × (has_option option o ≡ true) × (word ≡ valued_word option))
-    ⊎ ((flag : Flag) × (has_flag flag o ≡ true) × (word ≡ flag_word flag))
-
--- the fault names an option that the words set beside the limits
-abbrev pub NamesOtherOption : List (String Global) → OptionFault → Type 0
-NamesOtherOption words (Unknown text) =
-    (options : Options) × (arguments : Vec (String Global) Global) × IsRead words (Run options arguments) × IsOtherOption (string_bytes text) options
-NamesOtherOption words (Wrong name error) = ⊥
-NamesOtherOption words NoMemory = ⊥
-
 -- ---- requests
 
 -- no option is set, and the arguments are the words
@@ -319,12 +298,6 @@ abbrev pub IsPlain : List (String Global) → Request → Type 0
 IsPlain words AsksHelp = ⊥
 IsPlain words AsksVersion = ⊥
 IsPlain words (Run options arguments) = AreDefaults options × (map string_bytes arguments.items ≡ map string_bytes words)
-
--- no other options are set
-abbrev pub HasOnlyLimits : Request → Type 0
-HasOnlyLimits AsksHelp = Unit {0}
-HasOnlyLimits AsksVersion = Unit {0}
-HasOnlyLimits (Run options arguments) = AreLimits options
 
 -- no word begins with a dash
 abbrev pub AreUndashed : List (String Global) → Type 0

@@ -29,7 +29,7 @@ ghost use Rattle.std.specs.Prelude.{
 ghost use Rattle.std.specs.Io.{StopsAt};
 ghost use Rattle.std.specs.Io.BufRead.{take_through, drop_through};
 ghost use Rattle.std.specs.Io.KnownBytes.{Appends, Consumes, IsAtEnd};
-ghost use Rattle.program_io.specs.Line.{ended, IsPiece};
+ghost use Rattle.program_io.specs.Line.{IsPiece};
 ghost use Rattle.program_io.specs.Inside.Piece.{Extends, IsOpen};
 ghost use Rattle.program_io.specs.Report.{AppendsBeginning};
 
@@ -41,7 +41,7 @@ pub mod streams;
 use memchr::memchr;
 use std::alloc::{AllocError, Global};
 use std::env::FillError;
-use std::io::{BufRead, ErrorKind, Read, Write};
+use std::io::{BufRead, BufReader, ErrorKind, Read, Write};
 use std::rt::Env;
 use std::{env, io, str};
 
@@ -98,49 +98,8 @@ fn first_not_text(rt: &(impl Env + AllocGlobal)) -> Result<String, AllocError> {
     String::from_str(rt.alloc(), "a long argument")
 }
 
-/// An input whose lines have a greatest length, so that one which never ends fills no memory.
-#[derive(Drop)]
-pub struct ShortLines<R> {
-    input: R,
-    // The number of bytes after the last newline.
-    open: usize,
-}
-
-/// The greatest length of a line in bytes, without its newline.
+/// The greatest length in bytes of a piece of a line.
 pub const LONGEST_LINE: usize = 1 << 20;
-
-impl<R> ShortLines<R> {
-    /// Returns the input from here on.
-    pub fn new(input: R) -> ShortLines<R>
-        ensures { result.input ≡ input }
-    {
-        ShortLines { input, open: 0 }
-    }
-}
-
-impl<R: Read> Read for ShortLines<R> {
-    ghost remaining = { λ lines. R.remaining lines.input };
-
-    /// Reads on, up to one byte more than a line may have. If there were more than `LONGEST_LINE` bytes after the last
-    /// newline, the error is `InvalidData`, and nothing is read.
-    fn read(&mut self, buf: &mut [u8]) -> io::Result<usize> {
-        if self.open > LONGEST_LINE {
-            return Err(io::Error::new(ErrorKind::InvalidData, "line too long"));
-        }
-        let most = buf.len().min(LONGEST_LINE + 1 - self.open);
-        let length = self.input.read(&mut buf[..most])?;
-        self.open = open_bytes(self.open, &buf[..length]);
-        Ok(length)
-    }
-}
-
-// Returns the number of bytes after the last newline, if there were so many before these.
-fn open_bytes(open: usize, bytes: &[u8]) -> usize {
-    match bytes.iter().rposition(|byte| *byte == b'\n') {
-        Some(place) => bytes.len() - place - 1,
-        None => open.saturating_add(bytes.len()),
-    }
-}
 
 /// Reads the next line with its newline, if it has one, into `line`, in place of what that contained. Returns whether
 /// there was one. Errors are those of the input, and `OutOfMemory`.
@@ -157,16 +116,23 @@ pub fn read_line<I: BufRead>(input: &mut I, line: &mut Vec<u8>) -> io::Result<bo
     Ok(length > 0)
 }
 
-/// Adds a newline to a line that has none at its end. If memory is refused, the line is as it was.
-pub fn end_line(line: &mut Vec<u8>) -> Result<(), AllocError>
-    ensures ended { OnOk result (line.new.items ≡ ended line.old.items) }
-    ensures refused { OnErr result (line.new.items ≡ line.old.items) }
-{
-    let length = line.len();
-    if length == 0 || line[length - 1] != b'\n' {
-        line.push(b'\n').map_err(AllocError::from)?;
+/// An input of lines that shows whether the next one was read already.
+pub trait LineInput: BufRead {
+    /// Returns whether a whole line was read already, which needs no wait.
+    fn has_line(&self) -> bool;
+}
+
+impl<R: Read> LineInput for BufReader<R> {
+    fn has_line(&self) -> bool {
+        memchr(b'\n', self.buffer()).is_some()
     }
-    Ok(())
+}
+
+/// Bytes in memory are not waited for.
+impl LineInput for &[u8] {
+    fn has_line(&self) -> bool {
+        true
+    }
 }
 
 /// Why lines were not copied to the end.
@@ -245,8 +211,9 @@ fn is_piece(piece: &[u8]) -> bool
 }
 
 /// Writes each line of `input` by one write, with its newline, if it has one, until nothing is left. A line that is
-/// longer than `LONGEST_LINE` with its newline is written in pieces of that length. Lines before a fault are written.
-pub fn copy_lines<I: BufRead, W: Write>(
+/// longer than `LONGEST_LINE` with its newline is written in pieces of that length. Lines before a fault are written. Before
+/// a read that may have to be waited for, the writer is flushed, whose fault is ignored.
+pub fn copy_lines<I: LineInput, W: Write>(
     alloc: Global,
     input: &mut I,
     writer: &mut W,
@@ -263,13 +230,14 @@ pub fn copy_lines<I: BufRead, W: Write>(
         if !read_piece(input, &mut piece)? {
             return Ok(());
         }
-        write_piece(piece.as_slice(), writer)?;
+        write_piece(piece.as_slice(), !input.has_line(), writer)?;
     }
     Err(CopyFault::Read(io::Error::other("too many lines")))
 }
 
-// Writes a piece by one write.
-fn write_piece<W: Write>(piece: &[u8], writer: &mut W) -> Result<(), CopyFault>
+// Writes a piece by one write, and flushes the writer if that is asked for.
+#[tactic(auto, using(crate::proofs::Copied::appends_kept))]
+fn write_piece<W: Write>(piece: &[u8], flushes: bool, writer: &mut W) -> Result<(), CopyFault>
     requires { length piece.now ≤ LONGEST_LINE }
     ensures whole { OnOk result (Appends (W.contents writer.old) (W.contents writer.new) piece.now) }
     ensures beginning { OnErr result
@@ -277,7 +245,12 @@ fn write_piece<W: Write>(piece: &[u8], writer: &mut W) -> Result<(), CopyFault>
 {
     match writer.write(piece) {
         Ok(taken) if taken < piece.len() => Err(CopyFault::Cut),
-        Ok(_) => Ok(()),
+        Ok(_) => {
+            if flushes {
+                let _ = writer.flush();
+            }
+            Ok(())
+        }
         Err(fault) => Err(CopyFault::Write(fault)),
     }
 }

@@ -4,7 +4,7 @@ ghost use Rattle.std.specs.Str.Parse.{IsNumeral};
 ghost use Rattle.program_io.specs.declared.options.Flag.{Flag};
 ghost use Rattle.program_io.specs.declared.options.Next.{Next};
 ghost use Rattle.program_io.specs.declared.options.Valued.{Valued};
-ghost use Rattle.program_io.specs.Options.{begins_negative, begins_with_dash, dashed_reason, flag_word, valued_word, AreUndashed, HasOnlyLimits, HasUnit, IsByteCount, IsPositiveNumber, IsFaultOf, IsNextAfter, IsNumber, IsPlain, IsRead, IsWrong, NamesOtherOption, NamesSomeWord, IsNoByteCount, IsNoPositiveNumber};
+ghost use Rattle.program_io.specs.Options.{begins_negative, begins_with_dash, dashed_reason, flag_word, valued_word, AreUndashed, HasUnit, IsByteCount, IsPositiveNumber, IsFaultOf, IsNextAfter, IsNumber, IsPlain, IsRead, IsWrong, NamesSomeWord, IsNoByteCount, IsNoPositiveNumber};
 
 use std::alloc::{AllocError, Global};
 use thiserror::Error;
@@ -34,6 +34,8 @@ pub struct Options {
     pub timestamps: bool,
     /// `--whole-lines`: whether a part of a line is ended by a newline before the next line.
     pub whole_lines: bool,
+    /// `--direct`: whether each block of lines is written before the next one is read, without a queue.
+    pub direct: bool,
 }
 
 impl Options {
@@ -56,6 +58,7 @@ impl Options {
             echo: false,
             timestamps: false,
             whole_lines: false,
+            direct: false,
         }
     }
 
@@ -63,7 +66,13 @@ impl Options {
     pub fn is_plain(&self) -> bool
         ensures { (result ≡ true) ↔ AreDefaults self.now }
     {
-        self.keep == 0 && self.max_bytes == 0 && self.other_word().is_none()
+        self.keep == 0
+            && self.max_bytes == 0
+            && self.suffix.is_empty()
+            && self.link.is_empty()
+            && self.queue == 0
+            && !(self.lossy || self.no_wait || self.sync || self.echo)
+            && !(self.timestamps || self.whole_lines || self.direct)
     }
 }
 
@@ -116,6 +125,7 @@ enum Flag {
     Echo,
     Timestamps,
     WholeLines,
+    Direct,
 }
 
 impl Flag {
@@ -130,6 +140,7 @@ impl Flag {
             Flag::Echo => "--echo",
             Flag::Timestamps => "--timestamps",
             Flag::WholeLines => "--whole-lines",
+            Flag::Direct => "--direct",
         }
     }
 }
@@ -146,6 +157,9 @@ pub enum OptionError {
     /// The program has no use for the option without a rotation. `read` never returns it.
     #[error("not with never, a log of one file; take weekly, whose files are the longest")]
     Never,
+    /// The program has no use for the option without a queue. `read` never returns it.
+    #[error("not with --direct, which has no queue")]
+    Direct,
     /// The value is not a decimal number from 1 that a `usize` can represent.
     #[error("not a number from 1")]
     Count,
@@ -216,23 +230,6 @@ pub fn read(alloc: Global, words: &[String]) -> Result<Request, OptionFault>
         Next::Value(option) => Err(OptionFault::Wrong(option.word(), OptionError::Missing)),
         _ => Ok(Request::Run(reading.options, reading.arguments)),
     }
-}
-
-/// Returns what `read` does, for a program with no options but `--keep` and `--max-bytes`. `OptionFault::Unknown` if
-/// another one was set: it has the word of the first of those in the order of `Options`.
-pub fn read_limits(alloc: Global, words: &[String]) -> Result<Request, OptionFault>
-    ensures read { IfOk result (IsRead words.now) }
-    ensures plain { AreUndashed words.now → IfOk result (IsPlain words.now) }
-    ensures limits { IfOk result HasOnlyLimits }
-    ensures fault { IfErr result (λ fault. IsFaultOf words.now fault ⊎ NamesOtherOption words.now fault) }
-{
-    let request = read(alloc, words)?;
-    if let Request::Run(options, _) = &request {
-        if let Some(word) = options.other_word() {
-            return Err(OptionFault::Unknown(String::from_str(alloc, word)?));
-        }
-    }
-    Ok(request)
 }
 
 // The meaning of the next word.
@@ -323,8 +320,7 @@ impl Reading {
 
 impl Options {
     ghost use Rattle.std.specs.Prelude.{◌≡◌, true, IfErr, IfNone, IfSome, OnErr, OnOk};
-    ghost use Rattle.std.specs.List.{find};
-    ghost use Rattle.program_io.specs.Options.{begins_with_dash, flag_word, has_option, has_flag, valued_word, AreLimits, IsOtherOption, IsWrong, IsWrongValue, SetsFlag, SetsOption};
+    ghost use Rattle.program_io.specs.Options.{begins_with_dash, flag_word, has_option, has_flag, valued_word, IsWrong, IsWrongValue, SetsFlag, SetsOption};
 
     // Sets the value of an option, which was not set before.
     fn set(&mut self, alloc: Global, option: Valued, value: &str) -> Result<(), OptionFault>
@@ -357,40 +353,6 @@ impl Options {
         }
     }
 
-    // Returns the word of the first option that was set, of those other than `--keep` and `--max-bytes`.
-    fn other_word(&self) -> Option<&'static str>
-        ensures none { IfNone result (AreLimits self.now) }
-        ensures some { IfSome result (λ word. ¬ AreLimits self.now) }
-        ensures word { IfSome result (λ word. IsOtherOption word.now self.now) }
-    {
-        if let Some(option) = self.first_set(&[Valued::Suffix, Valued::Link, Valued::Queue]) {
-            return Some(option.word());
-        }
-        let flag = self.first_raised(&[
-            Flag::Lossy,
-            Flag::NoWait,
-            Flag::Sync,
-            Flag::Echo,
-            Flag::Timestamps,
-            Flag::WholeLines,
-        ])?;
-        Some(flag.word())
-    }
-
-    // Returns the first of these options that was set.
-    fn first_set(&self, options: &[Valued]) -> Option<Valued>
-        ensures { result ≡ find (λ option. has_option option self.now) options.now }
-    {
-        options.iter().copied().find(|option| self.has(*option))
-    }
-
-    // Returns the first of these flags that was set.
-    fn first_raised(&self, flags: &[Flag]) -> Option<Flag>
-        ensures { result ≡ find (λ flag. has_flag flag self.now) flags.now }
-    {
-        flags.iter().copied().find(|flag| self.is_raised(*flag))
-    }
-
     // Sets a flag, which was not set before.
     fn raise(&mut self, flag: Flag) -> Result<(), OptionFault>
         ensures raised { OnOk result (SetsFlag flag self.old self.new) }
@@ -407,6 +369,7 @@ impl Options {
             Flag::Echo => self.echo = true,
             Flag::Timestamps => self.timestamps = true,
             Flag::WholeLines => self.whole_lines = true,
+            Flag::Direct => self.direct = true,
         }
         Ok(())
     }
@@ -422,6 +385,7 @@ impl Options {
             Flag::Echo => self.echo,
             Flag::Timestamps => self.timestamps,
             Flag::WholeLines => self.whole_lines,
+            Flag::Direct => self.direct,
         }
     }
 }
@@ -495,6 +459,7 @@ fn flag_of(word: &str) -> Option<Flag>
         "--echo" => Some(Flag::Echo),
         "--timestamps" => Some(Flag::Timestamps),
         "--whole-lines" => Some(Flag::WholeLines),
+        "--direct" => Some(Flag::Direct),
         _ => None,
     }
 }

@@ -2,7 +2,7 @@
 use Rattle.std.proofs.Common.{◌≡◌, ℕ, List, ◌++◌, Bool, true, false, cond}
 use Rattle.std.specs.Prelude.{Option, None, Some}
 use Rattle.std.specs.List.{concat}
-use Rattle.std.specs.Io.KnownBytes.{Appends}
+use Rattle.std.specs.Io.KnownBytes.{Appends, Keeps}
 use Rattle.rolltee_core.specs.Feed.{Feeding, Offering, Sends, fed_in}
 
 -- it is not read whether the last piece had a newline
@@ -22,3 +22,18 @@ fed_on true new x y text plain all = absurd (let never : true ≡ false = plain 
 pub fed_all : {O : Type 0} (old new : Feeding Offering O) (text : List ℕ) → old.timestamps ≡ false
     → Appends (fed_in (λ q. Some (concat q.offered)) old) (fed_in (λ q. Some (concat q.offered)) new) text → concat new.queue.offered ≡ concat old.queue.offered ++ text
 fed_all old new text plain all = fed_on old.timestamps new.timestamps (concat old.queue.offered) (concat new.queue.offered) text plain all
+
+fed_same : (old new : Bool) (x y : Option (List ℕ)) → new ≡ old → Keeps x y → Keeps (cond old None x) (cond new None y)
+fed_same false false x y same kept = kept
+fed_same false true x y same kept = absurd (let never : true ≡ false = same in cc)
+fed_same true new x y same kept = tt
+
+-- a feed was given no more, since its queue was not
+pub fed_kept : {Q O : Type 0} (sent : Q → Option (List ℕ)) (old new : Feeding Q O) → new.timestamps ≡ old.timestamps → Keeps (sent old.queue) (sent new.queue)
+    → Keeps (fed_in sent old) (fed_in sent new)
+fed_kept sent old new same kept = fed_same old.timestamps new.timestamps (sent old.queue) (sent new.queue) same kept
+
+-- what a feed without times was given is what its writer was given
+pub fed_writer : {O : Type 0} (old new : Feeding (List ℕ) O) (text : List ℕ) → old.timestamps ≡ false
+    → Appends (fed_in (λ given. Some given) old) (fed_in (λ given. Some given) new) text → new.queue ≡ old.queue ++ text
+fed_writer old new text plain all = fed_on old.timestamps new.timestamps old.queue new.queue text plain all

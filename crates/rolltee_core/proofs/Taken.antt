@@ -1,6 +1,6 @@
 -- What a log took, and what a batch passed on.
 use Rattle.std.proofs.Common.{◌≡◌, ◌≢◌, ℕ, zero, suc, ◌+◌, ◌<◌, List, [], ◌∷◌, ◌++◌, Bool, true, false, cond, length, map, flat_map, count_by, ◌⊎◌, inl, inr, ap, sym, refl, ◌∙◌, subst, arith, append_assoc, append-nil, max, if◌then◌else◌, ◌==◌}
-use Rattle.std.specs.Prelude.{Option, None, Some, Result}
+use Rattle.std.specs.Prelude.{Option, None, Some, Result, Ok, Err, OnOk, OnErr}
 use Rattle.std.specs.List.{FoldsTo, concat}
 use Rattle.std.specs.Io.KnownBytes.{Appends, Keeps, prepend_known}
 use Rattle.std.specs.Io.Buffered.{reader_buffer, reader_capacity, reader_inner, reader_remaining}
@@ -105,6 +105,12 @@ given_on given line {old} {new} p before none =
     ap (λ t. t ++ line) (before (p.before none)) ∙ append_assoc old.writer (concat old.waiting) line ∙ ap (λ t. old.writer ++ t) (p.all none)
     ∙ sym (append_assoc old.writer p.written (concat new.waiting)) ∙ ap (λ t. t ++ concat new.waiting) (sym p.bytes)
 
+-- the same if the line may be lost
+pub given_anyway : {E : Type 0} (answer : Result ℕ E) (given : List (List ℕ)) (line : List ℕ) (old new : Batch (List ℕ)) → OnOk answer (PassesLine (λ t. Some t) line old new) → OnErr answer (new.lost ≢ 0)
+    → (old.lost ≡ 0 → concat given ≡ old.writer ++ concat old.waiting) → new.lost ≡ 0 → concat given ++ line ≡ new.writer ++ concat new.waiting
+given_anyway (Ok n) given line old new passes lost before none = given_on given line passes before none
+given_anyway (Err e) given line old new passes lost before none = absurd (lost none)
+
 -- a log took what a writer was given, once no line waits
 pub all_taken : {W : Type 0} {is_opened : W → Type 0} {takes : W → List ℕ → W → Type 0} {given log waiting : List ℕ} → given ≡ log ++ waiting → waiting ≡ []
     → (log ≡ []) ⊎ TookText is_opened takes log → (given ≡ []) ⊎ TookText is_opened takes given
@@ -116,7 +122,7 @@ all_taken {W} {is_opened} {takes} {given} {log} {waiting} all none took =
 takes_none : {W : Type 0} {is_opened : W → Type 0} {takes : W → List ℕ → W → Type 0} (log : W) → is_opened log → TookText is_opened takes []
 takes_none log opened = record { last = log; pieces = []; took = record { first = log; opened = opened; took = refl }; text_is = refl }
 
-takes_given : {W : Type 0} {is_opened : W → Type 0} {takes : W → List ℕ → W → Type 0} {given : List ℕ} (log : W) → is_opened log → (given ≡ []) ⊎ TookText is_opened takes given
+pub takes_given : {W : Type 0} {is_opened : W → Type 0} {takes : W → List ℕ → W → Type 0} {given : List ℕ} (log : W) → is_opened log → (given ≡ []) ⊎ TookText is_opened takes given
     → TookText is_opened takes given
 takes_given {W} {is_opened} {takes} log opened (inl none) = subst (λ t. TookText is_opened takes t) (sym none) (takes_none log opened)
 takes_given log opened (inr took) = took

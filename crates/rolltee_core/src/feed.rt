@@ -159,6 +159,11 @@ pub trait LineQueue {
 
     /// Returns the number of lines that were dropped.
     fn dropped(&self) -> u64;
+
+    /// Writes what was sent, if no other thread does.
+    fn write_out(&mut self)
+        ensures { Keeps (sent self.old) (sent self.new) }
+    {}
 }
 
 /// The queue of a recorded sender.
@@ -286,7 +291,7 @@ impl<'a, R: Wait + Clock + AllocGlobal, Q: LineQueue, O> Feed<'a, R, Q, O> {
             check,
             sent: 0,
             unwritten: 0,
-            waits: !options.lossy,
+            waits: !options.lossy && !options.direct,
             timestamps: options.timestamps,
             echo: options.echo,
             stamped,
@@ -429,7 +434,10 @@ impl<'a, R: Wait + Clock + AllocGlobal + Eprint, Q: LineQueue, O: Write> Write
         Ok(line.len())
     }
 
+    /// Writes what was sent, if no other thread does.
+    #[tactic(auto, using(crate::proofs::Sent::fed_kept))]
     fn flush(&mut self) -> io::Result<()> {
+        self.queue.write_out();
         Ok(())
     }
 }

@@ -9,7 +9,7 @@ ghost use Rattle.rolltee_core.specs.Taken.{IsCopied, WasOpened, LogsText, TookTe
 ghost use Rattle.rolltee_core.specs.Fault.{tee_status, tee_fault_unless_memory, tee_fault_words, HasNoFolder, NamesNoRotation, ReportsTeeFault};
 ghost use Rattle.appender_names.specs.RotationText.{IsNoRotation, rotation_word};
 
-use crate::feed::{Feed, SenderQueue, WatchedCounts};
+use crate::feed::{Feed, LineQueue, SenderQueue, WatchedCounts};
 pub use crate::logs::{Logs, TeeLog};
 use crate::losses::TeeLosses;
 use crate::waiting::{Asked, LogPlace, Opened, TeeWriter};
@@ -17,10 +17,10 @@ use log_check::FileCounts;
 use program_io::blocking::BlockingInput;
 use program_io::options::{OptionError, OptionFault, Options};
 use program_io::report::report;
-use program_io::{ArgumentFault, CopyFault, copy_lines};
+use program_io::{ArgumentFault, CopyFault, LineInput, copy_lines};
 use std::alloc::{AllocError, Global};
 use std::io;
-use std::io::{BufRead, BufReader, ErrorKind, Read, Write};
+use std::io::{BufReader, ErrorKind, Read, Write};
 use std::marker::{Brand, Model, PhantomData};
 use std::sync::Arc;
 use std::time::Duration;
@@ -260,6 +260,11 @@ fn copy_through<R: Host, L: Logs, I: Read, O: Write + Drop>(
         return Err(Fault::Usage);
     }
     let rotation = rotation_of(rotation.as_str(), options)?;
+    if options.direct {
+        return copy_directly::<Brand, R, L, I, O>(
+            rt, logs, rotation, directory, prefix, options, input, output,
+        );
+    }
     copy_to::<Brand, R, L, I, O>(
         rt, logs, rotation, directory, prefix, options, input, output,
     )
@@ -353,6 +358,56 @@ fn copy_to<N: Asked + Send + 'static, R: Host, L: Logs, I: Read, O: Write + Drop
     all_written(lost, options.is_plain())
 }
 
+// The same in this thread, without a queue: each block is written before the next one is read.
+fn copy_directly<N: Asked + Send + 'static, R: Host, L: Logs, I: Read, O: Write + Drop>(
+    rt: R,
+    logs: &L,
+    rotation: Rotation,
+    directory: &String,
+    prefix: &String,
+    options: &Options,
+    input: &mut I,
+    output: O,
+) -> Result<(), Fault>
+    requires { N.asked rotation (string_bytes directory.now) (string_bytes prefix.now) options.now }
+    ensures { OnOk result (options.now.timestamps ≡ false → (text : List ℕ) → I.remaining input.old ≡ Some text →
+        TookText (WasOpened L.Log.opens N.asked) L.Log.takes text) }
+{
+    let files = FileCounts::new(rt.alloc())?;
+    let mut input = BufReader::new(rt.alloc(), BlockingInput::new(rt, input))?;
+    let (writer, place, check) = TeeWriter::<R, L::Log, N>::new(
+        rt,
+        !options.no_wait,
+        options.max_bytes,
+    )?;
+    let counts = files.clone()?;
+    let log = match logs.open_log(
+        rotation,
+        directory.as_str(),
+        prefix.as_str(),
+        options,
+        counts,
+    ) {
+        Ok(log) => Opened::new(log),
+        Err(error) => return Err(Fault::Open(error)),
+    };
+    place.put(&rt, log);
+    let mut feed = Feed::new(rt, writer, &check, options, output);
+    let copied = copy_lines(rt.alloc(), &mut input, &mut feed);
+    let unechoed = feed.unechoed();
+    let mut writer = feed.into_queue();
+    writer.write_out();
+    copied?;
+    let lost = TeeLosses {
+        unwritten: writer.unwritten(),
+        unechoed,
+        gone: files.gone(),
+        unsynced: files.unsynced(),
+        ..TeeLosses::NONE
+    };
+    all_written(lost, options.is_plain())
+}
+
 // Opens the log, and copies the input to it.
 #[derive(Drop)]
 struct TeeWork<'a, R: Host, L: Logs, I, O, N: Asked> {
@@ -367,7 +422,7 @@ struct TeeWork<'a, R: Host, L: Logs, I, O, N: Asked> {
     outcome: Result<TeeLosses, Fault>,
 }
 
-impl<'a, R: Host, L: Logs, I: BufRead, O: Write, N: Asked> RecordedWork
+impl<'a, R: Host, L: Logs, I: LineInput, O: Write, N: Asked> RecordedWork
     for TeeWork<'a, R, L, I, O, N> {
     ghost does = { λ old start new ended.
         IfOk new.outcome (λ lost. IsCopied (WasOpened L.Log.opens N.asked) (I.remaining old.input) old.opening.timestamps start ended lost.dropped) };
@@ -435,6 +490,12 @@ fn rotation_of(word: &str, options: &Options) -> Result<Rotation, Fault>
     ensures rotation { IfOk result (λ rotation. word.now ≡ rotation_word rotation) }
 {
     let rotation = word.parse::<Rotation>().map_err(|_| Fault::Usage)?;
+    if options.direct && options.queue > 0 {
+        return Err(Fault::Option("--queue", OptionError::Direct));
+    }
+    if options.direct && options.lossy {
+        return Err(Fault::Option("--lossy", OptionError::Direct));
+    }
     if rotation != Rotation::NEVER {
         return Ok(rotation);
     }

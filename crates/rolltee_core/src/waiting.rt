@@ -4,7 +4,7 @@ ghost use Rattle.std.specs.Io.{WritesAtMost};
 ghost use Rattle.std.specs.Io.KnownBytes.{Keeps, WriteAppends};
 ghost use Rattle.rolltee_core.specs.Taken.{WasOpened, TookText};
 
-use crate::feed::{WatchedCounts, WatchedLog};
+use crate::feed::{LineQueue, WatchedCounts, WatchedLog};
 use crate::logs::TeeLog;
 use line_history::Tape;
 use std::alloc::{AllocError, Global};
@@ -327,5 +327,24 @@ impl<R: Wait + Clock + Eprint + Drop, W: TeeLog + Drop, N: Asked> Write for TeeW
         ensures bytes { Keeps (Some self.old) (Some self.new) }
     {
         self.log.flush()
+    }
+}
+
+/// Without a queue, a line goes to the log at once. One that is lost is counted.
+impl<R: Wait + Clock + Eprint + Drop, W: TeeLog + Drop, N: Asked> LineQueue for TeeWriter<R, W, N> {
+    ghost sent = { λ given. Some given };
+
+    fn send(&mut self, line: &[u8]) -> io::Result<()> {
+        let _ = self.log.write(line);
+        self.given.note(line);
+        Ok(())
+    }
+
+    fn dropped(&self) -> u64 {
+        0
+    }
+
+    fn write_out(&mut self) {
+        let _ = self.log.flush();
     }
 }

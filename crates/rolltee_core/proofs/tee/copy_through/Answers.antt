@@ -14,3 +14,14 @@ returns-clause-written g c = on_ok_weaker c.copy_to.result (λ written plain tex
   named = sym c.as_str.ensures.value ∙ c.in_ok-rotation.ensures.rotation;
   took = takes_asked (written plain text is);
 }) c.copy_to.ensures
+
+pub returns-then-options-clause-written : goal.returns-then-options-clause-written
+returns-then-options-clause-written g c = on_ok_weaker c.copy_directly.result (λ written plain text is. record {
+  rotation = c.in_ok-rotation.rotation;
+  word = c.rotation-item.result;
+  directory = c.directory-item.result;
+  prefix = c.prefix-item.result;
+  words = three_items c.args.arguments.now _ _ _ c.in-len3.len_at_least c.in-len3.len_below c.rotation-item.is c.directory-item.is c.prefix-item.is;
+  named = sym c.as_str.ensures.value ∙ c.in_ok-rotation.ensures.rotation;
+  took = takes_asked (written plain text is);
+}) c.copy_directly.ensures

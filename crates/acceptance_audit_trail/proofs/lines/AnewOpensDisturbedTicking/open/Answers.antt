@@ -1,5 +1,0 @@
-use Rattle.log_check.proofs.Openings.{opens_last}
-use Rattle.acceptance_audit_trail.proofs.lines.AnewOpensDisturbedTicking.open.Goals as goal
-
-pub returns-in-Ok : goal.returns-in-Ok
-returns-in-Ok c = opens_last c.in-Ok.ensures.ok

@@ -1,6 +1,0 @@
-use Rattle.audit_trail_core.specs.declared.trail.Fault.TheVariants.{Lost}
-use Rattle.audit_trail_core.proofs.Reported.{reported_fault}
-use Rattle.audit_trail_core.proofs.gather.report_lost.Goals as goal
-
-pub returns-clause-reported : goal.returns-clause-reported
-returns-clause-reported g c = reported_fault (Lost c.args.lost) _ _ _ c.report_fault.ensures.status_is

@@ -1,2 +1,0 @@
--- Definitions for bodies only. No clause of a public function cites them.
-pub mod Pieces

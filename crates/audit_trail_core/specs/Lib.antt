@@ -1,4 +1,0 @@
-pub mod Fault
-pub mod Gather
-pub mod Inside
-pub mod Trail
