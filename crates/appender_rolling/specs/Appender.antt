@@ -8,7 +8,7 @@ use Rattle.appender_store.specs.declared.store.Folder.{Ghosts}
 use Rattle.appender_runtime.specs.declared.clock.Clock.{Ghosts as Readings}
 use Rattle.appender_rolling.specs.declared.rolling.Switch.{Switch}
 use Rattle.appender_rolling.specs.Config.{Config, defaults, is_limited}
-use Rattle.appender_rolling.specs.Roller.{Rolling, Scheduled, OpenFile, rolling_of, OpensRoller, OpensNoRoller, ChecksClockOnly, Writes, WritesAll, Puts, Flushes, is_due, next_stamp}
+use Rattle.appender_rolling.specs.Roller.{Rolling, Scheduled, OpenFile, rolling_of, OpensRoller, OpensNoRoller, Writes, Puts, Flushes, is_due, next_stamp}
 
 -- only these are set
 abbrev pub plain_config : Rotation → List ℕ → Config
@@ -91,19 +91,11 @@ pub record SomeRollerIsDue {S F : Type 0} (kind : Ghosts S F) (s : Scheduled) (m
   pub plain : is_limited s.config ≡ false → answer ≡ is_due s.boundary m
   pub limited : is_limited s.config ≡ true → (found : OpenFile S F) × (answer ≡ is_some (next_stamp (rolling_of s found) m 0))
 
--- a roller with this schedule checked the clock, which left that one
-pub record SomeRollerChecksClock {S F : Type 0} (kind : Ghosts S F) (m : ℤ) (old new : Scheduled) : Type 0 where
-  pub switch : Switch
+-- This relation leads from a roller with this schedule to one with that: so its lock was found, and so it was left.
+pub record OfSomeRoller {S F : Type 0} (leads : Rolling S F → Rolling S F → Type 0) (old new : Scheduled) : Type 0 where
   pub found : OpenFile S F
   pub left : OpenFile S F
-  pub sees : ChecksClockOnly kind m switch (rolling_of old found) (rolling_of new left)
-
--- bytes were put at this moment into a roller with this schedule, which left that one
-pub record SomeRollerPuts {S F : Type 0} (kind : Ghosts S F) (m : ℤ) (bytes : List ℕ) (answer : Result ℕ Error) (old new : Scheduled) : Type 0 where
-  pub switch : Switch
-  pub found : OpenFile S F
-  pub left : OpenFile S F
-  pub puts : Puts kind m bytes switch answer (rolling_of old found) (rolling_of new left)
+  pub holds : leads (rolling_of old found) (rolling_of new left)
 
 -- The clock was read, and at the moment that it returned no boundary was reached.
 pub record NoFileIsDueNow {S F C : Type 0} (kind : Ghosts S F) (time : Readings C) (clock : C) (s : WriterSchedule) : Type 0 where
@@ -111,28 +103,11 @@ pub record NoFileIsDueNow {S F C : Type 0} (kind : Ghosts S F) (time : Readings 
   pub reading : time.now_gives clock moment
   pub in_its_period : is_due s.boundary moment ≡ false
 
--- the bytes were written to the open file of a roller with this schedule
-pub record SomeRollerWrites {S F : Type 0} (kind : Ghosts S F) (s : Scheduled) (bytes : List ℕ) (answer : Result ℕ Error) : Type 0 where
-  pub found : OpenFile S F
-  pub left : OpenFile S F
-  pub writes : Writes kind bytes answer (rolling_of s found) (rolling_of s left)
-
--- they were written to it in pieces, all of them if the answer is `Ok`
-pub record SomeRollerWritesAll {S F : Type 0} (kind : Ghosts S F) (s : Scheduled) (bytes : List ℕ) (answer : Result (Unit {0}) Error) : Type 0 where
-  pub found : OpenFile S F
-  pub left : OpenFile S F
-  pub writes : WritesAll kind bytes answer (rolling_of s found) (rolling_of s left)
-
 -- the clock was read, and the bytes were put into a roller at the moment that it returned
 pub record PutsAtClock {S F C : Type 0} (kind : Ghosts S F) (time : Readings C) (clock : C) (bytes : List ℕ) (answer : Result ℕ Error) : Type 0 where
   pub moment : ℤ
   pub reading : time.now_gives clock moment
   pub old : Scheduled
   pub new : Scheduled
-  pub puts : SomeRollerPuts kind moment bytes answer old new
-
--- the open file of a roller with this schedule was flushed
-pub record SomeRollerFlushes {S F : Type 0} (kind : Ghosts S F) (s : Scheduled) (answer : Result (Unit {0}) Error) : Type 0 where
-  pub found : OpenFile S F
-  pub left : OpenFile S F
-  pub flushes : Flushes kind answer (rolling_of s found) (rolling_of s left)
+  pub switch : Switch
+  pub puts : OfSomeRoller (Puts kind moment bytes switch answer) old new

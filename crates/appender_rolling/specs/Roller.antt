@@ -270,12 +270,6 @@ pub record Flushes {S F : Type 0} (kind : Ghosts S F) (answer : Result (Unit {0}
 
 -- ---- the open file by itself
 
--- whenever the next file begins, the open file was written to, or flushed, so
-abbrev pub FileWrites : {S F : Type 0} → Ghosts S F → List ℕ → Result ℕ Error → OpenFile S F → OpenFile S F → Type 0
-FileWrites kind bytes answer old new = (s : Scheduled) → Writes kind bytes answer (rolling_of s old) (rolling_of s new)
-
-abbrev pub FileWritesAll : {S F : Type 0} → Ghosts S F → List ℕ → Result (Unit {0}) Error → OpenFile S F → OpenFile S F → Type 0
-FileWritesAll kind bytes answer old new = (s : Scheduled) → WritesAll kind bytes answer (rolling_of s old) (rolling_of s new)
-
-abbrev pub FileFlushes : {S F : Type 0} → Ghosts S F → Result (Unit {0}) Error → OpenFile S F → OpenFile S F → Type 0
-FileFlushes kind answer old new = (s : Scheduled) → Flushes kind answer (rolling_of s old) (rolling_of s new)
+-- this relation leads from a roller with this open file to one with that, whenever the next file begins
+abbrev pub OfAnySchedule : {S F : Type 0} → (Rolling S F → Rolling S F → Type 0) → OpenFile S F → OpenFile S F → Type 0
+OfAnySchedule leads old new = (s : Scheduled) → leads (rolling_of s old) (rolling_of s new)

@@ -70,14 +70,15 @@ impl<S: Folder, C: Clock> RollingFile<S, C> {
 impl<S: Folder, C: Clock, R: Wait + Drop> RollingFileAppender<S, C, R> {
     ghost use Rattle.std.specs.Prelude.{◌≡◌, false, MatchOption};
     ghost use Rattle.std.specs.Sync.RwLock.{read_guard_value};
-    ghost use Rattle.appender_rolling.specs.Roller.{Scheduled};
-    ghost use Rattle.appender_rolling.specs.Appender.{SomeRollerIsDue, SomeRollerChecksClock};
+    ghost use Rattle.appender_rolling.specs.Roller.{Scheduled, ChecksClockOnly};
+    ghost use Rattle.appender_rolling.specs.declared.rolling.Switch.{Switch};
+    ghost use Rattle.appender_rolling.specs.Appender.{SomeRollerIsDue, OfSomeRoller};
 
     // Takes the lock for reading, unless a file is due: then opens that under the lock for writing, and the caller tries
     // again.
     fn lock_unless_due(&self, moment: i64) -> Option<RwLockReadGuard<'_, SharedRoller<S>>>
         ensures { MatchOption result
-            ((old : Scheduled) × (new : Scheduled) × SomeRollerChecksClock S.Folder moment old new)
+            ((old : Scheduled) × (new : Scheduled) × (switch : Switch) × OfSomeRoller (ChecksClockOnly S.Folder moment switch) old new)
             (λ roller. SomeRollerIsDue S.Folder (read_guard_value roller).schedule moment false) }
     {
         let roller = self.roller.read(&self.rt);
@@ -135,8 +136,8 @@ impl<S: Folder, C: Clock, R: Drop> Write for RollingFileAppender<S, C, R> {
     ghost use Rattle.std.specs.Prelude.{None};
     ghost use Rattle.std.specs.Io.{WritesAtMost};
     ghost use Rattle.std.specs.Io.KnownBytes.{WriteAppends};
-    ghost use Rattle.appender_rolling.specs.Roller.{Scheduled};
-    ghost use Rattle.appender_rolling.specs.Appender.{PutsAtClock, SomeRollerFlushes};
+    ghost use Rattle.appender_rolling.specs.Roller.{Scheduled, Flushes};
+    ghost use Rattle.appender_rolling.specs.Appender.{PutsAtClock, OfSomeRoller};
 
     /// Reads the clock once, and writes the bytes at that moment. `write_all` repeats it for what was not taken,
     /// so that its pieces may be in two files. It takes no lock.
@@ -151,7 +152,7 @@ impl<S: Folder, C: Clock, R: Drop> Write for RollingFileAppender<S, C, R> {
 
     /// Flushes the open file, and reads no clock.
     fn flush(&mut self) -> io::Result<()>
-        ensures { (s : Scheduled) × SomeRollerFlushes S.Folder s result }
+        ensures { (s : Scheduled) × OfSomeRoller (Flushes S.Folder result) s s }
     {
         self.roller.get_mut().flush_alone()
     }

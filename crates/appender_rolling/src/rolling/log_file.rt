@@ -1,6 +1,6 @@
 // An open log file in its folder.
 ghost use Rattle.std.specs.Prelude.{◌≤◌, length, IfOk};
-ghost use Rattle.appender_rolling.specs.Roller.{FileWrites, FileWritesAll, FileFlushes};
+ghost use Rattle.appender_rolling.specs.Roller.{Writes, WritesAll, Flushes, OfAnySchedule};
 
 use appender_store::store::Folder;
 use std::io;
@@ -30,7 +30,7 @@ impl<S: Folder> Model for LogFile<S> {
 impl<S: Folder> LogFile<S> {
     // Adds bytes to the file by one append, and returns how many were taken.
     pub(super) fn write(&mut self, bytes: &[u8]) -> io::Result<usize>
-        ensures writes { FileWrites S.Folder bytes.now result self.old self.new }
+        ensures writes { OfAnySchedule (Writes S.Folder bytes.now result) self.old self.new }
         ensures bound { IfOk result (λ taken. taken ≤ length bytes.now) }
     {
         let written = self.folder.append(&mut self.file, bytes);
@@ -43,7 +43,7 @@ impl<S: Folder> LogFile<S> {
     // Makes one append after another until all bytes are taken. An interrupted one is repeated; `WriteZero` if
     // one takes nothing. The loop has a bound, so that it is proved to end.
     pub(super) fn write_all(&mut self, bytes: &[u8]) -> io::Result<()>
-        ensures { FileWritesAll S.Folder bytes.now result self.old self.new }
+        ensures { OfAnySchedule (WritesAll S.Folder bytes.now result) self.old self.new }
     {
         let mut rest = bytes;
         for _made in 0..u64::MAX {
@@ -62,7 +62,7 @@ impl<S: Folder> LogFile<S> {
 
     // Flushes the file.
     pub(super) fn flush(&mut self) -> io::Result<()>
-        ensures { FileFlushes S.Folder result self.old self.new }
+        ensures { OfAnySchedule (Flushes S.Folder result) self.old self.new }
     {
         self.folder.flush(&mut self.file)
     }

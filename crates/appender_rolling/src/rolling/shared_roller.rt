@@ -22,8 +22,9 @@ pub struct SharedRoller<S: Folder> {
 impl<S: Folder> SharedRoller<S> {
     ghost use Rattle.std.specs.Prelude.{◌≡◌, None, OnOk};
     ghost use Rattle.std.specs.Io.KnownBytes.{Appends};
-    ghost use Rattle.appender_rolling.specs.Roller.{schedule_of};
-    ghost use Rattle.appender_rolling.specs.Appender.{SomeRollerIsDue, SomeRollerChecksClock, SomeRollerPuts, SomeRollerWrites, SomeRollerWritesAll, SomeRollerFlushes};
+    ghost use Rattle.appender_rolling.specs.Roller.{schedule_of, ChecksClockOnly, Puts, Writes, WritesAll, Flushes};
+    ghost use Rattle.appender_rolling.specs.declared.rolling.Switch.{Switch};
+    ghost use Rattle.appender_rolling.specs.Appender.{SomeRollerIsDue, OfSomeRoller};
 
     pub(super) fn new(roller: Roller<S>) -> SharedRoller<S>
         ensures { result.schedule ≡ schedule_of roller }
@@ -49,14 +50,14 @@ impl<S: Folder> SharedRoller<S> {
 
     // Checks the clock.
     pub(super) fn see(&mut self, moment: i64)
-        ensures { SomeRollerChecksClock S.Folder moment self.old.schedule self.new.schedule }
+        ensures { (switch : Switch) × OfSomeRoller (ChecksClockOnly S.Folder moment switch) self.old.schedule self.new.schedule }
     {
         self.schedule.check_clock(self.log.get_mut(), moment, 0);
     }
 
     // Checks the clock for these bytes, and then writes them.
     pub(super) fn put(&mut self, moment: i64, bytes: &[u8]) -> io::Result<usize>
-        ensures { SomeRollerPuts S.Folder moment bytes.now result self.old.schedule self.new.schedule }
+        ensures { (switch : Switch) × OfSomeRoller (Puts S.Folder moment bytes.now switch result) self.old.schedule self.new.schedule }
     {
         let log = self.log.get_mut();
         self.schedule.check_clock(log, moment, bytes.len());
@@ -65,7 +66,7 @@ impl<S: Folder> SharedRoller<S> {
 
     // Makes one append to the open file.
     pub(super) fn write<R: Wait>(&self, rt: &R, bytes: &[u8]) -> io::Result<usize>
-        ensures { SomeRollerWrites S.Folder self.now.schedule bytes.now result }
+        ensures { OfSomeRoller (Writes S.Folder bytes.now result) self.now.schedule self.now.schedule }
     {
         lock(rt, &self.log, &mut Backoff::NEW).write(bytes)
     }
@@ -73,21 +74,21 @@ impl<S: Folder> SharedRoller<S> {
     // Repeats it under one lock for what was not taken.
     pub(super) fn write_all<R: Wait>(&self, rt: &R, bytes: &[u8]) -> io::Result<()>
         ensures bytes { OnOk result (Appends None None bytes.now) }
-        ensures appends { SomeRollerWritesAll S.Folder self.now.schedule bytes.now result }
+        ensures appends { OfSomeRoller (WritesAll S.Folder bytes.now result) self.now.schedule self.now.schedule }
     {
         lock(rt, &self.log, &mut Backoff::NEW).write_all(bytes)
     }
 
     // Flushes the open file.
     pub(super) fn flush<R: Wait>(&self, rt: &R) -> io::Result<()>
-        ensures { SomeRollerFlushes S.Folder self.now.schedule result }
+        ensures { OfSomeRoller (Flushes S.Folder result) self.now.schedule self.now.schedule }
     {
         lock(rt, &self.log, &mut Backoff::NEW).flush()
     }
 
     // Flushes the open file. No other thread has it, so no lock is taken.
     pub(super) fn flush_alone(&mut self) -> io::Result<()>
-        ensures flush { SomeRollerFlushes S.Folder self.old.schedule result }
+        ensures flush { OfSomeRoller (Flushes S.Folder result) self.old.schedule self.old.schedule }
         ensures same { self.new.schedule ≡ self.old.schedule }
     {
         self.log.get_mut().flush()

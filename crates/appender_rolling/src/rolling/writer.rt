@@ -34,13 +34,14 @@ impl<S: Folder, R> Drop for RollingWriter<'_, S, R> {
 }
 
 impl<'a, S: Folder, R: Wait> Write for RollingWriter<'a, S, R> {
-    ghost use Rattle.appender_rolling.specs.Appender.{SomeRollerWrites, SomeRollerWritesAll, SomeRollerFlushes};
+    ghost use Rattle.appender_rolling.specs.Appender.{OfSomeRoller};
+    ghost use Rattle.appender_rolling.specs.Roller.{Writes, WritesAll, Flushes};
 
     /// Makes one append to the open file, and reads no clock.
     fn write(&mut self, bytes: &[u8]) -> io::Result<usize>
         ensures bound { WritesAtMost result bytes.now }
         ensures bytes { WriteAppends None None result bytes.now }
-        ensures append { SomeRollerWrites S.Folder self.old bytes.now result }
+        ensures append { OfSomeRoller (Writes S.Folder bytes.now result) self.old self.old }
         ensures same { self.new ≡ self.old }
     {
         self.roller.write(self.rt, bytes)
@@ -49,7 +50,7 @@ impl<'a, S: Folder, R: Wait> Write for RollingWriter<'a, S, R> {
     /// Repeats `write` under one lock until all bytes are taken, so that no other piece is between them.
     fn write_all(&mut self, bytes: &[u8]) -> io::Result<()>
         ensures bytes { OnOk result (Appends None None bytes.now) }
-        ensures appends { SomeRollerWritesAll S.Folder self.old bytes.now result }
+        ensures appends { OfSomeRoller (WritesAll S.Folder bytes.now result) self.old self.old }
         ensures same { self.new ≡ self.old }
     {
         self.roller.write_all(self.rt, bytes)
@@ -57,7 +58,7 @@ impl<'a, S: Folder, R: Wait> Write for RollingWriter<'a, S, R> {
 
     /// Flushes the open file.
     fn flush(&mut self) -> io::Result<()>
-        ensures flush { SomeRollerFlushes S.Folder self.old result }
+        ensures flush { OfSomeRoller (Flushes S.Folder result) self.old self.old }
         ensures same { self.new ≡ self.old }
     {
         self.roller.flush(self.rt)

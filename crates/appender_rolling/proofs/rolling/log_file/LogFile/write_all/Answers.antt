@@ -7,7 +7,7 @@ use Rattle.std.specs.IoError.{error_kind}
 use Rattle.std.specs.declared.io.Error.{Error}
 use Rattle.std.specs.declared.io.ErrorKind.TheVariants.{Interrupted}
 use Rattle.appender_store.specs.declared.store.Folder.{Ghosts}
-use Rattle.appender_rolling.specs.Roller.{Scheduled, OpenFile, rolling_of, written_count, IsContinued, AreContinued, EndsWrites, WritesSoFar, FileWrites, FileWritesAll}
+use Rattle.appender_rolling.specs.Roller.{Scheduled, OpenFile, rolling_of, written_count, IsContinued, AreContinued, EndsWrites, Writes, WritesAll, WritesSoFar, OfAnySchedule}
 use Rattle.appender_store.proofs.Appends.{after_append_nothing}
 use Rattle.appender_rolling.proofs.Pieces.{one_more_piece}
 use Rattle.appender_rolling.proofs.rolling.log_file.LogFile.write_all.Goals.{in-Ok, in-Err, in-Interrupted, in_default}
@@ -21,8 +21,8 @@ module _ {S F : Type 0} (kind : Ghosts S F) where
 
   -- an end before all was written
   ended : {made : ℕ} {bytes left : List ℕ} {start last now : OpenFile S F} {answer : Result ℕ Error} {fault : Error}
-      → (before : Before made bytes left start last) → left ≢ [] → FileWrites kind left answer last now
-      → EndsWrites (answer ∷ before.0) fault → FileWritesAll kind bytes (Err fault) start now
+      → (before : Before made bytes left start last) → left ≢ [] → OfAnySchedule (Writes kind left answer) last now
+      → EndsWrites (answer ∷ before.0) fault → OfAnySchedule (WritesAll kind bytes (Err fault)) start now
   ended {bytes = bytes} {left = left} {start = start} {last = last} {now = now} {answer = answer} before some writes stops s = record {
     answers = answer ∷ before.0;
     rest = drop (written_count answer) left;
@@ -33,7 +33,7 @@ module _ {S F : Type 0} (kind : Ghosts S F) where
 
   -- the loop goes on after such a write
   went_on : {made : ℕ} {bytes left rest : List ℕ} {start last now : OpenFile S F} {answer : Result ℕ Error}
-      → Before made bytes left start last → left ≢ [] → IsContinued answer → FileWrites kind left answer last now → rest ≡ drop (written_count answer) left
+      → Before made bytes left start last → left ≢ [] → IsContinued answer → OfAnySchedule (Writes kind left answer) last now → rest ≡ drop (written_count answer) left
       → Before (made + 1) bytes rest start now
   went_on {made = made} {bytes = bytes} {left = left} {start = start} {last = last} {now = now} {answer = answer} before some goes writes is =
       let so_far : (s : Scheduled) → WritesSoFar kind (answer ∷ before.0) bytes (drop (written_count answer) left) (rolling_of s start) (rolling_of s now)

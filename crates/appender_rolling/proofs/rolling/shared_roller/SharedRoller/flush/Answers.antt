@@ -4,5 +4,5 @@ pub returns : goal.returns
 returns g c = record {
   found = c.lock.result.value;
   left = c.flush.new.self;
-  flushes = rw (← c.deref_mut.ensures.value) (c.flush.ensures c.args.self.now.schedule);
+  holds = rw (← c.deref_mut.ensures.value) (c.flush.ensures c.args.self.now.schedule);
 }

@@ -4,5 +4,5 @@ pub returns-clause-flush : goal.returns-clause-flush
 returns-clause-flush g c = record {
   found = c.get_mut.result.now;
   left = c.flush.new.self;
-  flushes = c.flush.ensures c.args.self.now.schedule;
+  holds = c.flush.ensures c.args.self.now.schedule;
 }

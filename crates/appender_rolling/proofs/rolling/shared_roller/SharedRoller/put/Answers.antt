@@ -5,14 +5,15 @@ use Rattle.appender_rolling.proofs.rolling.shared_roller.SharedRoller.put.Goals 
 
 pub returns : goal.returns
 returns g c =
-    let fits : FitsSigned w64 c.args.moment = c.ranges.moment in
-    record {
-      switch = c.check_clock.result;
-      found = c.get_mut-log.result.now;
-      left = c.write.new.self;
-      puts = record {
-        between = rolling_of c.check_clock.new.self c.check_clock.new.log;
-        looks = simp to_z-of_z at c.check_clock.ensures;
-        writes = c.write.ensures.writes c.check_clock.new.self;
-      };
-    }
+    let fits : FitsSigned w64 c.args.moment = c.ranges.moment in (
+      c.check_clock.result,
+      record {
+        found = c.get_mut-log.result.now;
+        left = c.write.new.self;
+        holds = record {
+          between = rolling_of c.check_clock.new.self c.check_clock.new.log;
+          looks = simp to_z-of_z at c.check_clock.ensures;
+          writes = c.write.ensures.writes c.check_clock.new.self;
+        };
+      },
+    )

@@ -4,10 +4,11 @@ use Rattle.appender_rolling.proofs.rolling.shared_roller.SharedRoller.see.Goals 
 
 pub returns : goal.returns
 returns g c =
-    let fits : FitsSigned w64 c.args.moment = c.ranges.moment in
-    record {
-      switch = c.check_clock.result;
-      found = c.get_mut.result.now;
-      left = c.check_clock.new.log;
-      sees = simp to_z-of_z at c.check_clock.ensures;
-    }
+    let fits : FitsSigned w64 c.args.moment = c.ranges.moment in (
+      c.check_clock.result,
+      record {
+        found = c.get_mut.result.now;
+        left = c.check_clock.new.log;
+        holds = simp to_z-of_z at c.check_clock.ensures;
+      },
+    )

@@ -4,5 +4,5 @@ pub returns : goal.returns
 returns g c = record {
   found = c.lock.result.value;
   left = c.write.new.self;
-  writes = rw (← c.deref_mut.ensures.value) (c.write.ensures.writes c.args.self.now.schedule);
+  holds = rw (← c.deref_mut.ensures.value) (c.write.ensures.writes c.args.self.now.schedule);
 }

@@ -4,5 +4,5 @@ pub returns-clause-appends : goal.returns-clause-appends
 returns-clause-appends g c = record {
   found = c.lock.result.value;
   left = c.write_all.new.self;
-  writes = rw (← c.deref_mut.ensures.value) (c.write_all.ensures c.args.self.now.schedule);
+  holds = rw (← c.deref_mut.ensures.value) (c.write_all.ensures c.args.self.now.schedule);
 }
