@@ -1,21 +1,9 @@
--- What is passed to a worker over a run, and what it does next.
+-- One write of a worker, and what it does next.
 use Rattle.std.specs.Prelude.{◌≡◌, ℕ, List, [], Bool, false, take, Option, Result}
 use Rattle.std.specs.Io.KnownBytes.{Appends}
 use Rattle.std.specs.declared.io.Error.{Error}
-use Rattle.appender_worker.specs.Core.{Core, Taking, Writing, Answer, Wrote, Found, after_took, after_wrote, after_flushed}
+use Rattle.appender_worker.specs.Core.{Core, Taking, Writing, Answer, Wrote, after_wrote}
 use Rattle.appender_worker.specs.CoreReplies.{answer_of}
-
--- a result that was passed to the worker: what a take found, the result of a write, or that a flush was made
-pub data WorkerEvent : Type 0 where
-  Took : Found → WorkerEvent
-  Write : Answer → WorkerEvent
-  Flushed : WorkerEvent
-
--- what the worker does next after an event
-abbrev pub core_after_event : Core → WorkerEvent → Core
-core_after_event core (Took found) = after_took core found
-core_after_event core (Write answer) = after_wrote core answer
-core_after_event core Flushed = after_flushed core
 
 -- the bytes that a write adds: what the writer took of the rest that it was offered
 abbrev pub taken_bytes : Core → Answer → List ℕ

@@ -76,43 +76,34 @@ impl Default for NonBlockingBuilder {
 impl NonBlockingBuilder {
     /// Sets how many lines may be queued. With 0, a line is accepted only while the worker waits.
     #[must_use]
-    pub fn buffered_lines_limit(self, limit: usize) -> NonBlockingBuilder
+    pub fn buffered_lines_limit(mut self, limit: usize) -> NonBlockingBuilder
         ensures { result ≡ record self { limit = limit } }
     {
-        let NonBlockingBuilder {
-            limit: _,
-            lossy,
-            name,
-        } = self;
-        NonBlockingBuilder { limit, lossy, name }
+        self.limit = limit;
+        self
     }
 
     /// Sets whether a line that finds no room is dropped. If not, its sender waits for room.
     #[must_use]
-    pub fn lossy(self, lossy: bool) -> NonBlockingBuilder
+    pub fn lossy(mut self, lossy: bool) -> NonBlockingBuilder
         ensures { result ≡ record self { lossy = lossy } }
     {
-        let NonBlockingBuilder {
-            limit,
-            lossy: _,
-            name,
-        } = self;
-        NonBlockingBuilder { limit, lossy, name }
+        self.lossy = lossy;
+        self
     }
 
     /// Sets the name of the worker's thread. `AllocError` if there is no memory for its copy.
-    pub fn thread_name(self, alloc: Global, name: &str) -> Result<NonBlockingBuilder, AllocError>
+    pub fn thread_name(
+        mut self,
+        alloc: Global,
+        name: &str,
+    ) -> Result<NonBlockingBuilder, AllocError>
         ensures limit { IfOk result (λ builder. builder.limit ≡ self.limit) }
         ensures lossy { IfOk result (λ builder. builder.lossy ≡ self.lossy) }
         ensures name { IfOk result (λ builder. builder.name ≡ Some name.now) }
     {
-        let NonBlockingBuilder {
-            limit,
-            lossy,
-            name: _,
-        } = self;
-        let name = Some(String::from_str(alloc, name)?);
-        Ok(NonBlockingBuilder { limit, lossy, name })
+        self.name = Some(String::from_str(alloc, name)?);
+        Ok(self)
     }
 
     /// Starts the worker, and makes its first sender and its guard. The error is `OutOfMemory`, or that of
