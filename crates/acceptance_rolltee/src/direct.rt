@@ -99,13 +99,13 @@ fn a_run_without_a_queue_has_no_limit_of_lines(rt: HostRuntime) -> Result<(), Fa
     check(
         rt,
         &options,
-        (2, "--queue: not with --direct, which has no queue\n"),
+        (2, "--queue: not with --direct\n"),
     )?;
     options.queue = 0;
     options.lossy = true;
     check(
         rt,
         &options,
-        (2, "--lossy: not with --direct, which has no queue\n"),
+        (2, "--lossy: not with --direct\n"),
     )
 }

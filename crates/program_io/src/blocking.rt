@@ -1,12 +1,54 @@
-//! An input that does not block.
+//! Inputs that do not block, and whether one may have to be waited for.
 ghost use Rattle.std.specs.Prelude.{◌≡◌, ◌≢◌, IfErr};
 ghost use Rattle.std.specs.IoError.{error_kind};
 ghost use Rattle.std.specs.Io.{ReadsAtMost};
 ghost use Rattle.std.specs.Io.KnownBytes.{ReadConsumes};
 
-use std::io::{ErrorKind, Read};
+use libc::net::{POLLIN, poll};
+use libc::types::pollfd;
+use std::io::{BufReader, ErrorKind, Read, Stdin};
+use std::os::fd::AsRawFd;
 use std::time::{Clock, Duration};
 use std::{io, thread};
+
+/// An input that shows whether it has to be waited for.
+pub trait Ready {
+    /// Returns whether more than what is buffered can be read at once, or the end. `false` if that can't be seen.
+    fn is_ready(&self) -> bool {
+        false
+    }
+}
+
+/// Asks the system (POSIX: `poll`).
+impl Ready for Stdin {
+    fn is_ready(&self) -> bool {
+        let mut asked = [pollfd {
+            fd: self.as_raw_fd(),
+            events: POLLIN,
+            revents: 0,
+        }];
+        poll(&mut asked, 0) > 0
+    }
+}
+
+/// Bytes in memory are not waited for.
+impl Ready for &[u8] {
+    fn is_ready(&self) -> bool {
+        true
+    }
+}
+
+impl<I: Ready> Ready for &mut I {
+    fn is_ready(&self) -> bool {
+        (**self).is_ready()
+    }
+}
+
+impl<I: Read + Ready> Ready for BufReader<I> {
+    fn is_ready(&self) -> bool {
+        self.get_ref().is_ready()
+    }
+}
 
 /// An input that another program may have set not to block (POSIX: `O_NONBLOCK`). If nothing can be read yet, a read
 /// waits, and then tries again.
@@ -50,5 +92,11 @@ impl<R: Clock, I: Read> Read for BlockingInput<R, I> {
             }
         }
         Err(io::Error::from(ErrorKind::TimedOut))
+    }
+}
+
+impl<R, I: Ready> Ready for BlockingInput<R, I> {
+    fn is_ready(&self) -> bool {
+        self.input.is_ready()
     }
 }

@@ -38,10 +38,11 @@ pub mod options;
 pub mod report;
 pub mod streams;
 
-use memchr::memchr;
+use crate::blocking::Ready;
+use memchr::{memchr, memrchr};
 use std::alloc::{AllocError, Global};
 use std::env::FillError;
-use std::io::{BufRead, BufReader, ErrorKind, Read, Write};
+use std::io::{BufRead, ErrorKind, Write};
 use std::rt::Env;
 use std::{env, io, str};
 
@@ -98,7 +99,7 @@ fn first_not_text(rt: &(impl Env + AllocGlobal)) -> Result<String, AllocError> {
     String::from_str(rt.alloc(), "a long argument")
 }
 
-/// The greatest length in bytes of a piece of a line.
+/// The greatest length in bytes of a piece.
 pub const LONGEST_LINE: usize = 1 << 20;
 
 /// Reads the next line with its newline, if it has one, into `line`, in place of what that contained. Returns whether
@@ -116,23 +117,13 @@ pub fn read_line<I: BufRead>(input: &mut I, line: &mut Vec<u8>) -> io::Result<bo
     Ok(length > 0)
 }
 
-/// An input of lines that shows whether the next one was read already.
-pub trait LineInput: BufRead {
-    /// Returns whether a whole line was read already, which needs no wait.
-    fn has_line(&self) -> bool;
-}
-
-impl<R: Read> LineInput for BufReader<R> {
-    fn has_line(&self) -> bool {
-        memchr(b'\n', self.buffer()).is_some()
-    }
-}
-
-/// Bytes in memory are not waited for.
-impl LineInput for &[u8] {
-    fn has_line(&self) -> bool {
-        true
-    }
+/// How an input is split into pieces.
+#[derive(Clone, Copy, Debug, PartialEq, Eq)]
+pub enum Split {
+    /// A piece is a line.
+    Lines,
+    /// A piece is all whole lines that one read completes.
+    Blocks,
 }
 
 /// Why lines were not copied to the end.
@@ -153,70 +144,77 @@ impl From<io::Error> for CopyFault {
     }
 }
 
-/// Reads the next piece of a line into `piece`, in place of what that contained. A piece is the line with its newline, if
-/// it has one, or its next `LONGEST_LINE` bytes if it is longer. Returns whether there was one. Errors are those of the input,
-/// and `OutOfMemory`.
-pub fn read_piece<I: BufRead>(input: &mut I, piece: &mut Vec<u8>) -> io::Result<bool>
+/// Reads the next piece into `piece`, in place of what that contained: the line with its newline, if it has one, or by
+/// `Split::Blocks` what one read adds to it up to its last newline. A longer piece ends after `LONGEST_LINE` bytes. Returns
+/// whether there was one. Errors are those of the input, and `OutOfMemory`.
+pub fn read_piece<I: BufRead>(input: &mut I, piece: &mut Vec<u8>, split: Split) -> io::Result<bool>
     ensures bytes { OnOk result (Consumes (I.remaining input.old) (I.remaining input.new) piece.new.items) }
     ensures length { OnOk result (length piece.new.items ≤ LONGEST_LINE) }
-    ensures line { OnOk result (StopsAt piece.new.items 10) }
+    ensures line { OnOk result (split ≡ Split.Lines → StopsAt piece.new.items 10) }
     ensures whole { OnOk result (IsPiece piece.new.items
         ⊎ OnSome (I.remaining input.old) (IsAtEnd (I.remaining input.new))) }
     ensures end { result ≡ Ok false → IsAtEnd (I.remaining input.old) }
 {
     piece.clear();
     for _ in 0..u64::MAX {
-        if extend_piece(input, piece)? {
+        if extend_piece(input, piece, split)? {
             return Ok(!piece.is_empty());
         }
     }
     Err(io::Error::other("too many reads"))
 }
 
-// Adds to a piece what is buffered of its line, and returns whether that was all of it.
-fn extend_piece<I: BufRead>(input: &mut I, piece: &mut Vec<u8>) -> io::Result<bool>
-    requires { IsOpen piece.old.items }
-    ensures { IfOk result (Extends (I.remaining input.old) (I.remaining input.new) piece.old.items piece.new.items) }
+// Adds to a piece what is buffered of it, and returns whether that was all of it.
+fn extend_piece<I: BufRead>(input: &mut I, piece: &mut Vec<u8>, split: Split) -> io::Result<bool>
+    requires { IsOpen split piece.old.items }
+    ensures { IfOk result (Extends split (I.remaining input.old) (I.remaining input.new) piece.old.items piece.new.items) }
 {
     let available = match input.fill_buf() {
         Ok(available) => available,
         Err(error) if error.kind() == ErrorKind::Interrupted => return Ok(false),
         Err(error) => return Err(error),
     };
-    let length = piece_length(available, LONGEST_LINE - piece.len());
+    let length = piece_length(available, LONGEST_LINE - piece.len(), split);
     piece.extend_from_slice(&available[..length])?;
     input.consume(length);
     Ok(length == 0 || is_piece(piece.as_slice()))
 }
 
-// Returns the length of the first line of these bytes, or of as much of it as there is room for.
-fn piece_length(bytes: &[u8], room: usize) -> usize
+// Returns the length of the first line of these bytes, or of all their lines, or of as much as there is room for.
+fn piece_length(bytes: &[u8], room: usize, split: Split) -> usize
     ensures bound { result ≤ length bytes.now }
     ensures room { result ≤ room }
     ensures some { 0 < length bytes.now → 0 < room → 0 < result }
-    ensures line { All (λ x. x ≢ 10) (take (result - 1) bytes.now) }
+    ensures line { split ≡ Split.Lines → All (λ x. x ≢ 10) (take (result - 1) bytes.now) }
 {
     let most = bytes.len().min(room);
-    match memchr(b'\n', &bytes[..most]) {
+    let newline = match split {
+        Split::Lines => memchr(b'\n', &bytes[..most]),
+        Split::Blocks => memrchr(b'\n', &bytes[..most]),
+    };
+    match newline {
         Some(place) => place + 1,
         None => most,
     }
 }
 
-// Returns whether a piece is a whole line, or has no room for more.
+// Returns whether a piece ends with a whole line, or has no room for more.
 fn is_piece(piece: &[u8]) -> bool
     ensures { IsTrue result ↔ IsPiece piece.now }
 {
     piece.len() == LONGEST_LINE || piece.last() == Some(&b'\n')
 }
 
-/// Writes each line of `input` by one write, with its newline, if it has one, until nothing is left. A line that is
-/// longer than `LONGEST_LINE` with its newline is written in pieces of that length. Lines before a fault are written. Before
-/// a read that may have to be waited for, the writer is flushed, whose fault is ignored.
-pub fn copy_lines<I: LineInput, W: Write>(
+// Of blocks, the most bytes that are written without a flush.
+const FLUSHED_BYTES: usize = 1 << 20;
+
+/// Writes each piece of `input` by one write, until nothing is left. Pieces before a fault are written. Blocks are flushed
+/// before a read that may have to be waited for, and whenever a MiB was written. A fault of a flush is ignored.
+pub fn copy_pieces<I: BufRead + Ready, W: Write>(
     alloc: Global,
     input: &mut I,
     writer: &mut W,
+    split: Split,
 ) -> Result<(), CopyFault>
     ensures all { OnOk result ((text : List ℕ) → I.remaining input.old ≡ Some text →
         Appends (W.contents writer.old) (W.contents writer.new) text) }
@@ -226,13 +224,20 @@ pub fn copy_lines<I: LineInput, W: Write>(
         AppendsBeginning (W.contents writer.old) (W.contents writer.new) text) }
 {
     let mut piece = Vec::new(alloc);
+    // The number of bytes after the last flush.
+    let mut unflushed = 0usize;
     for _ in 0..u64::MAX {
-        if !read_piece(input, &mut piece)? {
+        if !read_piece(input, &mut piece, split)? {
             return Ok(());
         }
-        write_piece(piece.as_slice(), !input.has_line(), writer)?;
+        unflushed = unflushed.saturating_add(piece.len());
+        let flushes = split == Split::Blocks && (unflushed >= FLUSHED_BYTES || !input.is_ready());
+        write_piece(piece.as_slice(), flushes, writer)?;
+        if flushes {
+            unflushed = 0;
+        }
     }
-    Err(CopyFault::Read(io::Error::other("too many lines")))
+    Err(CopyFault::Read(io::Error::other("too many pieces")))
 }
 
 // Writes a piece by one write, and flushes the writer if that is asked for.

@@ -157,8 +157,8 @@ pub enum OptionError {
     /// The program has no use for the option without a rotation. `read` never returns it.
     #[error("not with never, a log of one file; take weekly, whose files are the longest")]
     Never,
-    /// The program has no use for the option without a queue. `read` never returns it.
-    #[error("not with --direct, which has no queue")]
+    /// The option is one of a queue. `read` never returns it.
+    #[error("not with --direct")]
     Direct,
     /// The value is not a decimal number from 1 that a `usize` can represent.
     #[error("not a number from 1")]

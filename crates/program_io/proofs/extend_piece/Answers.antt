@@ -5,6 +5,7 @@ use Rattle.std.proofs.Transfers.{StopsAt-append, StopsAt-of_All, StopsAt-take}
 use Rattle.std.specs.Io.{StopsAt}
 use Rattle.std.specs.Io.BufRead.{FillKeeps}
 use Rattle.program_io.specs.Line.{IsPiece}
+use Rattle.program_io.specs.declared.Split.TheVariants.{Lines}
 use Rattle.program_io.specs.declared.TheConstants.{LONGEST_LINE}
 use Rattle.program_io.proofs.Pieces.{open_unless_piece}
 use Rattle.program_io.proofs.extend_piece.Goals as goal
@@ -14,7 +15,7 @@ returns-in-Err g c = record {
   bytes = [];
   added = sym (append-nil c.args.piece.now.items);
   consumed = Consumes-kept _ _ _ [] (Consumes-nil _) c.fill_buf.follows.holds-at-none.0;
-  line = StopsAt-of_All _ 10 c.requires.0;
+  line = λ is. StopsAt-of_All _ 10 (c.requires.0 is);
   room = search rules;
   ends = λ e. absurd (search rules);
   goes_on = λ e. c.requires;
@@ -35,7 +36,7 @@ returns-then-length-eq0 g c =
       bytes = take n shown;
       added = items;
       consumed = moved.0;
-      line = subst (λ l. StopsAt l 10) (sym same) (StopsAt-of_All _ 10 c.requires.0);
+      line = λ is. subst (λ l. StopsAt l 10) (sym same) (StopsAt-of_All _ 10 (c.requires.0 is));
       room = search rules;
       ends = λ e. inr (moved.1 none);
       goes_on = λ e. absurd (search rules);
@@ -49,8 +50,8 @@ returns-else-length-eq0 g c =
     let rested = c.fill_buf.follows.lender-at-none in
     let filled = subst (FillKeeps _ (g.I.Read.remaining rested) (g.I.BufRead.consumable_len rested)) c.in-Ok.is c.fill_buf.follows.holds-at-none in
     let moved = Consumes_shown _ _ _ _ shown n c.piece_length-length.ensures.bound c.in-Ok.ensures.front c.in-Ok.ensures.end filled.0 filled.1 c.consume.ensures.bytes in
-    let line : StopsAt c.extend_from_slice.new.self.items 10 =
-    subst (λ l. StopsAt l 10) (sym items) (StopsAt-append _ _ 10 c.requires.0 (StopsAt-take shown 10 n c.piece_length-length.ensures.bound c.piece_length-length.ensures.line)) in
+    let line : c.args.split ≡ Lines → StopsAt c.extend_from_slice.new.self.items 10 =
+    λ is. subst (λ l. StopsAt l 10) (sym items) (StopsAt-append _ _ 10 (c.requires.0 is) (StopsAt-take shown 10 n c.piece_length-length.ensures.bound (c.piece_length-length.ensures.line is))) in
     let long = ap length items ∙ length-append c.args.piece.now.items (take n shown) in
     let room : length c.extend_from_slice.new.self.items ≤ LONGEST_LINE =
     omega (arith, long, length-take-le n shown c.piece_length-length.ensures.bound, c.piece_length-length.ensures.room, c.len.ensures, c.requires.1) in
@@ -61,7 +62,7 @@ returns-else-length-eq0 g c =
       line = line;
       room = room;
       ends = λ e. inl (search rules);
-      goes_on = λ e. open_unless_piece _ line room (λ is.
+      goes_on = λ e. open_unless_piece c.args.split _ line room (λ is.
           let yes : c.is_piece.result ≡ true = c.is_piece.ensures.1 (subst IsPiece (sym c.as_slice.ensures.value) is) in
           let no : true ≡ false = sym yes ∙ e in
           cc);

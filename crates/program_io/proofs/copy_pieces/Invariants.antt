@@ -1,6 +1,6 @@
 use Rattle.std.proofs.Common.{◌≡◌, ℕ, List, ◌++◌, Some}
 use Rattle.std.specs.Io.KnownBytes.{Appends}
-use Rattle.program_io.proofs.copy_lines.Given as goal
+use Rattle.program_io.proofs.copy_pieces.Given as goal
 
 -- what was read so far was written, and the rest is left to be read
 abbrev pub invariant-loop : goal.invariant-loop

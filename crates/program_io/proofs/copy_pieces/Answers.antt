@@ -3,7 +3,7 @@ use Rattle.std.specs.Io.KnownBytes.{Appends, Consumes, IsAtEnd}
 use Rattle.program_io.proofs.Copied.{appends_nothing, appends_both, split_consumed, nil_behind}
 use Rattle.program_io.specs.Report.{AppendsBeginning}
 use Rattle.program_io.proofs.Reported.{begun, begun_more, on_err}
-use Rattle.program_io.proofs.copy_lines.Goals as goal
+use Rattle.program_io.proofs.copy_pieces.Goals as goal
 
 pub loop-init : goal.loop-init
 loop-init g c = λ text told. ([], text, told, refl, appends_nothing (g.W.Write.contents c.args.writer.now))
