@@ -1,28 +1,27 @@
 // Lines that are written together: what a fault leaves of them, and how soon they are in the file.
 use crate::expect::expect_eq;
-use crate::logs::OneLog;
-use program_io::options::Options;
-use rolltee_core::tee::{TeeLog, tee, tee_with};
+use crate::logs::{TestLog, Text};
+use crate::run::{check_files, check_log, fresh};
+use program_io::blocking::Ready;
 use std::alloc::{AllocError, Global};
-use std::io::{Read, Write};
+use std::io::Read;
 use std::process::Abort;
 use std::rt::Files;
-use std::sync::{Arc, Mutex, Wait};
+use std::sync::Wait;
 use std::test::Fail;
 use std::time::{Clock, Duration, Instant};
-use std::{env, fs, io, process, thread};
+use std::{fs, io, thread};
 use tracing_appender::non_blocking::Host;
 
 // A log that takes this many bytes, fails once, and then takes everything. A line that is given up is marked.
 #[derive(Drop)]
 struct Failing<R: Wait> {
-    rt: R,
     room: usize,
     failed: bool,
-    text: Arc<Mutex<Vec<u8>>, Global>,
+    text: Text<R>,
 }
 
-impl<R: Wait> TeeLog for Failing<R> {
+impl<R: Wait> TestLog for Failing<R> {
     fn put(&mut self, buf: &[u8]) -> io::Result<usize> {
         let taken = if self.failed {
             buf.len()
@@ -33,17 +32,13 @@ impl<R: Wait> TeeLog for Failing<R> {
             self.failed = true;
             return Err(io::Error::from(io::ErrorKind::OutOfMemory));
         }
-        self.text.lock(&self.rt).extend_from_slice(&buf[..taken])?;
+        self.text.add(&buf[..taken])?;
         self.room = self.room.saturating_sub(taken);
         Ok(taken)
     }
 
-    fn flush_all(&mut self) -> io::Result<()> {
-        Ok(())
-    }
-
     fn give_up(&mut self) {
-        let _ = self.text.lock(&self.rt).push(b'!');
+        let _ = self.text.add(b"!");
     }
 }
 
@@ -67,51 +62,38 @@ fn cut_at(alloc: Global, place: usize) -> Result<Vec<u8>, AllocError> {
 }
 
 // Runs the program over a log that fails at this byte.
-fn check_fault_at<R: Host + Abort>(rt: R, place: usize, waits: bool) -> Result<(), Fail> {
-    let mut arguments = Vec::new(rt.alloc());
-    for word in ["never", "dir", "app"] {
-        arguments.push(word.to_string(rt.alloc())?)?;
-    }
-    let text = Mutex::new(Vec::new(rt.alloc()));
-    let text = Arc::new(rt.alloc(), text).map_err(AllocError::from)?;
-    let logs = OneLog::new(Failing {
-        rt,
+fn check_fault_at<R: Host + Abort>(
+    rt: R,
+    place: usize,
+    line: &str,
+    told: &str,
+) -> Result<(), Fail> {
+    let text = Text::new(rt)?;
+    let log = Failing {
         room: place,
         failed: false,
-        text: text.clone()?,
-    });
-    let mut errors = Vec::new(rt.alloc());
-    let mut options = Options::new(rt.alloc());
-    options.no_wait = !waits;
-    let mut input = TEXT;
-    let answer = tee_with(
-        rt,
-        &logs,
-        &options,
-        arguments.as_slice(),
-        &mut input,
-        io::sink(),
-        &mut errors,
-    );
-    let told = if waits {
-        "write failed\n"
-    } else {
-        "lines not written whole: 1\n"
+        text: text.share()?,
     };
-    expect_eq(&rt, errors.as_slice(), told.as_bytes());
-    expect_eq(&rt, answer, 1);
+    let mut input = TEXT;
+    check_log(rt, log, line, &mut input, (1, told));
     let wanted = cut_at(rt.alloc(), place)?;
-    let written = text.lock(&rt);
-    expect_eq(&rt, written.as_slice(), wanted.as_slice());
+    text.expect(wanted.as_slice());
     Ok(())
 }
+
+static CUT: &str = "lines not written whole: 1\n";
 
 // However the lines are gathered, a fault cuts the line in which it is, and no other one.
 #[test]
 fn a_fault_cuts_one_line(rt: HostRuntime) -> Result<(), Fail> {
-    for place in 0..TEXT.len() {
-        for waits in [false, true] {
-            check_fault_at(rt, place, waits)?;
+    for (line, told) in [
+        ("never dir app", "write failed\n"),
+        ("never dir app --no-wait", CUT),
+        ("never dir app --direct", CUT),
+        ("hourly dir app --direct --no-wait --max-bytes 64", CUT),
+    ] {
+        for place in 0..TEXT.len() {
+            check_fault_at(rt, place, line, told)?;
         }
     }
     Ok(())
@@ -158,21 +140,16 @@ impl<'a, R: Clock + Files> Read for Watching<'a, R> {
     }
 }
 
+impl<'a, R: Clock> Ready for Watching<'a, R> {}
+
 // A line of a slow input is in the file within a tenth of a second. Of ten lines one is enough, since the machine may be
 // busy.
 #[test]
 fn lines_of_a_slow_input_do_not_wait(rt: HostRuntime) -> Result<(), Fail> {
-    let parent = env::temp_dir(&rt)?;
-    let parent = parent.as_str();
-    let id = process::id(rt.process());
-    let directory = format!(in rt.alloc(); "{parent}/rolltee_{id}_slow")?;
+    let directory = fresh(&rt, "slow")?;
     let directory = directory.as_str();
-    let _ = fs::remove_dir_all(&rt, directory);
     let path = format!(in rt.alloc(); "{directory}/app")?;
-    let mut arguments = Vec::new(rt.alloc());
-    for word in ["never", directory, "app"] {
-        arguments.push(word.to_string(rt.alloc())?)?;
-    }
+    let line = format!(in rt.alloc(); "never {directory} app")?;
     let mut input = Watching {
         rt,
         path: path.as_str(),
@@ -180,11 +157,7 @@ fn lines_of_a_slow_input_do_not_wait(rt: HostRuntime) -> Result<(), Fail> {
         given: 0,
         least: Duration::from_secs(5),
     };
-    let mut errors = Vec::new(rt.alloc());
-    let arguments = arguments.as_slice();
-    let answer = tee(rt, &rt, arguments, &mut input, &mut errors);
-    expect_eq(&rt, errors.as_slice(), b"".as_slice());
-    expect_eq(&rt, answer, 0);
+    check_files(rt, &rt, line.as_str(), &mut input, (0, ""));
     let is_soon = input.least < Duration::from_millis(100);
     expect_eq(&rt, is_soon, true);
     fs::remove_dir_all(&rt, directory)?;

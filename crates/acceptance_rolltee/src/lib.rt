@@ -9,6 +9,8 @@ mod direct;
 #[cfg(test)]
 mod expect;
 #[cfg(test)]
+mod inputs;
+#[cfg(test)]
 mod logs;
 #[cfg(test)]
 mod options;
@@ -18,6 +20,8 @@ mod pieces;
 mod program;
 #[cfg(test)]
 mod rests;
+#[cfg(test)]
+mod run;
 #[cfg(test)]
 mod settings;
 #[cfg(test)]

@@ -1,12 +1,128 @@
-// A log that a test gives to the program.
-use log_check::FileCounts;
+// Logs that a test gives to the program.
+ghost use Rattle.std.specs.Io.{WritesAtMost};
+
+use crate::expect::expect_eq;
 use program_io::options::Options;
-use rolltee_core::tee::{Logs, TeeLog};
-use std::alloc::Global;
+use rolltee_core::losses::TeeLosses;
+use rolltee_core::tee::{Fault, Logs, TeeLog};
+use std::alloc::{AllocError, Global};
 use std::cell::RefCell;
 use std::io;
-use std::sync::Arc;
+use std::io::Write;
+use std::process::Abort;
+use std::sync::{Arc, Mutex, Wait};
 use tracing_appender::rolling::{InitError, Rotation};
+
+/// A log of a test. By default it loses nothing.
+pub(crate) trait TestLog {
+    /// Writes the first of some bytes, and returns how many.
+    fn put(&mut self, bytes: &[u8]) -> io::Result<usize>
+        ensures { WritesAtMost result bytes.now };
+
+    /// Flushes what was written.
+    fn flush_all(&mut self) -> io::Result<()> {
+        Ok(())
+    }
+
+    /// Abandons the line whose write failed.
+    fn give_up(&mut self) {}
+
+    /// Returns what was lost.
+    fn losses(&self) -> TeeLosses {
+        TeeLosses::NONE
+    }
+}
+
+/// A log that takes everything, and reports these losses.
+#[derive(Drop)]
+pub(crate) struct Taking {
+    pub(crate) losses: TeeLosses,
+}
+
+impl Taking {
+    /// Reports none.
+    pub(crate) const ALL: Taking = Taking {
+        losses: TeeLosses::NONE,
+    };
+}
+
+impl TestLog for Taking {
+    fn put(&mut self, bytes: &[u8]) -> io::Result<usize> {
+        Ok(bytes.len())
+    }
+
+    fn losses(&self) -> TeeLosses {
+        self.losses
+    }
+}
+
+/// What a log or an output got.
+#[derive(Drop)]
+pub(crate) struct Text<R: Wait> {
+    rt: R,
+    bytes: Arc<Mutex<Vec<u8>>, Global>,
+}
+
+impl<R: Wait + AllocGlobal + Copy> Text<R> {
+    pub(crate) fn new(rt: R) -> Result<Text<R>, AllocError> {
+        let bytes = Mutex::new(Vec::new(rt.alloc()));
+        let bytes = Arc::new(rt.alloc(), bytes).map_err(AllocError::from)?;
+        Ok(Text { rt, bytes })
+    }
+
+    /// Returns the same text once more.
+    pub(crate) fn share(&self) -> Result<Text<R>, AllocError> {
+        Ok(Text {
+            rt: self.rt,
+            bytes: self.bytes.clone()?,
+        })
+    }
+}
+
+impl<R: Wait + AllocGlobal> Text<R> {
+    /// Returns its bytes.
+    pub(crate) fn copy(&self) -> Result<Vec<u8>, AllocError> {
+        Vec::from_slice(self.rt.alloc(), self.bytes.lock(&self.rt).as_slice())
+    }
+}
+
+impl<R: Wait> Text<R> {
+    pub(crate) fn add(&self, bytes: &[u8]) -> Result<(), AllocError> {
+        self.bytes.lock(&self.rt).extend_from_slice(bytes)
+    }
+
+    pub(crate) fn length(&self) -> usize {
+        self.bytes.lock(&self.rt).len()
+    }
+}
+
+impl<R: Wait + Abort> Text<R> {
+    /// Ends the test if the text isn't this one.
+    pub(crate) fn expect(&self, wanted: &[u8]) {
+        let bytes = self.bytes.lock(&self.rt);
+        expect_eq(&self.rt, bytes.as_slice(), wanted);
+    }
+}
+
+/// A log that keeps what it gets, a thousand bytes of it at a time.
+impl<R: Wait> TestLog for Text<R> {
+    fn put(&mut self, bytes: &[u8]) -> io::Result<usize> {
+        let taken = bytes.len().min(1000);
+        self.add(&bytes[..taken])?;
+        Ok(taken)
+    }
+}
+
+/// The same as an output.
+impl<R: Wait> Write for Text<R> {
+    fn write(&mut self, bytes: &[u8]) -> io::Result<usize> {
+        self.put(bytes)
+    }
+
+    fn flush(&mut self) -> io::Result<()> {
+        Ok(())
+    }
+}
 
 /// Opens a log once. Every other opening fails for want of memory.
 #[derive(Drop)]
@@ -35,7 +151,7 @@ pub(crate) struct Given<L: Drop> {
     log: L,
 }
 
-impl<L: TeeLog + Drop> TeeLog for Given<L> {
+impl<L: TestLog + Drop> TeeLog for Given<L> {
     fn put(&mut self, bytes: &[u8]) -> io::Result<usize> {
         self.log.put(bytes)
     }
@@ -47,25 +163,23 @@ impl<L: TeeLog + Drop> TeeLog for Given<L> {
     fn give_up(&mut self) {
         self.log.give_up();
     }
+
+    fn losses(&self) -> TeeLosses {
+        self.log.losses()
+    }
 }
 
-impl<L: TeeLog + Send + Drop + 'static> Logs for OneLog<L> {
+impl<L: TestLog + Send + Drop + 'static> Logs for OneLog<L> {
     type Log = Given<L>;
 
-    fn open_log(
-        &self,
-        _: Rotation,
-        _: &str,
-        _: &str,
-        _: &Options,
-        _: Arc<FileCounts, Global>,
-    ) -> Result<Given<L>, InitError> {
-        match self.log.try_borrow_mut() {
-            Ok(mut log) => match log.take() {
-                Some(log) => Ok(Given { log }),
-                None => Err(InitError::Memory),
-            },
-            Err(_) => Err(InitError::Memory),
+    fn open_log(&self, _: Rotation, _: &str, _: &str, _: &Options) -> Result<Given<L>, Fault> {
+        let log = match self.log.try_borrow_mut() {
+            Ok(mut log) => log.take(),
+            Err(_) => None,
+        };
+        match log {
+            Some(log) => Ok(Given { log }),
+            None => Err(Fault::Open(InitError::Memory)),
         }
     }
 }

@@ -1,5 +1,6 @@
 // The words of a command line.
 use crate::expect::expect_eq;
+use crate::run::words_of;
 use program_io::options::{Request, read};
 use rolltee_core::tee::{Fault, report_fault};
 use std::alloc::AllocError;
@@ -8,10 +9,7 @@ use std::test::Fail;
 
 // Reads words that one space separates, and compares what they ask for as it is printed, or the report of a fault.
 fn check<R: AllocGlobal + Abort>(rt: &R, words: &str, wanted: &str) -> Result<(), Fail> {
-    let mut all = Vec::new(rt.alloc());
-    for word in words.split(' ') {
-        all.push(word.to_string(rt.alloc())?)?;
-    }
+    let all = words_of(rt.alloc(), words)?;
     let mut errors = Vec::new(rt.alloc());
     match read(rt.alloc(), all.as_slice()) {
         Ok(request) => {

@@ -1,13 +1,16 @@
-// Lines that are longer than a write may be.
+// Pieces of an input, and flushes after them.
 use crate::expect::expect_eq;
-use program_io::{LONGEST_LINE, copy_lines};
+use crate::inputs::Part::{Bytes, Later};
+use crate::inputs::{Part, Parts};
+use program_io::blocking::Ready;
+use program_io::{LONGEST_LINE, Split, copy_pieces};
 use std::alloc::Global;
 use std::io;
 use std::io::{BufReader, Read, Write};
 use std::process::Abort;
 use std::test::Fail;
 
-// A writer that keeps its bytes, and the length of each write.
+// A writer that keeps its bytes, and the length of each write, and 0 for each flush.
 #[derive(Drop)]
 struct Kept {
     bytes: Vec<u8>,
@@ -22,6 +25,7 @@ impl Write for Kept {
     }
 
     fn flush(&mut self) -> io::Result<()> {
+        self.lengths.push(0)?;
         Ok(())
     }
 }
@@ -40,29 +44,82 @@ fn text_of(alloc: Global, lengths: &[usize]) -> Result<Vec<u8>, Fail> {
     Ok(text)
 }
 
-// Copies lines of these lengths, and compares the lengths of the writes.
-fn check<R: AllocGlobal + Abort>(rt: &R, lines: &[usize], writes: &[usize]) -> Result<(), Fail> {
-    let text = text_of(rt.alloc(), lines)?;
+// Copies an input, and compares the writes and flushes. Returns what was written.
+fn copy<R: AllocGlobal + Abort, I: Read + Ready + Drop>(
+    rt: &R,
+    input: I,
+    split: Split,
+    writes: &[usize],
+) -> Result<Vec<u8>, Fail> {
     let mut kept = Kept {
         bytes: Vec::new(rt.alloc()),
         lengths: Vec::new(rt.alloc()),
     };
-    let mut input = BufReader::new(rt.alloc(), text.as_slice())?;
-    let copied = copy_lines(rt.alloc(), &mut input, &mut kept);
-    assert!(rt; copied.is_ok(), "all lines are copied");
+    let mut input = BufReader::new(rt.alloc(), input)?;
+    let copied = copy_pieces(rt.alloc(), &mut input, &mut kept, split);
+    assert!(rt; copied.is_ok(), "all is copied");
     expect_eq(rt, kept.lengths.as_slice(), writes);
-    assert!(rt; kept.bytes == text, "the bytes are those of the text");
+    Ok(kept.bytes)
+}
+
+// Copies lines of these lengths.
+fn check<R: AllocGlobal + Abort>(
+    rt: &R,
+    split: Split,
+    lines: &[usize],
+    writes: &[usize],
+) -> Result<(), Fail> {
+    let text = text_of(rt.alloc(), lines)?;
+    let bytes = copy(rt, text.as_slice(), split, writes)?;
+    assert!(rt; bytes == text, "the bytes are those of the text");
     Ok(())
 }
 
+const MOST: usize = LONGEST_LINE;
+
+const HALF: usize = MOST / 2;
+
+// Also blocks, whose input is ready here: they are flushed only after each MiB.
 #[test]
 fn long_lines_are_written_in_pieces(rt: HostRuntime) -> Result<(), Fail> {
-    let most = LONGEST_LINE;
-    check(&rt, &[0], &[])?;
-    check(&rt, &[3, 0, 2], &[4, 1, 2])?;
+    let lines = Split::Lines;
+    check(&rt, lines, &[0], &[])?;
+    check(&rt, lines, &[3, 0, 2], &[4, 1, 2])?;
     // With its newline the first line has the greatest length.
-    check(&rt, &[most - 1, 1], &[most, 1])?;
-    check(&rt, &[most, 1], &[most, 1, 1])?;
-    check(&rt, &[most + 5, 1], &[most, 6, 1])?;
-    check(&rt, &[1, 2 * most + 5], &[2, most, most, 5])
+    check(&rt, lines, &[MOST - 1, 1], &[MOST, 1])?;
+    check(&rt, lines, &[MOST, 1], &[MOST, 1, 1])?;
+    check(&rt, lines, &[MOST + 5, 1], &[MOST, 6, 1])?;
+    check(&rt, lines, &[1, 2 * MOST + 5], &[2, MOST, MOST, 5])?;
+    let blocks = Split::Blocks;
+    check(&rt, blocks, &[3, 0, 2], &[5, 2])?;
+    check(&rt, blocks, &[MOST + 5, 1], &[MOST, 0, 6, 1])?;
+    check(
+        &rt,
+        blocks,
+        &[HALF - 1, HALF - 1, HALF - 1, HALF - 1, 1],
+        &[HALF, HALF, 0, HALF, HALF, 0, 1],
+    )
+}
+
+// What single reads return, and the writes and flushes of blocks.
+static BLOCKS: [(&[Part], &[usize]); 4] = [
+    (&[Bytes(b"a\nb\n"), Bytes(b"cd\n")], &[4, 3]),
+    (
+        &[Bytes(b"a\nb\n"), Later(b"cd\n"), Later(b"")],
+        &[4, 0, 3, 0],
+    ),
+    (&[Bytes(b"a\nb"), Bytes(b"c\nd")], &[2, 3, 1]),
+    (
+        &[Later(b"a\nb"), Later(b"c"), Bytes(b"\nd"), Later(b"")],
+        &[2, 0, 3, 0, 1],
+    ),
+];
+
+// A block is all whole lines that were read; a part of a line waits for its rest. A flush precedes each read that is not ready.
+#[test]
+fn blocks_are_flushed_before_a_wait(rt: HostRuntime) -> Result<(), Fail> {
+    for (parts, writes) in &BLOCKS {
+        let _ = copy(&rt, Parts { parts }, Split::Blocks, writes)?;
+    }
+    Ok(())
 }

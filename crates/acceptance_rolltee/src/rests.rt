@@ -2,12 +2,13 @@
 ghost use Rattle.std.specs.Prelude.{◌≡◌, [], true, IfSome};
 
 use crate::expect::expect_eq;
-use appender_store::store::{Folder, MemoryFile, MemoryFolder};
-use log_check::{FileCheck, Opens};
-use rolltee_core::logs::{FileLog, TeeLog};
+use appender_store::store::{MemoryFile, MemoryFolder, NoticeKind};
+use rolltee_core::check::FileCheck;
+use rolltee_core::file_log::{FileLog, Opens};
+use rolltee_core::tee::TeeLog;
 use std::alloc::Global;
 use std::cell::Cell;
-use std::io::{ErrorKind, Write};
+use std::io::ErrorKind;
 use std::test::Fail;
 use tracing_appender::rolling::{Builder, Clock, InitError, RollingFile, Rotation};
 use tracing_appender::waiting::Faults;
@@ -18,7 +19,7 @@ const FIRST: i64 = 1580551260;
 const NEXT: i64 = 1580554800;
 
 // What a test sets, and what it sees: the clock; whether the file is lost at the next look; whether files are seen to end with a newline;
-// how often the log was opened; how many bytes two files have at a flush.
+// how often the log was opened; how many bytes two files have at the last look.
 #[derive(Drop)]
 struct Scene {
     moment: Cell<i64>,
@@ -103,21 +104,18 @@ impl<'a> FileCheck<MemoryFolder> for SceneCheck<'a> {
         0
     }
 
-    fn finds(&self, _: &MemoryFolder, _: &MemoryFile, _: &str, _: u64) -> bool {
-        let lost = self.scene.lost.get();
-        self.scene.lost.set(false);
-        !lost
-    }
-
-    fn count_unsynced(&self, folder: &MemoryFolder, _: u64) {
+    fn finds(&self, folder: &MemoryFolder, _: &MemoryFile, _: &str, _: u64) -> bool {
         let scene = self.scene;
         let first = length_of(folder, scene.names[0]);
         let next = length_of(folder, scene.names[1]);
         scene.lengths.set((first, next));
+        let lost = scene.lost.get();
+        scene.lost.set(false);
+        !lost
     }
 
-    fn unsynced(&self) -> u64 {
-        0
+    fn unsynced(&self, folder: &MemoryFolder) -> u64 {
+        folder.notices(NoticeKind::Flush)
     }
 }
 
@@ -172,14 +170,14 @@ fn the_rest_of_a_line_is_in_its_file(rt: HostRuntime) -> Result<(), Fail> {
     ] {
         let scene = Scene::of_hours();
         let mut log = log_of(rt.alloc(), &scene, 0, false, 0, (2, 3))?;
-        expect_eq(&rt, log.write(text)?, 3);
+        expect_eq(&rt, log.put(text)?, 3);
         if gives_up {
             log.give_up();
         }
         scene.moment.set(NEXT);
-        expect_eq(&rt, log.write(b"def\n")?, 4);
-        expect_eq(&rt, log.write(b"gh\n")?, 3);
-        log.flush()?;
+        expect_eq(&rt, log.put(b"def\n")?, 4);
+        expect_eq(&rt, log.put(b"gh\n")?, 3);
+        log.flush_all()?;
         expect_eq(&rt, scene.lengths.get(), wanted);
     }
     Ok(())
@@ -191,14 +189,14 @@ fn the_rest_of_a_line_is_in_its_file(rt: HostRuntime) -> Result<(), Fail> {
 fn the_rest_of_a_line_is_in_no_other_file(rt: HostRuntime) -> Result<(), Fail> {
     let scene = Scene::of_hours();
     let mut log = log_of(rt.alloc(), &scene, 0, false, 0, (2, 3))?;
-    expect_eq(&rt, log.write(b"abcdef\n")?, 3);
+    expect_eq(&rt, log.put(b"abcdef\n")?, 3);
     scene.lost.set(true);
-    let fault = log.write(b"def\n").err();
+    let fault = log.put(b"def\n").err();
     let refused = fault.is_some_and(|fault| !Faults::Any.contain(&fault));
     expect_eq(&rt, refused, true);
     log.give_up();
-    expect_eq(&rt, log.write(b"gh\n")?, 3);
-    log.flush()?;
+    expect_eq(&rt, log.put(b"gh\n")?, 3);
+    log.flush_all()?;
     expect_eq(&rt, scene.openings.get(), 2);
     expect_eq(&rt, scene.lengths.get(), (3, 0));
     Ok(())
@@ -215,10 +213,10 @@ fn a_part_of_a_line_is_ended_within_the_limit(rt: HostRuntime) -> Result<(), Fai
     ] {
         let scene = Scene::new(["app.2020-02-01-10.000000", "app.2020-02-01-10.000001"]);
         let mut log = log_of(rt.alloc(), &scene, 6, true, 0, (4, 1))?;
-        expect_eq(&rt, log.write(b"abc\n")?, 1);
+        expect_eq(&rt, log.put(b"abc\n")?, 1);
         log.give_up();
-        expect_eq(&rt, log.write(line)?, line.len());
-        log.flush()?;
+        expect_eq(&rt, log.put(line)?, line.len());
+        log.flush_all()?;
         expect_eq(&rt, scene.lengths.get(), wanted);
     }
     Ok(())
@@ -232,10 +230,10 @@ fn each_part_is_ended_once(rt: HostRuntime) -> Result<(), Fail> {
         let mut log = log_of(rt.alloc(), &scene, 0, whole_lines, 0, (0, 0))?;
         for moment in [FIRST, NEXT] {
             scene.moment.set(moment);
-            expect_eq(&rt, log.write(b"a\n")?, 2);
-            expect_eq(&rt, log.write(b"b\n")?, 2);
+            expect_eq(&rt, log.put(b"a\n")?, 2);
+            expect_eq(&rt, log.put(b"b\n")?, 2);
         }
-        log.flush()?;
+        log.flush_all()?;
         expect_eq(&rt, scene.lengths.get(), wanted);
     }
     Ok(())
@@ -256,16 +254,16 @@ fn a_line_that_is_given_up_is_ended(rt: HostRuntime) -> Result<(), Fail> {
         let scene = Scene::of_hours();
         let line = if whole_lines { 3 } else { 2 };
         let mut log = log_of(rt.alloc(), &scene, 0, whole_lines, failing, (line, 3))?;
-        expect_eq(&rt, log.write(b"abcdef\n")?, 3);
+        expect_eq(&rt, log.put(b"abcdef\n")?, 3);
         log.give_up();
         scene.moment.set(moment);
         scene.lost.set(lost);
         scene.whole.set(lost);
-        if log.write(b"gh\n").is_err() {
+        if log.put(b"gh\n").is_err() {
             log.give_up();
-            expect_eq(&rt, log.write(b"gh\n")?, 3);
+            expect_eq(&rt, log.put(b"gh\n")?, 3);
         }
-        log.flush()?;
+        log.flush_all()?;
         expect_eq(&rt, scene.lengths.get(), wanted);
     }
     Ok(())
@@ -278,23 +276,52 @@ fn a_log_is_opened_again_once(rt: HostRuntime) -> Result<(), Fail> {
     for (whole_lines, wanted) in [(false, (6, 0)), (true, (7, 0))] {
         let scene = Scene::of_hours();
         let mut log = log_of(rt.alloc(), &scene, 0, whole_lines, 0, (0, 0))?;
-        expect_eq(&rt, log.write(b"a\n")?, 2);
+        expect_eq(&rt, log.put(b"a\n")?, 2);
         scene.lost.set(true);
         for _ in 0..3u32 {
-            expect_eq(&rt, log.write(b"b\n")?, 2);
+            expect_eq(&rt, log.put(b"b\n")?, 2);
         }
-        log.flush()?;
+        log.flush_all()?;
         expect_eq(&rt, scene.openings.get(), 2);
         expect_eq(&rt, scene.lengths.get(), wanted);
         scene.lost.set(true);
-        log.flush()?;
+        log.flush_all()?;
         expect_eq(&rt, scene.lost.get(), false);
         scene.moment.set(i64::MIN);
-        let fault = log.write(b"c\n").err();
+        let fault = log.put(b"c\n").err();
         expect_eq(&rt, fault.map(|fault| fault.kind()), Some(ErrorKind::Other));
         scene.moment.set(FIRST);
-        expect_eq(&rt, log.write(b"c\n")?, 2);
+        expect_eq(&rt, log.put(b"c\n")?, 2);
         expect_eq(&rt, scene.openings.get(), 4);
+    }
+    Ok(())
+}
+
+// A file that was lost and a flush that failed are counted, also one at a switch. So is the flush that is missing if the last call
+// was none that succeeded. The flush is the third call, and the one at a switch the fourth.
+#[test]
+fn a_log_counts_what_it_lost(rt: HostRuntime) -> Result<(), Fail> {
+    for (failing, lost, moment, flushes, wanted) in [
+        (0, false, FIRST, 0, (0, 1)),
+        (0, false, FIRST, 1, (0, 0)),
+        (0, true, FIRST, 1, (1, 0)),
+        (3, false, FIRST, 1, (0, 1)),
+        (3, false, FIRST, 2, (0, 1)),
+        (4, false, NEXT, 1, (0, 1)),
+    ] {
+        let scene = Scene::of_hours();
+        let mut log = log_of(rt.alloc(), &scene, 0, false, failing, (0, 0))?;
+        expect_eq(&rt, log.put(b"a\n")?, 2);
+        scene.lost.set(lost);
+        scene.moment.set(moment);
+        if lost || moment == NEXT {
+            expect_eq(&rt, log.put(b"b\n")?, 2);
+        }
+        for _ in 0..flushes {
+            let _ = log.flush_all();
+        }
+        let losses = log.losses();
+        expect_eq(&rt, (losses.gone, losses.unsynced), wanted);
     }
     Ok(())
 }

@@ -1,15 +1,15 @@
 // Logs that are slow or full for a while, and inputs that do not block.
 use crate::expect::expect_eq;
-use crate::logs::OneLog;
-use program_io::options::Options;
-use rolltee_core::feed::{Feed, LineQueue, WatchedLog};
-use rolltee_core::tee::{TeeLog, tee};
+use crate::inputs::{Part, Parts, add_lines, lines_of};
+use crate::logs::{OneLog, TestLog};
+use crate::run::{check_log, run};
+use program_io::blocking::Ready;
 use std::alloc::{AllocError, Global};
-use std::io::{Read, Write};
+use std::io::Read;
 use std::process::Abort;
 use std::sync::Arc;
-use std::sync::atomic::AtomicU64;
 use std::sync::atomic::Ordering::SeqCst;
+use std::sync::atomic::{AtomicBool, AtomicU64};
 use std::test::Fail;
 use std::time::{Clock, Duration, Instant};
 use std::{io, thread};
@@ -35,7 +35,7 @@ struct Slow<R: Clock> {
     bytes: Arc<AtomicU64, Global>,
 }
 
-impl<R: Clock> TeeLog for Slow<R> {
+impl<R: Clock> TestLog for Slow<R> {
     fn put(&mut self, buf: &[u8]) -> io::Result<usize> {
         let millis = if self.begun {
             self.manner.other_millis
@@ -51,38 +51,24 @@ impl<R: Clock> TeeLog for Slow<R> {
         self.bytes.fetch_add(buf.len() as u64, SeqCst);
         Ok(buf.len())
     }
-
-    fn flush_all(&mut self) -> io::Result<()> {
-        Ok(())
-    }
-
-    fn give_up(&mut self) {}
 }
 
 // Runs the program over a log of this manner, and compares its status, what it reports, and how many bytes the log took.
-fn check<R: Host + Abort, I: Read>(
+fn check<R: Host + Abort, I: Read + Ready>(
     rt: R,
     manner: Manner,
     input: &mut I,
     told: (u8, &str),
     taken: u64,
 ) -> Result<(), Fail> {
-    let (status, told) = told;
-    let mut arguments = Vec::new(rt.alloc());
-    for word in ["never", "dir", "app"] {
-        arguments.push(word.to_string(rt.alloc())?)?;
-    }
     let bytes = Arc::new(rt.alloc(), AtomicU64::new(0)).map_err(AllocError::from)?;
-    let logs = OneLog::new(Slow {
+    let log = Slow {
         rt,
         manner,
         begun: false,
         bytes: bytes.clone()?,
-    });
-    let mut errors = Vec::new(rt.alloc());
-    let answer = tee(rt, &logs, arguments.as_slice(), input, &mut errors);
-    expect_eq(&rt, errors.as_slice(), told.as_bytes());
-    expect_eq(&rt, answer, status);
+    };
+    check_log(rt, log, "never dir app", input, told);
     expect_eq(&rt, bytes.load(SeqCst), taken);
     Ok(())
 }
@@ -94,29 +80,8 @@ static PROMPT: Manner = Manner {
     code: 0,
 };
 
-// This number of lines of a byte and a newline.
-fn lines_of<R: AllocGlobal>(rt: &R, count: u32) -> Result<Vec<u8>, AllocError> {
-    let mut lines = Vec::new(rt.alloc());
-    for _ in 0..count {
-        lines.extend_from_slice(b"a\n")?;
-    }
-    Ok(lines)
-}
-
 // The length of a line that is too long to be written with others.
 const LONG: usize = (1 << 16) + 1;
-
-// This number of lines, each of which is written by itself.
-fn long_lines_of<R: AllocGlobal>(rt: &R, count: u32) -> Result<Vec<u8>, AllocError> {
-    let mut lines = Vec::new(rt.alloc());
-    for _ in 0..count {
-        for _ in 1..LONG {
-            lines.push(b'a')?;
-        }
-        lines.push(b'\n')?;
-    }
-    Ok(lines)
-}
 
 // The lines that are queued at the end of the input take two seconds.
 #[test]
@@ -126,7 +91,7 @@ fn waits_for_a_slow_log(rt: HostRuntime) -> Result<(), Fail> {
         other_millis: 100,
         ..PROMPT
     };
-    let lines = long_lines_of(&rt, 20)?;
+    let lines = lines_of(rt.alloc(), 20, LONG)?;
     let taken = lines.len() as u64;
     check(rt, manner, &mut lines.as_slice(), (0, ""), taken)
 }
@@ -138,38 +103,10 @@ fn waits_for_a_full_queue(rt: HostRuntime) -> Result<(), Fail> {
         first_millis: 2000,
         ..PROMPT
     };
-    let mut lines = long_lines_of(&rt, 1)?;
-    lines.extend_from_slice(lines_of(&rt, 1024)?.as_slice())?;
+    let mut lines = lines_of(rt.alloc(), 1, LONG)?;
+    add_lines(&mut lines, 1024, 2)?;
     let taken = lines.len() as u64;
     check(rt, manner, &mut lines.as_slice(), (0, ""), taken)
-}
-
-// Gives its bytes one read after another, and fails in between.
-#[derive(Drop)]
-struct Halting<'a> {
-    parts: &'a [Part],
-}
-
-#[derive(Clone, Copy)]
-enum Part {
-    Bytes(&'static [u8]),
-    Fails(io::ErrorKind),
-}
-
-impl<'a> Read for Halting<'a> {
-    fn read(&mut self, buf: &mut [u8]) -> io::Result<usize> {
-        let Some((part, others)) = self.parts.split_first() else {
-            return Ok(0);
-        };
-        self.parts = others;
-        match *part {
-            Part::Bytes(bytes) => {
-                let mut bytes = bytes;
-                bytes.read(buf)
-            }
-            Part::Fails(kind) => Err(io::Error::from(kind)),
-        }
-    }
 }
 
 // Also after a fault of the input, the lines before it are written.
@@ -183,7 +120,7 @@ fn waits_for_a_slow_log_after_a_fault(rt: HostRuntime) -> Result<(), Fail> {
         Part::Bytes(b"a\nb\n"),
         Part::Fails(io::ErrorKind::PermissionDenied),
     ];
-    let mut input = Halting { parts: &parts };
+    let mut input = Parts { parts: &parts };
     check(rt, manner, &mut input, (1, "read failed\n"), 4)
 }
 
@@ -194,7 +131,7 @@ fn waits_for_an_input_that_does_not_block(rt: HostRuntime) -> Result<(), Fail> {
     parts[14] = Part::Bytes(b"a\nb");
     parts[17] = Part::Bytes(b"c\n");
     parts[19] = Part::Bytes(b"d");
-    let mut input = Halting { parts: &parts };
+    let mut input = Parts { parts: &parts };
     let start = Instant::now(&rt)?;
     check(rt, PROMPT, &mut input, (0, ""), 6)?;
     let millis = start.elapsed(&rt)?.as_millis();
@@ -219,43 +156,120 @@ fn waits_for_a_disk_that_refuses_writes(rt: HostRuntime) -> Result<(), Fail> {
             code,
             ..PROMPT
         };
-        let lines = long_lines_of(&rt, 3)?;
+        let lines = lines_of(rt.alloc(), 3, LONG)?;
         let taken = written * LONG as u64;
         check(rt, manner, &mut lines.as_slice(), told, taken)?;
     }
     Ok(())
 }
 
-// A queue that takes all lines.
+// A gate that is open once an input is read, and the length of the longest write after the first one.
 #[derive(Drop)]
-struct Nowhere;
+struct Gate {
+    open: AtomicBool,
+    longest: AtomicU64,
+}
 
-impl LineQueue for Nowhere {
-    fn send(&mut self, _: &[u8]) -> io::Result<()> {
-        Ok(())
-    }
+// A log whose first write waits for the gate.
+#[derive(Drop)]
+struct Gated<R: Clock> {
+    rt: R,
+    begun: bool,
+    gate: Arc<Gate, Global>,
+}
 
-    fn dropped(&self) -> u64 {
-        0
+impl<R: Clock> TestLog for Gated<R> {
+    fn put(&mut self, buf: &[u8]) -> io::Result<usize> {
+        if self.begun {
+            let longest = self.gate.longest.load(SeqCst).max(buf.len() as u64);
+            self.gate.longest.store(longest, SeqCst);
+            return Ok(buf.len());
+        }
+        self.begun = true;
+        for _ in 0..10_000u32 {
+            if self.gate.open.load(SeqCst) {
+                return Ok(buf.len());
+            }
+            thread::sleep(&self.rt, Duration::from_millis(1));
+        }
+        Err(io::Error::from(io::ErrorKind::TimedOut))
     }
 }
 
-// The wait ends once the log took its lines, and if it was dropped before: then the others are lost.
-#[test]
-fn waits_for_no_worker_that_ended(rt: HostRuntime) -> Result<(), Fail> {
-    for (taken, settled) in [(2u64, true), (1, false)] {
-        let (mut log, watch) = WatchedLog::new(rt.alloc(), io::sink(), 0)?;
-        let options = Options::new(rt.alloc());
-        let mut feed = Feed::new(rt, Nowhere, &watch, &options, io::sink());
-        for _ in 0..2u32 {
-            feed.write(b"a\n")?;
+// An input that opens the gate at its end.
+#[derive(Drop)]
+struct Opening<'a> {
+    left: &'a [u8],
+    gate: Arc<Gate, Global>,
+}
+
+impl<'a> Read for Opening<'a> {
+    fn read(&mut self, buf: &mut [u8]) -> io::Result<usize> {
+        if self.left.is_empty() {
+            self.gate.open.store(true, SeqCst);
         }
-        for _ in 0..taken {
-            log.write(b"a\n")?;
-        }
-        drop(log);
-        expect_eq(&rt, feed.settle(), settled);
-        expect_eq(&rt, feed.lost(), 2 - taken);
+        self.left.read(buf)
     }
+}
+
+impl<'a> Ready for Opening<'a> {}
+
+// Runs the program over a log whose first write waits until the input is read, unless the gate is open. Returns its status, what it
+// reports, and the length of the longest write after the first one.
+fn run_gated<R: Host + Abort>(
+    rt: R,
+    line: &str,
+    text: &[u8],
+    open: bool,
+) -> Result<(u8, Vec<u8>, u64), Fail> {
+    let gate = Gate {
+        open: AtomicBool::new(open),
+        longest: AtomicU64::new(0),
+    };
+    let gate = Arc::new(rt.alloc(), gate).map_err(AllocError::from)?;
+    let log = Gated {
+        rt,
+        begun: false,
+        gate: gate.clone()?,
+    };
+    let mut input = Opening {
+        left: text,
+        gate: gate.clone()?,
+    };
+    let (status, errors) = run(rt, &OneLog::new(log), line, &mut input, io::sink());
+    Ok((status, errors, gate.longest.load(SeqCst)))
+}
+
+// Lines of 100 bytes are written together up to a sixteenth of a file's limit, and in a run with a queue up to 64 KiB. The first write is
+// a line that is too long for that.
+#[test]
+fn lines_are_gathered_for_a_part_of_a_file(rt: HostRuntime) -> Result<(), Fail> {
+    let mut text = lines_of(rt.alloc(), 1, LONG)?;
+    add_lines(&mut text, 900, 100)?;
+    for (line, direct, longest) in [
+        ("hourly dir app", false, 65_500),
+        ("hourly dir app --max-bytes 1G", false, 65_500),
+        ("hourly dir app --max-bytes 20800", false, 1_300),
+        ("hourly dir app --max-bytes 20800 --direct", true, 1_300),
+        ("hourly dir app --max-bytes 20799 --direct", true, 1_200),
+    ] {
+        let (status, _, written) = run_gated(rt, line, text.as_slice(), direct)?;
+        expect_eq(&rt, status, 0);
+        expect_eq(&rt, written, longest);
+    }
+    Ok(())
+}
+
+// The others wait for the first line: one is queued, and those that the worker had taken before are gathered. All others are dropped,
+// and counted.
+#[test]
+fn drops_lines_that_find_no_room(rt: HostRuntime) -> Result<(), Fail> {
+    let text = lines_of(rt.alloc(), 50, LONG)?;
+    let line = "never dir app --lossy --queue 1";
+    let (status, errors, _) = run_gated(rt, line, text.as_slice(), false)?;
+    expect_eq(&rt, status, 1);
+    let few = errors.as_slice() == b"lines dropped: 48\n".as_slice()
+        || errors.as_slice() == b"lines dropped: 49\n".as_slice();
+    expect_eq(&rt, few, true);
     Ok(())
 }

@@ -9,7 +9,7 @@ use Rattle.rolltee_core.specs.Feed.{Feeding, Offering, Sends, fed_in}
 pub sends_within : {Q O : Type 0} {queued : Q → Option (List ℕ)} {echoed : O → Option (List ℕ)} {text : List ℕ} (old : Feeding Q O) {new : Feeding Q O} (within : Bool)
     → Sends queued echoed text (record old { within = within }) new → Sends queued echoed text old new
 sends_within old within sent = record {
-  queue = sent.queue;
+  sink = sent.sink;
   output = record { off = sent.output.off; whole = sent.output.whole; beginning = sent.output.beginning; ended = sent.output.ended; counted = sent.output.counted };
 }
 
@@ -20,20 +20,20 @@ fed_on true new x y text plain all = absurd (let never : true ≡ false = plain 
 
 -- what a feed without times was given is what its queue was offered
 pub fed_all : {O : Type 0} (old new : Feeding Offering O) (text : List ℕ) → old.timestamps ≡ false
-    → Appends (fed_in (λ q. Some (concat q.offered)) old) (fed_in (λ q. Some (concat q.offered)) new) text → concat new.queue.offered ≡ concat old.queue.offered ++ text
-fed_all old new text plain all = fed_on old.timestamps new.timestamps (concat old.queue.offered) (concat new.queue.offered) text plain all
+    → Appends (fed_in (λ q. Some (concat q.offered)) old) (fed_in (λ q. Some (concat q.offered)) new) text → concat new.sink.offered ≡ concat old.sink.offered ++ text
+fed_all old new text plain all = fed_on old.timestamps new.timestamps (concat old.sink.offered) (concat new.sink.offered) text plain all
 
 fed_same : (old new : Bool) (x y : Option (List ℕ)) → new ≡ old → Keeps x y → Keeps (cond old None x) (cond new None y)
 fed_same false false x y same kept = kept
 fed_same false true x y same kept = absurd (let never : true ≡ false = same in cc)
 fed_same true new x y same kept = tt
 
--- a feed was given no more, since its queue was not
-pub fed_kept : {Q O : Type 0} (sent : Q → Option (List ℕ)) (old new : Feeding Q O) → new.timestamps ≡ old.timestamps → Keeps (sent old.queue) (sent new.queue)
+-- a feed was given no more, since its sink was not
+pub fed_kept : {Q O : Type 0} (sent : Q → Option (List ℕ)) (old new : Feeding Q O) → new.timestamps ≡ old.timestamps → Keeps (sent old.sink) (sent new.sink)
     → Keeps (fed_in sent old) (fed_in sent new)
-fed_kept sent old new same kept = fed_same old.timestamps new.timestamps (sent old.queue) (sent new.queue) same kept
+fed_kept sent old new same kept = fed_same old.timestamps new.timestamps (sent old.sink) (sent new.sink) same kept
 
 -- what a feed without times was given is what its writer was given
 pub fed_writer : {O : Type 0} (old new : Feeding (List ℕ) O) (text : List ℕ) → old.timestamps ≡ false
-    → Appends (fed_in (λ given. Some given) old) (fed_in (λ given. Some given) new) text → new.queue ≡ old.queue ++ text
-fed_writer old new text plain all = fed_on old.timestamps new.timestamps old.queue new.queue text plain all
+    → Appends (fed_in (λ given. Some given) old) (fed_in (λ given. Some given) new) text → new.sink ≡ old.sink ++ text
+fed_writer old new text plain all = fed_on old.timestamps new.timestamps old.sink new.sink text plain all

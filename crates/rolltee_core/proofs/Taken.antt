@@ -1,6 +1,6 @@
 -- What a log took, and what a batch passed on.
-use Rattle.std.proofs.Common.{◌≡◌, ◌≢◌, ℕ, zero, suc, ◌+◌, ◌<◌, List, [], ◌∷◌, ◌++◌, Bool, true, false, cond, length, map, flat_map, count_by, ◌⊎◌, inl, inr, ap, sym, refl, ◌∙◌, subst, arith, append_assoc, append-nil, max, if◌then◌else◌, ◌==◌}
-use Rattle.std.specs.Prelude.{Option, None, Some, Result, Ok, Err, OnOk, OnErr}
+use Rattle.std.proofs.Common.{◌≡◌, ◌≢◌, ℕ, zero, suc, ◌+◌, ◌<◌, List, [], ◌∷◌, ◌++◌, Bool, true, false, cond, length, map, flat_map, count_by, ap, sym, refl, ◌∙◌, subst, arith, append_assoc, append-nil, max, if◌then◌else◌, ◌==◌}
+use Rattle.std.specs.Prelude.{Option, None, Some, Result}
 use Rattle.std.specs.List.{FoldsTo, concat}
 use Rattle.std.specs.Io.KnownBytes.{Appends, Keeps, prepend_known}
 use Rattle.std.specs.Io.Buffered.{reader_buffer, reader_capacity, reader_inner, reader_remaining}
@@ -105,36 +105,26 @@ given_on given line {old} {new} p before none =
     ap (λ t. t ++ line) (before (p.before none)) ∙ append_assoc old.writer (concat old.waiting) line ∙ ap (λ t. old.writer ++ t) (p.all none)
     ∙ sym (append_assoc old.writer p.written (concat new.waiting)) ∙ ap (λ t. t ++ concat new.waiting) (sym p.bytes)
 
--- the same if the line may be lost
-pub given_anyway : {E : Type 0} (answer : Result ℕ E) (given : List (List ℕ)) (line : List ℕ) (old new : Batch (List ℕ)) → OnOk answer (PassesLine (λ t. Some t) line old new) → OnErr answer (new.lost ≢ 0)
-    → (old.lost ≡ 0 → concat given ≡ old.writer ++ concat old.waiting) → new.lost ≡ 0 → concat given ++ line ≡ new.writer ++ concat new.waiting
-given_anyway (Ok n) given line old new passes lost before none = given_on given line passes before none
-given_anyway (Err e) given line old new passes lost before none = absurd (lost none)
+-- the same after a flush
+pub given_kept : (given : List (List ℕ)) {old new : Batch (List ℕ)} → PassesLine (λ t. Some t) [] old new
+    → (old.lost ≡ 0 → concat given ≡ old.writer ++ concat old.waiting) → new.lost ≡ 0 → concat given ≡ new.writer ++ concat new.waiting
+given_kept given p before none = sym (append-nil (concat given)) ∙ given_on given [] p before none
 
 -- a log took what a writer was given, once no line waits
-pub all_taken : {W : Type 0} {is_opened : W → Type 0} {takes : W → List ℕ → W → Type 0} {given log waiting : List ℕ} → given ≡ log ++ waiting → waiting ≡ []
-    → (log ≡ []) ⊎ TookText is_opened takes log → (given ≡ []) ⊎ TookText is_opened takes given
-all_taken {W} {is_opened} {takes} {given} {log} {waiting} all none took =
+pub all_taken : {W : Type 0} {is_opened : W → Type 0} {takes : W → List ℕ → W → Type 0} {is_kept : W → Type 0} {given log waiting : List ℕ} → given ≡ log ++ waiting → waiting ≡ []
+    → TookText is_opened takes is_kept log → TookText is_opened takes is_kept given
+all_taken {W} {is_opened} {takes} {is_kept} {given} {log} {waiting} all none took =
     let same : log ≡ given = sym (all ∙ ap (λ t. log ++ t) none ∙ append-nil log) in
-    subst (λ t. (t ≡ []) ⊎ TookText is_opened takes t) same took
-
--- an opened log took nothing
-takes_none : {W : Type 0} {is_opened : W → Type 0} {takes : W → List ℕ → W → Type 0} (log : W) → is_opened log → TookText is_opened takes []
-takes_none log opened = record { last = log; pieces = []; took = record { first = log; opened = opened; took = refl }; text_is = refl }
-
-pub takes_given : {W : Type 0} {is_opened : W → Type 0} {takes : W → List ℕ → W → Type 0} {given : List ℕ} (log : W) → is_opened log → (given ≡ []) ⊎ TookText is_opened takes given
-    → TookText is_opened takes given
-takes_given {W} {is_opened} {takes} log opened (inl none) = subst (λ t. TookText is_opened takes t) (sym none) (takes_none log opened)
-takes_given log opened (inr took) = took
+    subst (λ t. TookText is_opened takes is_kept t) same took
 
 -- a log took the whole input
-pub all_logged : {W : Type 0} {is_opened : W → Type 0} {takes : W → List ℕ → W → Type 0} {remaining : Option (List ℕ)} {timestamps lossy : Bool} {ended : SentLines} {dropped given_up : ℕ} {given : List ℕ}
-    → IsCopied is_opened remaining timestamps (no_lines lossy) ended dropped → ServesLines (Some []) (Some given) ended.lines given_up → (given ≡ []) ⊎ TookText is_opened takes given
-    → dropped ≡ 0 → given_up ≡ 0 → timestamps ≡ false → (text : List ℕ) → remaining ≡ Some text → TookText is_opened takes text
-all_logged {W} {is_opened} {takes} {remaining} {timestamps} {lossy} {ended} {dropped} {given_up} {given} copied served took none whole plain text is =
+pub all_logged : {W : Type 0} {is_opened : W → Type 0} {takes : W → List ℕ → W → Type 0} {is_kept : W → Type 0} {remaining : Option (List ℕ)} {timestamps lossy : Bool} {ended : SentLines} {dropped given_up : ℕ} {given : List ℕ}
+    → IsCopied remaining timestamps (no_lines lossy) ended dropped → ServesLines (Some []) (Some given) ended.lines given_up → TookText is_opened takes is_kept given
+    → dropped ≡ 0 → given_up ≡ 0 → timestamps ≡ false → (text : List ℕ) → remaining ≡ Some text → TookText is_opened takes is_kept text
+all_logged {W} {is_opened} {takes} {is_kept} {remaining} {timestamps} {lossy} {ended} {dropped} {given_up} {given} copied served took none whole plain text is =
     let given_is : given ≡ text =
     served_whole (Some []) (Some given) ended.lines (subst (λ n. ServesLines (Some []) (Some given) ended.lines n) whole served) ∙ copied.lines plain none text is in
-    subst (λ t. TookText is_opened takes t) given_is (takes_given copied.log copied.opened took)
+    subst (λ t. TookText is_opened takes is_kept t) given_is took
 
 pub max_none : (m n : ℕ) → max m n ≡ 0 → (m ≡ 0) × (n ≡ 0)
 max_none m n e = (omega (arith, e), omega (arith, e))
@@ -146,8 +136,8 @@ reader_new remaining r text capacity empty is =
     ap (λ n. if n == 0 then None else prepend_known (reader_buffer r) (remaining r.inner)) capacity ∙ ap (λ b. prepend_known b (remaining r.inner)) empty ∙ ap (λ t. prepend_known [] t) is
 
 -- a log that was opened by what was asked for alone
-pub takes_asked : {W : Type 0} {opens : Rotation → List ℕ → List ℕ → Options → W → Type 0} {takes : W → List ℕ → W → Type 0} {text : List ℕ} {rotation : Rotation} {directory prefix : List ℕ} {options : Options}
-    → TookText (WasOpened opens (AskedFor rotation directory prefix options)) takes text → TookText (opens rotation directory prefix options) takes text
+pub takes_asked : {W : Type 0} {opens : Rotation → List ℕ → List ℕ → Options → W → Type 0} {takes : W → List ℕ → W → Type 0} {is_kept : W → Type 0} {text : List ℕ} {rotation : Rotation} {directory prefix : List ℕ} {options : Options}
+    → TookText (WasOpened opens (AskedFor rotation directory prefix options)) takes is_kept text → TookText (opens rotation directory prefix options) takes is_kept text
 takes_asked {W} {opens} t =
     let o = t.took.opened in
     let log = t.took.first in
@@ -155,4 +145,4 @@ takes_asked {W} {opens} t =
     let d = subst (λ x. opens _ x o.2 o.3 log) o.4.1 r in
     let p = subst (λ x. opens _ _ x o.3 log) o.4.2 d in
     let q = subst (λ x. opens _ _ _ x log) o.4.3 p in
-    record { last = t.last; pieces = t.pieces; took = record { first = log; opened = q; took = t.took.took }; text_is = t.text_is }
+    record { last = t.last; pieces = t.pieces; took = record { first = log; opened = q; took = t.took.took }; text_is = t.text_is; kept = t.kept }

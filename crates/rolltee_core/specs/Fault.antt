@@ -13,7 +13,7 @@ use Rattle.program_io.specs.declared.CopyFault.TheVariants.{Read as Failed, Writ
 use Rattle.program_io.specs.declared.options.OptionFault.{OptionFault}
 use Rattle.program_io.specs.declared.options.OptionFault.TheVariants.{Unknown as UnknownWord, Wrong, Memory as NoMemory}
 use Rattle.rolltee_core.specs.declared.tee.Fault.{Fault}
-use Rattle.rolltee_core.specs.declared.tee.Fault.TheVariants.{Usage, Unknown, Option as OfOption, Argument, Open, Thread, Read, Write, Lost, Pending, Memory}
+use Rattle.rolltee_core.specs.declared.tee.Fault.TheVariants.{Usage, Unknown, Option as OfOption, Argument, Open, Locked, Thread, Read, Write, Lost, Pending, Memory}
 
 -- the first argument is the word for no rotation
 abbrev pub NamesNoRotation : List (String Global) → Type 0
@@ -54,6 +54,7 @@ tee_status (Unknown word) = 2
 tee_status (OfOption option error) = 2
 tee_status (Argument word) = 2
 tee_status (Open error) = 1
+tee_status Locked = 1
 tee_status Thread = 1
 tee_status Read = 1
 tee_status Write = 1
@@ -68,6 +69,7 @@ tee_fault_words (Unknown word) = None
 tee_fault_words (OfOption option error) = None
 tee_fault_words (Argument word) = None
 tee_fault_words (Open error) = None
+tee_fault_words Locked = Some (codes "another rolltee --keep writes this log" ++ (10 ∷ []))
 tee_fault_words Thread = Some (codes "no thread" ++ (10 ∷ []))
 tee_fault_words Read = Some (codes "read failed" ++ (10 ∷ []))
 tee_fault_words Write = Some (codes "write failed" ++ (10 ∷ []))

@@ -1,15 +1,17 @@
 -- The log of a run. `kind` has the ghost members of a kind of folder, and `time` those of a kind of clock.
-use Rattle.std.specs.Prelude.{◌≡◌, ◌≢◌, ◌⊎◌, ℕ, ℤ, ◌+◌, List, [], ◌∷◌, length, take, Ok, Err, Result, Bool, true, false, string_bytes}
+use Rattle.std.specs.Prelude.{◌≡◌, ◌≢◌, ◌⊎◌, ℕ, ℤ, ◌+◌, List, [], ◌∷◌, length, take, Ok, Err, Result, Bool, true, false, ◌&&◌, not, nat_lt, IsTrue, string_bytes}
+use Rattle.std.specs.Io.BufRead.{ends_with_byte}
 use Rattle.std.specs.declared.io.Error.{Error}
+use Rattle.appender_names.specs.declared.error.InitError.TheVariants.{File as FileRefused}
 use Rattle.appender_names.specs.declared.rotation.Rotation.{Rotation}
+use Rattle.appender_store.specs.Content.{body_at}
 use Rattle.appender_store.specs.declared.store.Folder.{Ghosts}
 use Rattle.appender_rolling.specs.declared.rolling.Switch.{Switch}
 use Rattle.appender_rolling.specs.declared.rolling.Switch.TheVariants.{Opened as Switched}
 use Rattle.appender_runtime.specs.declared.clock.Clock.{Ghosts as Readings}
-use Rattle.appender_rolling.specs.Appender.{Appending, AppendsNow, FlushesNow}
+use Rattle.appender_rolling.specs.Appender.{Appending, AppendsNow, FlushesNow, OpensNow, OpensInSomeFolder, OpensNone}
 use Rattle.appender_rolling.specs.Config.{Config}
 use Rattle.appender_rolling.specs.Roller.{ChecksClock}
-use Rattle.log_check.specs.Log.{OpensAnew, newline_length}
 use Rattle.program_io.specs.declared.options.Options.{Options}
 
 -- The configuration that is asked for. Files are kept by their names, and an opening continues the last one.
@@ -25,22 +27,93 @@ config_of rotation prefix o = record {
   continues = true;
 }
 
--- A log, and the configuration by which it is opened again.
-pub record ReopenableLog (S F C : Type 0) : Type 0 where
+-- ---- the end of a file of lines
+
+-- there is nothing, or a newline at the end
+abbrev pub EndsLine : List ℕ → Type 0
+EndsLine bytes = (bytes ≡ []) ⊎ (ends_with_byte 10 bytes ≡ true)
+
+-- the open file is empty or ends with a newline, if the content of the folder is known
+abbrev pub EndsWhole : {S F C : Type 0} → Ghosts S F → Appending S F C → Type 0
+EndsWhole kind log = IsTrue kind.is_known → EndsLine (body_at (kind.content log.roller.folder) (kind.body log.roller.file))
+
+-- A write of these bytes took a part of a line: some of them and not all, of which the last is no newline.
+abbrev pub is_part : List ℕ → ℕ → Bool
+is_part bytes n = nat_lt 0 n && (nat_lt n (length bytes) && not (ends_with_byte 10 (take n bytes)))
+
+-- how many bytes a newline adds, if there is one
+abbrev pub newline_length : Bool → ℕ
+newline_length true = 1
+newline_length false = 0
+
+-- ---- openings
+
+-- The file that the configuration leads to was refused, and the log was opened with the next one.
+pub record OpensNext {S F C : Type 0} (kind : Ghosts S F) (time : Readings C) (config : Config) (new : Appending S F C) : Type 0 where
+  pub folder : S
+  pub clock : C
+  pub fault : Error
+  pub left : S
+  pub same : C
+  pub refused : OpensNone kind time config folder clock (FileRefused fault) left same
+  pub opens : OpensNow kind time (record config { continues = false }) left same new
+
+-- a log was opened, with its last file if it continues that and may open it
+abbrev pub OpensLog : {S F C : Type 0} → Ghosts S F → Readings C → Config → Appending S F C → Type 0
+OpensLog kind time config new = OpensInSomeFolder kind time config new ⊎ OpensNext kind time config new
+
+-- the open file was flushed
+abbrev pub LetsGo : {S F C : Type 0} → Ghosts S F → Appending S F C → Appending S F C → Type 0
+LetsGo kind old new = (answer : Result (Unit {0}) Error) × FlushesNow kind answer old new
+
+-- A log was opened in place of another, whose open file was flushed before.
+pub record OpensAnew {S F C : Type 0} (kind : Ghosts S F) (time : Readings C) (config : Config) (old new : Appending S F C) : Type 0 where
+  pub opens : OpensLog kind time config new
+  pub closed : Appending S F C
+  pub flushes : LetsGo kind old closed
+
+-- A log, and what is known of it.
+pub record LogState (S F C : Type 0) : Type 0 where
   pub log : Appending S F C
+  -- the configuration by which it is opened again
   pub config : Config
+  -- whether the open file may end with a part of a line
+  pub cut : Bool
   -- whether the last write took a part of a line, whose rest belongs to the same file
   pub short : Bool
   -- whether a newline is to be written first
   pub owed : Bool
+  -- whether it was ever opened again
+  pub anew : Bool
+  -- whether its last call was a flush that succeeded
+  pub flushed : Bool
+
+-- a log was opened, and nothing was done with it yet
+pub record IsOpened {S F C : Type 0} (kind : Ghosts S F) (time : Readings C) (asked : Config) (new : LogState S F C) : Type 0 where
+  pub opens : OpensLog kind time asked new.log
+  pub config : new.config ≡ asked
+  pub whole : new.cut ≡ false → EndsWhole kind new.log
+  pub short : new.short ≡ false
+  pub anew : new.anew ≡ false
+  pub flushed : new.flushed ≡ false
+
+-- The log was never opened again, its last call was a flush that succeeded, and no flush at a switch failed.
+pub record IsKept {S F C : Type 0} (kind : Ghosts S F) (l : LogState S F C) : Type 0 where
+  pub never_anew : l.anew ≡ false
+  pub flushed : l.flushed ≡ true
+  pub noted : (kind.noted l.log.roller.folder).flushes ≡ 0
+
+-- ---- writes
 
 -- The log is the one of before, or was opened again, and the file of before was flushed. It was not opened again for the rest of a line.
-abbrev pub IsSameOrReopened : {S F C : Type 0} → Ghosts S F → Readings C → ReopenableLog S F C → ReopenableLog S F C → Type 0
-IsSameOrReopened kind time old found = (found ≡ old) ⊎ ((old.short ≡ false) × OpensAnew kind time old.config old.log found.log)
+abbrev pub FindsFile : {S F C : Type 0} → Ghosts S F → Readings C → LogState S F C → LogState S F C → Type 0
+FindsFile kind time old found = (found ≡ old) ⊎ ((old.short ≡ false) × (found.anew ≡ true) × OpensAnew kind time old.config old.log found.log)
 
 -- The log is the one of before, or the rest of a line was due, and the log was opened again in place of writing it.
-abbrev pub IsSameOrLosesRest : {S F C : Type 0} → Ghosts S F → Readings C → ReopenableLog S F C → Appending S F C → Type 0
-IsSameOrLosesRest kind time old new = (new ≡ old.log) ⊎ ((old.short ≡ true) × OpensAnew kind time old.config old.log new)
+abbrev pub IsSameOrLosesRest : {S F C : Type 0} → Ghosts S F → Readings C → LogState S F C → LogState S F C → Type 0
+IsSameOrLosesRest kind time old new =
+    ((new.log ≡ old.log) × (new.anew ≡ old.anew))
+    ⊎ ((old.short ≡ true) × (new.anew ≡ true) × OpensAnew kind time old.config old.log new.log)
 
 -- a newline was added if one was to be, and else nothing
 abbrev pub EndsOwed : {S F C : Type 0} → Ghosts S F → Bool → Appending S F C → Appending S F C → Type 0
@@ -62,35 +135,36 @@ pub record ChecksOnce {S F C : Type 0} (kind : Ghosts S F) (time : Readings C) (
   pub same : switch ≢ Switched → owed ≡ owes
 
 -- The same, or the bytes are the rest of a line.
-abbrev pub MayCheckOnce : {S F C : Type 0} → Ghosts S F → Readings C → ℕ → ReopenableLog S F C → ReopenableLog S F C → Type 0
+abbrev pub MayCheckOnce : {S F C : Type 0} → Ghosts S F → Readings C → ℕ → LogState S F C → LogState S F C → Type 0
 MayCheckOnce kind time len old new =
     ChecksOnce kind time len old.log old.owed new.log new.owed
     ⊎ ((old.short ≡ true) × (new ≡ old))
 
 -- The log was found, and the clock was checked once, unless the bytes are the rest of a line. It is known then whether a newline is to be
 -- written first.
-pub record FindsLog {S F C : Type 0} (kind : Ghosts S F) (time : Readings C) (len : ℕ) (old : ReopenableLog S F C) (looked : Appending S F C) (owed : Bool) : Type 0 where
-  pub found : ReopenableLog S F C
-  pub is_found : IsSameOrReopened kind time old found
+pub record FindsLog {S F C : Type 0} (kind : Ghosts S F) (time : Readings C) (len : ℕ) (old : LogState S F C) (looked : Appending S F C) (owed anew : Bool) : Type 0 where
+  pub found : LogState S F C
+  pub is_found : FindsFile kind time old found
+  pub anew_is : anew ≡ found.anew
   pub looks :
       ChecksOnce kind time len found.log found.owed looked owed
       ⊎ ((old.short ≡ true) × (looked ≡ found.log) × (owed ≡ found.owed))
 
 -- The bytes were added with this answer by one append, after that check, and before them a newline if one was to be written.
-pub record PutsBytes {S F C : Type 0} (kind : Ghosts S F) (time : Readings C) (bytes : List ℕ) (answer : Result ℕ Error) (old : ReopenableLog S F C) (new : Appending S F C) : Type 0 where
+pub record PutsBytes {S F C : Type 0} (kind : Ghosts S F) (time : Readings C) (bytes : List ℕ) (answer : Result ℕ Error) (old new : LogState S F C) : Type 0 where
   pub looked : Appending S F C
   pub owed : Bool
-  pub looks : FindsLog kind time (length bytes) old looked owed
+  pub looks : FindsLog kind time (length bytes) old looked owed new.anew
   pub ended : Appending S F C
   pub ends : EndsOwed kind owed looked ended
-  pub appends : AppendsNow kind bytes answer ended new
+  pub appends : AppendsNow kind bytes answer ended new.log
 
 -- None of the bytes was added: the log was not opened again, or was opened again in place of that, or a newline was not added before them,
 -- or their append failed.
-abbrev pub PutsNone : {S F C : Type 0} → Ghosts S F → Readings C → List ℕ → Error → ReopenableLog S F C → Appending S F C → Type 0
+abbrev pub PutsNone : {S F C : Type 0} → Ghosts S F → Readings C → List ℕ → Error → LogState S F C → LogState S F C → Type 0
 PutsNone {S} {F} {C} kind time bytes error old new =
     IsSameOrLosesRest kind time old new
-    ⊎ ((looked : Appending S F C) × FindsLog kind time (length bytes) old looked true × EndsNoPart kind looked new)
+    ⊎ ((looked : Appending S F C) × FindsLog kind time (length bytes) old looked true new.anew × EndsNoPart kind looked new.log)
     ⊎ PutsBytes kind time bytes (Err error) old new
 
 -- the bytes that a write took, by its answer
@@ -99,11 +173,14 @@ taken_of (Ok n) bytes = take n bytes
 taken_of (Err error) bytes = []
 
 -- One call took exactly these bytes: they were added to the log as the first of some, or none were, since their write failed, the log was
--- flushed or a line was given up.
-pub record TakesPiece {S F C : Type 0} (kind : Ghosts S F) (time : Readings C) (old : ReopenableLog S F C) (taken : List ℕ) (new : ReopenableLog S F C) : Type 0 where
+-- flushed or a line was given up. The rest of a line is due only after a write that took a part of one.
+pub record TakesPiece {S F C : Type 0} (kind : Ghosts S F) (time : Readings C) (old : LogState S F C) (taken : List ℕ) (new : LogState S F C) : Type 0 where
   pub config : new.config ≡ old.config
   pub call :
-      ((bytes : List ℕ) × (n : ℕ) × (taken ≡ take n bytes) × PutsBytes kind time bytes (Ok n) old new.log)
-      ⊎ ((taken ≡ []) × (bytes : List ℕ) × (error : Error) × PutsNone kind time bytes error old new.log)
-      ⊎ ((taken ≡ []) × (answer : Result Unit Error) × FlushesNow kind answer old.log new.log)
-      ⊎ ((taken ≡ []) × (new.log ≡ old.log))
+      ((bytes : List ℕ) × (n : ℕ) × (taken ≡ take n bytes) × PutsBytes kind time bytes (Ok n) old new
+      × (new.short ≡ is_part bytes n) × (new.flushed ≡ false))
+      ⊎ ((taken ≡ []) × (bytes : List ℕ) × (error : Error) × PutsNone kind time bytes error old new
+      × (new.short ≡ true → old.short ≡ true) × (new.flushed ≡ false))
+      ⊎ ((taken ≡ []) × (answer : Result Unit Error) × FlushesNow kind answer old.log new.log
+      × (new.short ≡ old.short) × (new.anew ≡ old.anew) × (new.flushed ≡ true → answer ≡ Ok tt))
+      ⊎ ((taken ≡ []) × (new.log ≡ old.log) × (new.short ≡ false) × (new.anew ≡ old.anew) × (new.flushed ≡ false))

@@ -1,5 +1,5 @@
 -- The text of what a run lost.
-use Rattle.std.specs.Prelude.{ℕ, List, [], ◌∷◌, ◌++◌, not, ◌==◌, codes, decimal}
+use Rattle.std.specs.Prelude.{◌≡◌, ℕ, List, [], ◌∷◌, ◌++◌, not, ◌==◌, codes, decimal}
 use Rattle.std.specs.List.{filter, join_by}
 use Rattle.rolltee_core.specs.declared.losses.TeeLosses.{TeeLosses}
 
@@ -23,3 +23,9 @@ counts_text counts = join_by count_text (codes "; ") (filter (λ count. not (cou
 
 abbrev pub losses_text : TeeLosses → List ℕ
 losses_text losses = counts_text (losses_counts losses)
+
+-- no line was not written whole, no file was not found again, and no sync failed
+pub record HasLostNothing (losses : TeeLosses) : Type 0 where
+  pub unwritten : losses.unwritten ≡ 0
+  pub gone : losses.gone ≡ 0
+  pub unsynced : losses.unsynced ≡ 0

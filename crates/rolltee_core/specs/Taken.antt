@@ -21,12 +21,13 @@ pub record TakesPieces {W : Type 0} (is_opened : W → Type 0) (takes : W → Li
   pub opened : is_opened first
   pub took : FoldsTo takes first pieces log
 
--- A log was opened, and then took exactly these bytes.
-pub record TookText {W : Type 0} (is_opened : W → Type 0) (takes : W → List ℕ → W → Type 0) (text : List ℕ) : Type 0 where
+-- A log was opened, and then took exactly these bytes. None of them is known to be lost.
+pub record TookText {W : Type 0} (is_opened : W → Type 0) (takes : W → List ℕ → W → Type 0) (is_kept : W → Type 0) (text : List ℕ) : Type 0 where
   pub last : W
   pub pieces : List (List ℕ)
   pub took : TakesPieces is_opened takes pieces last
   pub text_is : concat pieces ≡ text
+  pub kept : is_kept last
 
 -- the bytes that were taken by a log that may not have been found yet
 abbrev pub taken_in : Option (List ℕ) → List ℕ
@@ -40,22 +41,20 @@ pub record PassesLine {W : Type 0} (contents : W → Option (List ℕ)) (line : 
   pub bytes : Appends (contents old.writer) (contents new.writer) written
   pub all : new.lost ≡ 0 → concat old.waiting ++ line ≡ written ++ concat new.waiting
 
--- A log was opened. If no line was dropped, and none begins with a time, a sender sent exactly what was left of the input.
-pub record IsCopied {W : Type 0} (is_opened : W → Type 0) (remaining : Option (List ℕ)) (timestamps : Bool) (old new : SentLines) (dropped : ℕ) : Type 0 where
-  pub log : W
-  pub opened : is_opened log
+-- If no line was dropped, and none begins with a time, a sender sent exactly what was left of the input.
+pub record IsCopied (remaining : Option (List ℕ)) (timestamps : Bool) (old new : SentLines) (dropped : ℕ) : Type 0 where
   pub lines : timestamps ≡ false → dropped ≡ 0 → (text : List ℕ) → remaining ≡ Some text → concat new.lines ≡ concat old.lines ++ text
 
 -- these and no others
 abbrev pub AskedFor : Rotation → List ℕ → List ℕ → Options → Rotation → List ℕ → List ℕ → Options → Type 0
 AskedFor rotation directory prefix options r d p o = (r ≡ rotation) × (d ≡ directory) × (p ≡ prefix) × (o ≡ options)
 
--- A log was opened by the arguments and the options, and took exactly these bytes.
-pub record LogsText {W : Type 0} (opens : Rotation → List ℕ → List ℕ → Options → W → Type 0) (options : Options) (takes : W → List ℕ → W → Type 0) (arguments : List (String Global)) (text : List ℕ) : Type 0 where
+-- A log was opened by the arguments and the options, and took exactly these bytes, of which none is known to be lost.
+pub record LogsText {W : Type 0} (opens : Rotation → List ℕ → List ℕ → Options → W → Type 0) (options : Options) (takes : W → List ℕ → W → Type 0) (is_kept : W → Type 0) (arguments : List (String Global)) (text : List ℕ) : Type 0 where
   pub rotation : Rotation
   pub word : String Global
   pub directory : String Global
   pub prefix : String Global
   pub words : arguments ≡ word ∷ directory ∷ prefix ∷ []
   pub named : string_bytes word ≡ rotation_word rotation
-  pub took : TookText (opens rotation (string_bytes directory) (string_bytes prefix) options) takes text
+  pub took : TookText (opens rotation (string_bytes directory) (string_bytes prefix) options) takes is_kept text

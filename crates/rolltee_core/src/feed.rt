@@ -1,141 +1,41 @@
-//! The way of lines to a log through a queue, and how many of them are on it.
-ghost use Rattle.std.specs.Prelude.{◌≡◌, ◌≢◌, ℕ, List, [], Option, ◌&&◌, not, length, true, false, None, Some, IfOk, OnOk, OnErr, MatchResult};
+//! The way of an input's lines to a queue or a log: times before them, and a copy to standard output.
+ghost use Rattle.std.specs.Prelude.{◌≡◌, ◌≢◌, ◌<◌, ◌≤◌, ◌-◌, ◌+◌, ◌^◌, ◌⊎◌, ◌++◌, ◌∷◌, cond, min, max, ℕ, List, [], Option, All, not, length, take, true, false, None, Some, IfOk, OnOk, OnErr, MatchResult};
 ghost use Rattle.std.specs.List.{concat};
 ghost use Rattle.std.specs.Io.{WritesAtMost};
 ghost use Rattle.std.specs.Io.BufRead.{ends_with_byte};
 ghost use Rattle.std.specs.Io.KnownBytes.{Appends, Keeps, WriteAppends};
-ghost use Rattle.appender_worker.specs.Batch.{new_batch};
-ghost use Rattle.rolltee_core.specs.Feed.{IsTextOf, Echoes, Sends, KeepsOptions, fed_in};
-ghost use Rattle.rolltee_core.specs.Taken.{PassesLine};
+ghost use Rattle.jiff_core.specs.declared.civil.datetime.DateTime.{DateTime};
+ghost use Rattle.rolltee_core.specs.Feed.{line_count, time_text, Echoes, IsTextOf, IsTimed, Sends, KeepsOptions, fed_in};
 
 use jiff_core::Timestamp;
 use jiff_fmt::temporal::DateTimePrinter;
 use line_history::{Recorded, Tape};
+use memchr::memchr;
 use program_io::options::Options;
 use program_io::report::report;
 use std::alloc::{AllocError, Global};
 use std::io::Write;
 use std::marker::Model;
-use std::sync::{Arc, Wait};
+use std::sync::Wait;
 use std::time::{Clock, Duration};
 use std::{io, mem, thread};
 use tracing_appender::non_blocking::RecordedSender;
-use tracing_appender::worker::{BatchWriter, LineCounts};
+use tracing_appender::worker::LineCounts;
 
-// The most bytes of lines that are written together.
-const CAPACITY: u64 = 1 << 16;
+/// What a feed sends lines to: a queue, or a log.
+pub trait FeedSink {
+    /// The bytes of the lines that were sent, if they are known.
+    ghost sent: { Self → Option (List ℕ) } = { λ _. None };
 
-// A file with a limit of bytes has room for at least so many of them. One that does not fit begins the next file, so at
-// most this part of a file is left empty, unless a line is longer.
-const BATCHES: u64 = 16;
+    /// Sends whole lines, or a part of a long line. A lossy queue may drop them. After an error they were not sent.
+    fn send(&mut self, text: &[u8]) -> io::Result<()>
+        ensures { MatchResult result (λ _. Appends (sent self.old) (sent self.new) text.now)
+            (λ _. Keeps (sent self.old) (sent self.new)) };
 
-// Returns the most bytes of lines that are written together to a log with this limit of bytes a file; 0 is none.
-fn capacity(limit: u64) -> usize {
-    let most = if limit == 0 {
-        CAPACITY
-    } else {
-        CAPACITY.min(limit / BATCHES)
-    };
-    most as usize
-}
-
-/// The log of a worker. It writes lines together, and counts them for a `WatchedCounts`.
-#[derive(Drop)]
-pub struct WatchedLog<W: Write + Drop> {
-    log: BatchWriter<W>,
-    _owner: Arc<(), Global>,
-}
-
-/// What became of the lines of a `WatchedLog`, also while a worker has it.
-#[derive(Drop)]
-pub struct WatchedCounts {
-    counts: LineCounts,
-    // The log owns it too, until it is dropped.
-    owner: Arc<(), Global>,
-}
-
-impl<W: Write + Drop> Model for WatchedLog<W> {
-    ghost use Rattle.appender_worker.specs.Batch.{Batch};
-
-    ghost Value = { Batch W };
-
-    ghost view = { λ w. w.log };
-}
-
-impl<W: Write + Drop> WatchedLog<W> {
-    /// Returns the log of a worker, whose files have this limit of bytes, or none if it is 0, and what shows its counts.
-    /// `AllocError` if memory is refused; then the log is dropped.
-    pub fn new(
-        alloc: Global,
-        log: W,
-        limit: u64,
-    ) -> Result<(WatchedLog<W>, WatchedCounts), AllocError>
-        ensures { IfOk result (λ made. (capacity : ℕ) × (made.0 ≡ new_batch log capacity)) }
-    {
-        let (log, counts) = BatchWriter::new(alloc, log, capacity(limit))?;
-        let owner = Arc::new(alloc, ()).map_err(AllocError::from)?;
-        let watched = WatchedLog {
-            log,
-            _owner: owner.clone()?,
-        };
-        Ok((watched, WatchedCounts { counts, owner }))
-    }
-
-    /// Returns the log.
-    pub fn get_ref(&self) -> &W
-        ensures { result.now ≡ self.now.writer }
-    {
-        self.log.get_ref()
-    }
-
-    /// Returns the number of lines that the log did not take whole, those that wait too.
-    pub fn unwritten(&self) -> u64
-        ensures { result ≡ 0 → (self.now.lost ≡ 0) × (self.now.waiting ≡ []) }
-    {
-        self.log.lost().max(self.log.waiting() as u64)
-    }
-}
-
-impl<W: Write + Drop> Write for WatchedLog<W> {
-    /// Takes one whole line. It is written and counted by the next flush, or before. If it is given up, the log is flushed
-    /// here, since a worker that gave up a line does not flush before it sleeps.
-    fn write(&mut self, line: &[u8]) -> io::Result<usize>
-        ensures bound { WritesAtMost result line.now }
-        ensures bytes { WriteAppends None None result line.now }
-        ensures whole { IfOk result (λ n. n ≡ length line.now) }
-        ensures passes { OnOk result (PassesLine W.contents line.now self.old self.new) }
-        ensures lost { OnErr result (self.new.lost ≢ 0) }
-    {
-        let taken = self.log.write(line);
-        if taken.is_err() {
-            let _ = self.log.flush();
-        }
-        taken
-    }
-
-    fn flush(&mut self) -> io::Result<()>
-        ensures bytes { Keeps None None }
-        ensures passes { PassesLine W.contents [] self.old self.new }
-    {
-        self.log.flush()
-    }
-}
-
-impl WatchedCounts {
-    /// Returns the number of lines that the log did not take whole.
-    pub fn lost(&self) -> u64 {
-        self.counts.lost()
-    }
-
-    // Returns the number of lines that the log took or lost.
-    fn done(&self) -> u64 {
-        self.counts.taken().saturating_add(self.counts.lost())
-    }
-
-    // Returns whether the log was dropped, since its worker ended.
-    fn has_ended(&self) -> bool {
-        Arc::strong_count(&self.owner) < 2
-    }
+    /// Flushes what was sent, if no other thread does.
+    fn flush(&mut self)
+        ensures { Keeps (sent self.old) (sent self.new) }
+    {}
 }
 
 // The most bytes that are queued, and then one line more. The queue counts only lines, and a piece may have 1 MiB. A lossy
@@ -147,34 +47,25 @@ const FIRST_MILLIS: u64 = 1;
 
 const LONGEST_MILLIS: u64 = 50;
 
-/// A queue of lines.
-pub trait LineQueue {
-    /// The bytes of the lines that were sent, if they are known.
-    ghost sent: { Self → Option (List ℕ) } = { λ _. None };
-
-    /// Sends a line, which a lossy queue may drop. After an error it was not sent.
-    fn send(&mut self, line: &[u8]) -> io::Result<()>
-        ensures { MatchResult result (λ _. Appends (sent self.old) (sent self.new) line.now)
-            (λ _. Keeps (sent self.old) (sent self.new)) };
-
-    /// Returns the number of lines that were dropped.
-    fn dropped(&self) -> u64;
-
-    /// Writes what was sent, if no other thread does.
-    fn write_out(&mut self)
-        ensures { Keeps (sent self.old) (sent self.new) }
-    {}
-}
-
 /// The queue of a recorded sender.
 #[derive(Drop)]
-pub struct SenderQueue<S: RecordedSender + Drop> {
+pub struct SenderQueue<'a, R, S: RecordedSender + Drop> {
+    rt: R,
     sender: S,
     // The lines that it was offered.
     offered: Tape,
+    // What became of its lines.
+    counts: &'a LineCounts,
+    // The number of lines that it took or dropped.
+    sent: u64,
+    // The number of bytes that it took after it was last known to be empty.
+    unwritten: usize,
+    // Whether it is lossy, and whether that was reported.
+    lossy: bool,
+    reported: bool,
 }
 
-impl<S: RecordedSender + Drop> Model for SenderQueue<S> {
+impl<'a, R, S: RecordedSender + Drop> Model for SenderQueue<'a, R, S> {
     ghost use Rattle.std.specs.Prelude.{◌≡◌};
     ghost use Rattle.rolltee_core.specs.Feed.{Offering};
 
@@ -196,268 +87,306 @@ impl<'a, S: RecordedSender> Recorded for Before<'a, S> {
     ghost lines = { λ b. (S.sent b.sender.now).lines };
 }
 
-impl<S: RecordedSender + Drop> SenderQueue<S> {
-    /// Returns the queue of this sender.
-    pub fn new(sender: S) -> SenderQueue<S>
+impl<'a, R: Drop, S: RecordedSender + Drop> SenderQueue<'a, R, S> {
+    /// Returns the queue of this sender, which may be lossy. The counts are those of its worker's log.
+    pub fn new(rt: R, sender: S, counts: &'a LineCounts, lossy: bool) -> SenderQueue<'a, R, S>
         ensures { result ≡ record { sent = S.sent sender; offered = (S.sent sender).lines } }
     {
         let offered = Tape::of(&Before { sender: &sender });
-        SenderQueue { sender, offered }
+        SenderQueue {
+            rt,
+            sender,
+            offered,
+            counts,
+            sent: 0,
+            unwritten: 0,
+            lossy,
+            reported: false,
+        }
+    }
+
+    /// Returns the number of lines that the log did not take whole, those that it has not taken yet too.
+    pub fn lost(&self) -> u64 {
+        let left = left(&self.sender, self.counts, self.sent);
+        self.counts.lost().saturating_add(left)
     }
 
     /// Returns the sender. If it dropped no line, it queued all lines that it was offered.
     pub fn into_sender(self) -> S
-        ensures sender { S.sent result ≡ self.sent }
-        ensures queued { self.sent.dropped ≡ 0 → self.sent.lines ≡ self.offered }
+        ensures sender { S.sent result ≡ self.entry.sent }
+        ensures queued { self.entry.sent.dropped ≡ 0 → self.entry.sent.lines ≡ self.entry.offered }
     {
         self.sender
     }
 }
 
-impl<S: RecordedSender + Drop> LineQueue for SenderQueue<S> {
-    ghost sent = { λ q. Some (concat q.offered) };
-
-    fn send(&mut self, line: &[u8]) -> io::Result<()> {
-        self.sender.write_line(line)?;
-        self.offered.note(line);
-        Ok(())
-    }
-
-    fn dropped(&self) -> u64 {
-        self.sender.dropped() as u64
-    }
-}
-
-/// Queues lines for a log, and waits for that.
-#[derive(Drop)]
-pub struct Feed<'a, R, Q, O> {
-    rt: R,
-    queue: Q,
-    check: &'a WatchedCounts,
-    // The number of lines that the queue took or dropped.
-    sent: u64,
-    // The number of bytes that the queue took after it was last known to be empty.
-    unwritten: usize,
-    // Whether it waits if there are many bytes in the queue.
-    waits: bool,
-    // Whether each line begins with the time at which it was read.
-    timestamps: bool,
-    // Whether each line is also written to the output.
-    echo: bool,
-    // The buffer for a line and its time.
-    stamped: Vec<u8>,
-    // Whether the last piece of a line had no newline, so that the next one goes on with it.
-    within: bool,
-    // Where each line is also written, until that fails.
-    output: O,
-    // The number of lines that were not written whole there.
-    unechoed: u64,
-    // Whether it was reported that lines are dropped.
-    reported: bool,
-}
-
-impl<'a, R, Q, O> Model for Feed<'a, R, Q, O> {
-    ghost use Rattle.rolltee_core.specs.Feed.{Feeding};
-
-    ghost Value = { Feeding Q O };
-
-    ghost view = { λ f. record { queue = f.queue; output = f.output; timestamps = f.timestamps; echo = f.echo; within = f.within; unechoed = f.unechoed } };
-}
-
-impl<'a, R: Drop, Q, O: Drop> Feed<'a, R, Q, O> {
-    /// Returns the queue.
-    pub fn into_queue(self) -> Q
-        ensures { result ≡ self.entry.queue }
-    {
-        self.queue
-    }
-}
-
-impl<'a, R: Wait + Clock + AllocGlobal, Q: LineQueue, O> Feed<'a, R, Q, O> {
-    /// Returns a feed by this queue, whose worker has the log of the check. What is done with each line is in the options.
-    pub fn new(
-        rt: R,
-        queue: Q,
-        check: &'a WatchedCounts,
-        options: &Options,
-        output: O,
-    ) -> Feed<'a, R, Q, O>
-        ensures { result ≡ record { queue = queue; output = output; timestamps = options.now.timestamps; echo = options.now.echo; within = false; unechoed = 0 } }
-    {
-        let stamped = Vec::new(rt.alloc());
-        Feed {
-            rt,
-            queue,
-            check,
-            sent: 0,
-            unwritten: 0,
-            waits: !options.lossy && !options.direct,
-            timestamps: options.timestamps,
-            echo: options.echo,
-            stamped,
-            within: false,
-            output,
-            unechoed: 0,
-            reported: false,
-        }
-    }
-
-    /// Waits until the log took or lost each line that was queued, as long as that takes. Returns whether it did: not if
-    /// the worker ended before.
-    pub fn settle(&mut self) -> bool
+impl<'a, R: Wait + Clock + Eprint + Drop, S: RecordedSender + Drop> SenderQueue<'a, R, S> {
+    /// Waits until the log took or lost each line that was queued, as long as that takes.
+    pub fn settle(&mut self)
         ensures { self.new ≡ self.old }
     {
         let mut millis = FIRST_MILLIS;
         for _ in self.rt.forever() {
-            // A log that was dropped counts no more.
-            let has_ended = self.check.has_ended();
-            if left(&self.queue, self.check, self.sent) == 0 {
+            if left(&self.sender, self.counts, self.sent) == 0 {
                 break;
-            }
-            if has_ended {
-                return false;
             }
             thread::sleep(&self.rt, Duration::from_millis(millis));
             millis = millis.saturating_mul(2).min(LONGEST_MILLIS);
         }
         self.unwritten = 0;
-        true
     }
 
-    /// Returns the number of lines that the log did not take whole, those that it has not taken yet too.
-    pub fn lost(&self) -> u64 {
-        let left = left(&self.queue, self.check, self.sent);
-        self.check.lost().saturating_add(left)
-    }
-
-    /// Returns the number of lines that were not written whole to the output.
-    pub fn unechoed(&self) -> u64 {
-        self.unechoed
-    }
-}
-
-impl<'a, R: Wait + Clock + AllocGlobal + Eprint, Q: LineQueue, O: Write> Feed<'a, R, Q, O> {
-    // Queues a line as it is, and writes it to the output if that is asked for.
-    fn send(&mut self, line: &[u8]) -> io::Result<()>
-        ensures sent { OnOk result (Sends Q.sent O.contents line.now self.old self.new) }
-        ensures not_sent { OnErr result (Keeps (Q.sent self.old.queue) (Q.sent self.new.queue)) }
-        ensures options { KeepsOptions self.old self.new }
-        ensures within { self.new.within ≡ self.old.within }
-    {
-        self.wait_for_room()?;
-        self.queue.send(line)?;
-        self.sent = self.sent.saturating_add(1);
-        self.unwritten = self.unwritten.saturating_add(line.len());
-        self.report_drops();
-        self.echo_line(line);
-        Ok(())
-    }
-
-    // Waits if there are many bytes in a queue that isn't lossy. The error is `Other` if the worker ended.
-    fn wait_for_room(&mut self) -> io::Result<()>
+    // Waits if there are many bytes in a queue that isn't lossy.
+    fn wait_for_room(&mut self)
         ensures { self.new ≡ self.old }
     {
-        if self.waits && self.unwritten >= MOST_BYTES && !self.settle() {
-            return Err(io::Error::other("the worker ended"));
+        if !self.lossy && self.unwritten >= MOST_BYTES {
+            self.settle();
         }
-        Ok(())
     }
 
     // Reports the first line that a lossy queue drops, at once.
     fn report_drops(&mut self)
         ensures { self.new ≡ self.old }
     {
-        if !self.waits && !self.reported && self.queue.dropped() > 0 {
+        if !self.reported && self.sender.dropped() > 0 {
             self.reported = true;
             let _ = eprintln!(self.rt; "lines are dropped: the queue is full");
         }
     }
+}
 
-    // Writes a line to the output if that is asked for. A fault is reported at once, and then no more is written there.
-    fn echo_line(&mut self, line: &[u8])
-        ensures echoed { Echoes O.contents line.now self.old self.new }
+impl<'a, R: Wait + Clock + Eprint + Drop, S: RecordedSender + Drop> FeedSink
+    for SenderQueue<'a, R, S> {
+    ghost sent = { λ q. Some (concat q.offered) };
+
+    /// Queues a line. If there are 16 MiB in a queue that isn't lossy, waits before until they are written.
+    fn send(&mut self, line: &[u8]) -> io::Result<()> {
+        self.wait_for_room();
+        self.sender.write_line(line)?;
+        self.offered.note(line);
+        self.sent = self.sent.saturating_add(1);
+        self.unwritten = self.unwritten.saturating_add(line.len());
+        self.report_drops();
+        Ok(())
+    }
+}
+
+// Returns how many of the lines that were queued the log neither took nor lost until now.
+fn left<S: RecordedSender>(sender: &S, counts: &LineCounts, sent: u64) -> u64 {
+    let done = counts.taken().saturating_add(counts.lost());
+    sent.saturating_sub(sender.dropped() as u64)
+        .saturating_sub(done)
+}
+
+/// Sends the pieces of an input, each line after a time if that is asked for, and writes them to the output.
+#[derive(Drop)]
+pub struct Feed<R, Q, O> {
+    rt: R,
+    sink: Q,
+    // Whether each line begins with the time at which it was read.
+    timestamps: bool,
+    // Whether each line is also written to the output.
+    echo: bool,
+    // The buffer for lines and their times.
+    stamped: Vec<u8>,
+    // Whether the last piece ended within a line, so that the next one goes on with it.
+    within: bool,
+    // Where each line is also written, until that fails.
+    output: O,
+    // The number of lines that were not written whole there.
+    unechoed: u64,
+}
+
+impl<R, Q, O> Model for Feed<R, Q, O> {
+    ghost use Rattle.rolltee_core.specs.Feed.{Feeding};
+
+    ghost Value = { Feeding Q O };
+
+    ghost view = { λ f. record { sink = f.sink; output = f.output; timestamps = f.timestamps; echo = f.echo; within = f.within; unechoed = f.unechoed } };
+}
+
+impl<R: Drop, Q, O: Drop> Feed<R, Q, O> {
+    /// Returns what the lines were sent to.
+    pub fn into_sink(self) -> Q
+        ensures { result ≡ self.sink }
+    {
+        self.sink
+    }
+}
+
+impl<R, Q, O> Feed<R, Q, O> {
+    /// Returns the number of lines that were not written whole to the output.
+    pub fn unechoed(&self) -> u64 {
+        self.unechoed
+    }
+}
+
+impl<R: Clock + AllocGlobal + Eprint, Q: FeedSink, O: Write> Feed<R, Q, O> {
+    /// Returns a feed. What is done with each line is in the options.
+    pub fn new(rt: R, sink: Q, options: &Options, output: O) -> Feed<R, Q, O>
+        ensures { result ≡ record { sink = sink; output = output; timestamps = options.now.timestamps; echo = options.now.echo; within = false; unechoed = 0 } }
+    {
+        let stamped = Vec::new(rt.alloc());
+        Feed {
+            rt,
+            sink,
+            timestamps: options.timestamps,
+            echo: options.echo,
+            stamped,
+            within: false,
+            output,
+            unechoed: 0,
+        }
+    }
+
+    // Sends a text, and writes it to the output if that is asked for.
+    fn send(&mut self, text: &[u8]) -> io::Result<()>
+        ensures sent { OnOk result (Sends Q.sent O.contents text.now self.old self.new) }
+        ensures not_sent { OnErr result (Keeps (Q.sent self.old.sink) (Q.sent self.new.sink)) }
+        ensures options { KeepsOptions self.old self.new }
+        ensures within { self.new.within ≡ self.old.within }
+    {
+        self.sink.send(text)?;
+        self.echo_text(text);
+        Ok(())
+    }
+
+    // Writes a text to the output if that is asked for. A fault is reported at once, and then no more is written there.
+    fn echo_text(&mut self, text: &[u8])
+        ensures echoed { Echoes O.contents text.now self.old self.new }
         ensures same { record self.new { output = self.old.output; unechoed = self.old.unechoed } ≡ self.old }
     {
         if !self.echo {
             return;
         }
         if self.unechoed == 0 {
-            match report(&mut self.output, line) {
+            match report(&mut self.output, text) {
                 Ok(()) => return,
                 Err(fault) => {
                     let _ = eprintln!(self.rt; "lines are not echoed: {fault}");
                 }
             }
         }
-        self.unechoed = self.unechoed.saturating_add(1);
+        self.unechoed = add_lines(self.unechoed, text);
     }
 
-    // Queues a line after the time.
-    fn send_stamped(&mut self, line: &[u8]) -> io::Result<()>
-        ensures sent { OnOk result ((text : List ℕ) × IsTextOf true line.now text
+    // Sends a piece with a time before each line that begins in it.
+    fn send_stamped(&mut self, piece: &[u8], begins: bool) -> io::Result<()>
+        ensures sent { OnOk result ((text : List ℕ) × IsTimed begins piece.now text
             × Sends Q.sent O.contents text self.old self.new) }
-        ensures not_sent { OnErr result (Keeps (Q.sent self.old.queue) (Q.sent self.new.queue)) }
+        ensures not_sent { OnErr result (Keeps (Q.sent self.old.sink) (Q.sent self.new.sink)) }
         ensures options { KeepsOptions self.old self.new }
         ensures within { self.new.within ≡ self.old.within }
     {
         let mut stamped = mem::replace(&mut self.stamped, Vec::new(self.rt.alloc()));
-        stamp(&mut stamped, now(&self.rt), line)?;
+        let printer = DateTimePrinter::new().precision(Some(6));
+        let time = printer.timestamp_text(now(&self.rt));
+        stamp(&mut stamped, time.as_str().as_bytes(), piece, begins)?;
         let sent = self.send(stamped.as_slice());
         self.stamped = stamped;
         sent
     }
 }
 
-impl<'a, R: Wait + Clock + AllocGlobal + Eprint, Q: LineQueue, O: Write> Write
-    for Feed<'a, R, Q, O> {
+impl<R: Clock + AllocGlobal + Eprint, Q: FeedSink, O: Write> Write for Feed<R, Q, O> {
     ghost contents = { λ f. fed_in Q.sent f };
 
-    /// Queues one line, after its time if that is asked for. If there are 16 MiB in a queue that isn't lossy, waits before until
-    /// they are written; the error is `Other` if the worker ended before. Other errors are those of the queue.
-    fn write(&mut self, line: &[u8]) -> io::Result<usize>
-        ensures bound { WritesAtMost result line.now }
-        ensures bytes { WriteAppends (fed_in Q.sent self.old) (fed_in Q.sent self.new) result line.now }
-        ensures whole { IfOk result (λ n. n ≡ length line.now) }
+    /// Sends one piece of an input: lines, or a part of a long line. Errors are those of the sink.
+    fn write(&mut self, piece: &[u8]) -> io::Result<usize>
+        ensures bound { WritesAtMost result piece.now }
+        ensures bytes { WriteAppends (fed_in Q.sent self.old) (fed_in Q.sent self.new) result piece.now }
+        ensures whole { IfOk result (λ n. n ≡ length piece.now) }
         ensures sent { OnOk result ((text : List ℕ)
-            × IsTextOf (self.old.timestamps && not self.old.within) line.now text
+            × IsTextOf self.old.timestamps (not self.old.within) piece.now text
             × Sends Q.sent O.contents text self.old self.new) }
         ensures options { KeepsOptions self.old self.new }
-        ensures within { self.new.within ≡ not (ends_with_byte 10 line.now) }
+        ensures within { self.new.within ≡ not (ends_with_byte 10 piece.now) }
     {
         let begins = !self.within;
-        self.within = line.last() != Some(&b'\n');
-        if self.timestamps && begins {
-            self.send_stamped(line)?;
+        self.within = piece.last() != Some(&b'\n');
+        if self.timestamps {
+            self.send_stamped(piece, begins)?;
         } else {
-            self.send(line)?;
+            self.send(piece)?;
         }
-        Ok(line.len())
+        Ok(piece.len())
     }
 
-    /// Writes what was sent, if no other thread does.
+    /// Flushes what was sent, if no other thread does.
     #[tactic(auto, using(crate::proofs::Sent::fed_kept))]
     fn flush(&mut self) -> io::Result<()> {
-        self.queue.write_out();
+        self.sink.flush();
         Ok(())
     }
 }
 
-// Returns how many of the lines that were sent the log neither took nor lost until now.
-fn left<Q: LineQueue>(queue: &Q, check: &WatchedCounts, sent: u64) -> u64 {
-    sent.saturating_sub(queue.dropped())
-        .saturating_sub(check.done())
+// Puts a piece into `stamped`, in place of what that contained, with this time and a space before each line that begins in it.
+fn stamp(stamped: &mut Vec<u8>, time: &[u8], piece: &[u8], begins: bool) -> Result<(), AllocError>
+    requires { (at : DateTime) × (time.now ++ 32 ∷ [] ≡ time_text at) }
+    ensures { OnOk result (IsTimed begins piece.now stamped.new.items) }
+{
+    stamped.clear();
+    let mut begins = begins;
+    let mut rest = piece;
+    while !rest.is_empty() {
+        let length = line_length(rest);
+        stamp_line(stamped, time, &rest[..length], begins)?;
+        begins = true;
+        rest = &rest[length..];
+    }
+    Ok(())
 }
 
-// Puts a time, a space and a line into `stamped`, in place of what that contained.
-fn stamp(stamped: &mut Vec<u8>, time: Timestamp, line: &[u8]) -> Result<(), AllocError>
-    ensures { OnOk result (IsTextOf true line.now stamped.new.items) }
+// Adds a line, after this time and a space if it begins here.
+fn stamp_line(
+    stamped: &mut Vec<u8>,
+    time: &[u8],
+    line: &[u8],
+    begins: bool,
+) -> Result<(), AllocError>
+    ensures { OnOk result (stamped.new.items ≡ stamped.old.items ++ (cond begins (time.now ++ 32 ∷ []) [] ++ line.now)) }
 {
-    let printer = DateTimePrinter::new().precision(Some(6));
-    stamped.clear();
-    stamped.extend_from_slice(printer.timestamp_text(time).as_str().as_bytes())?;
-    stamped.extend_from_slice(b" ")?;
+    if begins {
+        stamped.extend_from_slice(time)?;
+        stamped.extend_from_slice(b" ")?;
+    }
     stamped.extend_from_slice(line)?;
     Ok(())
+}
+
+// Returns a count of lines and of those of a text, which are one at least.
+fn add_lines(count: u64, text: &[u8]) -> u64
+    ensures count { result ≡ min (count + max 1 (line_count true text.now)) (2 ^ 64 - 1) }
+    ensures some { 0 < result }
+{
+    count.saturating_add(count_lines(text).max(1))
+}
+
+// Returns the number of lines of a text, a part at its end included.
+fn count_lines(text: &[u8]) -> u64
+    ensures { result ≡ line_count true text.now }
+{
+    let mut count = 0u64;
+    let mut rest = text;
+    while !rest.is_empty() {
+        count += 1;
+        rest = &rest[line_length(rest)..];
+    }
+    count
+}
+
+/// Returns the length of the first line with its newline, if it has one.
+pub fn line_length(text: &[u8]) -> usize
+    ensures bound { result ≤ length text.now }
+    ensures some { 0 < length text.now → 0 < result }
+    ensures line { All (λ x. x ≢ 10) (take (result - 1) text.now) }
+    ensures ends { (result ≡ length text.now) ⊎ (ends_with_byte 10 (take result text.now) ≡ true) }
+{
+    match memchr(b'\n', text) {
+        Some(place) => place + 1,
+        None => text.len(),
+    }
 }
 
 // Returns the time of the system's clock, or 1970 if that can't be read.

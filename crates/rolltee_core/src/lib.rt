@@ -1,9 +1,13 @@
-//! The work of `rolltee`: each line of an input goes to a rolling log. One thread reads the lines, and another writes
-//! them.
+//! The work of `rolltee`: each line of an input goes to a rolling log, through a queue or directly.
 #![tactic(auto)]
 
+pub mod check;
 pub mod feed;
+pub mod file_log;
+mod lock;
 pub mod logs;
 pub mod losses;
+mod opening;
 pub mod tee;
 mod waiting;
+mod writers;

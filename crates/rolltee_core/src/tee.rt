@@ -1,34 +1,35 @@
-//! Lines from an input to a rolling log, through a non-blocking writer.
+//! Lines from an input to a rolling log, through a non-blocking writer or directly.
 ghost use Rattle.std.specs.Prelude.{◌≡◌, ◌≢◌, ◌≤◌, ℕ, List, [], ◌++◌, length, false, Some, None, Ok, Err, IfOk, IfSome, OnOk, string_bytes};
 ghost use Rattle.std.specs.List.{concat};
 ghost use Rattle.std.specs.Io.KnownBytes.{Keeps};
 ghost use Rattle.std.specs.IoError.{error_kind};
 ghost use Rattle.program_io.specs.Options.{AreDefaults};
 ghost use Rattle.program_io.specs.declared.options.Options.{Options};
+ghost use Rattle.rolltee_core.specs.Losses.{HasLostNothing};
 ghost use Rattle.rolltee_core.specs.Taken.{IsCopied, WasOpened, LogsText, TookText};
 ghost use Rattle.rolltee_core.specs.Fault.{tee_status, tee_fault_unless_memory, tee_fault_words, HasNoFolder, NamesNoRotation, ReportsTeeFault};
 ghost use Rattle.appender_names.specs.RotationText.{IsNoRotation, rotation_word};
 
-use crate::feed::{Feed, LineQueue, SenderQueue, WatchedCounts};
+use crate::feed::{Feed, FeedSink, SenderQueue};
 pub use crate::logs::{Logs, TeeLog};
 use crate::losses::TeeLosses;
-use crate::waiting::{Asked, LogPlace, Opened, TeeWriter};
-use log_check::FileCounts;
-use program_io::blocking::BlockingInput;
+use crate::waiting::{Asked, LogPlace, Opened};
+use crate::writers::{DirectWriter, TeeWriter};
+use program_io::blocking::{BlockingInput, Ready};
 use program_io::options::{OptionError, OptionFault, Options};
 use program_io::report::report;
-use program_io::{ArgumentFault, CopyFault, LineInput, copy_lines};
-use std::alloc::{AllocError, Global};
+use program_io::{ArgumentFault, CopyFault, Split, copy_pieces};
+use std::alloc::AllocError;
 use std::io;
-use std::io::{BufReader, ErrorKind, Read, Write};
+use std::io::{BufRead, BufReader, ErrorKind, Read, Write};
 use std::marker::{Brand, Model, PhantomData};
-use std::sync::Arc;
 use std::time::Duration;
 use thiserror::Error;
 use tracing_appender::non_blocking::{
     Host, NonBlockingBuilder, Ran, RecordedSender, RecordedWork, Written,
 };
 use tracing_appender::rolling::{InitError, Rotation};
+use tracing_appender::worker::LineCounts;
 
 /// The greatest number of queued lines, if no option sets it.
 const LIMIT: usize = 1024;
@@ -54,6 +55,9 @@ pub enum Fault {
     /// No log was opened.
     #[error("{0}")]
     Open(InitError),
+    /// Another process may remove files of the log.
+    #[error("another rolltee --keep writes this log")]
+    Locked,
     /// The thread that writes was not made.
     #[error("no thread")]
     Thread,
@@ -92,6 +96,7 @@ impl Fault {
     {
         match self {
             Fault::Usage => b"usage: rolltee ROTATION DIR PREFIX\n",
+            Fault::Locked => b"another rolltee --keep writes this log\n",
             Fault::Thread => b"no thread\n",
             Fault::Read => b"read failed\n",
             Fault::Write => b"write failed\n",
@@ -115,6 +120,17 @@ impl Fault {
 impl From<AllocError> for Fault {
     fn from(_error: AllocError) -> Fault {
         Fault::Memory
+    }
+}
+
+/// A fault of opening the log.
+impl From<InitError> for Fault {
+    ghost use Rattle.rolltee_core.specs.declared.tee.Fault.TheVariants.{Open};
+
+    ghost from_gives = { λ error fault. fault ≡ Open error };
+
+    fn from(error: InitError) -> Fault {
+        Fault::Open(error)
     }
 }
 
@@ -178,7 +194,7 @@ impl From<CopyFault> for Fault {
 /// ignored; the lines read before it are written, as long as that takes. Returns the status of the process. 0: all
 /// was written. 1: no log was opened, also if memory was refused for that, no thread made, the input not read or a line
 /// not written whole. 2: the arguments aren't of that form. 3: memory was refused elsewhere.
-pub fn tee<R: Host, L: Logs, I: Read, E: Write>(
+pub fn tee<R: Host, L: Logs, I: Read + Ready, E: Write>(
     rt: R,
     logs: &L,
     arguments: &[String],
@@ -192,7 +208,7 @@ pub fn tee<R: Host, L: Logs, I: Read, E: Write>(
     ensures silent { result ≡ 0 → Keeps (E.contents errors.old) (E.contents errors.new) }
     ensures reported { 1 ≤ result → (fault : Fault) × ReportsTeeFault fault result (E.contents errors.old) (E.contents errors.new) }
     ensures written { result ≡ 0 → (text : List ℕ) → I.remaining input.old ≡ Some text →
-        (options : Options) × AreDefaults options × LogsText L.Log.opens options L.Log.takes arguments.now text }
+        (options : Options) × AreDefaults options × LogsText L.Log.opens options L.Log.takes L.Log.is_kept arguments.now text }
 {
     let options = Options::new(rt.alloc());
     tee_with(rt, logs, &options, arguments, input, io::sink(), errors)
@@ -201,7 +217,7 @@ pub fn tee<R: Host, L: Logs, I: Read, E: Write>(
 /// Does what `tee` does, with options. If they ask for it, each line is also written to `output`. The status is also 1 if a
 /// line was dropped or not written whole to `output`, or a log file was not found again. It is 2 if the rotation does not
 /// allow an option.
-pub fn tee_with<R: Host, L: Logs, I: Read, O: Write + Drop, E: Write>(
+pub fn tee_with<R: Host, L: Logs, I: Read + Ready, O: Write + Drop, E: Write>(
     rt: R,
     logs: &L,
     options: &Options,
@@ -217,7 +233,7 @@ pub fn tee_with<R: Host, L: Logs, I: Read, O: Write + Drop, E: Write>(
     ensures silent { result ≡ 0 → Keeps (E.contents errors.old) (E.contents errors.new) }
     ensures reported { 1 ≤ result → (fault : Fault) × ReportsTeeFault fault result (E.contents errors.old) (E.contents errors.new) }
     ensures written { result ≡ 0 → options.now.timestamps ≡ false → (text : List ℕ) → I.remaining input.old ≡ Some text →
-        LogsText L.Log.opens options.now L.Log.takes arguments.now text }
+        LogsText L.Log.opens options.now L.Log.takes L.Log.is_kept arguments.now text }
 {
     match copy_through(rt, logs, options, arguments, input, output) {
         Ok(()) => 0,
@@ -239,7 +255,7 @@ pub fn report_fault<E: Write>(fault: &Fault, errors: &mut E) -> u8
 }
 
 // Copies the input, and returns nothing if all of it was written.
-fn copy_through<R: Host, L: Logs, I: Read, O: Write + Drop>(
+fn copy_through<R: Host, L: Logs, I: Read + Ready, O: Write + Drop>(
     rt: R,
     logs: &L,
     options: &Options,
@@ -251,7 +267,7 @@ fn copy_through<R: Host, L: Logs, I: Read, O: Write + Drop>(
     ensures no_rotation { NamesNoRotation arguments.now → result ≡ Err Fault.Usage }
     ensures no_folder { HasNoFolder arguments.now → result ≡ Err Fault.Usage }
     ensures written { OnOk result (options.now.timestamps ≡ false → (text : List ℕ) → I.remaining input.old ≡ Some text →
-        LogsText L.Log.opens options.now L.Log.takes arguments.now text) }
+        LogsText L.Log.opens options.now L.Log.takes L.Log.is_kept arguments.now text) }
 {
     let [rotation, directory, prefix] = arguments else {
         return Err(Fault::Usage);
@@ -293,7 +309,7 @@ impl<'a, L: Logs, N: Asked> Model for LogOpening<'a, L, N> {
 }
 
 // The same, if `N` says by what the log is opened.
-fn copy_to<N: Asked + Send + 'static, R: Host, L: Logs, I: Read, O: Write + Drop>(
+fn copy_to<N: Asked + Send + 'static, R: Host, L: Logs, I: Read + Ready, O: Write + Drop>(
     rt: R,
     logs: &L,
     rotation: Rotation,
@@ -305,16 +321,15 @@ fn copy_to<N: Asked + Send + 'static, R: Host, L: Logs, I: Read, O: Write + Drop
 ) -> Result<(), Fault>
     requires { N.asked rotation (string_bytes directory.now) (string_bytes prefix.now) options.now }
     ensures { OnOk result (options.now.timestamps ≡ false → (text : List ℕ) → I.remaining input.old ≡ Some text →
-        TookText (WasOpened L.Log.opens N.asked) L.Log.takes text) }
+        TookText (WasOpened L.Log.opens N.asked) L.Log.takes L.Log.is_kept text) }
 {
-    let files = FileCounts::new(rt.alloc())?;
     let input = BufReader::new(rt.alloc(), BlockingInput::new(rt, input))?;
     let limit = if options.queue == 0 {
         LIMIT
     } else {
         options.queue
     };
-    let (writer, place, check) = TeeWriter::<R, L::Log, N>::new(
+    let (writer, place, counts) = TeeWriter::<R, L::Log, N>::new(
         rt,
         !options.no_wait,
         options.max_bytes,
@@ -330,9 +345,8 @@ fn copy_to<N: Asked + Send + 'static, R: Host, L: Logs, I: Read, O: Write + Drop
     let work = TeeWork {
         rt,
         opening,
-        files: &files,
         place,
-        check,
+        counts,
         input,
         output,
         outcome: Ok(TeeLosses::NONE),
@@ -345,21 +359,22 @@ fn copy_to<N: Asked + Send + 'static, R: Host, L: Logs, I: Read, O: Write + Drop
         Ok(ran) => ran,
         Err(error) => return Err(Fault::Thread.unless_memory(error.kind())),
     };
-    let lost = work.outcome?;
+    let sent = work.outcome?;
     let Some(Written { writer, given_up }) = written else {
         return Err(Fault::Pending);
     };
+    let found = writer.losses();
     let lost = TeeLosses {
-        unwritten: lost.unwritten.max(given_up).max(writer.unwritten()),
-        gone: files.gone(),
-        unsynced: files.unsynced(),
-        ..lost
+        unwritten: sent.unwritten.max(given_up).max(found.unwritten),
+        dropped: sent.dropped,
+        unechoed: sent.unechoed,
+        ..found
     };
     all_written(lost, options.is_plain())
 }
 
-// The same in this thread, without a queue: each block is written before the next one is read.
-fn copy_directly<N: Asked + Send + 'static, R: Host, L: Logs, I: Read, O: Write + Drop>(
+// The same in this thread, without a queue: what was read is written before more is read.
+fn copy_directly<N: Asked + Send + 'static, R: Host, L: Logs, I: Read + Ready, O: Write + Drop>(
     rt: R,
     logs: &L,
     rotation: Rotation,
@@ -371,40 +386,25 @@ fn copy_directly<N: Asked + Send + 'static, R: Host, L: Logs, I: Read, O: Write 
 ) -> Result<(), Fault>
     requires { N.asked rotation (string_bytes directory.now) (string_bytes prefix.now) options.now }
     ensures { OnOk result (options.now.timestamps ≡ false → (text : List ℕ) → I.remaining input.old ≡ Some text →
-        TookText (WasOpened L.Log.opens N.asked) L.Log.takes text) }
+        TookText (WasOpened L.Log.opens N.asked) L.Log.takes L.Log.is_kept text) }
 {
-    let files = FileCounts::new(rt.alloc())?;
     let mut input = BufReader::new(rt.alloc(), BlockingInput::new(rt, input))?;
-    let (writer, place, check) = TeeWriter::<R, L::Log, N>::new(
+    let (writer, place) = DirectWriter::<R, L::Log, N>::new(
         rt,
         !options.no_wait,
         options.max_bytes,
     )?;
-    let counts = files.clone()?;
-    let log = match logs.open_log(
-        rotation,
-        directory.as_str(),
-        prefix.as_str(),
-        options,
-        counts,
-    ) {
-        Ok(log) => Opened::new(log),
-        Err(error) => return Err(Fault::Open(error)),
-    };
-    place.put(&rt, log);
-    let mut feed = Feed::new(rt, writer, &check, options, output);
-    let copied = copy_lines(rt.alloc(), &mut input, &mut feed);
+    let log = logs.open_log(rotation, directory.as_str(), prefix.as_str(), options)?;
+    let opened = Opened::new(log);
+    place.put(&rt, opened);
+    let mut feed = Feed::new(rt, writer, options, output);
+    let copied = copy_pieces(rt.alloc(), &mut input, &mut feed, Split::Blocks);
     let unechoed = feed.unechoed();
-    let mut writer = feed.into_queue();
-    writer.write_out();
+    let mut writer = feed.into_sink();
+    writer.flush();
     copied?;
-    let lost = TeeLosses {
-        unwritten: writer.unwritten(),
-        unechoed,
-        gone: files.gone(),
-        unsynced: files.unsynced(),
-        ..TeeLosses::NONE
-    };
+    let found = writer.losses();
+    let lost = TeeLosses { unechoed, ..found };
     all_written(lost, options.is_plain())
 }
 
@@ -413,19 +413,18 @@ fn copy_directly<N: Asked + Send + 'static, R: Host, L: Logs, I: Read, O: Write 
 struct TeeWork<'a, R: Host, L: Logs, I, O, N: Asked> {
     rt: R,
     opening: LogOpening<'a, L, N>,
-    files: &'a Arc<FileCounts, Global>,
     place: LogPlace<L::Log, N>,
-    check: WatchedCounts,
+    counts: LineCounts,
     input: I,
     output: O,
     // What was lost until the end of the input.
     outcome: Result<TeeLosses, Fault>,
 }
 
-impl<'a, R: Host, L: Logs, I: LineInput, O: Write, N: Asked> RecordedWork
+impl<'a, R: Host, L: Logs, I: BufRead + Ready, O: Write, N: Asked> RecordedWork
     for TeeWork<'a, R, L, I, O, N> {
     ghost does = { λ old start new ended.
-        IfOk new.outcome (λ lost. IsCopied (WasOpened L.Log.opens N.asked) (I.remaining old.input) old.opening.timestamps start ended lost.dropped) };
+        IfOk new.outcome (λ lost. IsCopied (I.remaining old.input) old.opening.timestamps start ended lost.dropped) };
 
     // The log is opened last, so a start that fails for want of memory or of a thread makes no file. The lines that were
     // read are waited for also after a fault, and only then counted: the worker's end is waited for a second only, which
@@ -434,41 +433,32 @@ impl<'a, R: Host, L: Logs, I: LineInput, O: Write, N: Asked> RecordedWork
         let TeeWork {
             rt,
             opening,
-            files,
             place,
-            check,
+            counts,
             input,
             output,
             outcome,
         } = self;
-        let files = match files.clone() {
-            Ok(files) => files,
-            Err(error) => {
-                *outcome = Err(Fault::from(error));
-                return sender;
-            }
-        };
         let (directory, prefix) = (opening.directory, opening.prefix);
-        let log = match opening.logs.open_log(
-            opening.rotation,
-            directory,
-            prefix,
-            opening.options,
-            files,
-        ) {
+        let log = match opening
+            .logs
+            .open_log(opening.rotation, directory, prefix, opening.options)
+        {
             Ok(log) => Opened::new(log),
-            Err(error) => {
-                *outcome = Err(Fault::Open(error));
+            Err(fault) => {
+                *outcome = Err(fault);
                 return sender;
             }
         };
         place.put(rt, log);
-        let queue = SenderQueue::new(sender);
-        let mut feed = Feed::new(*rt, queue, check, opening.options, output);
-        let copied = copy_lines(rt.alloc(), input, &mut feed);
-        feed.settle();
-        let (unwritten, unechoed) = (feed.lost(), feed.unechoed());
-        let sender = feed.into_queue().into_sender();
+        let queue = SenderQueue::new(*rt, sender, counts, opening.options.lossy);
+        let mut feed = Feed::new(*rt, queue, opening.options, output);
+        let copied = copy_pieces(rt.alloc(), input, &mut feed, Split::Lines);
+        let unechoed = feed.unechoed();
+        let mut queue = feed.into_sink();
+        queue.settle();
+        let unwritten = queue.lost();
+        let sender = queue.into_sender();
         let dropped = sender.dropped() as u64;
         *outcome = match copied {
             Ok(()) => Ok(TeeLosses {

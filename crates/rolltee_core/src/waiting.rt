@@ -1,11 +1,12 @@
-//! The log of a worker: it waits while the system refuses its writes, unless that is not wanted.
-ghost use Rattle.std.specs.Prelude.{◌≡◌, ◌⊎◌, [], Some, IfOk};
+//! A log that waits while the system refuses its writes, unless that is not wanted.
+ghost use Rattle.std.specs.Prelude.{◌≡◌, [], Some, IfOk};
 ghost use Rattle.std.specs.Io.{WritesAtMost};
 ghost use Rattle.std.specs.Io.KnownBytes.{Keeps, WriteAppends};
+ghost use Rattle.rolltee_core.specs.Losses.{HasLostNothing};
 ghost use Rattle.rolltee_core.specs.Taken.{WasOpened, TookText};
 
-use crate::feed::{LineQueue, WatchedCounts, WatchedLog};
 use crate::logs::TeeLog;
+use crate::losses::TeeLosses;
 use line_history::Tape;
 use std::alloc::{AllocError, Global};
 use std::io;
@@ -100,11 +101,11 @@ impl<W: TeeLog + Drop, N: Asked> NotedLog<W, N> {
         self.taken.note(b"");
     }
 
-    // Says what the log took.
-    fn tell(&self)
-        ensures { TookText (WasOpened W.opens N.asked) W.takes self.now }
+    // Returns what the log lost.
+    fn losses(&self) -> TeeLosses
+        ensures { HasLostNothing result → TookText (WasOpened W.opens N.asked) W.takes W.is_kept self.now }
     {
-        let _ = &self.log;
+        self.log.losses()
     }
 }
 
@@ -203,12 +204,16 @@ impl<R: Wait, W: TeeLog + Drop, N: Asked> WaitingLog<R, W, N> {
         }
     }
 
-    // Says what the log took, if it was found.
-    fn tell(&self)
-        ensures { (self.now ≡ []) ⊎ TookText (WasOpened W.opens N.asked) W.takes self.now }
+    /// Returns what the log lost. One that was never looked for was never flushed.
+    pub fn losses(&self) -> TeeLosses
+        ensures { HasLostNothing result → TookText (WasOpened W.opens N.asked) W.takes W.is_kept self.now }
     {
-        if let Some(log) = &self.log {
-            log.tell();
+        match &self.log {
+            Some(log) => log.losses(),
+            None => TeeLosses {
+                unsynced: 1,
+                ..TeeLosses::NONE
+            },
         }
     }
 }
@@ -261,90 +266,5 @@ impl<R: Wait + Clock + Eprint, W: TeeLog + Drop, N: Asked> Write for WaitingLog<
             Some(log) => log.flush(),
             None => Ok(()),
         }
-    }
-}
-
-/// The writer of a worker: a log that gathers lines, and may wait. Its contents are the lines that it was given.
-#[derive(Drop)]
-pub struct TeeWriter<R: Wait + Clock + Eprint + Drop, W: TeeLog + Drop, N: Asked> {
-    log: WatchedLog<WaitingLog<R, W, N>>,
-    given: Tape,
-}
-
-impl<R: Wait + Clock + Eprint + Drop, W: TeeLog + Drop, N: Asked> Model for TeeWriter<R, W, N> {
-    ghost use Rattle.std.specs.Prelude.{◌≡◌, ◌++◌, List, ℕ};
-    ghost use Rattle.std.specs.List.{concat};
-
-    ghost Value = { List ℕ };
-
-    ghost view = { λ w. concat w.given.lines };
-
-    // Unless a line was not written whole, the log took all lines but those that wait.
-    ghost invariant = { λ w. w.log.lost ≡ 0 → concat w.given.lines ≡ w.log.writer ++ concat w.log.waiting };
-}
-
-impl<R: Wait + Clock + Eprint + AllocGlobal + Drop, W: TeeLog + Drop, N: Asked> TeeWriter<R, W, N> {
-    /// Returns a writer whose log is not opened yet, the place for that, and what shows the counts of lines. Without `waits`
-    /// each fault loses a line. The log's files have this limit of bytes, or none if it is 0. `AllocError` if memory is refused.
-    pub fn new(
-        rt: R,
-        waits: bool,
-        limit: u64,
-    ) -> Result<(TeeWriter<R, W, N>, LogPlace<W, N>, WatchedCounts), AllocError>
-        ensures { IfOk result (λ made. made.0 ≡ []) }
-    {
-        let alloc = rt.alloc();
-        let (log, place) = WaitingLog::new(rt, waits)?;
-        let (log, counts) = WatchedLog::new(alloc, log, limit)?;
-        let given = Tape::of(&());
-        Ok((TeeWriter { log, given }, place, counts))
-    }
-
-    /// Returns the number of lines that the log did not take whole. If that is 0, the log took exactly the lines that the
-    /// writer was given, unless there were none.
-    pub fn unwritten(&self) -> u64
-        ensures { result ≡ 0 → (self.now ≡ []) ⊎ TookText (WasOpened W.opens N.asked) W.takes self.now }
-    {
-        self.log.get_ref().tell();
-        self.log.unwritten()
-    }
-}
-
-impl<R: Wait + Clock + Eprint + Drop, W: TeeLog + Drop, N: Asked> Write for TeeWriter<R, W, N> {
-    ghost contents = { λ given. Some given };
-
-    /// Takes one whole line.
-    fn write(&mut self, line: &[u8]) -> io::Result<usize>
-        ensures bound { WritesAtMost result line.now }
-        ensures bytes { WriteAppends (Some self.old) (Some self.new) result line.now }
-    {
-        let taken = self.log.write(line)?;
-        self.given.note(line);
-        Ok(taken)
-    }
-
-    fn flush(&mut self) -> io::Result<()>
-        ensures bytes { Keeps (Some self.old) (Some self.new) }
-    {
-        self.log.flush()
-    }
-}
-
-/// Without a queue, a line goes to the log at once. One that is lost is counted.
-impl<R: Wait + Clock + Eprint + Drop, W: TeeLog + Drop, N: Asked> LineQueue for TeeWriter<R, W, N> {
-    ghost sent = { λ given. Some given };
-
-    fn send(&mut self, line: &[u8]) -> io::Result<()> {
-        let _ = self.log.write(line);
-        self.given.note(line);
-        Ok(())
-    }
-
-    fn dropped(&self) -> u64 {
-        0
-    }
-
-    fn write_out(&mut self) {
-        let _ = self.log.flush();
     }
 }

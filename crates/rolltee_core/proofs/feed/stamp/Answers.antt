@@ -1,17 +1,24 @@
-use Rattle.std.proofs.Common.{◌≡◌, ℕ, List, ◌++◌, ◌∷◌, [], Some, false, ap, ◌∙◌, append_assoc}
-use Rattle.jiff_fmt.specs.Text.{datetime_text, zulu_text}
+use Rattle.std.proofs.Common.{rules, ◌<◌, ◌++◌, ◌∷◌, [], refl, take, length, subst, sym, ap, ◌∙◌, arith}
+use Rattle.std.proofs.lemmas.List.{take_rest}
+use Rattle.rolltee_core.specs.Feed.{IsTimed}
+use Rattle.rolltee_core.proofs.Timed.{timed_more, later_begins}
+use Rattle.program_io.proofs.Reported.{moves_front}
 use Rattle.rolltee_core.proofs.feed.stamp.Goals as goal
 
-pub returns : goal.returns
-returns c =
-    let time = c.timestamp_text.ensures in
-    let is_lower = ap (λ o. o.0) c.precision-printer.ensures ∙ ap (λ o. o.0) c.new.ensures in
-    let separator = ap (λ o. o.1) c.precision-printer.ensures ∙ ap (λ o. o.1) c.new.ensures in
-    let precision = ap (λ o. o.2) c.precision-printer.ensures in
-    let words : List ℕ = datetime_text false 84 (Some 6) time.0 ++ zulu_text false in
-    let text : c.timestamp_text.result.bytes ≡ words = rw (is_lower, separator, precision) at time.2 in
-    let first : c.extend_from_slice.new.self.items ≡ words =
-    c.in_ok-extend_from_slice.ensures.items ∙ ap (λ (items : List ℕ). items ++ c.as_bytes.result.now) c.clear.ensures.items ∙ c.as_bytes.ensures.value ∙ c.as_str.ensures.value ∙ text in
-    let before : c.extend_from_slice-2.new.self.items ≡ words ++ (32 ∷ []) =
-    c.in_ok-extend_from_slice-2.ensures.items ∙ ap (λ (items : List ℕ). items ++ (32 ∷ [])) first in
-    (time.0, c.in_ok-extend_from_slice-3.ensures.items ∙ ap (λ (items : List ℕ). items ++ c.args.line.now) before ∙ append_assoc words (32 ∷ []) c.args.line.now)
+pub loop-rest-init : goal.loop-rest-init
+loop-rest-init c = ([], refl, c.clear.ensures.items, λ some. refl)
+
+pub loop-rest-preserved : goal.loop-rest-preserved
+loop-rest-preserved c =
+    let (done, split, timed, begun) = c.loop-rest.invariant in
+    let rest = c.loop-rest.rest.now in
+    let n = c.line_length-length.result in
+    let line = c.line_length-length.ensures in
+    let length_is : 0 < length rest = search rules in
+    let some = line.some length_is in (
+      done ++ take n rest,
+      moves_front _ done rest n split,
+      subst (IsTimed c.args.begins (done ++ take n rest)) (sym c.in_ok-stamp_line.ensures)
+          (timed_more c.args.begins c.loop-rest.begins n done rest c.loop-rest.stamped.items (c.args.time.now ++ 32 ∷ []) c.requires.0 c.requires.1 some line.bound line.line timed (begun (λ none. absurd (omega (arith, length_is, ap length none))))),
+      λ more. later_begins c.args.begins n done rest line.bound line.ends (λ none. more (take_rest rest n ∙ none)),
+    )

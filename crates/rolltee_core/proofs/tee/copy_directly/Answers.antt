@@ -2,18 +2,18 @@ use Rattle.std.proofs.Common.{◌++◌, ap, ◌∙◌}
 use Rattle.std.proofs.lemmas.Result.{on_ok_weaker}
 use Rattle.rolltee_core.specs.declared.losses.TeeLosses.{TeeLosses}
 use Rattle.rolltee_core.proofs.Sent.{fed_writer}
-use Rattle.rolltee_core.proofs.Taken.{reader_new, takes_given}
+use Rattle.rolltee_core.proofs.Taken.{reader_new}
 use Rattle.rolltee_core.proofs.tee.copy_directly.Goals as goal
 
-pub new-log-requires : goal.new-log-requires
-new-log-requires g c = (_, _, _, _, rw (c.as_str.ensures.value, c.as_str-2.ensures.value) c.requires, c.in-Ok.ensures)
+pub new-opened-requires : goal.new-opened-requires
+new-opened-requires g c = (_, _, _, _, rw (c.as_str.ensures.value, c.as_str-2.ensures.value) c.requires, c.in_ok-log.ensures)
 
 pub returns : goal.returns
 returns g c = on_ok_weaker c.all_written.result (λ none plain text is.
-    let input = ap (λ i. g.I.Read.remaining i.input.now) c.in_ok-input.ensures.inner ∙ ap (λ i. g.I.Read.remaining i.now) c.new-2.ensures ∙ is in
+    let input = ap (λ i. g.I.Read.remaining i.input.now) c.in_ok-input.ensures.inner ∙ ap (λ i. g.I.Read.remaining i.now) c.new.ensures ∙ is in
     let read = reader_new (λ i. g.I.Read.remaining i.input.now) c.in_ok-input.input text c.in_ok-input.ensures.capacity c.in_ok-input.ensures.empty input in
     let is_plain = ap (λ f. f.timestamps) c.new-feed.ensures ∙ plain in
-    let grown = fed_writer c.new-feed.result c.copy_lines-copied.new.writer text is_plain (c.in_ok-copied.ensures.all text read) in
-    let begun = ap (λ f. f.queue) c.new-feed.ensures ∙ c.in_ok-writer.ensures in
-    let given = c.write_out.ensures ∙ c.into_queue-writer.ensures ∙ grown ∙ ap (λ q. q ++ text) begun in
-    rw (← given) (takes_given c.in-Ok.log (_, _, _, _, rw (c.as_str.ensures.value, c.as_str-2.ensures.value) c.requires, c.in-Ok.ensures) (c.unwritten.ensures (ap (λ (l : TeeLosses). l.unwritten) none)))) c.all_written.ensures
+    let grown = fed_writer c.new-feed.result c.copy_pieces-copied.new.writer text is_plain (c.in_ok-copied.ensures.all text read) in
+    let begun = ap (λ f. f.sink) c.new-feed.ensures ∙ c.in_ok-writer.ensures in
+    let given = c.flush.ensures ∙ c.into_sink-writer.ensures ∙ grown ∙ ap (λ q. q ++ text) begun in
+    rw (← given) (c.losses-found.ensures (record { unwritten = ap (λ (l : TeeLosses). l.unwritten) none; gone = ap (λ (l : TeeLosses). l.gone) none; unsynced = ap (λ (l : TeeLosses). l.unsynced) none }))) c.all_written.ensures

@@ -1,4 +1,4 @@
-use Rattle.log_check.proofs.Openings.{opens_last}
+use Rattle.rolltee_core.proofs.Openings.{opens_last}
 use Rattle.acceptance_rolltee.proofs.rests.SceneOpenerOpensMemoryFolderRefScene.open.Goals as goal
 
 pub returns-in-Ok : goal.returns-in-Ok

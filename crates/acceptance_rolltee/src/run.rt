@@ -1,0 +1,97 @@
+// Runs of the program, and files.
+use crate::expect::expect_eq;
+use crate::logs::{OneLog, TestLog};
+use program_io::blocking::Ready;
+use program_io::options::{Options, Request, read};
+use rolltee_core::tee::{Logs, tee_with};
+use std::alloc::{AllocError, Global};
+use std::io::{Read, Write};
+use std::process::Abort;
+use std::rt::Files;
+use std::{env, fs, io, process};
+use tracing_appender::non_blocking::Host;
+
+/// Returns the words of a command line that one space separates.
+pub(crate) fn words_of(alloc: Global, line: &str) -> Result<Vec<String>, AllocError> {
+    let mut words = Vec::new(alloc);
+    for word in line.split(' ') {
+        words.push(word.to_string(alloc)?)?;
+    }
+    Ok(words)
+}
+
+// Returns what a command line asks for.
+fn request_of<R: AllocGlobal + Abort>(rt: &R, line: &str) -> (Options, Vec<String>) {
+    let words = words_of(rt.alloc(), line).expect(rt, "memory");
+    match read(rt.alloc(), words.as_slice()) {
+        Ok(Request::Run(options, arguments)) => (options, arguments),
+        _ => panic!(rt; "{line}"),
+    }
+}
+
+/// Runs the program with this command line, and returns its status and what it reports.
+pub(crate) fn run<R: Host + Abort, L: Logs, I: Read + Ready, O: Write + Drop>(
+    rt: R,
+    logs: &L,
+    line: &str,
+    input: &mut I,
+    output: O,
+) -> (u8, Vec<u8>) {
+    let (options, arguments) = request_of(&rt, line);
+    let mut errors = Vec::new(rt.alloc());
+    let arguments = arguments.as_slice();
+    let status = tee_with(rt, logs, &options, arguments, input, output, &mut errors);
+    (status, errors)
+}
+
+/// The same, and compares its status and what it reports.
+pub(crate) fn check<R: Host + Abort, L: Logs, I: Read + Ready, O: Write + Drop>(
+    rt: R,
+    logs: &L,
+    line: &str,
+    input: &mut I,
+    output: O,
+    told: (u8, &str),
+) {
+    let (status, errors) = run(rt, logs, line, input, output);
+    expect_eq(&rt, errors.as_slice(), told.1.as_bytes());
+    expect_eq(&rt, status, told.0);
+}
+
+/// The same over this log.
+pub(crate) fn check_log<R: Host + Abort, L: TestLog + Send + Drop + 'static, I: Read + Ready>(
+    rt: R,
+    log: L,
+    line: &str,
+    input: &mut I,
+    told: (u8, &str),
+) {
+    check(rt, &OneLog::new(log), line, input, io::sink(), told);
+}
+
+/// The same over logs of the file system. All tests open them here, since a function that does is dear to prove.
+pub(crate) fn check_files<R: Host + Abort, I: Read + Ready>(
+    rt: R,
+    files: &HostRuntime,
+    line: &str,
+    input: &mut I,
+    told: (u8, &str),
+) {
+    check(rt, files, line, input, io::sink(), told);
+}
+
+/// Returns the path of a folder of this test's own, which doesn't exist.
+pub(crate) fn fresh(rt: &HostRuntime, name: &str) -> io::Result<String> {
+    let parent = env::temp_dir(rt)?;
+    let parent = parent.as_str();
+    let id = process::id(rt.process());
+    let path = format!(in rt.alloc(); "{parent}/rolltee_{id}_{name}")?;
+    let _ = fs::remove_dir_all(rt, path.as_str());
+    Ok(path)
+}
+
+/// Ends the test if a file hasn't these bytes.
+pub(crate) fn expect_file<R: Files + AllocGlobal + Abort>(rt: &R, path: &str, bytes: &[u8]) {
+    let content = fs::read(rt, path).expect(rt, "a file");
+    expect_eq(rt, content.as_slice(), bytes);
+}
