@@ -209,7 +209,8 @@ fn is_piece(piece: &[u8]) -> bool
 const FLUSHED_BYTES: usize = 1 << 20;
 
 /// Writes each piece of `input` by one write, until nothing is left. Pieces before a fault are written. Blocks are flushed
-/// before a read that may have to be waited for, and whenever a MiB was written. A fault of a flush is ignored.
+/// before a read that may have to be waited for. While no read has to be, the first is flushed, then twice as many bytes each time,
+/// up to a MiB: so what is not flushed was read after as much that was. A fault of a flush is ignored.
 pub fn copy_pieces<I: BufRead + Ready, W: Write>(
     alloc: Global,
     input: &mut I,
@@ -224,16 +225,22 @@ pub fn copy_pieces<I: BufRead + Ready, W: Write>(
         AppendsBeginning (W.contents writer.old) (W.contents writer.new) text) }
 {
     let mut piece = Vec::new(alloc);
-    // The number of bytes after the last flush.
-    let mut unflushed = 0usize;
+    // The number of bytes after the last flush, and how many are flushed.
+    let (mut unflushed, mut flushed) = (0usize, 1);
     for _ in 0..u64::MAX {
         if !read_piece(input, &mut piece, split)? {
             return Ok(());
         }
         unflushed = unflushed.saturating_add(piece.len());
-        let flushes = split == Split::Blocks && (unflushed >= FLUSHED_BYTES || !input.is_ready());
+        let is_ready = input.is_ready();
+        let flushes = split == Split::Blocks && (unflushed >= flushed || !is_ready);
         write_piece(piece.as_slice(), flushes, writer)?;
         if flushes {
+            flushed = if is_ready {
+                unflushed.saturating_mul(2).min(FLUSHED_BYTES)
+            } else {
+                1
+            };
             unflushed = 0;
         }
     }

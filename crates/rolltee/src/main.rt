@@ -1,5 +1,5 @@
 //! Writes each line of standard input to a log: `rolltee ROTATION DIR PREFIX [OPTION]...`. The log begins a new file each
-//! minute, hour, day or week of UTC. One thread reads the lines, and another writes them.
+//! minute, hour, day or week of UTC. One thread reads the lines, and another writes them, but with `--direct`.
 #![tactic(auto)]
 
 use program_io::options::{Request, read};

@@ -194,7 +194,7 @@ impl From<CopyFault> for Fault {
 /// ignored; the lines read before it are written, as long as that takes. Returns the status of the process. 0: all
 /// was written. 1: no log was opened, also if memory was refused for that, no thread made, the input not read or a line
 /// not written whole. 2: the arguments aren't of that form. 3: memory was refused elsewhere.
-pub fn tee<R: Host, L: Logs, I: Read + Ready, E: Write>(
+pub fn tee<R: Host, L: Logs, I: Read, E: Write>(
     rt: R,
     logs: &L,
     arguments: &[String],
@@ -217,7 +217,7 @@ pub fn tee<R: Host, L: Logs, I: Read + Ready, E: Write>(
 /// Does what `tee` does, with options. If they ask for it, each line is also written to `output`. The status is also 1 if a
 /// line was dropped or not written whole to `output`, or a log file was not found again. It is 2 if the rotation does not
 /// allow an option.
-pub fn tee_with<R: Host, L: Logs, I: Read + Ready, O: Write + Drop, E: Write>(
+pub fn tee_with<R: Host, L: Logs, I: Read, O: Write + Drop, E: Write>(
     rt: R,
     logs: &L,
     options: &Options,
@@ -255,7 +255,7 @@ pub fn report_fault<E: Write>(fault: &Fault, errors: &mut E) -> u8
 }
 
 // Copies the input, and returns nothing if all of it was written.
-fn copy_through<R: Host, L: Logs, I: Read + Ready, O: Write + Drop>(
+fn copy_through<R: Host, L: Logs, I: Read, O: Write + Drop>(
     rt: R,
     logs: &L,
     options: &Options,
@@ -309,7 +309,7 @@ impl<'a, L: Logs, N: Asked> Model for LogOpening<'a, L, N> {
 }
 
 // The same, if `N` says by what the log is opened.
-fn copy_to<N: Asked + Send + 'static, R: Host, L: Logs, I: Read + Ready, O: Write + Drop>(
+fn copy_to<N: Asked + Send + 'static, R: Host, L: Logs, I: Read, O: Write + Drop>(
     rt: R,
     logs: &L,
     rotation: Rotation,
@@ -374,7 +374,7 @@ fn copy_to<N: Asked + Send + 'static, R: Host, L: Logs, I: Read + Ready, O: Writ
 }
 
 // The same in this thread, without a queue: what was read is written before more is read.
-fn copy_directly<N: Asked + Send + 'static, R: Host, L: Logs, I: Read + Ready, O: Write + Drop>(
+fn copy_directly<N: Asked + Send + 'static, R: Host, L: Logs, I: Read, O: Write + Drop>(
     rt: R,
     logs: &L,
     rotation: Rotation,

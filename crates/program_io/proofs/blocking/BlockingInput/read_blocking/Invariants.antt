@@ -1,5 +1,5 @@
 use Rattle.std.specs.Io.KnownBytes.{Keeps}
-use Rattle.program_io.proofs.blocking.BlockingInputRead.read.Given as goal
+use Rattle.program_io.proofs.blocking.BlockingInput.read_blocking.Given as goal
 
 -- nothing was read
 abbrev pub invariant-loop : goal.invariant-loop
