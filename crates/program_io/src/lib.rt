@@ -28,7 +28,7 @@ ghost use Rattle.std.specs.Prelude.{
 };
 ghost use Rattle.std.specs.Io.{StopsAt};
 ghost use Rattle.std.specs.Io.BufRead.{take_through, drop_through};
-ghost use Rattle.std.specs.Io.KnownBytes.{Appends, Consumes, IsAtEnd};
+ghost use Rattle.std.specs.Io.KnownBytes.{Appends, Consumes, IsAtEnd, Keeps};
 ghost use Rattle.program_io.specs.Line.{IsPiece};
 ghost use Rattle.program_io.specs.Inside.Piece.{Extends, IsOpen};
 ghost use Rattle.program_io.specs.Report.{AppendsBeginning};
@@ -146,22 +146,40 @@ impl From<io::Error> for CopyFault {
 
 /// Reads the next piece into `piece`, in place of what that contained: the line with its newline, if it has one, or by
 /// `Split::Blocks` what one read adds to it up to its last newline. A longer piece ends after `LONGEST_LINE` bytes. Returns
-/// whether there was one. Errors are those of the input, and `OutOfMemory`.
-pub fn read_piece<I: BufRead>(input: &mut I, piece: &mut Vec<u8>, split: Split) -> io::Result<bool>
+/// whether there was one. With `flushes` the writer is flushed before a read that may have to be waited for, whose fault is
+/// ignored. Errors are those of the input, and `OutOfMemory`.
+pub fn read_piece<I: BufRead + Ready, W: Write>(
+    input: &mut I,
+    piece: &mut Vec<u8>,
+    split: Split,
+    writer: &mut W,
+    flushes: bool,
+) -> io::Result<bool>
     ensures bytes { OnOk result (Consumes (I.remaining input.old) (I.remaining input.new) piece.new.items) }
     ensures length { OnOk result (length piece.new.items ≤ LONGEST_LINE) }
     ensures line { OnOk result (split ≡ Split.Lines → StopsAt piece.new.items 10) }
     ensures whole { OnOk result (IsPiece piece.new.items
         ⊎ OnSome (I.remaining input.old) (IsAtEnd (I.remaining input.new))) }
     ensures end { result ≡ Ok false → IsAtEnd (I.remaining input.old) }
+    ensures kept { Keeps (W.contents writer.old) (W.contents writer.new) }
 {
     piece.clear();
     for _ in 0..u64::MAX {
         if extend_piece(input, piece, split)? {
             return Ok(!piece.is_empty());
         }
+        flush_if(flushes && !input.is_ready(), writer);
     }
     Err(io::Error::other("too many reads"))
+}
+
+// Flushes the writer if that is asked for, and ignores its fault.
+fn flush_if<W: Write>(flushes: bool, writer: &mut W)
+    ensures { Keeps (W.contents writer.old) (W.contents writer.new) }
+{
+    if flushes {
+        let _ = writer.flush();
+    }
 }
 
 // Adds to a piece what is buffered of it, and returns whether that was all of it.
@@ -228,7 +246,8 @@ pub fn copy_pieces<I: BufRead + Ready, W: Write>(
     // The number of bytes after the last flush, and how many are flushed.
     let (mut unflushed, mut flushed) = (0usize, 1);
     for _ in 0..u64::MAX {
-        if !read_piece(input, &mut piece, split)? {
+        let waits = split == Split::Blocks && unflushed > 0;
+        if !read_piece(input, &mut piece, split, writer, waits)? {
             return Ok(());
         }
         unflushed = unflushed.saturating_add(piece.len());
@@ -258,9 +277,7 @@ fn write_piece<W: Write>(piece: &[u8], flushes: bool, writer: &mut W) -> Result<
     match writer.write(piece) {
         Ok(taken) if taken < piece.len() => Err(CopyFault::Cut),
         Ok(_) => {
-            if flushes {
-                let _ = writer.flush();
-            }
+            flush_if(flushes, writer);
             Ok(())
         }
         Err(fault) => Err(CopyFault::Write(fault)),

@@ -7,7 +7,7 @@ use Rattle.std.proofs.lemmas.Bool.Decides.{nat_tests}
 use Rattle.std.specs.Io.{StopsAt}
 use Rattle.std.specs.Io.BufRead.{ends_with_byte}
 use Rattle.jiff_core.specs.declared.civil.datetime.DateTime.{DateTime}
-use Rattle.rolltee_core.specs.Feed.{IsTimed, line_count, time_text}
+use Rattle.rolltee_core.specs.Feed.{IsTimed, line_count, stamp_text}
 
 -- whether the byte after these begins a line
 abbrev pub begins_after : Bool → List ℕ → Bool
@@ -19,7 +19,7 @@ timed_on false [] ys text more none next = subst (λ t. IsTimed false ys (t ++ m
 timed_on true [] ys text more none next = subst (λ t. IsTimed true ys (t ++ more)) (sym none) next
 timed_on false (x ∷ xs) ys text more first next = (first.0 ++ more, ap (λ t. t ++ more) first.1, timed_on (x == 10) xs ys first.0 more first.2 next)
 timed_on true (x ∷ xs) ys text more first next =
-    (first.0, first.1 ++ more, ap (λ t. t ++ more) first.2 ∙ append_assoc (time_text first.0) (x ∷ first.1) more, timed_on (x == 10) xs ys first.1 more first.3 next)
+    (first.0, first.1 ++ more, ap (λ t. t ++ more) first.2 ∙ append_assoc (stamp_text first.0) (x ∷ first.1) more, timed_on (x == 10) xs ys first.1 more first.3 next)
 
 pub counts_on : (begins : Bool) (xs ys : List ℕ) → line_count begins (xs ++ ys) ≡ line_count begins xs + line_count (begins_after begins xs) ys
 counts_on false [] ys = omega arith
@@ -58,7 +58,7 @@ pub timed_part : (xs : List ℕ) → IsLine xs → IsTimed false xs xs
 timed_part [] line = refl
 timed_part (x ∷ xs) line = (xs, refl, timed_rest x xs line)
 
-pub timed_line : (at : DateTime) (xs : List ℕ) → xs ≢ [] → IsLine xs → IsTimed true xs (time_text at ++ xs)
+pub timed_line : (at : DateTime) (xs : List ℕ) → xs ≢ [] → IsLine xs → IsTimed true xs (stamp_text at ++ xs)
 timed_line at [] some line = absurd (some refl)
 timed_line at (x ∷ xs) some line = (at, xs, refl, timed_rest x xs line)
 
@@ -96,12 +96,12 @@ counts_first n xs some within line ends =
       | inr ended ↦ ap (λ b. line_count b (drop n xs)) (begins_after_end true first ended)
     ])
 
-timed_next : (now : Bool) (first time : List ℕ) (at : DateTime) → time ≡ time_text at → first ≢ [] → IsLine first → IsTimed now first (cond now time [] ++ first)
+timed_next : (now : Bool) (first time : List ℕ) (at : DateTime) → time ≡ stamp_text at → first ≢ [] → IsLine first → IsTimed now first (cond now time [] ++ first)
 timed_next true first time at is some line = subst (λ t. IsTimed true first (t ++ first)) (sym is) (timed_line at first some line)
 timed_next false first time at is some line = timed_part first line
 
 -- one line more of a piece
-pub timed_more : (begins now : Bool) (n : ℕ) (done rest text time : List ℕ) → (at : DateTime) → time ≡ time_text at → 1 ≤ n → n ≤ length rest
+pub timed_more : (begins now : Bool) (n : ℕ) (done rest text time : List ℕ) → (at : DateTime) → time ≡ stamp_text at → 1 ≤ n → n ≤ length rest
     → All (λ x. x ≢ 10) (take (n - 1) rest) → IsTimed begins done text → begins_after begins done ≡ now
     → IsTimed begins (done ++ take n rest) (text ++ (cond now time [] ++ take n rest))
 timed_more begins now n done rest text time at is some within line before begun =

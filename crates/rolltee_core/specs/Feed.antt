@@ -19,14 +19,14 @@ pub record Feeding (Q O : Type 0) : Type 0 where
   pub unechoed : ℕ
 
 -- a time of UTC in microseconds (RFC 3339), and a space
-abbrev pub time_text : DateTime → List ℕ
-time_text at = datetime_text false 84 (Some 6) at ++ zulu_text false ++ (32 ∷ [])
+abbrev pub stamp_text : DateTime → List ℕ
+stamp_text at = datetime_text false 84 (Some 6) at ++ zulu_text false ++ (32 ∷ [])
 
 -- The text is the piece with a time before each line that begins in it. `begins` is whether its first byte begins one.
 abbrev pub IsTimed : Bool → List ℕ → List ℕ → Type 0
 IsTimed begins [] text = text ≡ []
 IsTimed false (x ∷ xs) text = (rest : List ℕ) × (text ≡ x ∷ rest) × IsTimed (x == 10) xs rest
-IsTimed true (x ∷ xs) text = (at : DateTime) × (rest : List ℕ) × (text ≡ time_text at ++ (x ∷ rest)) × IsTimed (x == 10) xs rest
+IsTimed true (x ∷ xs) text = (at : DateTime) × (rest : List ℕ) × (text ≡ stamp_text at ++ (x ∷ rest)) × IsTimed (x == 10) xs rest
 
 -- the same if times are asked for, and else the piece
 abbrev pub IsTextOf : Bool → Bool → List ℕ → List ℕ → Type 0

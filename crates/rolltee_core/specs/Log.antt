@@ -89,7 +89,7 @@ pub record LogState (S F C : Type 0) : Type 0 where
   pub flushed : Bool
 
 -- a log was opened, and nothing was done with it yet
-pub record IsOpened {S F C : Type 0} (kind : Ghosts S F) (time : Readings C) (asked : Config) (new : LogState S F C) : Type 0 where
+pub record IsNewLog {S F C : Type 0} (kind : Ghosts S F) (time : Readings C) (asked : Config) (new : LogState S F C) : Type 0 where
   pub opens : OpensLog kind time asked new.log
   pub config : new.config ≡ asked
   pub whole : new.cut ≡ false → EndsWhole kind new.log

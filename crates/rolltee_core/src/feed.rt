@@ -5,7 +5,7 @@ ghost use Rattle.std.specs.Io.{WritesAtMost};
 ghost use Rattle.std.specs.Io.BufRead.{ends_with_byte};
 ghost use Rattle.std.specs.Io.KnownBytes.{Appends, Keeps, WriteAppends};
 ghost use Rattle.jiff_core.specs.declared.civil.datetime.DateTime.{DateTime};
-ghost use Rattle.rolltee_core.specs.Feed.{line_count, time_text, Echoes, IsTextOf, IsTimed, Sends, KeepsOptions, fed_in};
+ghost use Rattle.rolltee_core.specs.Feed.{line_count, stamp_text, Echoes, IsTextOf, IsTimed, Sends, KeepsOptions, fed_in};
 
 use jiff_core::Timestamp;
 use jiff_fmt::temporal::DateTimePrinter;
@@ -323,7 +323,7 @@ impl<R: Clock + AllocGlobal + Eprint, Q: FeedSink, O: Write> Write for Feed<R, Q
 
 // Puts a piece into `stamped`, in place of what that contained, with this time and a space before each line that begins in it.
 fn stamp(stamped: &mut Vec<u8>, time: &[u8], piece: &[u8], begins: bool) -> Result<(), AllocError>
-    requires { (at : DateTime) × (time.now ++ 32 ∷ [] ≡ time_text at) }
+    requires { (at : DateTime) × (time.now ++ 32 ∷ [] ≡ stamp_text at) }
     ensures { OnOk result (IsTimed begins piece.now stamped.new.items) }
 {
     stamped.clear();

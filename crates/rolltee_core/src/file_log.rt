@@ -80,11 +80,11 @@ impl<S: Folder, C: Clock, W: FileCheck<S>, O: Opens<S, C>> FileLog<S, C, W, O> {
     ghost use Rattle.std.specs.Prelude.{◌≡◌, false, true, length, IfOk, IfErr, IsErr, OnOk, OnErr};
     ghost use Rattle.std.specs.Io.{WritesAtMost};
     ghost use Rattle.appender_rolling.specs.Appender.{Appending, AppendsNow, FlushesNow};
-    ghost use Rattle.rolltee_core.specs.Log.{EndsNoPart, EndsOwed, FindsFile, IsOpened, IsSameOrLosesRest, LetsGo, MayCheckOnce, PutsBytes, PutsNone};
+    ghost use Rattle.rolltee_core.specs.Log.{EndsNoPart, EndsOwed, FindsFile, IsNewLog, IsSameOrLosesRest, LetsGo, MayCheckOnce, PutsBytes, PutsNone};
 
     /// Opens the log.
     pub fn new(opener: O, check: W, whole_lines: bool) -> Result<FileLog<S, C, W, O>, InitError>
-        ensures { IfOk result (λ opened. IsOpened S.Folder C.Clock (O.config opener) opened) }
+        ensures { IfOk result (λ opened. IsNewLog S.Folder C.Clock (O.config opener) opened) }
     {
         let log = opener.open()?;
         let cut = !ends_whole(&check, &log);
@@ -259,9 +259,9 @@ impl<S: Folder, C: Clock, W: FileCheck<S>, O: Opens<S, C>> FileLog<S, C, W, O> {
 
 impl<S: Folder, C: Clock, W: FileCheck<S>, O: Opens<S, C>> TeeLog for FileLog<S, C, W, O> {
     ghost use Rattle.std.specs.Prelude.{◌≡◌};
-    ghost use Rattle.rolltee_core.specs.Log.{IsKept, IsOpened, TakesPiece, config_of};
+    ghost use Rattle.rolltee_core.specs.Log.{IsKept, IsNewLog, TakesPiece, config_of};
 
-    ghost opens = { λ rotation _ prefix options opened. IsOpened S.Folder C.Clock (config_of rotation prefix options) opened };
+    ghost opens = { λ rotation _ prefix options opened. IsNewLog S.Folder C.Clock (config_of rotation prefix options) opened };
 
     ghost takes = { λ old taken new. TakesPiece S.Folder C.Clock old taken new };
 

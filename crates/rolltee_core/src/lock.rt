@@ -6,12 +6,10 @@ use std::{fs, io};
 use tracing_appender::rolling::InitError;
 
 /// Locks the log of this folder and prefix, until the file that is returned is closed: by `.PREFIX.lock` there, which may be
-/// another user's. The folder is made if it is absent. `Fault::Locked` if another process has the lock; `InitError::Memory`.
+/// another user's. `Fault::Locked` if another process has the lock; `InitError::Memory`.
 /// If there can be no lock, as where that name is not a plain file's, standard error says so, and the result is `None`.
 pub fn lock_log(rt: &HostRuntime, directory: &str, prefix: &str) -> Result<Option<File>, Fault> {
     let path = format!(in rt.alloc(); "{directory}/.{prefix}.lock").map_err(InitError::from)?;
-    // If the folder can't be made, the opening of the log reports it.
-    let _ = fs::create_dir_all(rt, directory);
     let fault = match open_lock(rt, path.as_str()) {
         Ok(file) => match file.try_lock() {
             Ok(()) => return Ok(Some(file)),

@@ -10,7 +10,7 @@ use crate::check::DirCheck;
 use crate::file_log::{FileLog, Opens};
 use crate::lock::lock_log;
 use crate::losses::TeeLosses;
-use crate::opening::open_dir;
+use crate::opening::{open_dir, prepare_dir};
 use crate::tee::Fault;
 use program_io::options::Options;
 use std::alloc::Global;
@@ -96,7 +96,7 @@ impl Logs for HostRuntime {
     ) -> Result<DirLog<HostRuntime>, Fault> {
         let settings = settings(self.alloc(), rotation, prefix, options)?;
         let lock = if options.keep > 0 {
-            let _ = settings.names(self.alloc())?;
+            prepare_dir(self, &settings, directory, options.link.as_str())?;
             lock_log(self, directory, prefix)?
         } else {
             None

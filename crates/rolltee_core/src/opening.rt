@@ -3,6 +3,8 @@ ghost use Rattle.std.specs.Prelude.{false, IfOk};
 ghost use Rattle.appender_rolling.specs.Appender.{OpensNow};
 ghost use Rattle.rolltee_core.specs.Log.{OpensLog};
 
+use appender_names::error::NameFault;
+use appender_names::names::is_entry_name;
 use std::alloc::Global;
 use std::io::{Error, ErrorKind};
 use std::rt::Files;
@@ -14,10 +16,25 @@ use tracing_appender::store::Folder;
 // The most bytes of a link's name that are in the name of a new one, as `DirFolder` has it.
 const LONGEST: usize = 250;
 
-/// Opens a log in this folder, whose path is `directory`, by the system's clock. `link` is the name of its link, or empty. The
-/// folder is made before, so that programs that begin one log at once find it. `InitError::Symlink` if something else than a
-/// symbolic link has the link's name, or the one of a new link, `.NAME.new`: then nothing in the folder was changed. If the last
-/// file is to be continued and can't be opened, since it has a second hard link or is another user's, the next one is begun.
+/// Makes the folder of a log, so that programs that begin one log at once find it. `link` is the name of its link, or empty.
+/// `InitError::Name` if the names are not allowed, before that. `InitError::Symlink` if something else than a symbolic link has
+/// the link's name, or the one of a new link, `.NAME.new`. The opening returns it too, but only after it made a file.
+pub fn prepare_dir<R: Files + AllocGlobal>(
+    rt: &R,
+    settings: &Builder,
+    directory: &str,
+    link: &str,
+) -> Result<(), InitError> {
+    let directory = if directory.is_empty() { "." } else { directory };
+    if !link.is_empty() && !is_entry_name(link) {
+        return Err(InitError::Name(NameFault::Link));
+    }
+    make_folder(rt, settings, directory)?;
+    check_link(rt, directory, link)
+}
+
+/// Prepares this folder, and opens a log in it by the system's clock. If the last file is to be continued and can't be opened,
+/// since it has a second hard link or is another user's, the next one is begun.
 pub fn open_dir<R: FilesHost + time::Clock>(
     rt: &R,
     settings: &Builder,
@@ -27,9 +44,7 @@ pub fn open_dir<R: FilesHost + time::Clock>(
 ) -> Result<RollingFile<DirFolder<R>, SystemClock<R>>, InitError>
     ensures { IfOk result (OpensLog ⟦<DirFolder<R> as Folder>⟧ ⟦<SystemClock<R> as Clock>⟧ settings.now) }
 {
-    let directory = if directory.is_empty() { "." } else { directory };
-    make_folder(rt, settings, directory)?;
-    check_link(rt, directory, link)?;
+    prepare_dir(rt, settings, directory, link)?;
     let clock = SystemClock::new(rt.clone()?);
     open_log(rt.alloc(), settings, folder, clock)
 }
@@ -82,14 +97,13 @@ fn make_folder<R: Files + AllocGlobal>(
     }
 }
 
-// Returns an error if something else has the name of the link or of a new one. The opening returns it too, but only after
-// it made a file, each time that it is tried.
+// Returns an error if something else has the name of the link or of a new one.
 fn check_link<R: Files + AllocGlobal>(
     rt: &R,
     directory: &str,
     link: &str,
 ) -> Result<(), InitError> {
-    if link.is_empty() || link.contains('/') {
+    if link.is_empty() {
         return Ok(());
     }
     check_entry(rt, directory, link)?;
