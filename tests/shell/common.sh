@@ -5,8 +5,9 @@ export LC_ALL=C
 
 top=$(cd "$(dirname "${BASH_SOURCE[0]}")/../.." && pwd)
 rolltee=$top/crates/rolltee/out/rolltee
-audit_trail=$top/crates/audit_trail/out/audit_trail
 rollplay=$top/crates/rollplay/out/rollplay
+# An audit trail, as `"${trail[@]}" daily DIR audit`.
+trail=("$rolltee" --direct --sync --whole-lines --suffix log --link latest.log)
 work=$(mktemp -d)
 out=$work/out
 err=$work/err
@@ -68,8 +69,28 @@ content() {
   fi
 }
 
+# Whether two files have the same bytes. `-` is the standard input.
+same() {
+  cmp -s "$1" "$2" && echo same || echo other
+}
+
 lines=$work/lines
 printf 'one\ntwo\n' > "$lines"
+fifo=$work/fifo
+mkfifo "$fifo"
+
+# begin PROGRAM ARGUMENT..: runs it with a pipe as its input, which is 9 here. `end` ends it and leaves its status.
+begin() {
+  timeout 20 "$@" < "$fifo" > "$out" 2> "$err" &
+  running=$!
+  exec 9> "$fifo"
+}
+
+end() {
+  exec 9>&-
+  wait "$running"
+  status=$?
+}
 
 # wait_until COMMAND..: until it succeeds, for two seconds at most.
 wait_until() {
@@ -108,7 +129,7 @@ conclude() {
   [ "$failed" = 0 ]
 }
 
-for program in "$rolltee" "$audit_trail" "$rollplay"; do
+for program in "$rolltee" "$rollplay"; do
   check "$(basename "$program") is built" yes "$([ -x "$program" ] && echo yes || echo no)"
 done
 [ "$failed" = 0 ] || { conclude; exit 1; }

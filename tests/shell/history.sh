@@ -1,30 +1,10 @@
 #!/usr/bin/env bash
-# What starts, restarts and faults leave of the lines that were there, and of those that come. Runs the built programs. Each
-# check prints a line, and the last line is `N passed, M failed`. It ends within 180 seconds.
+# What starts, restarts, kills and faults leave of the lines that were there, and of those that come. Runs the built programs.
+# Each check prints a line, and the last line is `N passed, M failed`. It ends within 180 seconds.
 if [ "${1-}" != bounded ]; then exec timeout -k 6 170 bash "$0" bounded; fi
 . "$(dirname "${BASH_SOURCE[0]}")/common.sh"
 
-fifo=$work/fifo
-mkfifo "$fifo"
 seq -f 'line %g' 60 > "$work/sixty"
-
-# begin PROGRAM ARGUMENT..: runs it with a pipe as its input, which is 9 here. `end` ends it and leaves its status.
-begin() {
-  timeout 20 "$@" < "$fifo" > "$out" 2> "$err" &
-  running=$!
-  exec 9> "$fifo"
-}
-
-end() {
-  exec 9>&-
-  wait "$running"
-  status=$?
-}
-
-# files DIR: how many entries a folder has, and the lines of its log files.
-files() {
-  echo "$(find "$1" -mindepth 1 | wc -l) $(cat "$1"/*.[0-9]* 2> /dev/null | wc -l)"
-}
 
 # Whether all lines of a file are in the log files of a folder, in their order.
 keeps_all() {
@@ -47,28 +27,65 @@ refuses() {
 }
 
 mkdir "$work/refusing"
-for number in 0 1 2 3 4; do
-  seq 20 > "$work/refusing/audit.2026-01-01.00000$number.log"
-  seq 20 > "$work/refusing/app.2026-01-01.00000$number"
+for number in 0 1 2 3 4; do seq 20 > "$work/refusing/app.2026-01-01.00000$number.log"; done
+touch "$work/refusing/.app.lock"
+keeping=(--keep 5 --max-bytes 1K --suffix log daily "$work/refusing" app)
+for direct in '' ' --direct'; do
+  for entry in latest .latest.new; do
+    echo mine > "$work/refusing/$entry"
+    refuses "rolltee$direct, $entry is a file" "$entry" "$rolltee" $direct --link latest "${keeping[@]}"
+    rm "$work/refusing/$entry"
+  done
 done
-touch "$work/refusing/.audit.lock"
-for entry in latest.log .latest.log.new; do
-  echo mine > "$work/refusing/$entry"
-  refuses "audit_trail, $entry is a file" "$entry" "$audit_trail" --keep 5 --max-bytes 1K "$work/refusing"
-  rm "$work/refusing/$entry"
+refuses 'rolltee, no memory for the queue' 'no memory' "$rolltee" --queue 99999999999 "${keeping[@]}"
+if has strace 'no thread'; then
+  threadless=(strace -f -qq -o /dev/null -e trace=clone,clone3 -e inject=clone,clone3:error=EAGAIN "$rolltee")
+  refuses 'rolltee, no thread' 'no thread' "${threadless[@]}" "${keeping[@]}"
+  run "${threadless[@]}" --direct never "$work/threadless" app < "$lines"
+  check 'rolltee --direct needs no thread' $'0||[one\ntwo]' "$(told)$(content "$work/threadless/app")"
+fi
+
+# ---- the lock of a log whose old files are removed
+
+for direct in '' ' --direct'; do
+  name="rolltee$direct --keep"
+  folder=$work/locked${direct# }
+  keeping=("$rolltee" $direct --keep 2 daily "$folder")
+  begin "${keeping[@]}" audit
+  echo one >&9
+  wait_until eval 'cat "$folder"/audit.* 2> /dev/null | grep -q one'
+  run "${keeping[@]}" audit < "$lines"
+  check "$name, a second one" '1||another rolltee --keep writes this log' "$(told)"
+  run "$rolltee" $direct daily "$folder" audit < "$lines"
+  check "$name, one without --keep beside it" '0||' "$(told)"
+  run "${keeping[@]}" app < "$lines"
+  check "$name, another prefix beside it" '0||' "$(told)"
+  end
+  check "$name, the first one" 0 "$status"
+  check "$name, the log" $'one\none\ntwo' "$(cat "$folder"/audit.*)"
+  begin "${keeping[@]}" audit
+  echo three >&9
+  wait_until eval 'cat "$folder"/audit.* | grep -q three'
+  kill -KILL "$(pgrep -P "$running")"
+  end 2> /dev/null
+  run "${keeping[@]}" audit < "$lines"
+  check "$name, after one that was killed" '0||' "$(told)"
+  rm "$folder/.audit.lock"
+  mkfifo "$folder/.audit.lock"
+  run "${keeping[@]}" audit < "$lines"
+  check "$name, a lock that is a FIFO" "0||$folder/.audit.lock can't be locked: no plain file" "$(told)"
 done
-for entry in latest .latest.new; do
-  echo mine > "$work/refusing/$entry"
-  refuses "rolltee, $entry is a file" "$entry" "$rolltee" --keep 5 --max-bytes 1K --link latest daily "$work/refusing" app
-  rm "$work/refusing/$entry"
-done
-refuses 'rolltee, no memory for the queue' 'no memory' \
-  "$rolltee" --queue 99999999999 --keep 5 --max-bytes 1K daily "$work/refusing" app
-refuses 'audit_trail, no source' 'read failed' "$audit_trail" --keep 5 --max-bytes 1K "$work/refusing" "$work/nothing"
-if has strace 'rolltee, no thread'; then
-  refuses 'rolltee, no thread' 'no thread' \
-    strace -f -qq -o /dev/null -e trace=clone,clone3 -e inject=clone,clone3:error=EAGAIN \
-    "$rolltee" --keep 5 --max-bytes 1K daily "$work/refusing" app
+if [ "$EUID" = 0 ] && has setpriv 'a lock of another user' && has flock 'a lock of another user'; then
+  rm "$folder/.audit.lock"
+  cp "$rolltee" "$work/program"
+  chmod 711 "$work"
+  chown 65534 "$folder"
+  exec 8> "$folder/.audit.lock"
+  flock -n 8
+  run setpriv --reuid 65534 --regid 65534 --clear-groups "$work/program" --keep 2 daily "$folder" audit < "$lines"
+  check 'rolltee --keep, a lock of another user' '1||another rolltee --keep writes this log' "$(told)"
+  exec 8>&-
+  chmod 700 "$work"
 fi
 
 # ---- restarts
@@ -78,14 +95,14 @@ fi
 beside=$work/svlogd
 mkdir "$beside"
 printf 's65536\nn5\n' > "$beside/config"
-for program in svlogd rolltee audit_trail; do
+for program in svlogd rolltee 'an audit trail'; do
   folder=$work/restarted
   rm -rf "$folder"
   case $program in
     svlogd) has svlogd '100 restarts beside svlogd' || continue
       words=(svlogd "$beside") ;;
     rolltee) words=("$rolltee" --keep 5 --max-bytes 64K --whole-lines --link latest.log daily "$folder" app) ;;
-    *) words=("$audit_trail" --keep 5 --max-bytes 64K "$folder") ;;
+    *) words=("${trail[@]}" --keep 5 --max-bytes 64K daily "$folder" audit) ;;
   esac
   seq -f 'a line of the run before it, number %g' 6000 > "$work/written"
   run "${words[@]}" < "$work/written"
@@ -128,7 +145,7 @@ for ((folders = 0; folders < 50; folders++)); do
   if ((folders % 2)); then
     words=("$rolltee" --whole-lines --link latest.log --max-bytes "$limit" daily "$folder" app)
   else
-    words=("$audit_trail" --max-bytes "$limit" "$folder")
+    words=("${trail[@]}" --max-bytes "$limit" daily "$folder" audit)
   fi
   : > "$work/written"
   for ((start = 0; start < 20; start++)); do
@@ -147,36 +164,28 @@ check 'a thousand starts: all lines, and no file above its limit' '' "$(cat "$wo
 
 # A log file with a second link, as cp -al leaves it, or of another user, is left as it is. The next number is begun.
 left=$work/left
-for program in rolltee audit_trail; do
-  rm -rf "$left" "$left.copy"
-  if [ "$program" = rolltee ]; then
-    words=("$rolltee" --max-bytes 1K --link latest.log daily "$left" app)
-  else
-    words=("$audit_trail" --max-bytes 1K "$left")
-  fi
-  run "${words[@]}" <<< one
-  cp -al "$left" "$left.copy"
-  told=
-  for line in two three; do
-    run "${words[@]}" <<< "$line"
-    told+="$status$(cat "$err")"
-  done
-  check "$program, a log file with a second link: the starts" 00 "$told"
-  check "$program, a log file with a second link: the copy" one "$(cat "$left.copy"/a*.[0-9]*)"
-  check "$program, a log file with a second link: all lines" all "$(keeps_all "$left" <(printf 'one\ntwo\nthree\n'))"
+numbered=("${trail[@]}" --max-bytes 1K daily "$left" audit)
+run "${numbered[@]}" <<< one
+cp -al "$left" "$left.copy"
+told=
+for line in two three; do
+  run "${numbered[@]}" <<< "$line"
+  told+="$status$(cat "$err")"
 done
-run "$audit_trail" "$work/linked" < "$lines"
+check 'a log file with a second link: the starts' 00 "$told"
+check 'a log file with a second link: the copy' one "$(cat "$left.copy"/a*.[0-9]*)"
+check 'a log file with a second link: all lines' all "$(keeps_all "$left" <(printf 'one\ntwo\nthree\n'))"
+run "${trail[@]}" daily "$work/linked" audit < "$lines"
 cp -al "$work/linked" "$work/linked.copy"
-run "$audit_trail" "$work/linked" < "$lines"
-check 'audit_trail, a file for the day with a second link: it is refused' yes "$([ "$status" = 1 ] && says 'second hard link' && echo yes || told)"
+run "${trail[@]}" daily "$work/linked" audit < "$lines"
+check 'a file for the day with a second link: it is refused' yes "$([ "$status" = 1 ] && says 'second hard link' && echo yes || told)"
 if [ "$EUID" = 0 ] && has setpriv 'a log file of another user'; then
   rm -rf "$left"
-  run "$audit_trail" --max-bytes 1K "$left" <<< one
-  cp "$audit_trail" "$work/program"
+  run "${numbered[@]}" <<< one
   chmod 711 "$work"
   chown 65534 "$left"
-  run setpriv --reuid 65534 --regid 65534 --clear-groups "$work/program" --max-bytes 1K "$left" <<< two
-  check 'audit_trail, a log file of another user: the next number is begun' '0||[two]' "$(told)$(content "$left/latest.log")"
+  run setpriv --reuid 65534 --regid 65534 --clear-groups "$work/program" "${numbered[@]:1}" <<< two
+  check 'a log file of another user: the next number is begun' '0||[two]' "$(told)$(content "$left/latest.log")"
   chmod 700 "$work"
 fi
 
@@ -186,53 +195,39 @@ if has strace 'a kill before old files are removed'; then
   mkdir "$folder"
   for day in 01 02 03; do echo "$day" > "$folder/audit.2020-01-$day.log"; done
   run strace -f -qq -o /dev/null -e trace=unlink,unlinkat -e inject=unlink,unlinkat:signal=KILL:when=1 \
-    "$audit_trail" --keep 2 "$folder" < "$lines"
+    "${trail[@]}" --keep 2 daily "$folder" audit < "$lines"
   check 'a kill before old files are removed: they are there' '4 3' "$(find "$folder" -name 'audit.*' | wc -l) $(cat "$folder"/audit.2020* | wc -l)"
-  run "$audit_trail" --keep 2 "$folder" < "$lines"
+  run "${trail[@]}" --keep 2 daily "$folder" audit < "$lines"
   check 'a kill before old files are removed: the next start' '0||2 03' "$(told)$(find "$folder" -name 'audit.*' | wc -l) $(cat "$folder"/audit.2020*)"
 fi
 
 # ---- a link's name that is taken during a run
 
-for entry in latest .latest.new; do
-  folder=$work/taken
-  rm -rf "$folder"
-  begin "$rolltee" --keep 3 --max-bytes 40 --link latest daily "$folder" app
-  head -n 3 "$work/sixty" >&9
-  wait_until has_lines "$folder/latest" 3
-  rm "$folder/latest"
-  echo mine > "$folder/$entry"
-  tail -n +4 "$work/sixty" >&9
-  end
-  check "rolltee, $entry becomes a file: the status" 0 "$status"
-  check "rolltee, $entry becomes a file: it says so" yes "$(says "Couldn't create writer for logs" && echo yes || cat "$err")"
-  check "rolltee, $entry becomes a file: all lines" all "$(keeps_all "$folder" "$work/sixty")"
-done
-for entry in latest.log .latest.log.new; do
-  folder=$work/taken.trail
-  rm -rf "$folder"
-  begin "$audit_trail" --keep 3 --max-bytes 40 "$folder"
-  head -n 3 "$work/sixty" >&9
-  wait_until has_lines "$folder/latest.log" 3
-  rm "$folder/latest.log"
-  echo mine > "$folder/$entry"
-  tail -n +4 "$work/sixty" >&9
-  end
-  check "audit_trail, $entry becomes a file: the status" 0 "$status"
-  check "audit_trail, $entry becomes a file: all lines" all "$(keeps_all "$folder" "$work/sixty")"
+for direct in '' ' --direct'; do
+  for entry in latest .latest.new; do
+    folder=$work/taken
+    rm -rf "$folder"
+    begin "$rolltee" $direct --keep 3 --max-bytes 40 --link latest daily "$folder" app
+    head -n 3 "$work/sixty" >&9
+    wait_until has_lines "$folder/latest" 3
+    rm "$folder/latest"
+    echo mine > "$folder/$entry"
+    tail -n +4 "$work/sixty" >&9
+    end
+    name="rolltee$direct, $entry becomes a file"
+    check "$name: the status" 0 "$status"
+    check "$name: it says so" yes "$(says "Couldn't create writer for logs" && echo yes || cat "$err")"
+    check "$name: all lines" all "$(keeps_all "$folder" "$work/sixty")"
+  done
 done
 
 # ---- a folder without room for one more name
 
 mkdir "$disk"
 if mount -t tmpfs -o nr_inodes=12 programs "$disk" 2> "$err"; then
-  for program in rolltee audit_trail; do
-    folder=$disk/logs
-    if [ "$program" = rolltee ]; then
-      begin "$rolltee" --keep 5 --max-bytes 1K daily "$folder" app
-    else
-      begin "$audit_trail" --keep 5 --max-bytes 1K "$folder"
-    fi
+  folder=$disk/logs
+  for direct in '' ' --direct'; do
+    begin "$rolltee" $direct --keep 5 --max-bytes 1K daily "$folder" app
     echo first >&9
     wait_until eval 'cat "$folder"/a*.[0-9]* 2> /dev/null | grep -q first'
     for ((count = 0; count < 12; count++)); do : > "$disk/other.$count"; done 2> /dev/null
@@ -240,30 +235,26 @@ if mount -t tmpfs -o nr_inodes=12 programs "$disk" 2> "$err"; then
     wait_until says "Couldn't create writer for logs"
     rm -f "$disk"/other.*
     end
-    check "$program, no room for a name: the status" 0 "$status"
-    check "$program, no room for a name: all lines" all "$(keeps_all "$folder" <(echo first; seq -f 'line %g' 400))"
-    rm -rf "$disk/logs"
+    check "rolltee$direct, no room for a name: the status" 0 "$status"
+    check "rolltee$direct, no room for a name: all lines" all "$(keeps_all "$folder" <(echo first; seq -f 'line %g' 400))"
+    rm -rf "$folder"
   done
 else
   skip 'a folder without room for a name' "$(head -1 "$err")"
 fi
 
-# ---- faults that audit_trail waits for
+# ---- calls of the system
 
-if has strace 'audit_trail, calls that are refused'; then
+if has strace 'calls of the system'; then
   for fault in EROFS ESTALE EFBIG EPERM ENOSPC; do
     folder=$work/waits
     rm -rf "$folder"
-    run "$audit_trail" "$folder" < /dev/null
+    run "${trail[@]}" daily "$folder" audit < /dev/null
     file=$(readlink -f "$folder/latest.log")
-    for source in '' "$lines"; do
-      timeout 9 strace -f -qq -o "$work/calls" -P "$file" -e trace=write -e "inject=write:error=$fault:when=1..2" \
-        "$audit_trail" "$folder" ${source:+"$source"} < "$lines" > "$out" 2> "$err"
-      check "audit_trail${source:+ from a file}, $fault twice" \
-        "0|${source:+accepted 2 handed 2 left 0 dropped 0}|writes pause|writes go on" \
-        "$?|$(cat "$out")|$(sed 's/:.*//' "$err" | paste -s -d '|')"
-    done
-    check "audit_trail, $fault twice: the log" $'[one\ntwo\none\ntwo]' "$(content "$file")"
+    run strace -f -qq -o /dev/null -P "$file" -e trace=write -e "inject=write:error=$fault:when=1..2" "${trail[@]}" \
+      daily "$folder" audit < "$lines"
+    check "an audit trail, $fault twice" $'0||writes pause|writes go on|[one\ntwo]' \
+      "$status|$(cat "$out")|$(sed 's/:.*//' "$err" | paste -s -d '|')|$(content "$folder/latest.log")"
   done
 
   # syncs COUNT: whether so many syncs were made.
@@ -271,15 +262,52 @@ if has strace 'audit_trail, calls that are refused'; then
     [ "$(cat "$work/calls" 2> /dev/null | grep -c '^[0-9]* *fdatasync')" -ge "$1" ]
   }
 
-  # A pause after a whole block is seen: the lines before it are synced.
-  for bytes in 8192 65536; do
-    rm -rf "$work/paused" "$work/calls"
-    begin strace -f -qq -o "$work/calls" -e trace=fdatasync "$audit_trail" "$work/paused"
-    yes 'fifteen letters' | head -c "$bytes" >&9
-    wait_until syncs 1
-    check "audit_trail, a pause after $bytes bytes: they are synced" yes "$(syncs 1 && echo yes || echo no)"
+  # synced BYTES: whether the log has so many bytes, and its last call was a sync.
+  synced() {
+    [ "$(stat -c %s "$folder/app" 2> /dev/null)" = "$1" ] && tail -n 1 "$work/calls" | grep -q fdatasync
+  }
+
+  # paused NAME BYTES PART: so many bytes of lines, then a part of a line, then a pause: the lines are synced.
+  paused() {
+    folder=$work/paused
+    rm -rf "$folder" "$work/calls"
+    { yes 'fifteen letters' | head -c $(($2 - 1)); printf '\n%s' "$3"; } > "$work/block"
+    begin strace -f -qq -o "$work/calls" -e trace=write,fdatasync "$rolltee" --direct --sync never "$folder" app
+    cat "$work/block" >&9
+    wait_until synced "$2"
+    check "rolltee --direct --sync, a pause after $1: a sync" yes "$(synced "$2" && echo yes || cut -c 1-60 "$work/calls")"
     end
+  }
+  for bytes in 4 8191 8192 65536; do paused "$bytes bytes" "$bytes" ''; done
+  paused '8192 bytes and a part of a line' 8192 part
+
+  # A fast input: blocks of whole lines, and a sync for each MiB.
+  folder=$work/blocks
+  seq -f '%095.0f' 110000 > "$work/numbers"
+  run strace -f -qq -o "$work/calls" -e trace=write,fdatasync "$rolltee" --direct --sync never "$folder" app < "$work/numbers"
+  read -r syncs writes cut most <<< "$(awk '
+    / write/ { writes++; cut += $NF % 96 > 0; sum += $NF; if (sum > most) most = sum }
+    / fdatasync/ { syncs++; sum = 0 }
+    END { print syncs + 0, writes + 0, cut + 0, most + 0 }' "$work/calls")"
+  name='rolltee --direct --sync, a fast input'
+  check "$name" '0||same' "$(told)$(same "$folder/app" "$work/numbers")"
+  check "$name: writes that end within a line" 0 "$cut"
+  check "$name: a write for many lines" '' "$( ((writes < 2000)) || echo "$writes writes")"
+  check "$name: 10 to 20 syncs" '' "$( ((syncs >= 10 && syncs <= 20)) || echo "$syncs syncs")"
+  check "$name: a sync for each MiB" '' "$( ((most <= (1 << 20) + 8192 + 96)) || echo "$most bytes without one")"
+
+  # A slow input, whose lines come in two parts: a write for each line, before the next one comes.
+  folder=$work/slow
+  begin strace -f -qq -o "$work/calls" -e trace=write "$rolltee" --direct never "$folder" app
+  for ((number = 1; number <= 20; number++)); do
+    printf 'slow ' >&9
+    sleep 0.01
+    echo "$number" >&9
+    wait_until has_lines "$folder/app" "$number" || break
   done
+  check 'rolltee --direct, a slow input: each line is there before the next one' 20 "$(line_count "$folder/app")"
+  end
+  check 'rolltee --direct, a slow input: the writes' 20 "$(wc -l < "$work/calls")"
 
   # A file that is renamed while it is written is synced before it is let go.
   rm -rf "$work/renamed" "$work/calls"
@@ -308,56 +336,82 @@ if has strace 'audit_trail, calls that are refused'; then
   end
 fi
 
-# ---- log files that others change
+# ---- runs that are killed
 
-# An audit trail begins a log file that is gone anew, and reports that.
-gone() {
-  local what=$1 command=$2 words=$3 folder=$work/gone log
-  rm -rf "$folder"
-  begin "$audit_trail" "$folder"
-  echo one >&9
-  wait_until has_lines "$folder/latest.log" 1
-  log=$(readlink -f "$folder/latest.log")
-  (cd "$folder" && eval "$command")
-  echo two >&9
-  wait_until has_lines "$log" 1
-  echo three >&9
-  end
-  check "audit_trail, a log file that is $what" "1|$log: log file $words|log files not found again: 1" \
-    "$status|$(paste -s -d '|' "$err" | sed "s|$folder/*|$folder/|")"
-  check "audit_trail, a log file that is $what: the log" $'[two\nthree]' "$(content "$log")"
+# Numbered lines of 96 bytes: about one a millisecond, or as many as are read.
+slow_lines() {
+  local number
+  for ((number = 1; ; number++)); do
+    printf '%095d\n' "$number"
+    read -rt 0.001 -u 7
+  done
 }
-gone removed 'rm audit.*' 'removed, renamed or replaced'
-gone moved 'mv audit.* moved' 'removed, renamed or replaced'
-gone truncated ': > latest.log' truncated
-gone 'gone with its folder' 'rm -r ../gone' 'removed, renamed or replaced'
 
-# ---- sources and locks that nobody opens
+fast_lines() {
+  exec seq -f '%095.0f' 999999999
+}
 
-mkfifo "$work/unopened"
-timeout 9 "$audit_trail" "$work/sources" "$work/unopened" "$lines" > "$out" 2> "$err" &
-running=$!
-wait_until has_lines "$work/sources/latest.log" 2
-check 'audit_trail, a FIFO that nobody opens holds up no other source' $'[one\ntwo]' "$(content "$work/sources/latest.log")"
-echo three > "$work/unopened"
-wait "$running"
-status=$?
-check 'audit_trail, a FIFO that is opened later' '0|accepted 3 handed 3 left 0 dropped 0|' "$(told)"
-mkdir "$work/locks"
-mkfifo "$work/locks/.audit.lock"
-run "$audit_trail" --keep 2 "$work/locks" < "$lines"
-check 'audit_trail --keep, a lock that is a FIFO' "0||$work/locks/.audit.lock can't be locked: no plain file" "$(told)"
-if [ "$EUID" = 0 ] && has setpriv 'a lock of another user' && has flock 'a lock of another user'; then
-  rm "$work/locks/.audit.lock"
-  cp "$audit_trail" "$work/program"
-  chmod 711 "$work"
-  chown 65534 "$work/locks"
-  exec 8> "$work/locks/.audit.lock"
-  flock -n 8
-  run setpriv --reuid 65534 --regid 65534 --clear-groups "$work/program" --keep 2 "$work/locks" < "$lines"
-  check 'audit_trail --keep, a lock of another user' '1||another audit_trail --keep writes to the log directory' "$(told)"
-  exec 8>&-
-  chmod 700 "$work"
-fi
+is_longer() {
+  [ "$(stat -c %s "$1" 2> /dev/null || echo 0)" -gt "$2" ]
+}
+
+# killed NAME LINES EACH ALL: eight runs that read a pipe of such lines are killed, and a ninth ends. Each kill loses lines of EACH
+# bytes at most, and all together ALL. No line is there twice.
+killed() {
+  local folder=$work/killed.$2 log=$work/killed.$2/app kills length
+  exec 7<> "$work/silent" 8<> "$fifo"
+  "$2" >&8 8>&- &
+  producer=$!
+  for ((kills = 0; kills <= 8; kills++)); do
+    length=$(stat -c %s "$log" 2> /dev/null || echo 0)
+    "$rolltee" --direct --whole-lines never "$folder" app < "$fifo" > "$out" 2> "$err" 8>&- &
+    running=$!
+    wait_until is_longer "$log" "$length"
+    sleep "0.0$((RANDOM % 40 + 10))"
+    if ((kills < 8)); then
+      kill -KILL "$running"
+      { wait "$running"; } 2> /dev/null
+    fi
+  done
+  kill "$producer"
+  { wait "$producer"; } 2> /dev/null
+  exec 7>&- 8>&-
+  wait "$running"
+  status=$?
+  check "rolltee --direct, $1, kills: the last run" '0||' "$(told)"
+  check "rolltee --direct, $1, kills: the lines" '' "$(awk -v each="$3" -v all="$4" '
+    length != 95 { parts++; next }
+    { lost = ($0 - last - 1) * 96; sum += lost; gaps += lost > 0 }
+    lost < 0 || lost > each { print "line " last + 0 ", then " $0 + 0 }
+    { last = $0 }
+    END { if (NR < 100 || gaps > 8 || parts > 17 || sum > all) print NR " lines, " gaps " gaps, " parts " parts, " sum " bytes" }
+    ' "$log")"
+}
+mkfifo "$work/silent"
+# A line each. One kill may lose more, where the run was held up before.
+killed '1,000 lines a second' slow_lines $((8 * 96)) $((8 * 96))
+# What one read takes, and a line that it cuts at each end.
+killed 'at full speed' fast_lines $((8192 + 2 * 96)) $((8 * (8192 + 2 * 96)))
+
+# ---- a folder that an earlier version left
+
+# The program that `rolltee --direct` replaces had the same names.
+name='an audit trail of an earlier version'
+folder=$work/before
+mkdir "$folder"
+# All is to be of one day.
+left=$((86400 - $(date +%s) % 86400))
+[ "$left" -gt 4 ] || sleep "$left"
+today=audit.$(date -u +%F).log
+for day in 1 2 3 4 5 6 7 8; do echo "$day" > "$folder/audit.2020-01-0$day.log"; done
+echo before > "$folder/$today"
+ln -s "$today" "$folder/latest.log"
+touch "$folder/.audit.lock" "$folder/audit.log" "$folder/audit-export.log"
+run "${trail[@]}" --keep 7 daily "$folder" audit < "$lines"
+check "$name" '0||' "$(told)"
+check "$name: today" $'[before\none\ntwo]' "$(content "$folder/latest.log")"
+check "$name: the days before" "$(seq 3 8)" "$(cat "$folder"/audit.2020*)"
+check "$name: the other names" ".audit.lock audit-export.log $today audit.log latest.log" \
+  "$(ls -A "$folder" | grep -v 2020 | paste -s -d ' ')"
 
 conclude

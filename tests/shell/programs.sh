@@ -17,22 +17,18 @@ PREFIX=$work/prefix run "$top/install" --help
 check 'install --help' "2||usage: [PREFIX=FOLDER] $top/install" "$(told)"
 PREFIX=$work/prefix run "$top/install"
 check 'install' '0||' "$(told)"
-check 'install: the files' 'bin/audit_trail bin/rolltee share/man/man1/audit_trail.1 share/man/man1/rolltee.1' \
+check 'install: the files' 'bin/rolltee share/man/man1/rolltee.1' \
   "$(cd "$work/prefix" && find . -type f | sed 's/^..//' | sort | paste -s -d ' ')"
 run "$work/prefix/bin/rolltee" --version
 check 'install: rolltee runs' "0|rolltee $version|" "$(told)"
 check "README: the kit of $(rt version)" 1 "$(tr -s '\n ' ' ' < "$top/README.md" | grep -cF "\`$(rt version)\`")"
 # Each option of --help is in the page, and the other way round.
-for name in rolltee audit_trail; do
-  check "man/$name.1: the options of --help" \
-    "$("$top/crates/$name/out/$name" --help | grep -oE '^ +--[a-z-]+' | tr -d ' ' | sort -u | paste -s -d ' ')" \
-    "$(sed -n 's/^\.It Fl -\([a-z-]*\).*/--\1/p' "$top/man/$name.1" | sort -u | paste -s -d ' ')"
-  if command -v mandoc > /dev/null; then
-    check "man/$name.1: mandoc" '' "$(mandoc -T lint -W warning "$top/man/$name.1" 2>/dev/null)"
-  else
-    skip "man/$name.1: mandoc" 'no mandoc'
-  fi
-done
+check 'man/rolltee.1: the options of --help' \
+  "$("$rolltee" --help | grep -oE '^ +--[a-z-]+' | tr -d ' ' | sort -u | paste -s -d ' ')" \
+  "$(sed -n 's/^\.It Fl -\([a-z-]*\).*/--\1/p' "$top/man/rolltee.1" | sort -u | paste -s -d ' ')"
+if has mandoc 'man/rolltee.1: mandoc'; then
+  check 'man/rolltee.1: mandoc' '' "$(mandoc -T lint -W warning "$top/man/rolltee.1" 2>/dev/null)"
+fi
 
 # ---- standard streams that are closed
 
@@ -46,25 +42,16 @@ for streams in '' $streams_closed; do
   case $streams in *2*) fault_told= ;; *) fault_told='read failed' ;; esac
   [ "$fault_status" = 0 ] && fault_told=
 
-  folder=$work/tee$streams
-  run_closed "$streams" "$rolltee" never "$folder" app < "$lines"
-  check "rolltee, $name" "0||" "$(told)"
-  check "rolltee, $name: the log" "$lines_wanted" "$(content "$folder/app")"
-  # A folder can be opened as the input, and not be read.
-  run_closed "$streams" "$rolltee" never "$folder.fault" app < /
-  check "rolltee, $name: no input" "$fault_status||$fault_told" "$(told)"
-  check "rolltee, $name: the log of no input" '[]' "$(content "$folder.fault/app")"
-
-  folder=$work/trail$streams
-  run_closed "$streams" "$audit_trail" "$folder" < "$lines"
-  check "audit_trail, $name" "0||" "$(told)"
-  check "audit_trail, $name: the log" "$lines_wanted" "$(content "$folder/latest.log")"
-  run_closed "$streams" "$audit_trail" "$folder.fault" < /
-  check "audit_trail, $name: no input" "$fault_status" "$status"
-  check "audit_trail, $name: the log of no input" '[]' "$(content "$folder.fault/latest.log")"
-  run_closed "$streams" "$audit_trail" "$folder.files" "$lines" "$work/none" < /dev/null
-  check "audit_trail, $name: files" 1 "$status"
-  check "audit_trail, $name: the log of files" $'[one\ntwo]' "$(content "$folder.files/latest.log")"
+  for direct in '' ' --direct'; do
+    folder=$work/tee$streams${direct# }
+    run_closed "$streams" "$rolltee" $direct never "$folder" app < "$lines"
+    check "rolltee$direct, $name" "0||" "$(told)"
+    check "rolltee$direct, $name: the log" "$lines_wanted" "$(content "$folder/app")"
+    # A folder can be opened as the input, and not be read.
+    run_closed "$streams" "$rolltee" $direct never "$folder.fault" app < /
+    check "rolltee$direct, $name: no input" "$fault_status||$fault_told" "$(told)"
+    check "rolltee$direct, $name: the log of no input" '[]' "$(content "$folder.fault/app")"
+  done
 
   case $streams in *0*) play="2||line 1: fault" ;; *) play="0|$played|" ;; esac
   case $streams in *1*) play=${play/"$played"/} ;; esac
@@ -76,7 +63,7 @@ done
 # Where /dev/null can't be opened, nothing else is.
 mkdir "$work/dev"
 if unshare -m true 2> "$err"; then
-  for program in "rolltee never $work/no_null app" "audit_trail $work/no_null" rollplay; do
+  for program in "rolltee never $work/no_null app" rollplay; do
     set -- $program
     name=$1
     shift
@@ -103,17 +90,16 @@ run_turned() {
 for stream in 0 1 2; do
   name="stream $stream the wrong way round"
   case $stream in
-    0) lines_wanted='[]' tee_told='1||read failed' trail_status=1 play_told='2||read failed' ;;
-    1) lines_wanted=$'[one\ntwo]' tee_told='0||' trail_status=0 play_told='2||' ;;
-    2) lines_wanted=$'[one\ntwo]' tee_told='0||' trail_status=0 play_told="0|$played|" ;;
+    0) lines_wanted='[]' tee_told='1||read failed' play_told='2||read failed' ;;
+    1) lines_wanted=$'[one\ntwo]' tee_told='0||' play_told='2||' ;;
+    2) lines_wanted=$'[one\ntwo]' tee_told='0||' play_told="0|$played|" ;;
   esac
-  folder=$work/turned$stream
-  run_turned "$stream" "$rolltee" never "$folder" app < "$lines"
-  check "rolltee, $name" "$tee_told" "$(told)"
-  check "rolltee, $name: the log" "$lines_wanted" "$(content "$folder/app")"
-  run_turned "$stream" "$audit_trail" "$folder" < "$lines"
-  check "audit_trail, $name" "$trail_status" "$status"
-  check "audit_trail, $name: the log" "$lines_wanted" "$(content "$folder/latest.log")"
+  for direct in '' ' --direct'; do
+    folder=$work/turned$stream${direct# }
+    run_turned "$stream" "$rolltee" $direct never "$folder" app < "$lines"
+    check "rolltee$direct, $name" "$tee_told" "$(told)"
+    check "rolltee$direct, $name: the log" "$lines_wanted" "$(content "$folder/app")"
+  done
   run_turned "$stream" "$rollplay" < "$script"
   check "rollplay, $name" "$play_told" "$(told)"
 done
@@ -122,7 +108,7 @@ run_turned 2 "$rolltee" never "$work/turned" app < /
 check 'rolltee, stream 2 the wrong way round: no input' '1||' "$(told)"
 run_turned 2 "$rollplay" < "$lines"
 check 'rollplay, stream 2 the wrong way round: a fault' '2||' "$(told)"
-for name in rolltee audit_trail rollplay; do
+for name in rolltee rollplay; do
   case $name in rollplay) failed_print=2 ;; *) failed_print=1 ;; esac
   run_turned 1 "$top/crates/$name/out/$name" --help < /dev/null
   check "$name --help, stream 1 the wrong way round" "$failed_print||" "$(told)"
@@ -130,11 +116,10 @@ done
 
 # ---- options
 
-for name in rolltee audit_trail rollplay; do
+for name in rolltee rollplay; do
   program=$top/crates/$name/out/$name
   case $name in
     rolltee) usage='usage: rolltee ROTATION DIR PREFIX' failed_print=1 ;;
-    audit_trail) usage='usage: audit_trail DIRECTORY [SOURCE..]' failed_print=1 ;;
     rollplay) usage='usage: rollplay < SCRIPT' failed_print=2 ;;
   esac
   run "$program" --help < /dev/null
@@ -182,11 +167,9 @@ run "$rolltee" never '' app < "$lines"
 check 'rolltee, an empty folder' '2||usage: rolltee ROTATION DIR PREFIX' "$(told)"
 
 # A word that is not UTF-8 is named, also after `--`.
-for name in rolltee audit_trail; do
-  for words in "never $work/switch" "-- never"; do
-    run "$top/crates/$name/out/$name" $words $'caf\xe9' < "$lines"
-    check "$name ${words//$work/} and a word that is not UTF-8" $'2||caf\xef\xbf\xbd: not UTF-8' "$(told)"
-  done
+for words in "never $work/switch" "-- never"; do
+  run "$rolltee" $words $'caf\xe9' < "$lines"
+  check "rolltee ${words//$work/} and a word that is not UTF-8" $'2||caf\xef\xbf\xbd: not UTF-8' "$(told)"
 done
 
 # Options may be anywhere before `--`.
@@ -210,51 +193,83 @@ done << END
 never $work/switch app --keep|--keep: a value is missing
 never $work/switch app --keep 0|--keep: not a number from 1
 never $work/switch app --keep -3|--keep: not a number from 1
+--keep --lossy hourly $work/switch app|--keep: a value is missing
+--suffix= hourly $work/switch app|--suffix: a value is missing
+--suffix -3|--suffix: a value is missing
+--keep=+3|--keep: not a number from 1
+--keep= x|--keep: not a number from 1
+--queue -0 app|--queue: not a number from 1
+--sync --echo --sync|--sync: given twice
+--max-bytes -1K|--max-bytes: not a number of bytes from 1, as 500, 64K, 10M or 2G
+--max-bytes K|--max-bytes: not a number of bytes from 1, as 500, 64K, 10M or 2G
+--max-bytes 1KK|--max-bytes: not a number of bytes from 1, as 500, 64K, 10M or 2G
+--max-bytes 17179869184G|--max-bytes: not a number of bytes from 1, as 500, 64K, 10M or 2G
+--keep 18446744073709551616 daily $work/switch app|--keep: not a number from 1
 never $work/switch app --keep 1|--keep: not with never, a log of one file; take weekly, whose files are the longest
 never $work/switch app --max-bytes 1|--max-bytes: not with never, a log of one file; take weekly, whose files are the longest
 --max-bytes x hourly $work/switch app|--max-bytes: not a number of bytes from 1, as 500, 64K, 10M or 2G
+--max-bytes 0K hourly $work/switch app|--max-bytes: not a number of bytes from 1, as 500, 64K, 10M or 2G
+--max-bytes=1KB hourly $work/switch app|--max-bytes: not a number of bytes from 1, as 500, 64K, 10M or 2G
+--direct --queue 2 never $work/switch app|--queue: not with --direct
+hourly $work/switch app --queue=2 --direct|--queue: not with --direct
+--lossy never $work/switch app --direct|--lossy: not with --direct
+--direct daily $work/switch app --lossy|--lossy: not with --direct
 never --link=a --link=b $work/switch app|--link: given twice
 END
-for word in -x --no-wait=1 --kep; do
+for word in -x --no-wait=1 --kep=1 --Keep --helpme -; do
   run "$rolltee" "$word" never "$work/switch" app < "$lines"
   check "rolltee $word never DIR app" "2||$word: unknown option"$'\n'"$usage" "$(told)"
 done
 check 'rolltee, wrong options make no folder' no "$([ -e "$work/switch" ] && echo yes || echo no)"
 
-run "$rolltee" --echo never "$work/echo" app --suffix log --link=latest < "$lines"
-check 'rolltee --echo' $'0|one\ntwo|' "$(told)"
-check 'rolltee --suffix --link' $'[one\ntwo]' "$(content "$work/echo/latest")"
-check 'rolltee --suffix --link: names' $'app.log\nlatest' "$(ls "$work/echo")"
-run "$rolltee" hourly "$work/times" app --timestamps < "$lines"
-check 'rolltee --timestamps' '0||' "$(told)"
-check 'rolltee --timestamps: the log' 2 \
-  "$(cat "$work"/times/* | grep -cE "^$(date -u +%Y-%m-%dT%H:)[0-9]{2}:[0-9]{2}\.[0-9]{6}Z (one|two)$")"
-timeout 5 "$rolltee" never "$work/unheard" app --echo > /dev/full 2> "$err" < "$lines"
-check 'rolltee --echo > /dev/full' \
-  $'1|lines are not echoed: No space left on device (os error 28)\nlines not echoed: 2' "$?|$(cat "$err")"
-check 'rolltee --echo > /dev/full: the log' $'[one\ntwo]' "$(content "$work/unheard/app")"
-# A reader that ends after a line, as a pager does.
-seq 20000 | timeout 9 "$rolltee" --echo never "$work/reader" app 2> "$err" | head -n 1 > "$out"
-check 'rolltee --echo | head: what it says' $'1|lines are not echoed: Broken pipe (os error 32)\nlines not echoed: ' \
-  "${PIPESTATUS[1]}|$(sed '2s/[0-9]*$//' "$err")"
-check 'rolltee --echo | head: the log' same "$(seq 20000 | cmp -s - "$work/reader/app" && echo same || echo other)"
-run "$rolltee" --max-bytes 1K --keep 2 weekly "$work/kept" app < <(for ((i = 0; i < 20; i++)); do printf '%0127d\n' "$i"; done)
-check 'rolltee --max-bytes 1K --keep 2: the sizes of the files' '0||1024 512' \
-  "$(told)$(stat -c %s "$work"/kept/* | paste -s -d ' ')"
-touch "$work/kept/app.conf" "$work/kept/app.2020-01-01"
-run "$rolltee" --max-bytes 1K --keep 1 weekly "$work/kept" app < "$lines"
-check 'rolltee --keep 1: files of others stay' '0||app.2020-01-01 app.D.N app.conf' \
-  "$(told)$(ls "$work/kept" | sed -E 's/[0-9-]{10}\.[0-9]{6}$/D.N/' | paste -s -d ' ')"
-printf par > "$work/kept/part"
-run "$rolltee" --whole-lines never "$work/kept" part < "$lines"
-check 'rolltee --whole-lines' $'0||[par\none\ntwo]' "$(told)$(content "$work/kept/part")"
-if command -v strace > /dev/null; then
+run "$rolltee" never "$work/names" app --suffix log --link=latest < "$lines"
+check 'rolltee --suffix --link' $'0||[one\ntwo]' "$(told)$(content "$work/names/latest")"
+check 'rolltee --suffix --link: names' $'app.log\nlatest' "$(ls "$work/names")"
+# The last line has no newline.
+seq 3000 | head -c -1 > "$work/numbers"
+for ((i = 0; i < 20; i++)); do printf '%0127d\n' "$i"; done > "$work/lines.20"
+for direct in '' ' --direct'; do
+  for words in --echo --timestamps '--echo --timestamps'; do
+    name="rolltee$direct $words"
+    rm -rf "$work/words"
+    run "$rolltee" $direct $words never "$work/words" app < "$work/numbers"
+    check "$name" '0|' "$status|$(cat "$err")"
+    case $words in *times*) stamp='[0-9-]{10}T[0-9:]{8}\.[0-9]{6}Z ' ;; *) stamp= ;; esac
+    check "$name: the log" same "$(sed -nE "s/^$stamp([0-9]+)$/\1/p" "$work/words/app" | same - "$work/numbers")"
+    case $words in *echo*) echoed=$work/words/app ;; *) echoed=/dev/null ;; esac
+    check "$name: the output" same "$(same "$out" "$echoed")"
+  done
+  timeout 5 "$rolltee" $direct never "$work/unheard${direct# }" app --echo > /dev/full 2> "$err" < "$lines"
+  check "rolltee$direct --echo > /dev/full" \
+    $'1|lines are not echoed: No space left on device (os error 28)\nlines not echoed: 2' "$?|$(cat "$err")"
+  check "rolltee$direct --echo > /dev/full: the log" $'[one\ntwo]' "$(content "$work/unheard${direct# }/app")"
+  # A reader that ends after a line, as a pager does.
+  seq 20000 | timeout 9 "$rolltee" $direct --echo never "$work/reader${direct# }" app 2> "$err" | head -n 1 > "$out"
+  check "rolltee$direct --echo | head" $'1|lines are not echoed: Broken pipe (os error 32)\nlines not echoed: ' \
+    "${PIPESTATUS[1]}|$(sed '2s/[0-9]*$//' "$err")"
+  check "rolltee$direct --echo | head: the log" same "$(seq 20000 | same - "$work/reader${direct# }/app")"
+
+  # 8 of these 20 lines are 1 KiB.
+  kept=$work/kept${direct# }
+  name="rolltee$direct --max-bytes 1K"
+  run "$rolltee" $direct --max-bytes 1K --suffix log --link latest.log weekly "$kept" app < "$work/lines.20"
+  check "$name: the sizes of the files" '0||1024 1024 512' "$(told)$(stat -c %s "$kept"/app.* | paste -s -d ' ')"
+  check "$name: the log" same "$(cat "$kept"/app.* | same - "$work/lines.20")"
+  touch "$kept/app.conf" "$kept/app.2020-01-01.log"
+  run "$rolltee" $direct --max-bytes=1K --keep 2 --suffix log --link latest.log weekly "$kept" app < "$work/lines.20"
+  check "$name --keep 2: the sizes of the files" '0||1024 1024' "$(told)$(stat -c %s "$kept"/app.*.0* | paste -s -d ' ')"
+  check "$name --keep 2: the names" 'app.2020-01-01.log app.D.000003.log app.D.000004.log app.conf latest.log' \
+    "$(ls "$kept" | sed -E 's/[0-9-]{10}\.0/D.0/' | paste -s -d ' ')"
+  check "$name --keep 2: the link" "$(tail -n 8 "$work/lines.20")" "$(cat "$kept/latest.log")"
+  printf par > "$kept/part"
+  run "$rolltee" $direct --whole-lines never "$kept" part < "$lines"
+  check "rolltee$direct --whole-lines" $'0||[par\none\ntwo]' "$(told)$(content "$kept/part")"
+done
+if has strace 'rolltee --sync'; then
   for option in '' --sync; do
     timeout 9 strace -f -e trace=fdatasync,fsync -o "$out" "$rolltee" $option never "$work/synced" app < "$lines"
     check "rolltee $option: whether it syncs" "${option:+yes}" "$(grep -qE 'f(data)?sync\(' "$out" && echo yes)"
   done
-else
-  skip 'rolltee --sync' 'no strace'
 fi
 
 # Two that begin a log at once, in a folder that is not there.
@@ -268,86 +283,23 @@ check 'two rolltee at once' '|5000' "$(cat "$work/at_once")|$(cat "$work"/at_onc
 
 # A log file that someone removes, moves or cuts while a line is waited for: the next line begins a new file.
 lost_file() {
-  local what=$1 command=$2 words=$3 log=$work/lost/app
-  rm -rf "$work/lost" "$work/lines.fifo"
-  mkfifo "$work/lines.fifo"
-  timeout 9 "$rolltee" never "$work/lost" app < "$work/lines.fifo" > "$out" 2> "$err" &
-  local running=$!
-  exec 9> "$work/lines.fifo"
-  echo one >&9
-  wait_until has_lines "$log" 1
-  (cd "$work/lost" && eval "$command")
-  echo two >&9
-  wait_until has_lines "$log" 1
-  exec 9>&-
-  wait "$running"
-  status=$?
-  check "rolltee, a log file that is $what" "1||$log: log file $words"$'\nlog files not found again: 1' "$(told)"
-  check "rolltee, a log file that is $what: the log" '[two]' "$(content "$log")"
+  local what=$1 command=$2 words=$3 log=$work/lost/app direct
+  for direct in '' ' --direct'; do
+    rm -rf "$work/lost"
+    begin "$rolltee" $direct never "$work/lost" app
+    echo one >&9
+    wait_until has_lines "$log" 1
+    (cd "$work/lost" && eval "$command")
+    echo two >&9
+    wait_until has_lines "$log" 1
+    echo three >&9
+    end
+    check "rolltee$direct, a log file that is $what" "1||$log: log file $words"$'\nlog files not found again: 1' "$(told)"
+    check "rolltee$direct, a log file that is $what: the log" $'[two\nthree]' "$(content "$log")"
+  done
 }
 run "$rolltee" --no-wait --version < /dev/null
 check 'rolltee --no-wait --version' "0|rolltee $version|" "$(told)"
-
-mkdir "$work/place"
-cd "$work/place" || exit 1
-run "$audit_trail" -- -trail < "$lines"
-check 'audit_trail -- -DIR' '0||' "$(told)"
-check 'audit_trail -- -DIR: the log' $'[one\ntwo]' "$(content "$work/place/-trail/latest.log")"
-for paths in '' lines; do
-  run "$audit_trail" '' ${paths:+"$lines"} < "$lines"
-  check "audit_trail, an empty folder${paths:+, and a file}" '2||usage: audit_trail DIRECTORY [SOURCE..]' "$(told)"
-done
-run "$audit_trail" < "$lines"
-check 'audit_trail, no folder' '2||usage: audit_trail DIRECTORY [SOURCE..]' "$(told)"
-
-# Files that a restore puts beside the log are newer than its own, but not by their names.
-keep=$work/keep
-run "$audit_trail" --keep 1 "$keep" < "$lines"
-for name in audit.2020-01-01.log audit.2020-01-02.log audit-export.log audit.log; do echo old > "$keep/$name"; done
-run "$audit_trail" "$keep" < /dev/null
-check 'audit_trail keeps all files' '0||6' "$(told)$(ls "$keep" | wc -l)"
-for words in '--keep 2' '--keep=2' '--keep 2 --'; do
-  echo old > "$keep/audit.2020-01-01.log"
-  run "$audit_trail" $words "$keep" < /dev/null
-  check "audit_trail $words" '0||audit-export.log audit.2020-01-02.log audit.log latest.log' \
-    "$(told)$(cd "$keep" && ls | grep -v "$(readlink latest.log)" | paste -s -d ' ')"
-done
-run "$audit_trail" "$keep" --keep 1 < /dev/null
-check 'audit_trail --keep 1: the log of today' "0||$lines_wanted" "$(told)$(content "$keep/latest.log")"
-for words in --keep '--keep -1' '--keep 0' --keep=0 '--keep x' '--keep 18446744073709551616'; do
-  run "$audit_trail" $words "$keep" < "$lines"
-  check "audit_trail $words" '2||--keep: not a number from 1' "$(told)"
-done
-run "$audit_trail" "$keep" --keep < "$lines"
-check 'audit_trail DIR --keep' '2||--keep: a value is missing' "$(told)"
-run "$audit_trail" --keep 1 "$keep" --keep=2 < "$lines"
-check 'audit_trail --keep, twice' '2||--keep: given twice' "$(told)"
-run "$audit_trail" --kep 3 "$keep" < "$lines"
-check 'audit_trail --kep 3' $'2||--kep: unknown option\nusage: audit_trail DIRECTORY [SOURCE..]' "$(told)"
-run "$audit_trail" --lossy "$keep" < "$lines"
-check 'audit_trail --lossy' $'2||--lossy: unknown option\nusage: audit_trail DIRECTORY [SOURCE..]' "$(told)"
-for words in '--max-bytes x' '--max-bytes 0' '--max-bytes 0K' '--max-bytes=1KB'; do
-  run "$audit_trail" $words "$keep" < "$lines"
-  check "audit_trail $words" '2||--max-bytes: not a number of bytes from 1, as 500, 64K, 10M or 2G' "$(told)"
-done
-
-# 20 lines of 128 bytes: 8 of them are 1 KiB.
-limited=$work/limited
-for ((i = 0; i < 20; i++)); do printf '%0127d\n' "$i"; done > "$work/lines.20"
-run "$audit_trail" --max-bytes 1K "$limited" < "$work/lines.20"
-check 'audit_trail --max-bytes 1K: the sizes of the files' '0||1024 1024 512' \
-  "$(told)$(stat -c %s "$limited"/audit.* | paste -s -d ' ')"
-check 'audit_trail --max-bytes 1K: all lines' same \
-  "$(cat "$limited"/audit.* | cmp -s - "$work/lines.20" && echo same || echo other)"
-check 'audit_trail --max-bytes 1K: the names' 'audit.D.000000.log audit.D.000001.log audit.D.000002.log latest.log' \
-  "$(ls "$limited" | sed -E 's/[0-9]{4}-[0-9]{2}-[0-9]{2}/D/' | paste -s -d ' ')"
-run "$audit_trail" --keep 2 --max-bytes=1K "$limited" "$work/lines.20" < /dev/null
-check 'audit_trail --keep 2 --max-bytes=1K, a file' '0|accepted 20 handed 20 left 0 dropped 0|1024 1024' \
-  "$(told)$(stat -c %s "$limited"/audit.* | paste -s -d ' ')"
-check 'audit_trail --keep 2 --max-bytes=1K, a file: the names' 'audit.D.000003.log audit.D.000004.log latest.log' \
-  "$(ls "$limited" | sed -E 's/[0-9]{4}-[0-9]{2}-[0-9]{2}/D/' | paste -s -d ' ')"
-check 'audit_trail --max-bytes: the link' "$(tail -n 8 "$work/lines.20")" "$(cat "$limited/latest.log")"
-check 'an empty folder is not the current one' '-trail' "$(ls "$work/place")"
 
 run "$rollplay" here there < "$script"
 check 'rollplay, arguments' "0|$played|" "$(told)"
@@ -370,55 +322,54 @@ many=$work/many
 for ((i = 0; i < 400; i++)); do printf '%0127d\n' "$i"; done > "$many"
 mkdir "$disk"
 if mount -t tmpfs -o size=16k programs "$disk" 2> "$err"; then
-  run "$rolltee" --no-wait never "$disk/logs" app < "$many"
-  check 'rolltee --no-wait, a full disk' \
-    $'1||lines are lost: No space left on device (os error 28)\nlines not written whole: ' \
-    "$status|$(cat "$out")|$(sed '2s/[0-9]*$//' "$err")"
-  check 'rolltee --no-wait, a full disk: the log begins with the lines' same \
-    "$(cmp -s -n "$(stat -c %s "$disk/logs/app")" "$disk/logs/app" "$many" && echo same || echo other)"
-  rm -r "$disk/logs"
-  # Runs a program whose log does not fit the disk, which gets room while the program waits for it. Wants this on
-  # standard output, and all lines in the log.
+  for direct in '' ' --direct'; do
+    run "$rolltee" $direct --no-wait never "$disk/logs" app < "$many"
+    lost=$(sed -n 's/^lines not written whole: //p' "$err")
+    check "rolltee$direct --no-wait, a full disk" \
+      $'1||lines are lost: No space left on device (os error 28)\nlines not written whole: '"$lost" "$(told)"
+    check "rolltee$direct --no-wait, a full disk: each line is in the log or counted" 400 $(($(line_count "$disk/logs/app") + lost))
+    check "rolltee$direct --no-wait, a full disk: the log begins with the lines" same \
+      "$(head -c "$(stat -c %s "$disk/logs/app")" "$many" | same - "$disk/logs/app")"
+    rm -r "$disk/logs"
+  done
+  # Runs a program whose log does not fit the disk, which gets room while the program waits for it. Wants all lines in the log.
   waits() {
-    local name=$1 printed=$2
-    shift 2
+    local name=$1 waiting
+    shift
     mount -o remount,size=16k "$disk"
     : > "$err"
     timeout 9 "$@" < "$many" > "$out" 2> "$err" &
-    local waiting=$!
-    for ((turn = 0; turn < 200; turn++)); do
-      [ ! -s "$err" ] || break
-      sleep 0.01
-    done
+    waiting=$!
+    wait_until [ -s "$err" ]
     check "$name, a full disk: it says so at once" 'writes pause: No space left on device (os error 28)' "$(cat "$err")"
     mount -o remount,size=1m "$disk"
     wait "$waiting"
     status=$?
-    check "$name, a full disk" "0|$printed|"$'writes pause: No space left on device (os error 28)\nwrites go on' "$(told)"
-    check "$name, a full disk: the log" same "$(cat "$disk/logs"/a* | cmp -s - "$many" && echo same || echo other)"
+    check "$name, a full disk" $'0||writes pause: No space left on device (os error 28)\nwrites go on' "$(told)"
+    check "$name, a full disk: the log" same "$(cat "$disk/logs"/a* | same - "$many")"
     rm -r "$disk/logs"
   }
-  waits rolltee '' "$rolltee" never "$disk/logs" app
-  waits audit_trail '' "$audit_trail" "$disk/logs"
-  waits 'audit_trail from a file' 'accepted 400 handed 400 left 0 dropped 0' "$audit_trail" "$disk/logs" "$many"
+  waits rolltee "$rolltee" never "$disk/logs" app
+  waits 'an audit trail' "${trail[@]}" daily "$disk/logs" audit
   # The file is removed while it has a part of a line. That line is lost, and the next file begins with one.
-  mount -o remount,size=16k "$disk"
-  : > "$err"
-  timeout 9 "$rolltee" never "$disk/logs" app < <(seq 9999) > "$out" 2> "$err" &
-  running=$!
-  wait_until says 'writes pause'
-  rm "$disk/logs/app"
-  mount -o remount,size=1m "$disk"
-  wait "$running"
-  check 'rolltee, a file that is removed amid a line' 1 "$?"
-  check 'rolltee, a file that is removed amid a line: it says so' \
-    'lines not written whole: 1; log files not found again: 1' "$(tail -n 1 "$err")"
-  check 'rolltee, a file that is removed amid a line: the next file' \
-    "$(seq 3500 9999 | cksum)" "$(cksum < "$disk/logs/app")"
-  rm -r "$disk/logs"
+  for direct in '' ' --direct'; do
+    mount -o remount,size=16k "$disk"
+    : > "$err"
+    timeout 9 "$rolltee" $direct never "$disk/logs" app < <(seq 9999) > "$out" 2> "$err" &
+    running=$!
+    wait_until says 'writes pause'
+    rm "$disk/logs/app"
+    mount -o remount,size=1m "$disk"
+    wait "$running"
+    status=$?
+    name="rolltee$direct, a file that is removed amid a line"
+    check "$name" 1 "$status"
+    check "$name: it says so" 'lines not written whole: 1; log files not found again: 1' "$(tail -n 1 "$err")"
+    check "$name: the next file" same "$(seq 3500 9999 | same - "$disk/logs/app")"
+    rm -r "$disk/logs"
+  done
   run "$rolltee" never "$disk/logs" app < "$lines"
-  check 'rolltee, a disk with room' '0||' "$(told)"
-  check 'rolltee, a disk with room: the log' $'[one\ntwo]' "$(content "$disk/logs/app")"
+  check 'rolltee, a disk with room' $'0||[one\ntwo]' "$(told)$(content "$disk/logs/app")"
 else
   skip 'rolltee, a full disk' "$(head -1 "$err")"
 fi
@@ -430,11 +381,15 @@ endless() {
   head -c 67108864 /dev/zero | tr '\0' x
 }
 export -f endless
-run bash -c 'ulimit -v 131072; endless | "$@"' bash "$rolltee" never "$work/endless" app
-check 'rolltee, a line that does not end' '0||' "$(told)"
-check 'rolltee, a line that does not end: the log' same \
-  "$(endless | cmp -s - "$work/endless/app" && echo same || echo other)"
-rm -rf "$work/endless"
+for direct in '' ' --direct'; do
+  run bash -c 'ulimit -v 131072; endless | "$@"' bash "$rolltee" $direct never "$work/endless" app
+  check "rolltee$direct, a line that does not end" '0||' "$(told)"
+  check "rolltee$direct, a line that does not end: the log" same "$(endless | same - "$work/endless/app")"
+  rm -rf "$work/endless"
+done
+{ head -c 3145728 /dev/zero | tr '\0' x; echo; echo end; } > "$work/long"
+run "$rolltee" --direct --timestamps never "$work/long.log" app < "$work/long"
+check 'rolltee --direct --timestamps, a line of 3 MiB' '0||same' "$(told)$(cut -c 29- "$work/long.log/app" | same - "$work/long")"
 
 # ---- an input that does not block
 
@@ -451,166 +406,47 @@ for part in (b"one\nt", b"wo\n"):
 os.close(write)
 sys.exit(program.wait(4))
 '
-if command -v python3 > /dev/null; then
-  run python3 -c "$unblocked" "$rolltee" never "$work/unblocked" app
-  check 'rolltee, an input that does not block' '0||' "$(told)"
-  check 'rolltee, an input that does not block: the log' $'[one\ntwo]' "$(content "$work/unblocked/app")"
-else
-  skip 'rolltee, an input that does not block' 'no python3'
+if has python3 'an input that does not block'; then
+  for direct in '' ' --direct'; do
+    run python3 -c "$unblocked" "$rolltee" $direct never "$work/unblocked" "app$direct"
+    check "rolltee$direct, an input that does not block" $'0||[one\ntwo]' "$(told)$(content "$work/unblocked/app$direct")"
+  done
 fi
 
 # ---- a folder that another file system covers
 
-# Runs audit_trail in a file system of its own. Another one then covers that, whose log file has the same inode number.
-# Ends with the status of audit_trail, or with 77 if there is no such file.
+# Runs rolltee in a file system of its own. Another one then covers that, whose log file has the same inode number. Ends with
+# the status of rolltee, or with 77 if there is no such file.
 run_covered() {
-  local running log number turn
+  local running number turn
   mount -t tmpfs first "$covered" || exit 77
-  "$audit_trail" "$covered" < "$covered.lines" &
+  "$rolltee" --direct never "$covered" app < "$fifo" &
   running=$!
-  exec 9> "$covered.lines"
+  exec 9> "$fifo"
   echo one >&9
-  for ((turn = 0; turn < 200; turn++)); do
-    [ ! -s "$covered/latest.log" ] || break
-    sleep 0.01
-  done
-  log=$(readlink "$covered/latest.log")
-  number=$(stat -c %i "$covered/$log")
+  until [ -s "$covered/app" ]; do sleep 0.01; done
+  number=$(stat -c %i "$covered/app")
   mount -t tmpfs second "$covered"
   for ((turn = 0; turn < 20; turn++)); do
     : > "$covered/$turn"
-    [ "$(stat -c %i "$covered/$turn")" != "$number" ] || mv "$covered/$turn" "$covered/$log"
+    [ "$(stat -c %i "$covered/$turn")" != "$number" ] || mv "$covered/$turn" "$covered/app"
   done
   exec 9>&-
   wait "$running"
   status=$?
-  [ -f "$covered/$log" ] || status=77
+  [ -f "$covered/app" ] || status=77
   exit "$status"
 }
 export -f run_covered
-export audit_trail covered=$work/covered
+export rolltee fifo covered=$work/covered
 mkdir "$covered"
-mkfifo "$covered.lines"
 run unshare -m bash -c run_covered
 if [ "$status" = 77 ] || ! unshare -m true 2> /dev/null; then
-  skip 'audit_trail, a covered folder' "$(head -1 "$err")"
+  skip 'rolltee --direct, a covered folder' "$(head -1 "$err")"
 else
-  check 'audit_trail, a covered folder' 1 "$status"
-  check 'audit_trail, a covered folder: the log file is another one' 1 \
-    "$(grep -c ': log file removed, renamed or replaced$' "$err")"
+  check 'rolltee --direct, a covered folder: the log file is another one' \
+    "1||$covered/app: log file removed, renamed or replaced"$'\nlog files not found again: 1' "$(told)"
 fi
-
-# ---- a log file that is truncated, and syncs
-
-fifo=$work/fifo
-mkfifo "$fifo"
-trail=$work/truncated
-timeout 5 "$audit_trail" "$trail" < "$fifo" > "$out" 2> "$err" &
-running=$!
-exec 9> "$fifo"
-echo one >&9
-wait_until has_lines "$trail/latest.log" 1
-: > "$trail/latest.log"
-echo two >&9
-exec 9>&-
-wait "$running"
-check 'audit_trail, a truncated log' 1 "$?"
-check 'audit_trail, a truncated log: what is told' 'log file truncated|log files not found again: 1' \
-  "$(sed 's/^.*: log file/log file/' "$err" | paste -s -d '|')"
-
-timeout 5 "$audit_trail" --keep 2 "$keep" < "$fifo" > "$out" 2> "$err" &
-running=$!
-exec 9> "$fifo"
-echo three >&9
-wait_until has_lines "$keep/latest.log" 3
-run "$audit_trail" --keep 2 "$keep" < "$lines"
-check 'audit_trail --keep, a second one' '1||another audit_trail --keep writes to the log directory' "$(told)"
-run "$audit_trail" --keep 2 "$keep" "$lines" < /dev/null
-check 'audit_trail --keep, a second one, from a file' '1||another audit_trail --keep writes to the log directory' "$(told)"
-run "$audit_trail" "$keep" < "$lines"
-check 'audit_trail beside one with --keep' '0||' "$(told)"
-exec 9>&-
-wait "$running"
-check 'audit_trail --keep, the first one' 0 "$?"
-run "$audit_trail" --keep 2 "$keep" < /dev/null
-check 'audit_trail --keep, after the first one' '0||' "$(told)"
-
-# syncs FAULT PROGRAM ARGUMENT..: runs it, with a line for each of its syncs in $work/syncs. Each sync has this fault, as
-# error=EIO, or none.
-syncs() {
-  local inject=()
-  [ "$1" = none ] || inject=(-e "inject=fdatasync:$1")
-  shift
-  timeout 5 strace -f -qq -o "$work/syncs" -e trace=fdatasync "${inject[@]}" "$@"
-}
-
-if ! syncs none true > /dev/null 2> "$err"; then
-  skip 'audit_trail, syncs' "$(head -1 "$err")"
-else
-  syncs error=EIO "$audit_trail" "$work/unsynced" < "$lines" > "$out" 2> "$err"
-  check 'audit_trail, a sync that fails' '1||write failed: Input/output error (os error 5)' "$?|$(cat "$out")|$(cat "$err")"
-  syncs error=EIO "$audit_trail" "$work/unsynced.files" "$lines" > "$out" 2> "$err"
-  check 'audit_trail, files, syncs that fail' '1|accepted 2 handed 2 left 0 dropped 0|1' \
-    "$?|$(cat "$out")|$(grep -c '^syncs that failed: [1-9]' "$err")"
-  rm -f "$work/syncs"
-  syncs none "$audit_trail" "$work/synced" < "$fifo" > "$out" 2> "$err" &
-  running=$!
-  exec 9> "$fifo"
-  for ((count = 1; count <= 3; count++)); do
-    echo "$count" >&9
-    wait_until has_lines "$work/syncs" "$count"
-    check "audit_trail, line $count is synced" yes "$(has_lines "$work/syncs" "$count" && echo yes || echo no)"
-  done
-  exec 9>&-
-  wait "$running"
-  check 'audit_trail, synced lines' '0||' "$?|$(cat "$out")|$(cat "$err")"
-fi
-
-# ---- a run that is killed
-
-# Prints up to 2000 lines, with a pause after each, until nothing reads them.
-slow_lines() {
-  local number
-  for ((number = 0; number < 2000; number++)); do
-    echo "killed $number" || return
-    sleep 0.002
-  done 2> /dev/null
-}
-
-trail=$work/killed
-log=$trail/latest.log
-wanted=$work/wanted
-
-# All runs are to write to the log of one day.
-left=$((86400 - $(date +%s) % 86400))
-[ "$left" -gt 4 ] || sleep "$left"
-
-slow_lines | "$audit_trail" "$trail" > "$out" 2> "$err" &
-killed=$!
-for ((turn = 0; turn < 200; turn++)); do
-  [ "$(line_count "$log")" -lt 20 ] || break
-  sleep 0.01
-done
-kill -9 "$killed"
-{ wait "$killed"; } 2> /dev/null
-status=$?
-wait
-check 'audit_trail, killed' '137||' "$(told)"
-check 'audit_trail, killed: 20 lines were written' yes "$([ "$(line_count "$log")" -ge 20 ] && echo yes || echo no)"
-check 'audit_trail, killed: the log begins with the lines' same \
-  "$(printf 'killed %d\n' {0..1999} | cmp -s -n "$(stat -Lc %s "$log")" "$log" - && echo same || echo other)"
-
-# The next run changes nothing before, and begins a line. A kill within a write leaves a part of a line, as is added here.
-for part in '' 'part of a line'; do
-  printf '%s' "$part" >> "$log"
-  cp "$log" "$wanted"
-  [ -z "$(tail -c 1 "$wanted")" ] || echo >> "$wanted"
-  cat "$lines" >> "$wanted"
-  run "$audit_trail" "$trail" < "$lines"
-  name="audit_trail after a kill${part:+ within a line}"
-  check "$name" '0||' "$(told)"
-  check "$name: the log" '' "$(diff "$wanted" "$log" 2>&1 | head -8)"
-done
 
 # ---- log files that others change
 
@@ -620,12 +456,8 @@ lost_file truncated ': > app' truncated
 lost_file 'gone with its folder' 'rm -r ../lost' 'removed, renamed or replaced'
 
 # The folder is replaced by a file: the next line waits until there can be a folder again.
-rm -f "$work/lines.fifo"
-mkfifo "$work/lines.fifo"
 log=$work/closed/app
-timeout 9 "$rolltee" never "$work/closed" app < "$work/lines.fifo" > "$out" 2> "$err" &
-running=$!
-exec 9> "$work/lines.fifo"
+begin "$rolltee" never "$work/closed" app
 echo one >&9
 wait_until has_lines "$log" 1
 rm -r "$work/closed"
@@ -636,9 +468,8 @@ check 'rolltee, a folder that is replaced by a file: it says so at once' \
   "$log: log file not found again: Not a directory (os error 20)"$'\nwrites pause: File exists (os error 17)' "$(cat "$err")"
 rm "$work/closed"
 echo three >&9
-exec 9>&-
-wait "$running"
-check 'rolltee, a folder that is replaced by a file' 1 "$?"
+end
+check 'rolltee, a folder that is replaced by a file' 1 "$status"
 check 'rolltee, a folder that is replaced by a file: what is reported at the end' \
   $'writes go on\nlog files not found again: 1' "$(tail -n 2 "$err")"
 check 'rolltee, a folder that is replaced by a file: the log' $'[two\nthree]' "$(content "$log")"
@@ -652,9 +483,7 @@ check 'rolltee, a link that is a file' \
   '1||failed to create symlink to latest log file: cur is no symbolic link' "$(told)"
 check 'rolltee, a link that is a file: the folder' 'app.2020-02-01.000000 cur' "$(ls "$work/linked" | paste -s -d ' ')"
 rm "$work/linked/cur"
-timeout 9 "$rolltee" --keep 1 --max-bytes 1K --link cur daily "$work/linked" app < "$work/lines.fifo" > "$out" 2> "$err" &
-running=$!
-exec 9> "$work/lines.fifo"
+begin "$rolltee" --keep 1 --max-bytes 1K --link cur daily "$work/linked" app
 echo one >&9
 wait_until has_lines "$work/linked/cur" 1
 log=$(readlink -f "$work/linked/cur")
@@ -666,9 +495,8 @@ sleep 0.3
 check 'rolltee, a link that becomes a file: the folder' cur "$(ls "$work/linked")"
 rm "$work/linked/cur"
 echo three >&9
-exec 9>&-
-wait "$running"
-check 'rolltee, a link that becomes a file' 1 "$?"
+end
+check 'rolltee, a link that becomes a file' 1 "$status"
 check 'rolltee, a link that becomes a file: the log' $'[two\nthree]' "$(content "$work/linked/cur")"
 
 # refused FAULT ARGUMENT..: runs `rolltee` with these lines, and with this fault of one of its calls, as write:error=EIO.
@@ -682,16 +510,19 @@ refused() {
 if ! strace -f -qq -o "$work/calls" -e trace=fdatasync true > /dev/null 2> "$err"; then
   skip 'rolltee, calls that are refused' "$(head -1 "$err")"
 else
-  run "$rolltee" never "$work/refused" app < "$lines"
-  refused write:error=EROFS
-  check 'rolltee, a write to a disk that is read only' \
-    $'0||writes pause: Read-only file system (os error 30)\nwrites go on' "$(told)"
-  refused write:error=EROFS --no-wait
-  check 'rolltee --no-wait, a write to a disk that is read only' \
-    $'1||lines are lost: Read-only file system (os error 30)\nlines not written whole: 1' "$(told)"
-  check 'rolltee, a disk that is read only: the log' $'[one\ntwo\none\ntwo\ntwo]' "$(content "$work/refused/app")"
-  refused fdatasync:error=EIO --sync
-  check 'rolltee --sync, a sync that fails' '1||syncs that failed: 1' "$(told)"
+  for direct in '' ' --direct'; do
+    rm -rf "$work/refused"
+    run "$rolltee" never "$work/refused" app < "$lines"
+    refused write:error=EROFS $direct
+    check "rolltee$direct, a write to a disk that is read only" \
+      $'0||writes pause: Read-only file system (os error 30)\nwrites go on' "$(told)"
+    refused write:error=EROFS --no-wait $direct
+    check "rolltee$direct --no-wait, a write to a disk that is read only" \
+      $'1||lines are lost: Read-only file system (os error 30)\nlines not written whole: 1' "$(told)"
+    check "rolltee$direct, a disk that is read only: the log" $'[one\ntwo\none\ntwo\ntwo]' "$(content "$work/refused/app")"
+    refused fdatasync:error=EIO --sync $direct
+    check "rolltee$direct --sync, a sync that fails" '1||syncs that failed: 1' "$(told)"
+  done
 fi
 
 # ---- a supervisor
@@ -726,7 +557,7 @@ if command -v runsv > /dev/null && command -v sv > /dev/null; then
   supervised
   check 'rolltee under runsv, after signals: it was started once' 1 "$(line_count "$work/starts")"
   check 'rolltee under runsv, after signals: the log' same \
-    "$(seq -f 'line %g' 1000 | cmp -s - <(cat "$work"/supervised/app.*) && echo same || echo other)"
+    "$(cat "$work"/supervised/app.* | same - <(seq -f 'line %g' 1000))"
 else
   skip 'rolltee under runsv' 'no runsv'
 fi
@@ -744,13 +575,13 @@ on_log() {
 }
 if has strace 'rolltee, lines that are dropped or lost'; then
   seq 2000 > "$work/told.lines"
-  on_log /dev/stdout delay_enter=20000 --lossy --queue 2 --echo < "$work/told.lines"
+  on_log /dev/stdout delay_enter=1000 --lossy --queue 2 --echo < "$work/told.lines"
   check 'rolltee --lossy --queue 2 --echo, a slow log: it says so once' \
     $'1|lines are dropped: the queue is full\nlines dropped: ' "$status|$(sed '2s/[0-9]*$//' "$err")"
   check 'rolltee --lossy --queue 2 --echo, a slow log: all lines but those' 2000 \
     $(($(line_count "$work/told/app") + $(sed -n 's/^lines dropped: //p' "$err")))
   check 'rolltee --lossy --queue 2 --echo, a slow log: all lines are echoed' same \
-    "$(cmp -s "$work/told.lines" "$out" && echo same || echo other)"
+    "$(same "$work/told.lines" "$out")"
   on_log /dev/full error=ENOSPC --no-wait --echo < "$lines"
   check 'rolltee --no-wait --echo > /dev/full' "$(printf '%s\n' '1|lines are lost: No space left on device (os error 28)' \
     'lines are not echoed: No space left on device (os error 28)' 'lines not written whole: 2; lines not echoed: 2')" \
@@ -765,16 +596,15 @@ if has strace 'rolltee, lines that are dropped or lost'; then
     "$([ "$(sed -n 's/^syncs that failed: //p' "$err")" -ge "$(find "$work/told" -name 'synced.*' | wc -l)" ] && echo yes || cat "$err")"
 fi
 run "$rolltee" --queue 1 never "$work/told" one < "$many"
-check 'rolltee --queue 1' '0||same' "$(told)$(cmp -s "$many" "$work/told/one" && echo same || echo other)"
+check 'rolltee --queue 1' '0||same' "$(told)$(same "$many" "$work/told/one")"
 before=$(date -u +%FT%T)
 { echo one; sleep 1.1; echo two; } | run "$rolltee" --timestamps never "$work/told" times
 after=$(date -u +%FT%TZ)
 check 'rolltee --timestamps: each line has its own time' 'one two' "$(awk -v from="$before" -v to="$after" \
   '$1 >= from && $1 <= to && substr($1, 1, 19) > last { print $2 } { last = substr($1, 1, 19) }' "$work/told/times" | paste -s -d ' ')"
 for ((length = 0; length < 1100; length++)); do printf "%0${length}d\n" 0; done > "$work/told.source"
-run "$audit_trail" "$work/told.trail" "$work/told.source"
-check 'audit_trail, a file with lines of all lengths' '0|accepted 1100 handed 1100 left 0 dropped 0|same' \
-  "$(told)$(cmp -s "$work/told.source" "$work/told.trail/latest.log" && echo same || echo other)"
+run "${trail[@]}" daily "$work/told.trail" audit < "$work/told.source"
+check 'an audit trail, lines of all lengths' '0||same' "$(told)$(same "$work/told.source" "$work/told.trail/latest.log")"
 
 # ---- a service that is stopped
 
@@ -793,7 +623,7 @@ end
 all_of_service() {
   wait_until [ -s "$stopped/last" ]
   wait_until has_lines "$stopped/log/app" "$(cat "$stopped/last")"
-  check "$1" same "$(seq "$(cat "$stopped/last")" | cmp -s - "$stopped/log/app" && echo same || echo other)"
+  check "$1" same "$(seq "$(cat "$stopped/last")" | same - "$stopped/log/app")"
   rm -rf "$stopped/log" "$stopped/last"
 }
 setsid sh -c "bash '$stopped/service' | (trap '' INT TERM HUP QUIT; exec '$rolltee' never '$stopped/log' app)" &

@@ -19,78 +19,30 @@ fn write_unlinked(rt: &impl AllocAndAbort, steps: &[DiskStep]) -> Outcome {
 }
 
 // Steps with their replies, the files at the end, and what is printed.
+#[rattlefmt::skip]
 static WRITES: [(&[DiskStep], &str, &str, &str); 5] = [
     // A disk that is full takes what there is room for, and more once there is room again.
-    (
-        &[
-            DiskStep::Room(4),
-            DiskStep::Put(START, "one"),
-            DiskStep::Put(START, "two"),
-            DiskStep::Put(START, "three"),
-            DiskStep::Put(START, ""),
-            DiskStep::Flush,
-            DiskStep::Room(9),
-            DiskStep::Put(START, "four"),
-        ],
+    (&[DiskStep::Room(4), DiskStep::Put(START, "one"), DiskStep::Put(START, "two"), DiskStep::Put(START, "three"),
+        DiskStep::Put(START, ""), DiskStep::Flush, DiskStep::Room(9), DiskStep::Put(START, "four")],
         "open\nnone ok 3\nnone ok 1\nnone err\nnone ok 0\nok\nnone ok 4\n",
-        "app.2020-02-01-10 onetfour\nother.txt kept\n",
-        "failures 1\n",
-    ),
+        "app.2020-02-01-10 onetfour\nother.txt kept\n", "failures 1\n"),
     // So it is at a boundary.
-    (
-        &[
-            DiskStep::Room(0),
-            DiskStep::Put(ELEVEN, "one"),
-            DiskStep::Room(9),
-            DiskStep::Put(ELEVEN, "two"),
-        ],
-        "open\nopened err\nnone ok 3\n",
-        "app.2020-02-01-10 \napp.2020-02-01-11 two\nother.txt kept\n",
-        "failures 1\n",
-    ),
+    (&[DiskStep::Room(0), DiskStep::Put(ELEVEN, "one"), DiskStep::Room(9), DiskStep::Put(ELEVEN, "two")],
+        "open\nopened err\nnone ok 3\n", "app.2020-02-01-10 \napp.2020-02-01-11 two\nother.txt kept\n", "failures 1\n"),
     // A short write is no failure.
-    (
-        &[
-            DiskStep::Take(2),
-            DiskStep::Put(START, "hello"),
-            DiskStep::Take(0),
-            DiskStep::Put(START, "hello"),
-            DiskStep::Take(5),
-            DiskStep::Put(START, "hello"),
-            DiskStep::Take(6),
-            DiskStep::Put(START, "hello"),
-        ],
-        "open\nnone ok 2\nnone ok 0\nnone ok 5\nnone ok 5\n",
-        "app.2020-02-01-10 hehellohello\nother.txt kept\n",
-        "failures 0\n",
-    ),
+    (&[DiskStep::Take(2), DiskStep::Put(START, "hello"), DiskStep::Take(0), DiskStep::Put(START, "hello"),
+        DiskStep::Take(5), DiskStep::Put(START, "hello"), DiskStep::Take(6), DiskStep::Put(START, "hello")],
+        "open\nnone ok 2\nnone ok 0\nnone ok 5\nnone ok 5\n", "app.2020-02-01-10 hehellohello\nother.txt kept\n",
+        "failures 0\n"),
     // If the folder is removed, lines are written to the open file until the boundary makes the folder again.
-    (
-        &[
-            DiskStep::Put(START, "one"),
-            DiskStep::RemoveFolder,
-            DiskStep::Put(START, "two"),
-            DiskStep::Flush,
-            DiskStep::Put(ELEVEN, "three"),
-        ],
-        "open\nnone ok 3\nnone ok 3\nok\nopened ok 5\n",
-        "app.2020-02-01-11 three\n",
-        "failures 1\n",
-    ),
+    (&[DiskStep::Put(START, "one"), DiskStep::RemoveFolder, DiskStep::Put(START, "two"), DiskStep::Flush,
+        DiskStep::Put(ELEVEN, "three")], "open\nnone ok 3\nnone ok 3\nok\nopened ok 5\n", "app.2020-02-01-11 three\n",
+        "failures 1\n"),
     // It can't be made before the boundary after the next.
-    (
-        &[
-            DiskStep::RemoveFolder,
-            DiskStep::Fail(Some(Call::CreateDir)),
-            DiskStep::Put(ELEVEN, "one"),
-            DiskStep::Fail(None),
-            DiskStep::Put(ELEVEN, "two"),
-            DiskStep::Put(TWELVE, "three"),
-        ],
-        "open\nfailed ok 3\nnone ok 3\nopened ok 5\n",
-        "app.2020-02-01-12 three\n",
-        "Couldn't create writer for logs: failed to create log directory: permission denied\nfailures 3\n",
-    ),
+    (&[DiskStep::RemoveFolder, DiskStep::Fail(Some(Call::CreateDir)), DiskStep::Put(ELEVEN, "one"),
+        DiskStep::Fail(None), DiskStep::Put(ELEVEN, "two"), DiskStep::Put(TWELVE, "three")],
+        "open\nfailed ok 3\nnone ok 3\nopened ok 5\n", "app.2020-02-01-12 three\n",
+        "Couldn't create writer for logs: failed to create log directory: permission denied\nfailures 3\n"),
 ];
 
 // What puts counted follows what the disk held at first.
@@ -130,6 +82,7 @@ const LINKED: &str = "app.2020-02-01-10 -> other.txt\nother.txt kept\n";
 
 // Whether the log exists at first, the call before which a name becomes a link to `other.txt` and
 // that name; the replies, the files, and what is printed.
+#[rattlefmt::skip]
 static LINKS: [(bool, usize, &str, &str, &str, &str); 6] = [
     // Before the look at the name, and between look and opening.
     (false, 1, LOG, REFUSED, LINKED, "failures 2\n"),
@@ -138,23 +91,12 @@ static LINKS: [(bool, usize, &str, &str, &str, &str); 6] = [
     // Between the opening and the second look.
     (true, 4, LOG, REFUSED, LINKED, "failures 2\n"),
     // At a boundary, whose line is written to the last file then.
-    (
-        false,
-        5,
-        NEXT,
-        "open\nnone ok 3\nfailed ok 3\n",
+    (false, 5, NEXT, "open\nnone ok 3\nfailed ok 3\n",
         "app.2020-02-01-10 onetwo\napp.2020-02-01-11 -> other.txt\nother.txt kept\n",
-        "Couldn't create writer for logs: failed to create log file: not a plain file\nfailures 2\n",
-    ),
+        "Couldn't create writer for logs: failed to create log file: not a plain file\nfailures 2\n"),
     // Once the file is open its name means nothing.
-    (
-        false,
-        3,
-        LOG,
-        "open\nnone ok 3\nopened ok 3\n",
-        "app.2020-02-01-10 -> other.txt\napp.2020-02-01-11 two\nother.txt kept\n",
-        "failures 0\n",
-    ),
+    (false, 3, LOG, "open\nnone ok 3\nopened ok 3\n",
+        "app.2020-02-01-10 -> other.txt\napp.2020-02-01-11 two\nother.txt kept\n", "failures 0\n"),
 ];
 
 static TWO_LINES: [DiskStep; 2] = [DiskStep::Put(START, "one"), DiskStep::Put(ELEVEN, "two")];

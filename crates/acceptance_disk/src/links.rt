@@ -26,21 +26,15 @@ const IN_USE: &str =
     "Couldn't create writer for logs: failed to create symlink to latest log file: the name for the new link is in use\nfailures 2\n";
 
 // What has the name; the replies, the files, and what is printed.
+#[rattlefmt::skip]
 static SPARES: [(Spare, &str, &str, &str); 4] = [
     (Spare::Nothing, OPENED, REPLACED, "failures 1\n"),
     (Spare::LeftLink, OPENED, REPLACED, "failures 1\n"),
-    (
-        Spare::File,
-        FAILED,
+    (Spare::File, FAILED,
         ".latest.log.new kept\napp.2020-02-01-10 onetwo\napp.2020-02-01-11 \nlatest.log -> app.2020-02-01-10\n",
-        IN_USE,
-    ),
-    (
-        Spare::Folder,
-        FAILED,
-        ".latest.log.new/\napp.2020-02-01-10 onetwo\napp.2020-02-01-11 \nlatest.log -> app.2020-02-01-10\n",
-        IN_USE,
-    ),
+        IN_USE),
+    (Spare::Folder, FAILED,
+        ".latest.log.new/\napp.2020-02-01-10 onetwo\napp.2020-02-01-11 \nlatest.log -> app.2020-02-01-10\n", IN_USE),
 ];
 
 static TWO_LINES: [DiskStep; 2] = [DiskStep::Put(START, "one"), DiskStep::Put(ELEVEN, "two")];

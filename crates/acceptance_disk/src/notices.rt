@@ -11,41 +11,27 @@ use std::process::Abort;
 use tracing_appender::store::NoticeKind;
 
 // The calls that fail at two boundaries, the link if there is one, and what is printed: the second time too.
+#[rattlefmt::skip]
 static NOTICES: [(Call, &str, &str); 5] = [
-    (
-        Call::OpenDir,
-        "",
+    (Call::OpenDir, "",
         "Error reading the log directory/files: permission denied\n\
-         Error reading the log directory/files: permission denied\nfailures 2\n",
-    ),
+         Error reading the log directory/files: permission denied\nfailures 2\n"),
     // One file more goes at the second boundary.
-    (
-        Call::RemoveFile,
-        "",
+    (Call::RemoveFile, "",
         "Failed to remove old log file log/app.2020-02-01-09: permission denied\n\
          Failed to remove old log file log/app.2020-02-01-09: permission denied\n\
-         Failed to remove old log file log/app.2020-02-01-10: permission denied\nfailures 3\n",
-    ),
-    (
-        Call::Flush,
-        "",
+         Failed to remove old log file log/app.2020-02-01-10: permission denied\nfailures 3\n"),
+    (Call::Flush, "",
         "Couldn't flush previous writer: permission denied\n\
-         Couldn't flush previous writer: permission denied\nfailures 2\n",
-    ),
+         Couldn't flush previous writer: permission denied\nfailures 2\n"),
     // Each opening is tried twice.
-    (
-        Call::OpenFile,
-        "",
+    (Call::OpenFile, "",
         "Couldn't create writer for logs: failed to create log file: permission denied\n\
-         Couldn't create writer for logs: failed to create log file: permission denied\nfailures 4\n",
-    ),
+         Couldn't create writer for logs: failed to create log file: permission denied\nfailures 4\n"),
     // There was no link to replace at first. At the boundaries it stays.
-    (
-        Call::Symlink,
-        "latest.log",
+    (Call::Symlink, "latest.log",
         "Couldn't create writer for logs: failed to create symlink to latest log file: permission denied\n\
-         Couldn't create writer for logs: failed to create symlink to latest log file: permission denied\nfailures 3\n",
-    ),
+         Couldn't create writer for logs: failed to create symlink to latest log file: permission denied\nfailures 3\n"),
 ];
 
 // Writes a log whose two boundaries meet calls that fail.

@@ -8,25 +8,11 @@ use crate::scene::START;
 use tracing_appender::rolling::InitError;
 
 // The moment, whether the folder is there, the calls that fail; the text of the error.
+#[rattlefmt::skip]
 static REFUSALS: [(u64, bool, Option<Call>, &str); 4] = [
-    (
-        START,
-        false,
-        Some(Call::CreateDir),
-        "failed to create log directory: permission denied",
-    ),
-    (
-        START,
-        true,
-        Some(Call::OpenFile),
-        "failed to create log file: permission denied",
-    ),
-    (
-        START,
-        true,
-        Some(Call::Symlink),
-        "failed to create symlink to latest log file: permission denied",
-    ),
+    (START, false, Some(Call::CreateDir), "failed to create log directory: permission denied"),
+    (START, true, Some(Call::OpenFile), "failed to create log file: permission denied"),
+    (START, true, Some(Call::Symlink), "failed to create symlink to latest log file: permission denied"),
     // 9999-01-01.
     (253_370_764_800, true, None, "moment out of range"),
 ];

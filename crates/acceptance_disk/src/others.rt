@@ -61,23 +61,10 @@ fn a_pipe_that_is_made_meanwhile_is_refused_and_not_waited_for(rt: HostRuntime) 
 
 // What another process puts there between the look at a free name and the making of the file, the replies, the entries and
 // the failures of the folder.
+#[rattlefmt::skip]
 static COME_FIRST: [(Kind, (&str, &str, &str)); 2] = [
-    (
-        Kind::File,
-        (
-            "open\nnone ok 3\n",
-            "app.2020-02-01-10 xone\n",
-            "failures 0\n",
-        ),
-    ),
-    (
-        Kind::Pipe,
-        (
-            "failed to create log file: not a plain file\n",
-            "app.2020-02-01-10|\n",
-            "failures 2\n",
-        ),
-    ),
+    (Kind::File, ("open\nnone ok 3\n", "app.2020-02-01-10 xone\n", "failures 0\n")),
+    (Kind::Pipe, ("failed to create log file: not a plain file\n", "app.2020-02-01-10|\n", "failures 2\n")),
 ];
 
 #[test]
@@ -135,16 +122,12 @@ fn flush_once(
 }
 
 // Whether the folder syncs, and the call that fails; the error's kind, and how often the disk synced.
+#[rattlefmt::skip]
 static FLUSHES: [(bool, Option<Call>, Option<ErrorKind>, usize); 4] = [
     (false, None, None, 0),
     (true, None, None, 1),
     (true, Some(Call::Sync), Some(ErrorKind::PermissionDenied), 0),
-    (
-        true,
-        Some(Call::Flush),
-        Some(ErrorKind::PermissionDenied),
-        0,
-    ),
+    (true, Some(Call::Flush), Some(ErrorKind::PermissionDenied), 0),
 ];
 
 #[test]

@@ -41,6 +41,7 @@ const LINK_REFUSED: &str =
     "Couldn't create writer for logs: failed to create symlink to latest log file: permission denied\nfailures 2\n";
 
 // What fails, and the result: the replies, the files, and what is printed.
+#[rattlefmt::skip]
 static TURNS: [(&[usize], &str, &str, &str); 18] = [
     // The listing at the opening; at the boundary two files go.
     (&[1, 2, 4, 6, 8, 10], ANSWERS, FILES, LIST),
@@ -51,18 +52,11 @@ static TURNS: [(&[usize], &str, &str, &str); 18] = [
     (&[13, 14], ANSWERS, FILES, "failures 2\n"),
     // It is not known whether there is a link, and there is none.
     (&[15], ANSWERS, FILES, PRINTED),
-    (
-        &[16],
-        "failed to create symlink to latest log file: permission denied\n",
-        "app.2020-02-01-09 p\napp.2020-02-01-10 \napp.d/\nother.txt kept\n",
-        "failures 2\n",
-    ),
-    (
-        &[17],
-        "open\nnone err\nopened ok 1\nnone ok 1\nok\n",
+    (&[16], "failed to create symlink to latest log file: permission denied\n",
+        "app.2020-02-01-09 p\napp.2020-02-01-10 \napp.d/\nother.txt kept\n", "failures 2\n"),
+    (&[17], "open\nnone err\nopened ok 1\nnone ok 1\nok\n",
         "app.2020-02-01-10 \napp.2020-02-01-11 bc\napp.d/\nlatest.log -> app.2020-02-01-11\nother.txt kept\n",
-        "failures 2\n",
-    ),
+        "failures 2\n"),
     // The listing at the boundary.
     (&[18, 19, 21, 23, 25, 27, 29], ANSWERS, OLD_FILES, LIST),
     // One log file fewer is known, so that none is removed.
@@ -73,31 +67,17 @@ static TURNS: [(&[usize], &str, &str, &str); 18] = [
     // Whether there is a link is looked at again when it is made.
     (&[34], ANSWERS, FILES, "failures 2\n"),
     // A link that is not replaced leads where it did.
-    (
-        &[35, 36, 37, 38],
-        FAILED,
+    (&[35, 36, 37, 38], FAILED,
         "app.2020-02-01-10 abc\napp.2020-02-01-11 \napp.d/\nlatest.log -> app.2020-02-01-10\nother.txt kept\n",
-        LINK_REFUSED,
-    ),
+        LINK_REFUSED),
     (&[39], ANSWERS, FILES, FLUSH),
-    (
-        &[40],
-        "open\nnone ok 1\nopened err\nnone ok 1\nok\n",
+    (&[40], "open\nnone ok 1\nopened err\nnone ok 1\nok\n",
         "app.2020-02-01-10 a\napp.2020-02-01-11 c\napp.d/\nlatest.log -> app.2020-02-01-11\nother.txt kept\n",
-        "failures 2\n",
-    ),
-    (
-        &[41],
-        "open\nnone ok 1\nopened ok 1\nnone err\nok\n",
+        "failures 2\n"),
+    (&[41], "open\nnone ok 1\nopened ok 1\nnone err\nok\n",
         "app.2020-02-01-10 a\napp.2020-02-01-11 b\napp.d/\nlatest.log -> app.2020-02-01-11\nother.txt kept\n",
-        "failures 2\n",
-    ),
-    (
-        &[42],
-        "open\nnone ok 1\nopened ok 1\nnone ok 1\nerr\n",
-        FILES,
-        "failures 2\n",
-    ),
+        "failures 2\n"),
+    (&[42], "open\nnone ok 1\nopened ok 1\nnone ok 1\nerr\n", FILES, "failures 2\n"),
 ];
 
 // Writes the log on a disk whose call of this number fails, and returns how many calls there were.

@@ -227,3 +227,19 @@ fn no_byte_is_lost_from_whichever_call_on_all_fail(rt: HostRuntime) {
     let told = check_queued_kept(&rt, LAST, &queued);
     expect_eq(&rt, told, 3);
 }
+
+// By name a folder that is absent is listed only once it is made.
+#[test]
+fn the_listing_of_an_absent_folder_is_no_fault(rt: HostRuntime) {
+    let builder = hourly_log(&rt, 2, "").log_files_by_name(true);
+    match replay_rolling(
+        rt.alloc(),
+        &builder,
+        MemoryFolder::absent(rt.alloc()),
+        START,
+        &[],
+    ) {
+        Ok(run) => expect_eq(&rt, notices_in(run.roller.folder()), [0, 0, 0, 0]),
+        Err(_) => rt.panic("not opened"),
+    }
+}

@@ -21,11 +21,7 @@ mod logs;
 #[cfg(test)]
 mod names;
 #[cfg(test)]
-mod order;
-#[cfg(test)]
 mod queues;
-#[cfg(test)]
-mod restarts;
 #[cfg(test)]
 mod retention;
 #[cfg(test)]

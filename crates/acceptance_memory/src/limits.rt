@@ -1,13 +1,12 @@
 // Names with numbers, and rollers with a limit of bytes.
 
-use crate::expect::{AllocAndAbort, bytes, expect_eq, expect_eq_of};
+use crate::expect::{AllocAndAbort, expect_eq, expect_eq_of};
 use crate::logs::{expect_count, folder_with, hourly_log};
 use std::process::Abort;
 use tracing_appender::names::Names;
-use tracing_appender::replay::{RollRun, RollStep, replay_rolling};
 use tracing_appender::rolling::{Builder, InitError, Roller, Rotation, Switch};
 use tracing_appender::rotation::in_range;
-use tracing_appender::store::{Folder, Kind, MemoryFolder, NoticeKind};
+use tracing_appender::store::{Folder, MemoryFolder, NoticeKind};
 
 // 2020-02-01 10:01:00.
 const START: i64 = 1_580_551_260;
@@ -227,11 +226,19 @@ fn a_limit_without_a_rotation_is_an_error(rt: HostRuntime) {
     open_unrotated(&rt, MemoryFolder::new(rt.alloc()));
 }
 
-fn open_roller(rt: &impl AllocAndAbort, folder: MemoryFolder) -> Roller<MemoryFolder> {
-    match Roller::open(rt.alloc(), &limited_log(rt), folder, START) {
+fn open_log(
+    rt: &impl AllocAndAbort,
+    builder: &Builder,
+    folder: MemoryFolder,
+) -> Roller<MemoryFolder> {
+    match Roller::open(rt.alloc(), builder, folder, START) {
         Ok(roller) => roller,
         Err((error, _folder)) => rt.panic(error),
     }
+}
+
+fn open_roller(rt: &impl AllocAndAbort, folder: MemoryFolder) -> Roller<MemoryFolder> {
+    open_log(rt, &limited_log(rt), folder)
 }
 
 // Checks whether the next file is due before the boundary, and at moments out of range.
@@ -309,113 +316,26 @@ fn bytes_of_an_earlier_run_do_not_count(rt: HostRuntime) {
     expect_open(&rt, &mut roller, 1, "app.2020-02-01-10.000001");
 }
 
-// Entries of a folder, the number of the file that is opened at 10:01, and the number after it was full.
-type Opening = (&'static [(Kind, &'static str)], u32, u32);
-
-static OPENINGS: [Opening; 9] = [
-    (&[], 0, 1),
-    (&[(Kind::File, "app.2020-02-01-10.000000")], 1, 2),
-    (
-        &[
-            (Kind::File, "app.2020-02-01-10.000003"),
-            (Kind::File, "app.2020-02-01-10.000007"),
-            (Kind::File, "app.2020-02-01-10.000005"),
-        ],
-        8,
-        9,
-    ),
-    (
-        &[
-            (Kind::File, "app.2020-02-01-10.000003"),
-            (Kind::Folder, "app.2020-02-01-10.000004"),
-        ],
-        5,
-        6,
-    ),
-    (
-        &[
-            (Kind::Link, "app.2020-02-01-10.000009"),
-            (Kind::File, "app.2020-02-01-10.000003"),
-        ],
-        10,
-        11,
-    ),
-    // The hours before and after.
-    (
-        &[
-            (Kind::File, "app.2020-02-01-09.000007"),
-            (Kind::File, "app.2020-02-01-11.000007"),
-        ],
-        0,
-        1,
-    ),
-    // No names of this log.
-    (
-        &[
-            (Kind::File, "app.2020-02-01-10"),
-            (Kind::File, "app.2020-02-01-10.00007"),
-            (Kind::File, "other.2020-02-01-10.000007"),
-        ],
-        0,
-        1,
-    ),
-    (
-        &[(Kind::File, "app.2020-02-01-10.999998")],
-        999_999,
-        999_999,
-    ),
-    // The last file is never full.
-    (
-        &[(Kind::File, "app.2020-02-01-10.999999")],
-        999_999,
-        999_999,
-    ),
-];
-
-// A folder with these entries.
-fn folder_of(rt: &impl AllocAndAbort, entries: &[(Kind, &str)]) -> MemoryFolder {
-    let mut folder = MemoryFolder::new(rt.alloc());
-    for (kind, name) in entries {
-        let put = match kind {
-            Kind::Folder => folder.put_folder(name),
-            Kind::Link => folder.put_link(name, "elsewhere"),
-            _ => folder.put_file(name, b"old"),
-        };
-        put.expect(rt, "an entry");
-    }
-    folder
-}
-
-// A put that fills a file of three bytes, and a check of the clock.
-fn filling_steps(rt: &impl AllocAndAbort) -> Vec<RollStep> {
-    let mut steps = Vec::new(rt.alloc());
-    let put = RollStep::Put(START, bytes(rt, "abc"));
-    steps.push(put).expect(rt, "memory");
-    steps.push(RollStep::See(START)).expect(rt, "memory");
-    steps
-}
-
-fn play(
-    rt: &impl AllocAndAbort,
-    folder: MemoryFolder,
-    steps: &[RollStep],
-) -> RollRun<MemoryFolder> {
-    match replay_rolling(rt.alloc(), &limited_log(rt), folder, START, steps) {
-        Ok(run) => run,
-        Err(_) => rt.panic("not opened"),
-    }
-}
-
+// Of a hundred starts that write two bytes each and continue the last file the last ten are kept, two in each of five
+// files. Without the setting only five would be.
 #[test]
-fn a_run_begins_after_the_greatest_number(rt: HostRuntime) {
-    let steps = filling_steps(&rt);
-    for (entries, first, next) in &OPENINGS {
-        let run = play(&rt, folder_of(&rt, entries), &steps);
-        expect_eq_of(
-            &rt,
-            *entries,
-            (run.number, run.roller.number()),
-            (*first, *next),
-        );
+fn a_restart_in_a_loop_keeps_what_fits(rt: HostRuntime) {
+    let builder = hourly_log(&rt, 5, "").max_file_bytes(4);
+    let builder = builder.log_files_by_name(true).continue_last_file(true);
+    let mut folder = MemoryFolder::new(rt.alloc());
+    for _ in 0..100 {
+        let mut roller = open_log(&rt, &builder, folder);
+        expect_eq(&rt, roller.put(START, b"ab").1.expect(&rt, "a write"), 2);
+        folder = roller.into_folder();
     }
+    expect_count(&rt, &folder, 5);
+    for number in 45..50u32 {
+        expect_held(&rt, &folder, number);
+    }
+}
+
+fn expect_held(rt: &impl AllocAndAbort, folder: &MemoryFolder, number: u32) {
+    let name = format!(in rt.alloc(); "app.2020-02-01-10.{number:06}").expect(rt, "memory");
+    let held: Option<&[u8]> = Some(b"abab");
+    expect_eq_of(rt, number, folder.bytes(name.as_str()), held);
 }

@@ -74,7 +74,7 @@ fn plays_on_where_a_call_fails(rt: HostRuntime) -> Result<(), Fail> {
 
 // Scripts whose log is not opened, and what is printed.
 static REFUSED: Table = Table {
-    rows: 30,
+    rows: 33,
     text: concat!(
         "rotation hourly\nprefix a/b\nstart 1580551260\n|",
         "init error 5\n|",
@@ -147,6 +147,14 @@ static REFUSED: Table = Table {
         // A link may not have a name with any number.
         "rotation hourly\nprefix app\nbytes 4\nlink app.2020-02-01-11.000002\nstart 1580551260\n|",
         "init error 5\n|",
+        // A link that is not made removes no old file by name, and leaves no new one. What was there stays, also if it
+        // is empty.
+        "rotation hourly\nprefix app\nmax 2\nby-name\nlink latest.log\nfile app.2020-02-01-08 o\nfile app.2020-02-01-09 p\nfile latest.log q\nstart 1580551260\n|",
+        "init error 3\nfile app.2020-02-01-08 1 o\nfile app.2020-02-01-09 1 p\nfile latest.log 1 q\n|",
+        "rotation hourly\nprefix app\nmax 2\nby-name\nlink latest.log\nfile app.2020-02-01-10\nfile latest.log q\nstart 1580551260\n|",
+        "init error 3\nfile app.2020-02-01-10 0\nfile latest.log 1 q\n|",
+        "rotation hourly\nprefix app\nmax 2\nby-name\nlink latest.log\nfile app.2020-02-01-10 x\nfile latest.log q\nstart 1580551260\n|",
+        "init error 3\nfile app.2020-02-01-10 1 x\nfile latest.log 1 q\n|",
     ),
 };
 
@@ -414,13 +422,9 @@ impl Read for Stumbling<'_> {
 }
 
 // Faults of reading, with the status and what is printed and reported.
+#[rattlefmt::skip]
 static STUMBLES: [(io::ErrorKind, u8, &str, &str); 3] = [
-    (
-        io::ErrorKind::Interrupted,
-        0,
-        "open app\nok 1\nfile app 1 a\n",
-        "",
-    ),
+    (io::ErrorKind::Interrupted, 0, "open app\nok 1\nfile app 1 a\n", ""),
     (io::ErrorKind::Other, 2, "", "read failed\n"),
     (io::ErrorKind::OutOfMemory, 3, "", "no memory\n"),
 ];

@@ -17,7 +17,7 @@ pub fn first_row(text: &str) -> Option<(&str, &str, &str)> {
 
 /// Scripts without a queue whose log is opened, and their pages.
 pub static PLAYED: Table = Table {
-    rows: 72,
+    rows: 102,
     text: concat!(
         // Arrivals an hour apart; a clock that is set back keeps the file.
         "rotation hourly\nprefix app\nstart 1580551260\nput 1580554800 a\nput 1580554799 b\n|",
@@ -213,6 +213,83 @@ pub static PLAYED: Table = Table {
         // Moments out of range belong to the file that is open, also when the last one of an i64 is read.
         "rotation hourly\nprefix app\nstart 1580551260\nput 253370764800 x\nput -62135596801 y\nput 1580554800 z\nput 9223372036854775807 w\n|",
         "open app.2020-02-01-10\nnone ok 1\nnone ok 1\nopened ok 1\nnone ok 1\nfile app.2020-02-01-10 2 xy\nfile app.2020-02-01-11 2 zw\n|",
+        // An opening goes on in the last file. Nothing to go on in; one byte that fits, and one that doesn't; two that
+        // don't; a full file, and one that is too long.
+        "rotation hourly\nprefix app\nby-name\nbytes 4\ncontinue\nstart 1580551260\nput 1580551260 abc\nput 1580551260 de\n|",
+        "open app.2020-02-01-10.000000\nnone ok 3\nopened ok 2\nfile app.2020-02-01-10.000000 3 abc\nfile app.2020-02-01-10.000001 2 de\n|",
+        "rotation hourly\nprefix app\nby-name\nbytes 4\ncontinue\nfile app.2020-02-01-10.000002 x\nfile app.2020-02-01-10.000003 abc\nstart 1580551260\nput 1580551260 d\nput 1580551260 e\n|",
+        "open app.2020-02-01-10.000003\nnone ok 1\nopened ok 1\nfile app.2020-02-01-10.000002 1 x\nfile app.2020-02-01-10.000003 4 abcd\nfile app.2020-02-01-10.000004 1 e\n|",
+        "rotation hourly\nprefix app\nby-name\nbytes 4\ncontinue\nfile app.2020-02-01-10.000003 abc\nstart 1580551260\nput 1580551260 de\n|",
+        "open app.2020-02-01-10.000003\nopened ok 2\nfile app.2020-02-01-10.000003 3 abc\nfile app.2020-02-01-10.000004 2 de\n|",
+        "rotation hourly\nprefix app\nby-name\nbytes 4\ncontinue\nfile app.2020-02-01-10.000003 abcd\nstart 1580551260\nput 1580551260 e\n|",
+        "open app.2020-02-01-10.000003\nopened ok 1\nfile app.2020-02-01-10.000003 4 abcd\nfile app.2020-02-01-10.000004 1 e\n|",
+        "rotation hourly\nprefix app\nby-name\nbytes 4\ncontinue\nfile app.2020-02-01-10.000003 abcdefgh\nstart 1580551260\nput 1580551260 i\n|",
+        "open app.2020-02-01-10.000003\nopened ok 1\nfile app.2020-02-01-10.000003 8 abcdefgh\nfile app.2020-02-01-10.000004 1 i\n|",
+        // An empty file takes a piece that is longer than the limit.
+        "rotation hourly\nprefix app\nby-name\nbytes 4\ncontinue\nfile app.2020-02-01-10.000003\nstart 1580551260\nput 1580551260 longer\nput 1580551260 x\n|",
+        "open app.2020-02-01-10.000003\nnone ok 6\nopened ok 1\nfile app.2020-02-01-10.000003 6 longer\nfile app.2020-02-01-10.000004 1 x\n|",
+        // A link or a folder is not gone on in, nor a file of a later period, as after a clock that was set back.
+        "rotation hourly\nprefix app\nby-name\nbytes 4\ncontinue\nfile app.2020-02-01-10.000003 a\nlink-at app.2020-02-01-10.000004 elsewhere\nstart 1580551260\nput 1580551260 b\n|",
+        "open app.2020-02-01-10.000005\nnone ok 1\nfile app.2020-02-01-10.000003 1 a\nlink app.2020-02-01-10.000004 elsewhere\nfile app.2020-02-01-10.000005 1 b\n|",
+        "rotation hourly\nprefix app\nby-name\nbytes 4\ncontinue\nfolder app.2020-02-01-10.000000\nstart 1580551260\nput 1580551260 b\n|",
+        "open app.2020-02-01-10.000001\nnone ok 1\nfolder app.2020-02-01-10.000000\nfile app.2020-02-01-10.000001 1 b\n|",
+        "rotation hourly\nprefix app\nby-name\nbytes 4\ncontinue\nfile app.2020-02-01-10.000001 a\nfile app.2020-02-01-11.000005 b\nstart 1580551260\nput 1580551260 c\n|",
+        "open app.2020-02-01-10.000001\nnone ok 1\nfile app.2020-02-01-10.000001 2 ac\nfile app.2020-02-01-11.000005 1 b\n|",
+        // The last number takes all.
+        "rotation hourly\nprefix app\nby-name\nbytes 4\ncontinue\nfile app.2020-02-01-10.999998 a\nfile app.2020-02-01-10.999999 bbbbbb\nstart 1580551260\nput 1580551260 c\nput 1580551260 dddddd\n|",
+        "open app.2020-02-01-10.999999\nnone ok 1\nnone ok 6\nfile app.2020-02-01-10.999998 1 a\nfile app.2020-02-01-10.999999 13 bbbbbbcdddddd\n|",
+        // A weekly name of another day than Sunday is not the log's own. By default a start begins the next number, and
+        // what a file held does not count.
+        "rotation weekly\nprefix app\nby-name\nbytes 4\ncontinue\nfile app.2020-01-26.000000 a\nfile app.2020-01-28.000002 b\nstart 1580551260\n|",
+        "open app.2020-01-26.000003\nfile app.2020-01-26.000000 1 a\nfile app.2020-01-26.000003 0\nfile app.2020-01-28.000002 1 b\n|",
+        "rotation hourly\nprefix app\nby-name\nbytes 4\nfile app.2020-02-01-10.000003 a\nstart 1580551260\n|",
+        "open app.2020-02-01-10.000004\nfile app.2020-02-01-10.000003 1 a\nfile app.2020-02-01-10.000004 0\n|",
+        // By name, openings that fail remove nothing: once, three times, and then one that succeeds. Calls 1 to 3 open,
+        // list and remove.
+        "rotation hourly\nprefix app\nmax 2\nby-name\nfile app.2020-02-01-08 o\nfile app.2020-02-01-09 p\nfail 4\nfail 5\nfail 6\nfail 7\nfail 8\nfail 9\nstart 1580551260\nsee 1580554800\n|",
+        "open app.2020-02-01-10\nfailed\nfile app.2020-02-01-09 1 p\nfile app.2020-02-01-10 0\n|",
+        "rotation hourly\nprefix app\nmax 2\nby-name\nfile app.2020-02-01-08 o\nfile app.2020-02-01-09 p\nfail 4\nfail 5\nfail 6\nfail 7\nfail 8\nfail 9\nstart 1580551260\nsee 1580554800\nsee 1580558400\nsee 1580562000\n|",
+        "open app.2020-02-01-10\nfailed\nfailed\nfailed\nfile app.2020-02-01-09 1 p\nfile app.2020-02-01-10 0\n|",
+        "rotation hourly\nprefix app\nmax 2\nby-name\nfile app.2020-02-01-08 o\nfile app.2020-02-01-09 p\nfail 4\nfail 5\nfail 6\nfail 7\nfail 8\nfail 9\nstart 1580551260\nsee 1580554800\nsee 1580558400\nsee 1580562000\nsee 1580565600\n|",
+        "open app.2020-02-01-10\nfailed\nfailed\nfailed\nopened\nfile app.2020-02-01-10 0\nfile app.2020-02-01-14 0\n|",
+        // A boundary whose link is not made leaves no new file. Each opening opens the file, removes the link, and
+        // makes it.
+        "rotation hourly\nprefix app\nby-name\nlink latest.log\nfail 6\nstart 1580551260\nput 1580554800 a\n|",
+        "open app.2020-02-01-10\nfailed ok 1\nfile app.2020-02-01-10 1 a\n|",
+        "rotation hourly\nprefix app\nby-name\nlink latest.log\nfail 6\nstart 1580551260\nput 1580554800 a\nsee 1580558400\n|",
+        "open app.2020-02-01-10\nfailed ok 1\nopened\nfile app.2020-02-01-10 1 a\nfile app.2020-02-01-12 0\nlink latest.log app.2020-02-01-12\n|",
+        // The new file stays if it can't be removed, or if log files are not known by their names: the call after the
+        // link is then the write.
+        "rotation hourly\nprefix app\nby-name\nlink latest.log\nfail 6\nfail 7\nstart 1580551260\nput 1580554800 a\n|",
+        "open app.2020-02-01-10\nfailed ok 1\nfile app.2020-02-01-10 1 a\nfile app.2020-02-01-11 0\n|",
+        "rotation hourly\nprefix app\nlink latest.log\nfail 6\nstart 1580551260\nput 1580554800 a\n|",
+        "open app.2020-02-01-10\nfailed ok 1\nfile app.2020-02-01-10 1 a\nfile app.2020-02-01-11 0\n|",
+        "rotation hourly\nprefix app\nlink latest.log\nfail 6\nfail 7\nstart 1580551260\nput 1580554800 a\n|",
+        "open app.2020-02-01-10\nfailed err\nfile app.2020-02-01-10 0\nfile app.2020-02-01-11 0\n|",
+        // With a maximum of one the open file is removed only once the next one is open.
+        "rotation hourly\nprefix app\nmax 1\nby-name\nfile app.2020-02-01-08 o\nfile app.2020-02-01-09 p\nfail 5\nfail 6\nfail 8\nfail 9\nstart 1580551260\nput 1580554800 a\nput 1580558400 a\n|",
+        "open app.2020-02-01-10\nfailed ok 1\nfailed ok 1\nfile app.2020-02-01-10 2 aa\n|",
+        "rotation hourly\nprefix app\nmax 1\nby-name\nfile app.2020-02-01-08 o\nfile app.2020-02-01-09 p\nfail 5\nfail 6\nfail 8\nfail 9\nstart 1580551260\nput 1580554800 a\nput 1580558400 a\nsee 1580562000\n|",
+        "open app.2020-02-01-10\nfailed ok 1\nfailed ok 1\nopened\nfile app.2020-02-01-13 0\n|",
+        // A start begins above the greatest number of its period, whatever has it. Other periods and names of other
+        // logs don't count.
+        "rotation hourly\nprefix app\nbytes 3\nfile app.2020-02-01-10.000000 old\nstart 1580551260\nput 1580551260 abc\nput 1580551260 d\n|",
+        "open app.2020-02-01-10.000001\nnone ok 3\nopened ok 1\nfile app.2020-02-01-10.000000 3 old\nfile app.2020-02-01-10.000001 3 abc\nfile app.2020-02-01-10.000002 1 d\n|",
+        "rotation hourly\nprefix app\nbytes 3\nfile app.2020-02-01-10.000003 old\nfile app.2020-02-01-10.000007 old\nfile app.2020-02-01-10.000005 old\nstart 1580551260\nput 1580551260 abc\nput 1580551260 d\n|",
+        "open app.2020-02-01-10.000008\nnone ok 3\nopened ok 1\nfile app.2020-02-01-10.000003 3 old\nfile app.2020-02-01-10.000005 3 old\nfile app.2020-02-01-10.000007 3 old\nfile app.2020-02-01-10.000008 3 abc\nfile app.2020-02-01-10.000009 1 d\n|",
+        "rotation hourly\nprefix app\nbytes 3\nfile app.2020-02-01-10.000003 old\nfolder app.2020-02-01-10.000004\nstart 1580551260\nput 1580551260 abc\nput 1580551260 d\n|",
+        "open app.2020-02-01-10.000005\nnone ok 3\nopened ok 1\nfile app.2020-02-01-10.000003 3 old\nfolder app.2020-02-01-10.000004\nfile app.2020-02-01-10.000005 3 abc\nfile app.2020-02-01-10.000006 1 d\n|",
+        "rotation hourly\nprefix app\nbytes 3\nlink-at app.2020-02-01-10.000009 elsewhere\nfile app.2020-02-01-10.000003 old\nstart 1580551260\nput 1580551260 abc\nput 1580551260 d\n|",
+        "open app.2020-02-01-10.000010\nnone ok 3\nopened ok 1\nfile app.2020-02-01-10.000003 3 old\nlink app.2020-02-01-10.000009 elsewhere\nfile app.2020-02-01-10.000010 3 abc\nfile app.2020-02-01-10.000011 1 d\n|",
+        "rotation hourly\nprefix app\nbytes 3\nfile app.2020-02-01-09.000007 old\nfile app.2020-02-01-11.000007 old\nstart 1580551260\nput 1580551260 abc\nput 1580551260 d\n|",
+        "open app.2020-02-01-10.000000\nnone ok 3\nopened ok 1\nfile app.2020-02-01-09.000007 3 old\nfile app.2020-02-01-10.000000 3 abc\nfile app.2020-02-01-10.000001 1 d\nfile app.2020-02-01-11.000007 3 old\n|",
+        "rotation hourly\nprefix app\nbytes 3\nfile app.2020-02-01-10 old\nfile app.2020-02-01-10.00007 old\nfile other.2020-02-01-10.000007 old\nstart 1580551260\nput 1580551260 abc\nput 1580551260 d\n|",
+        "open app.2020-02-01-10.000000\nnone ok 3\nopened ok 1\nfile app.2020-02-01-10 3 old\nfile app.2020-02-01-10.000000 3 abc\nfile app.2020-02-01-10.000001 1 d\nfile app.2020-02-01-10.00007 3 old\nfile other.2020-02-01-10.000007 3 old\n|",
+        // The last file is never full.
+        "rotation hourly\nprefix app\nbytes 3\nfile app.2020-02-01-10.999998 old\nstart 1580551260\nput 1580551260 abc\nput 1580551260 d\n|",
+        "open app.2020-02-01-10.999999\nnone ok 3\nnone ok 1\nfile app.2020-02-01-10.999998 3 old\nfile app.2020-02-01-10.999999 4 abcd\n|",
+        "rotation hourly\nprefix app\nbytes 3\nfile app.2020-02-01-10.999999 old\nstart 1580551260\nput 1580551260 abc\nput 1580551260 d\n|",
+        "open app.2020-02-01-10.999999\nnone ok 3\nnone ok 1\nfile app.2020-02-01-10.999999 7 oldabcd\n|",
     ),
 };
 

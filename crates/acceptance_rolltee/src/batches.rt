@@ -2,7 +2,6 @@
 use crate::expect::expect_eq;
 use crate::logs::{TestLog, Text};
 use crate::run::{check_files, check_log, fresh};
-use program_io::blocking::Ready;
 use std::alloc::{AllocError, Global};
 use std::io::Read;
 use std::process::Abort;
@@ -139,8 +138,6 @@ impl<'a, R: Clock + Files> Read for Watching<'a, R> {
         line.read(buf)
     }
 }
-
-impl<'a, R: Clock> Ready for Watching<'a, R> {}
 
 // A line of a slow input is in the file within a tenth of a second. Of ten lines one is enough, since the machine may be
 // busy.

@@ -13,8 +13,6 @@ mod inputs;
 #[cfg(test)]
 mod logs;
 #[cfg(test)]
-mod options;
-#[cfg(test)]
 mod pieces;
 #[cfg(test)]
 mod program;

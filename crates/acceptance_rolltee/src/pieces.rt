@@ -79,7 +79,7 @@ const MOST: usize = LONGEST_LINE;
 
 const HALF: usize = MOST / 2;
 
-// Also blocks, whose input is ready here: they are flushed only after each MiB.
+// Also blocks, whose input is ready here: the first is flushed, and then twice as many bytes each time, up to a MiB.
 #[test]
 fn long_lines_are_written_in_pieces(rt: HostRuntime) -> Result<(), Fail> {
     let lines = Split::Lines;
@@ -91,27 +91,37 @@ fn long_lines_are_written_in_pieces(rt: HostRuntime) -> Result<(), Fail> {
     check(&rt, lines, &[MOST + 5, 1], &[MOST, 6, 1])?;
     check(&rt, lines, &[1, 2 * MOST + 5], &[2, MOST, MOST, 5])?;
     let blocks = Split::Blocks;
-    check(&rt, blocks, &[3, 0, 2], &[5, 2])?;
+    check(&rt, blocks, &[3, 0, 2], &[5, 0, 2])?;
     check(&rt, blocks, &[MOST + 5, 1], &[MOST, 0, 6, 1])?;
     check(
         &rt,
         blocks,
-        &[HALF - 1, HALF - 1, HALF - 1, HALF - 1, 1],
-        &[HALF, HALF, 0, HALF, HALF, 0, 1],
+        &[HALF - 1, HALF - 1, HALF - 1, HALF - 1, HALF - 1, 1],
+        &[HALF, 0, HALF, HALF, 0, HALF, HALF, 0, 1],
     )
 }
 
 // What single reads return, and the writes and flushes of blocks.
-static BLOCKS: [(&[Part], &[usize]); 4] = [
-    (&[Bytes(b"a\nb\n"), Bytes(b"cd\n")], &[4, 3]),
+static BLOCKS: [(&[Part], &[usize]); 5] = [
+    (&[Bytes(b"a\n"); 8], &[2, 0, 2, 2, 0, 2, 2, 2, 2, 0, 2]),
     (
-        &[Bytes(b"a\nb\n"), Later(b"cd\n"), Later(b"")],
-        &[4, 0, 3, 0],
+        &[Bytes(b"a\nb\n"), Later(b"c\n"), Later(b"")],
+        &[4, 0, 2, 0],
     ),
-    (&[Bytes(b"a\nb"), Bytes(b"c\nd")], &[2, 3, 1]),
+    (&[Bytes(b"a\nb"), Bytes(b"c\nd")], &[2, 0, 3, 1, 0]),
     (
-        &[Later(b"a\nb"), Later(b"c"), Bytes(b"\nd"), Later(b"")],
-        &[2, 0, 3, 0, 1],
+        &[Later(b"a\nb"), Later(b"c"), Bytes(b"\nd\n"), Later(b"")],
+        &[2, 0, 5, 0],
+    ),
+    (
+        &[
+            Bytes(b"a\nb\n"),
+            Bytes(b"c\n"),
+            Bytes(b"d"),
+            Later(b"e\n"),
+            Later(b""),
+        ],
+        &[4, 0, 2, 0, 3, 0],
     ),
 ];
 

@@ -1,7 +1,6 @@
 // Runs of the program, and files.
 use crate::expect::expect_eq;
 use crate::logs::{OneLog, TestLog};
-use program_io::blocking::Ready;
 use program_io::options::{Options, Request, read};
 use rolltee_core::tee::{Logs, tee_with};
 use std::alloc::{AllocError, Global};
@@ -30,7 +29,7 @@ fn request_of<R: AllocGlobal + Abort>(rt: &R, line: &str) -> (Options, Vec<Strin
 }
 
 /// Runs the program with this command line, and returns its status and what it reports.
-pub(crate) fn run<R: Host + Abort, L: Logs, I: Read + Ready, O: Write + Drop>(
+pub(crate) fn run<R: Host + Abort, L: Logs, I: Read, O: Write + Drop>(
     rt: R,
     logs: &L,
     line: &str,
@@ -45,7 +44,7 @@ pub(crate) fn run<R: Host + Abort, L: Logs, I: Read + Ready, O: Write + Drop>(
 }
 
 /// The same, and compares its status and what it reports.
-pub(crate) fn check<R: Host + Abort, L: Logs, I: Read + Ready, O: Write + Drop>(
+pub(crate) fn check<R: Host + Abort, L: Logs, I: Read, O: Write + Drop>(
     rt: R,
     logs: &L,
     line: &str,
@@ -59,7 +58,7 @@ pub(crate) fn check<R: Host + Abort, L: Logs, I: Read + Ready, O: Write + Drop>(
 }
 
 /// The same over this log.
-pub(crate) fn check_log<R: Host + Abort, L: TestLog + Send + Drop + 'static, I: Read + Ready>(
+pub(crate) fn check_log<R: Host + Abort, L: TestLog + Send + Drop + 'static, I: Read>(
     rt: R,
     log: L,
     line: &str,
@@ -70,7 +69,7 @@ pub(crate) fn check_log<R: Host + Abort, L: TestLog + Send + Drop + 'static, I: 
 }
 
 /// The same over logs of the file system. All tests open them here, since a function that does is dear to prove.
-pub(crate) fn check_files<R: Host + Abort, I: Read + Ready>(
+pub(crate) fn check_files<R: Host + Abort, I: Read>(
     rt: R,
     files: &HostRuntime,
     line: &str,

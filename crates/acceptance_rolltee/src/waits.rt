@@ -3,7 +3,6 @@ use crate::expect::expect_eq;
 use crate::inputs::{Part, Parts, add_lines, lines_of};
 use crate::logs::{OneLog, TestLog};
 use crate::run::{check_log, run};
-use program_io::blocking::Ready;
 use std::alloc::{AllocError, Global};
 use std::io::Read;
 use std::process::Abort;
@@ -54,7 +53,7 @@ impl<R: Clock> TestLog for Slow<R> {
 }
 
 // Runs the program over a log of this manner, and compares its status, what it reports, and how many bytes the log took.
-fn check<R: Host + Abort, I: Read + Ready>(
+fn check<R: Host + Abort, I: Read>(
     rt: R,
     manner: Manner,
     input: &mut I,
@@ -211,8 +210,6 @@ impl<'a> Read for Opening<'a> {
         self.left.read(buf)
     }
 }
-
-impl<'a> Ready for Opening<'a> {}
 
 // Runs the program over a log whose first write waits until the input is read, unless the gate is open. Returns its status, what it
 // reports, and the length of the longest write after the first one.

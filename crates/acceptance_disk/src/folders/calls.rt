@@ -189,34 +189,14 @@ fn take_in(rt: &impl FilesAndAbort, place: io::Result<String>, entry: &str, step
 }
 
 // Names that are not those of entries of `inside`.
+#[rattlefmt::skip]
 static LEAVING: [FolderStep; 5] = [
-    FolderStep::Fill(&[
-        Entry::File("outside", "kept"),
-        Entry::Link("link", "outside"),
-        Entry::Folder("inside"),
-    ]),
-    FolderStep::Refused(
-        &[Call::Open, Call::Remove, Call::RemoveLink, Call::MakeLink],
-        &[
-            "",
-            ".",
-            "..",
-            "/",
-            "../outside",
-            "../link",
-            "../new",
-            "a/b",
-            "a\0",
-        ],
-        ErrorKind::InvalidInput,
-    ),
+    FolderStep::Fill(&[Entry::File("outside", "kept"), Entry::Link("link", "outside"), Entry::Folder("inside")]),
+    FolderStep::Refused(&[Call::Open, Call::Remove, Call::RemoveLink, Call::MakeLink],
+        &["", ".", "..", "/", "../outside", "../link", "../new", "a/b", "a\0"], ErrorKind::InvalidInput),
     FolderStep::Failed(36),
     FolderStep::Lists(0),
-    FolderStep::Holds(&[
-        Entry::File("outside", "kept"),
-        Entry::Link("link", "outside"),
-        Entry::Folder("inside"),
-    ]),
+    FolderStep::Holds(&[Entry::File("outside", "kept"), Entry::Link("link", "outside"), Entry::Folder("inside")]),
 ];
 
 #[test]
@@ -225,32 +205,17 @@ fn a_name_that_leaves_the_folder_is_refused(rt: HostRuntime) {
 }
 
 // Links, also one that leads to a file, and a folder are neither opened nor removed.
+#[rattlefmt::skip]
 static PLAIN_FILES: [FolderStep; 7] = [
-    FolderStep::Fill(&[
-        Entry::Link("link", "file"),
-        Entry::Link("dangling", "nothing"),
-        Entry::Folder("sub"),
-        Entry::File("file", "text"),
-    ]),
-    FolderStep::Refused(
-        &[Call::Open, Call::Remove],
-        &["link", "dangling", "sub"],
-        ErrorKind::AlreadyExists,
-    ),
+    FolderStep::Fill(&[Entry::Link("link", "file"), Entry::Link("dangling", "nothing"), Entry::Folder("sub"),
+        Entry::File("file", "text")]),
+    FolderStep::Refused(&[Call::Open, Call::Remove], &["link", "dangling", "sub"], ErrorKind::AlreadyExists),
     FolderStep::Refused(&[Call::Remove], &["absent"], ErrorKind::NotFound),
     FolderStep::Failed(7),
-    FolderStep::Holds(&[
-        Entry::Link("link", "file"),
-        Entry::Link("dangling", "nothing"),
-        Entry::Folder("sub"),
-        Entry::File("file", "text"),
-    ]),
+    FolderStep::Holds(&[Entry::Link("link", "file"), Entry::Link("dangling", "nothing"), Entry::Folder("sub"),
+        Entry::File("file", "text")]),
     FolderStep::Remove("file"),
-    FolderStep::Holds(&[
-        Entry::Link("link", "file"),
-        Entry::Link("dangling", "nothing"),
-        Entry::Folder("sub"),
-    ]),
+    FolderStep::Holds(&[Entry::Link("link", "file"), Entry::Link("dangling", "nothing"), Entry::Folder("sub")]),
 ];
 
 #[test]
@@ -259,24 +224,17 @@ fn plain_files_alone_are_opened_and_removed(rt: HostRuntime) {
 }
 
 // A file and a folder are not removed as links, and no link takes their place. A link is replaced by the next.
+#[rattlefmt::skip]
 static LINKS: [FolderStep; 9] = [
     FolderStep::Fill(&[Entry::File("file", "text"), Entry::Folder("sub")]),
-    FolderStep::Refused(
-        &[Call::RemoveLink, Call::MakeLink],
-        &["file", "sub"],
-        ErrorKind::AlreadyExists,
-    ),
+    FolderStep::Refused(&[Call::RemoveLink, Call::MakeLink], &["file", "sub"], ErrorKind::AlreadyExists),
     FolderStep::Refused(&[Call::RemoveLink], &["absent"], ErrorKind::NotFound),
     FolderStep::Link("file"),
     FolderStep::Link("sub"),
     FolderStep::Link("nothing"),
     FolderStep::Link("../elsewhere"),
     FolderStep::Failed(5),
-    FolderStep::Holds(&[
-        Entry::File("file", "text"),
-        Entry::Folder("sub"),
-        Entry::Link("link", "../elsewhere"),
-    ]),
+    FolderStep::Holds(&[Entry::File("file", "text"), Entry::Folder("sub"), Entry::Link("link", "../elsewhere")]),
 ];
 
 #[test]

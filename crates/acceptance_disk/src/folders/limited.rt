@@ -188,32 +188,16 @@ type Written = (
     &'static [(&'static str, &'static str)],
 );
 
+#[rattlefmt::skip]
 static WRITTEN: [Written; 4] = [
     // A byte of room is left, so no file begins.
-    (
-        &["nine byte", ""],
-        &[("app.2020-02-01-10.000000", "nine byte")],
-    ),
+    (&["nine byte", ""], &[("app.2020-02-01-10.000000", "nine byte")]),
     // A writer may write past the limit.
-    (
-        &["nine byte", "past it"],
-        &[("app.2020-02-01-10.000000", "nine bytepast it")],
-    ),
+    (&["nine byte", "past it"], &[("app.2020-02-01-10.000000", "nine bytepast it")]),
     // The file is full, so a writer begins the next one before it writes.
-    (
-        &["nine byte", "s", ""],
-        &[
-            ("app.2020-02-01-10.000000", "nine bytes"),
-            ("app.2020-02-01-10.000001", ""),
-        ],
-    ),
-    (
-        &["nine byte", "past it", "a", "b"],
-        &[
-            ("app.2020-02-01-10.000000", "nine bytepast it"),
-            ("app.2020-02-01-10.000001", "ab"),
-        ],
-    ),
+    (&["nine byte", "s", ""], &[("app.2020-02-01-10.000000", "nine bytes"), ("app.2020-02-01-10.000001", "")]),
+    (&["nine byte", "past it", "a", "b"],
+        &[("app.2020-02-01-10.000000", "nine bytepast it"), ("app.2020-02-01-10.000001", "ab")]),
 ];
 
 // Writes these lines, and checks the files.
@@ -229,24 +213,13 @@ fn a_writer_begins_a_file_when_one_is_full(rt: HostRuntime) {
 }
 
 // What is written to a directory from each opening on, and its entries after that.
+#[rattlefmt::skip]
 static OPENINGS: [(&[&str], &[Entry]); 2] = [
-    (
-        &["ten bytes.", "two"],
-        &[
-            Entry::File("app.2020-02-01-10.000000", "ten bytes."),
-            Entry::File("app.2020-02-01-10.000001", "two"),
-            Entry::Link("latest.log", "app.2020-02-01-10.000001"),
-        ],
-    ),
-    (
-        &["three"],
-        &[
-            Entry::File("app.2020-02-01-10.000000", "ten bytes."),
-            Entry::File("app.2020-02-01-10.000001", "two"),
-            Entry::File("app.2020-02-01-10.000002", "three"),
-            Entry::Link("latest.log", "app.2020-02-01-10.000002"),
-        ],
-    ),
+    (&["ten bytes.", "two"], &[Entry::File("app.2020-02-01-10.000000", "ten bytes."),
+        Entry::File("app.2020-02-01-10.000001", "two"), Entry::Link("latest.log", "app.2020-02-01-10.000001")]),
+    (&["three"], &[Entry::File("app.2020-02-01-10.000000", "ten bytes."), Entry::File("app.2020-02-01-10.000001",
+        "two"), Entry::File("app.2020-02-01-10.000002", "three"), Entry::Link("latest.log",
+        "app.2020-02-01-10.000002")]),
 ];
 
 // Opens a log with a link in a fresh directory twice.

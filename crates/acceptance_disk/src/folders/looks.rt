@@ -194,13 +194,9 @@ impl time::Clock for Stopped {
 }
 
 // Seconds and nanoseconds around 10:01:00, the second that they are rounded down to, and all of it in nanoseconds.
+#[rattlefmt::skip]
 static FRACTIONS: [(u64, u32, i64, i128); 5] = [
-    (
-        1_580_551_259,
-        999_999_999,
-        START - 1,
-        1_580_551_259_999_999_999,
-    ),
+    (1_580_551_259, 999_999_999, START - 1, 1_580_551_259_999_999_999),
     (1_580_551_260, 0, START, 1_580_551_260_000_000_000),
     (1_580_551_260, 1, START, 1_580_551_260_000_000_001),
     (1_580_551_260, 500_000_000, START, 1_580_551_260_500_000_000),
