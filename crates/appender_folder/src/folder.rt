@@ -30,7 +30,7 @@ const MODE: u32 = 0o666;
 /// A folder of the file system. No contract says what it contains, since other programs write to the disk
 /// too. `failures` counts each call that returns an `Err`, also if an opening goes on after it (a folder or
 /// a link that is absent). Every call rejects a name that is not a single path component with
-/// `InvalidInput`, so that no call leaves the folder. Notices are lines on standard error.
+/// `InvalidInput`, so that no call leaves the folder. Notices are lines on standard error, after the title if one is set.
 #[derive(Drop)]
 pub struct DirFolder<R = HostRuntime, P = NoRetry> {
     rt: R,
@@ -40,10 +40,14 @@ pub struct DirFolder<R = HostRuntime, P = NoRetry> {
     syncs: bool,
     // The permission bits of new files.
     mode: u32,
+    // What each notice begins with.
+    title: String,
     // How an append is made.
     policy: P,
     // Whether the last opening that succeeded made its file.
     made_file: bool,
+    // Why the last link that was to be made was not.
+    link_fault: Option<io::Error>,
     failures: u64,
     noted: NoticeCounts,
 }
@@ -75,13 +79,16 @@ impl<R: FilesHost> DirFolder<R> {
         if !base.ends_with('/') {
             base.push('/')?;
         }
+        let title = String::new(rt.alloc());
         Ok(DirFolder {
             rt,
             path: base,
             syncs: false,
             mode: MODE,
+            title,
             policy: NoRetry,
             made_file: false,
+            link_fault: None,
             failures: 0,
             noted: NoticeCounts::new(),
         })
@@ -99,8 +106,10 @@ impl<R: FilesHost> DirFolder<R> {
             path,
             syncs,
             mode,
+            title,
             policy: _,
             made_file,
+            link_fault,
             failures,
             noted,
         } = self;
@@ -109,8 +118,10 @@ impl<R: FilesHost> DirFolder<R> {
             path,
             syncs,
             mode,
+            title,
             policy: Retries::new(waiter, faults),
             made_file,
+            link_fault,
             failures,
             noted,
         }
@@ -118,7 +129,7 @@ impl<R: FilesHost> DirFolder<R> {
 }
 
 impl<R: FilesHost, P: RetryPolicy> DirFolder<R, P> {
-    ghost use Rattle.std.specs.Prelude.{◌≡◌, ◌%◌, ◌^◌};
+    ghost use Rattle.std.specs.Prelude.{◌≡◌, ◌%◌, ◌^◌, IfOk};
     ghost use Rattle.appender_store.specs.MemoryState.{notice_count};
     ghost use Rattle.appender_store.specs.NoticeCounts.{notice_counts_of};
 
@@ -140,6 +151,21 @@ impl<R: FilesHost, P: RetryPolicy> DirFolder<R, P> {
     {
         self.mode = mode;
         self
+    }
+
+    /// Begins each notice with a text, such as the name of a program. If memory is refused, the folder is dropped.
+    #[must_use]
+    pub fn titled(mut self, title: &str) -> Result<DirFolder<R, P>, AllocError>
+        ensures { IfOk result (λ folder. folder ≡ self) }
+    {
+        self.title = String::from_str(self.rt.alloc(), title)?;
+        Ok(self)
+    }
+
+    /// Returns why the last link that was to be made was not, if it was not: a log whose link is optional goes on
+    /// without it.
+    pub fn link_fault(&self) -> Option<io::Error> {
+        self.link_fault
     }
 
     /// Returns whether a name leads to this open file. It doesn't if the file was removed, renamed or
@@ -170,16 +196,18 @@ impl<R: FilesHost, P: RetryPolicy> DirFolder<R, P> {
     // Reports a notice on standard error. A folder that doesn't exist yet has no old files, so that its listing
     // is nothing to report.
     fn print_notice(&self, notice: Notice<'_>) -> io::Result<()> {
-        let rt = &self.rt;
+        let (rt, title) = (&self.rt, &self.title);
         match notice {
             Notice::List(fault) if fault.kind() == ErrorKind::NotFound => Ok(()),
-            Notice::List(fault) => eprintln!(rt; "Error reading the log directory/files: {fault}"),
+            Notice::List(fault) => eprintln!(rt;
+                "{title}Error reading the log directory/files: {fault}"
+            ),
             Notice::Remove(name, fault) => eprintln!(rt;
-                "Failed to remove old log file {}{name}: {fault}",
+                "{title}Failed to remove old log file {}{name}: {fault}",
                 self.path
             ),
-            Notice::Flush(fault) => eprintln!(rt; "Couldn't flush previous writer: {fault}"),
-            Notice::Open(fault) => eprintln!(rt; "Couldn't create writer for logs: {fault}"),
+            Notice::Flush(fault) => eprintln!(rt; "{title}Couldn't flush previous writer: {fault}"),
+            Notice::Open(fault) => eprintln!(rt; "{title}Couldn't create writer for logs: {fault}"),
         }
     }
 }
@@ -290,6 +318,7 @@ impl<R: FilesHost, P: RetryPolicy> Folder for DirFolder<R, P> {
     /// killed process left under that name is removed. `AlreadyExists` also if a file or a folder has that name.
     fn make_link(&mut self, name: &str, target: &str) -> io::Result<()> {
         let answer = make_link(&self.rt, self.path.as_str(), name, target);
+        self.link_fault = answer.err();
         self.count_failure(answer)
     }
 

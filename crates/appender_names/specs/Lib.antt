@@ -1,3 +1,4 @@
+pub mod Archive
 pub mod Calendar
 pub mod DateText
 pub mod Equality

@@ -1,6 +1,7 @@
 //! When a new log file begins, and what the files are called.
 #![tactic(auto)]
 
+mod archive;
 mod civil;
 pub mod error;
 pub mod laws;

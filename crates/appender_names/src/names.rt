@@ -8,6 +8,7 @@ ghost use Rattle.std.specs.List.{list_all};
 ghost use Rattle.appender_names.specs.Name as spec;
 ghost use Rattle.appender_names.specs.Name.{IsPart, IsNoPart, IsPartFault, IsNotNamed, IsDots, IsEntry, IsAllowed, IsMark, numbered_date, greatest_number, number_text, dotted_suffix};
 
+use crate::archive::before_ending;
 use crate::civil;
 use crate::error::{InitError, NameFault};
 use crate::rotation::{Rotation, RotationKind};
@@ -42,6 +43,7 @@ impl Model for Names {
 
 impl Names {
     ghost use Rattle.appender_names.specs.Name.{Naming, name_of, name_at, last_number, mark_of, naming, numbered_naming, named_moment, Reads, ReadsAt, reading, reading_at};
+    ghost use Rattle.appender_names.specs.Archive.{archive_at};
 
     /// Returns whether names may have this prefix and this suffix. An empty one is none. Neither may have a `/` or a zero
     /// byte, and under `NEVER` both together may not make `.` or `..`.
@@ -235,12 +237,29 @@ impl Names {
         self.read_both(name)
     }
 
+    /// Returns the moment and the number of the log's name that a name is an archive of: it is that name, with a dot and 1
+    /// to 8 ASCII letters or digits after it, as `NAME.gz`. If names aren't numbered the number is 0. It takes no memory.
+    pub fn read_archive(&self, name: &str) -> Option<(i64, u32)>
+        ensures { result ≡ archive_at self.now name.now }
+    {
+        let base = before_ending(name.as_bytes())?;
+        self.read_bytes(base)
+    }
+
     // Returns the second and the number of a name; without numbers the number is 0.
     fn read_both(&self, name: &str) -> Option<(i64, u32)>
         ensures exact { (s : ℤ) (k : ℕ) → (result ≡ Some (s, k)) ↔ ReadsAt self.now name.now s k }
         ensures value { result ≡ reading_at self.now name.now }
     {
-        let rest = behind(name.as_bytes(), self.prefix.as_bytes())?;
+        self.read_bytes(name.as_bytes())
+    }
+
+    // The same of the bytes of a name.
+    fn read_bytes(&self, name: &[u8]) -> Option<(i64, u32)>
+        ensures exact { (s : ℤ) (k : ℕ) → (result ≡ Some (s, k)) ↔ ReadsAt self.now name.now s k }
+        ensures value { result ≡ reading_at self.now name.now }
+    {
+        let rest = behind(name, self.prefix.as_bytes())?;
         let mark = before(rest, self.suffix.as_bytes())?;
         read_mark(self.rotation.kind(), self.numbered, mark)
     }

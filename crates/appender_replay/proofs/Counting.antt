@@ -92,7 +92,7 @@ module _ {S F : Type 0} (kind : Ghosts S F) (failures_fit : (s : S) → kind.fai
   refusal_notes : (config : Config) (name : List ℕ) (old : S) (error : InitError) (new : S) → RefusesFile kind config name old error new → SameOpens (kind.noted old) (kind.noted new)
   refusal_notes config name old (Directory fault) new (pruned, prunes, none) = ap (λ (n : NotedCounts). n.opens) none.noted ∙ prunes.nothing_else.opens
   refusal_notes config name old (File fault) new (pruned, prunes, none) = ap (λ (n : NotedCounts). n.opens) none.noted ∙ prunes.nothing_else.opens
-  refusal_notes config name old (Symlink fault) new (pruned, unlinked, file, left, prunes, gets, not, removes) =
+  refusal_notes config name old (Symlink fault) new (required, pruned, unlinked, file, left, prunes, gets, not, removes) =
       new_file_notes config name (kind.made_file unlinked) file left new removes ∙ links config.link not ∙ ap (λ (n : NotedCounts). n.opens) gets.noted ∙ prunes.nothing_else.opens
     where
       links : (link : List ℕ) → FailsToLink kind link name unlinked fault left → SameOpens (kind.noted unlinked) (kind.noted left)

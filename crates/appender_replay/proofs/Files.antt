@@ -194,7 +194,7 @@ module _ (c : Config) (start : Start) (seen : ℕ → StepState) where
     keeps_parts a b did =
         let ready = keeps_on a.before did.pruned (after_make_folder did.pruned) (parts.retention (log_files_of c (Some (file_name_of c a.stamp))) (max_before c) a.before did.pruned did.only_old).keeps (parts.folder did.pruned).keeps in
         let opened = parts.opening (file_name_of c a.stamp) (after_make_folder did.pruned) did.unlinked b did.opens in
-        let made = parts.link c.link (file_name_of c a.stamp) did.unlinked did.linked did.links in
+        let made = parts.link c (file_name_of c a.stamp) did.unlinked did.linked did.links in
         let left = parts.retention (log_files_of c (Some (file_name_of c a.stamp))) (max_after c) did.linked a.after did.only_old_last in
         let linked : AddsNoFile did.unlinked a.after = record { keeps = keeps_on did.unlinked did.linked a.after made.keeps left.keeps; stay = λ other x t h. made.stay other x t (left.stay other x t h) } in
         record {

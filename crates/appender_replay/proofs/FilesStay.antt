@@ -11,11 +11,11 @@ use Rattle.appender_retain.specs.Rank.{LogFiles}
 use Rattle.appender_retain.specs.Survival.{RemovesOnlyOld, name_survives}
 use Rattle.appender_rolling.specs.Config.{Config, log_files_of, max_before, max_after}
 use Rattle.appender_rolling.specs.Limits.{KeepsEachFile}
-use Rattle.appender_rolling.specs.Opening.{file_name_of, MayRemoveLink, MayRemoveNew, ChangesLink, IsRefusalEffect}
+use Rattle.appender_rolling.specs.Opening.{file_name_of, MayRemoveLink, MayRemoveNew, IsRefusalEffect}
 use Rattle.appender_rolling.specs.declared.rolling.setup.Stamp.{Stamp}
 use Rattle.appender_replay.specs.Start.{Start, start_stamp}
 use Rattle.appender_replay.specs.Run.{Event, Attempt, AttemptTime, time_of, pieces_since, events_before, open_body, OnlyAttemptsChange, Succeeded, AttemptDoes, attempt_times, stamp_at, with_time, last_opened, is_opened}
-use Rattle.appender_replay.proofs.NamesLeft.{unlimited_keep, opened_other, freed_other, unremoved_other, linked_other, apart_from_link}
+use Rattle.appender_replay.proofs.NamesLeft.{unlimited_keep, opened_other, freed_other, unremoved_other, tried_file}
 use Rattle.appender_replay.proofs.NamesLead.{carried_names, none_before, none_after}
 use Rattle.appender_replay.proofs.FileAccounts.{bytes_named}
 
@@ -60,9 +60,6 @@ module _ (maps : NameLaws) (c : Config) where
   opening_keeps file old new x (there, inr (u, free, number, after)) name b t at =
       opened_other maps file old new x name (there, inr (u, free, number, after)) (not_free old.names name file b t at free) ∙ at
 
-  link_keeps : (link file : List ℕ) (old new : Content) → ChangesLink link file old new → KeepsEachFile old new
-  link_keeps link file old new links name b t at = linked_other maps link file old new name links (apart_from_link maps link file old new name b t links at) ∙ at
-
   freed_keeps : (link : List ℕ) (old new : Content) → MayRemoveLink link old new → KeepsEachFile old new
   freed_keeps link old new (inl same) name b t at = ap (λ (d : Content). fin.get d.names name) same ∙ at
   freed_keeps link old new (inr removes) name b t at =
@@ -91,7 +88,7 @@ module _ (maps : NameLaws) (c : Config) where
   success_keeps a x none did name b t at =
       let file : List ℕ = file_name_of c a.stamp in
       pruned_keeps (log_files_of c (Some file)) (max_after c) did.linked a.after (none_after maps c none) did.only_old_last name b t
-      (link_keeps c.link file did.unlinked did.linked did.links name b t
+      (tried_file maps c file did.unlinked did.linked name b t did.links
       (opening_keeps file (after_make_folder did.pruned) did.unlinked x did.opens name b t
       (pruned_keeps (log_files_of c (Some file)) (max_before c) a.before did.pruned (none_before maps c none) did.only_old name b t at)))
 

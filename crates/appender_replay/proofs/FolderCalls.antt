@@ -14,7 +14,7 @@ use Rattle.appender_store.specs.declared.store.Listed.{Listed}
 use Rattle.appender_retain.specs.Rank.{LogFiles}
 use Rattle.appender_retain.specs.Pruning.{Prunes, PrunesListed, RemovesEach, RemovesFile, RemovesPlanned, listed_name_at}
 use Rattle.appender_rolling.specs.Config.{Config, log_files_of, is_limited, max_before, max_after}
-use Rattle.appender_rolling.specs.Opening.{IsFirstNumber, IsListed, ListsNumbers, FindsNumber, OpensDirectly, RefusesDirectly, MakesFolder, OpensInNewFolder, OpensNamedFile, FailsToOpen, TriesRemoveLink, BlocksLink, LinksTo, FailsToLink, RemovesEmpty, RemovesNewFile, OpensFile, RefusesFile}
+use Rattle.appender_rolling.specs.Opening.{IsFirstNumber, IsListed, ListsNumbers, FindsNumber, OpensDirectly, RefusesDirectly, MakesFolder, OpensInNewFolder, OpensNamedFile, FailsToOpen, TriesRemoveLink, BlocksLink, LinksTo, FailsToLink, TriesLink, RemovesEmpty, RemovesNewFile, OpensFile, RefusesFile}
 use Rattle.appender_rolling.specs.Roller.{Rolling, ClosesLast, ChecksClock, Writes, Flushes}
 use Rattle.appender_rolling.specs.declared.rolling.Switch.{Switch}
 use Rattle.appender_rolling.specs.declared.rolling.Switch.TheVariants.{None as Stayed, Opened as Switched, Failed as SwitchFailed}
@@ -148,6 +148,10 @@ module _ {S F : Type 0} (kind : Ghosts S F) (failures_fit : (s : S) → kind.fai
       goes_on s not.freed t (unlinked_quietly (b ∷ bs) s not.freed not.removes)
       (by_call not.freed t (MakesLink (b ∷ bs) name (Err fault) not.call) (quietly {T = Unit {0}} (BlocksLink kind (b ∷ bs) s not.freed) (Err fault) not.freed t not.cause (not.noted ∙ sym not.removes.noted)))
 
+  tries_go : (c : Config) (name : List ℕ) (s t : S) → TriesLink kind c name s t → Goes s t
+  tries_go c name s t (inl links) = links_go c.link name s t links
+  tries_go c name s t (inr (optional, fault, not)) = links_not c.link name s fault t not
+
   empty_goes : (name : List ℕ) (file : F) (s t : S) → RemovesEmpty kind name file s t → Goes s t
   empty_goes name file s t asks = by asks.answer refl
     where
@@ -172,13 +176,13 @@ module _ {S F : Type 0} (kind : Ghosts S F) (failures_fit : (s : S) → kind.fai
   opens_go c name s file t opens =
       goes_on s opens.pruned t (prunes_go (log_files_of c (Some name)) (max_before c) s opens.pruned opens.prunes)
       (goes_on opens.pruned opens.unlinked t (gets_go name opens.pruned file opens.unlinked opens.gets)
-      (goes_on opens.unlinked opens.linked t (links_go c.link name opens.unlinked opens.linked opens.links)
+      (goes_on opens.unlinked opens.linked t (tries_go c name opens.unlinked opens.linked opens.links)
       (prunes_go (log_files_of c (Some name)) (max_after c) opens.linked t opens.prunes_last)))
 
   refuses_go : (c : Config) (name : List ℕ) (s : S) (error : InitError) (t : S) → RefusesFile kind c name s error t → Goes s t
   refuses_go c name s (Directory fault) t (pruned, prunes, none) = goes_on s pruned t (prunes_go (log_files_of c (Some name)) (max_before c) s pruned prunes) (gets_not name pruned (Directory fault) t none)
   refuses_go c name s (File fault) t (pruned, prunes, none) = goes_on s pruned t (prunes_go (log_files_of c (Some name)) (max_before c) s pruned prunes) (gets_not name pruned (File fault) t none)
-  refuses_go c name s (Symlink fault) t (pruned, unlinked, file, left, prunes, gets, not, removes) =
+  refuses_go c name s (Symlink fault) t (required, pruned, unlinked, file, left, prunes, gets, not, removes) =
       goes_on s pruned t (prunes_go (log_files_of c (Some name)) (max_before c) s pruned prunes)
       (goes_on pruned unlinked t (gets_go name pruned file unlinked gets)
       (goes_on unlinked left t (links_not c.link name unlinked fault left not) (new_file_goes c name (kind.made_file unlinked) file left t removes)))

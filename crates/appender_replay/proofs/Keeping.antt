@@ -3,6 +3,7 @@ use Rattle.std.proofs.Common.{◌≡◌, ◌≢◌, ◌∙◌, ◌⊎◌, ℕ, �
 use Rattle.std.specs.Prelude.{if◌then◌else◌, ◌==◌, IsOk}
 use Rattle.std.specs.Option.{option_map_or}
 use Rattle.std.specs.FinMap as fin
+use Rattle.std.proofs.lemmas.List.Elements.{All-contains_itself}
 use Rattle.std.specs.declared.alloc.Global.{Global}
 use Rattle.std.specs.declared.io.Error.{Error}
 use Rattle.appender_store.specs.Content.{Content, Entry, File, IsFile, IsSound, OpensBody, after_make_folder, body_at}
@@ -16,7 +17,8 @@ use Rattle.appender_retain.specs.Pruning.{IsQuiet}
 use Rattle.appender_retain.specs.Survival.{name_survives}
 use Rattle.appender_rolling.specs.Config.{Config, is_limited, log_files_of, max_before, max_after}
 use Rattle.appender_rolling.specs.Kept.{OpeningPartsKeepBodies}
-use Rattle.appender_rolling.specs.Opening.{file_name_of, IsFirstNumber, IsListed, HasEntry, ListsNumbers, OpensFile}
+use Rattle.appender_store.specs.declared.store.Kind.{Kind}
+use Rattle.appender_rolling.specs.Opening.{file_name_of, IsFirstNumber, IsTaken, IsListed, HasEntry, ListsNumbers, OpensFile}
 use Rattle.appender_rolling.specs.Roller.{Rolling}
 use Rattle.appender_rolling.specs.declared.rolling.setup.Stamp.{Stamp}
 use Rattle.appender_rolling.specs.declared.rolling.Switch.{Switch}
@@ -217,9 +219,16 @@ module _ {S F : Type 0} (kind : Ghosts S F) (failures_fit : (s : S) → kind.fai
           none : (kind.content folder).there ≡ false → IsFirstNumber c moment (HasEntry (kind.content folder)) 0
           none absent = record {
             at_most = omega arith;
-            above = λ name which k (e, is, kind_is) in_it. absurd (let both : ◌≡◌ {A = Option Entry} None (Some e) = sym (none_of _ ((sound folder is_known).absent absent name)) ∙ is in cc);
+            above = λ name which k there in_it. absurd (empty name which there);
             least = inl refl;
           }
+            where
+              no_entry : (name : List ℕ) (which : Kind) → HasEntry (kind.content folder) name which → ⊥
+              no_entry name which (e, is, kind_is) = let both : ◌≡◌ {A = Option Entry} None (Some e) = sym (none_of _ ((sound folder is_known).absent absent name)) ∙ is in cc
+
+              empty : (name : List ℕ) (which : Kind) → IsTaken c (HasEntry (kind.content folder)) name which → ⊥
+              empty name which (inl there) = no_entry name which there
+              empty name which (inr (archive, its, on, other, there, ends)) = no_entry archive its there
 
           by : (answer : Result (Vec Listed Global) Error) (there : Bool) → (kind.content folder).there ≡ there
               → MatchResult answer (λ all. IsFirstNumber c moment (IsListed (map listed_row all.items)) run.opens.number × (run.opens.listed ≡ l.listed)) (λ fault. (run.opens.number ≡ 0) × Notes kind l.listed (NotedList fault) run.opens.listed)
@@ -257,7 +266,7 @@ module _ {S F : Type 0} (kind : Ghosts S F) (failures_fit : (s : S) → kind.fai
           bytes : body_at (kind.content run.first.folder) body ≡ body_at (kind.content folder) body
           bytes =
               (parts.retention log (max_after c) (kind.content opens.linked) (kind.content run.first.folder) (opens.prunes_last.only_old is_known)).keeps.bytes body
-              ∙ (parts.link c.link first_name (kind.content opens.unlinked) (kind.content opens.linked) (opens.changes_link is_known)).keeps.bytes body
+              ∙ (parts.link c first_name (kind.content opens.unlinked) (kind.content opens.linked) (opens.changes_link is_known)).keeps.bytes body
               ∙ (parts.opening first_name (after_make_folder (kind.content opens.pruned)) (kind.content opens.unlinked) body (opens.gets.opens is_known)).keeps.bytes body
               ∙ (parts.folder (kind.content opens.pruned)).keeps.bytes body
               ∙ (parts.retention log (max_before c) (kind.content run.opens.listed) (kind.content opens.pruned) (opens.prunes.only_old is_known)).keeps.bytes body
@@ -320,7 +329,7 @@ module _ {S F : Type 0} (kind : Ghosts S F) (failures_fit : (s : S) → kind.fai
                   held = λ continues. held is_known continues;
                   bytes = λ name b t at. law.bodies b ∙ ap (λ (xs : List ℕ). body_at (kind.content folder) b ++ xs)
                       (text_same c start (kind.content last.folder) name b t at law.attempts (events_by event past) f law.are_times law.under_its_name law.names_its_body so);
-                  others = λ name others not_link. others_stay maps c name not_link law.attempts (events_by event past) (kind.content folder) (kind.content last.folder) law.leads (rw stamps others);
+                  others = λ name others not_link. others_stay maps c name not_link (f.newest ∷ f.earlier) law.attempts (events_by event past) (kind.content folder) (kind.content last.folder) law.leads (rw stamps (All-contains_itself (f.newest ∷ f.earlier))) (rw stamps others);
                   kept = λ none. (all_kept maps c none law.attempts (events_by event past) (kind.content folder) (kind.content last.folder) law.leads).0;
                   written = λ none name some.
                       let all : AllLead maps c (kind.content last.folder).names (attempt_times c start (events_by event past)) =

@@ -1,24 +1,23 @@
 -- The names that the attempts of a run leave, one after another.
-use Rattle.std.proofs.Common.{◌≡◌, ◌≢◌, ◌∙◌, ◌⊎◌, ℕ, ℤ, ◌<◌, ◌≤◌, nat_le, Bool, true, false, ◌||◌, List, [], ◌∷◌, ◌++◌, length, map, All, Option, None, Some, is_some, inl, inr, refl, sym, ap, subst, arith}
+use Rattle.std.proofs.Common.{◌≡◌, ◌≢◌, ◌∙◌, ◌⊎◌, ℕ, ℤ, ◌<◌, ◌≤◌, nat_le, Bool, true, false, ◌||◌, List, [], ◌∷◌, ◌++◌, length, map, All, Any, Contains, Option, None, Some, is_some, inl, inr, refl, sym, ap, subst, arith}
 use Rattle.std.specs.Prelude.{if◌then◌else◌, ◌==◌, MatchOption}
-use Rattle.std.specs.Str.{bytes_eq}
 use Rattle.std.specs.Option.{option_map, option_map_or, option_and_then}
 use Rattle.std.specs.FinMap as fin
 use Rattle.std.proofs.lemmas.List.{length-set}
 use Rattle.std.proofs.lemmas.List.Elements.{All-head, All-tail}
-use Rattle.appender_store.specs.Content.{Content, NameMap, Entry, File, Link, Folder, OpensBody, IsSound, IsLink, after_make_folder, body_at}
+use Rattle.appender_store.specs.Content.{Content, NameMap, Entry, File, Link, OpensBody, IsSound, IsLink, after_make_folder, body_at}
 use Rattle.appender_store.specs.Folder.{entry_row}
 use Rattle.appender_store.specs.NameLaws.{NameLaws}
 use Rattle.appender_retain.specs.Pruning.{IsQuiet}
-use Rattle.appender_retain.specs.Rank.{LogFiles, Rank, key_by_name, candidate_key, log_files_by_parts, rank_of}
+use Rattle.appender_retain.specs.Rank.{LogFiles, Rank, rank_of}
 use Rattle.appender_retain.specs.Survival.{RemovesOnlyOld, KeepsSurvivors, name_rank, name_survives}
-use Rattle.appender_rolling.specs.Config.{Config, naming_of, log_files_of, max_before, max_after}
+use Rattle.appender_rolling.specs.Config.{Config, log_files_of, max_before, max_after}
 use Rattle.appender_rolling.specs.Kept.{OpeningPartsKeepBodies}
 use Rattle.appender_rolling.specs.declared.rolling.setup.Stamp.{Stamp}
 use Rattle.appender_rolling.specs.Opening.{file_name_of, IsRefusalEffect, MayRemoveLink, MayRemoveNew}
 use Rattle.appender_replay.specs.Run.{Event, Attempt, pieces_since, events_before, open_body, Carried, OnlyAttemptsChange, Succeeded, AttemptDoes, EachOf}
 use Rattle.appender_replay.specs.Headline.{NamesAfterOpening, NamesAfterFailure, NamesAfterAttempts, kept_entry}
-use Rattle.appender_replay.proofs.NamesLeft.{nothing_survives, nothing_survives_last, unlimited_keep, either_leaves, left_by, leads_to, removed_name, opened_other, freed_other, unremoved_other, linked_other, linked_name, apart_from_link}
+use Rattle.appender_replay.proofs.NamesLeft.{nothing_survives, nothing_survives_last, unlimited_keep, either_leaves, left_by, leads_to, removed_name, opened_other, freed_other, unremoved_other, tried_other, tried_file}
 
 abbrev pub stamps_in : List Attempt → List Stamp
 stamps_in = map (λ (a : Attempt). a.stamp)
@@ -45,7 +44,7 @@ module _ (parts : OpeningPartsKeepBodies) (c : Config) where
       by None did = (parts.refusal c (file_name_of c a.stamp) a.before a.after did).keeps.more
       by (Some b) did = λ x lt.
           (parts.retention (log_files_of c (Some (file_name_of c a.stamp))) (max_after c) did.linked a.after did.only_old_last).keeps.more x
-          ((parts.link c.link (file_name_of c a.stamp) did.unlinked did.linked did.links).keeps.more x
+          ((parts.link c (file_name_of c a.stamp) did.unlinked did.linked did.links).keeps.more x
           ((parts.opening (file_name_of c a.stamp) (after_make_folder did.pruned) did.unlinked b did.opens).keeps.more x
           ((parts.folder did.pruned).keeps.more x ((parts.retention (log_files_of c (Some (file_name_of c a.stamp))) (max_before c) a.before did.pruned did.only_old).keeps.more x lt))))
 
@@ -107,7 +106,7 @@ module _ (maps : NameLaws) (c : Config) where
     log = log_files_of c (Some own)
 
     stays : (x : ℕ) (t : Option ℤ) → fin.get did.unlinked.names own ≡ Some (File x t) → fin.get a.after.names own ≡ Some (File x t)
-    stays x t at = did.spares.file ∙ linked_other maps c.link own did.unlinked did.linked own did.links (apart_from_link maps c.link own did.unlinked did.linked own x t did.links at) ∙ at
+    stays x t at = did.spares.file ∙ tried_file maps c own did.unlinked did.linked own x t did.links at
 
     -- what was removed last was not the file
     own_survives : (x : ℕ) (t : Option ℤ) → fin.get did.unlinked.names own ≡ Some (File x t) → name_survives log (max_after c) a.before.names own ≡ true
@@ -139,13 +138,37 @@ module _ (maps : NameLaws) (c : Config) where
           inr (sym (own_is b to.0 to.1) ∙ free, omega arith),
         )
 
+    -- what leaves a name, if it survives, leaves exactly what survives
+    link_kept : (fin.get a.after.names c.link ≡ fin.get a.before.names c.link) ⊎ ((fin.get a.after.names c.link ≡ None) × (name_survives log c.max_files a.before.names c.link ≡ false))
+        → ((IsQuiet a.noted_before a.noted_after ⊎ (a.before.there ≡ false)) → fin.get a.after.names c.link ≡ kept_entry c a.stamp a.before.names c.link)
+        → fin.get a.after.names c.link ≡ kept_entry c a.stamp a.before.names c.link
+    link_kept left survivors = elim all [
+      | inl none ↦
+          let survives = all_survive log c.max_files a.before.names c.link none in
+          elim left [
+            | inl same ↦ same ∙ sym (ap (λ (s : Bool). if s then fin.get a.before.names c.link else None) survives)
+            | inr gone ↦ absurd (let both : true ≡ false = sym survives ∙ gone.1 in cc)
+          ]
+      | inr (inl quiet) ↦ survivors (inl quiet)
+      | inr (inr absent) ↦ survivors (inr absent.0)
+    ]
+
     leaves : NamesAfterOpening c n a.stamp a.before.names a.after.names
     leaves = record {
       own = own_name did.opens;
-      link = λ is_set. did.spares.link is_set ∙ linked_name maps c.link own did.unlinked did.linked did.links is_set;
+      link = λ is_set. elim (did.names.link is_set) [
+        | inl made ↦ inl made
+        | inr (optional, link_left) ↦ inr (
+          optional,
+          λ apart. elim (link_left apart) [
+            | inl gone ↦ inr gone
+            | inr (left, survivors) ↦ inl (link_kept left survivors)
+          ],
+        )
+      ];
       others = λ name not_own not_link.
           left_by c log a.before.names did.linked.names a.after.names name (left_is a b did all name) (did.spares.same name)
-          (linked_other maps c.link own did.unlinked did.linked name did.links (λ same. absurd (not_link same)) ∙ opened_other maps own (after_make_folder did.pruned) did.unlinked b name did.opens not_own
+          (tried_other maps c own did.unlinked did.linked name did.links (λ same. absurd (not_link same)) ∙ opened_other maps own (after_make_folder did.pruned) did.unlinked b name did.opens not_own
           ∙ pruned_is a b did all name);
     }
 
@@ -267,17 +290,18 @@ module _ (maps : NameLaws) (c : Config) where
 
   -- ---- other names
 
-  module _ (name : List ℕ) (not_link : name ≢ c.link) where
+  module _ (name : List ℕ) (not_link : name ≢ c.link) (stamps : List Stamp) where
+    -- what was a candidate when one of these files was opened
+    abbrev WasOld : Option Entry → Type 0
+    WasOld o = Any (λ (s : Stamp). is_some (option_and_then (λ (e : Entry). rank_of (log_files_of c (Some (file_name_of c s))) (0, entry_row (name, e))) o) ≡ true) stamps
+
     -- a name leads to what it led to, or it was a candidate's and is removed
     abbrev pub MayGo : NameMap → NameMap → Type 0
-    MayGo old new = (fin.get new name ≡ fin.get old name) ⊎ ((fin.get new name ≡ None) × (c.max_files ≢ 0) × (is_some (name_rank (log_files_of c None) old name) ≡ true))
-
-    same_rank : (old new : NameMap) → fin.get new name ≡ fin.get old name → is_some (name_rank (log_files_of c None) new name) ≡ is_some (name_rank (log_files_of c None) old name)
-    same_rank old new same = rw same refl
+    MayGo old new = (fin.get new name ≡ fin.get old name) ⊎ ((fin.get new name ≡ None) × (c.max_files ≢ 0) × WasOld (fin.get old name))
 
     may_go_on : (first between last : NameMap) → MayGo first between → MayGo between last → MayGo first last
     may_go_on first between last (inl one) (inl two) = inl (two ∙ one)
-    may_go_on first between last (inl one) (inr two) = inr (two.0, two.1, sym (same_rank first between one) ∙ two.2)
+    may_go_on first between last (inl one) (inr two) = inr (two.0, two.1, subst WasOld one two.2)
     may_go_on first between last (inr one) (inl two) = inr (two ∙ one.0, one.1, one.2)
     may_go_on first between last (inr one) (inr two) = inr (two.0, one.1, one.2)
 
@@ -289,53 +313,33 @@ module _ (maps : NameLaws) (c : Config) where
     candidate false None f e = absurd (let both : true ≡ false = e in cc)
     candidate false (Some a) f e = (refl, refl)
 
-    -- what is a candidate before one file is opened is one of all log files
-    any_rank : (file : List ℕ) (names : NameMap) → is_some (name_rank (log_files_of c (Some file)) names name) ≡ true → is_some (name_rank (log_files_of c None) names name) ≡ true
-    any_rank file names = by (fin.get names name)
-      where
-        at : ℤ → Rank
-        at key = (key, name, 0)
-
-        key : (by_name : Bool) (opened : Bool) (k own : Option ℤ) → is_some (option_map at (if by_name then (if opened then None else own) else k)) ≡ true
-            → is_some (option_map at (if by_name then own else k)) ≡ true
-        key false opened k own some = some
-        key true false k own some = some
-        key true true k own none = absurd (let both : false ≡ true = none in cc)
-
-        by : (o : Option Entry) → is_some (option_and_then (λ (e : Entry). rank_of (log_files_of c (Some file)) (0, entry_row (name, e))) o) ≡ true
-            → is_some (option_and_then (λ (e : Entry). rank_of (log_files_of c None) (0, entry_row (name, e))) o) ≡ true
-        by None none = none
-        by (Some (File b t)) some = key c.by_name (bytes_eq name file) (candidate_key (log_files_by_parts (naming_of c)) name t) (key_by_name (naming_of c) name) some
-        by (Some (Link target)) none = none
-        by (Some Folder) none = none
-
     before_set : max_before c ≢ 0 → c.max_files ≢ 0
     before_set some none = some (none_before none)
 
     after_set : max_after c ≢ 0 → c.max_files ≢ 0
     after_set some none = some (none_after none)
 
-    pruned_may : (file : List ℕ) (max : ℕ) (old new : Content) → (max ≢ 0 → c.max_files ≢ 0) → RemovesOnlyOld (log_files_of c (Some file)) max old new → MayGo old.names new.names
-    pruned_may file max old new is_set only = elim (only.names name) [
+    pruned_may : (s : Stamp) → Contains stamps s → (max : ℕ) (old new : Content) → (max ≢ 0 → c.max_files ≢ 0) → RemovesOnlyOld (log_files_of c (Some (file_name_of c s))) max old new → MayGo old.names new.names
+    pruned_may s at max old new is_set only = elim (only.names name) [
       | inl same ↦ inl same
       | inr gone ↦
-          let was = candidate (max == 0) (name_rank (log_files_of c (Some file)) old.names name) _ gone.1 in
+          let was = candidate (max == 0) (name_rank (log_files_of c (Some (file_name_of c s))) old.names name) _ gone.1 in
           let set : c.max_files ≢ 0 = is_set (λ e. let zero : (max == 0) ≡ true = grind arith in let both : true ≡ false = sym zero ∙ was.0 in cc) in
-          inr (gone.0, set, any_rank file old.names was.1)
+          inr (gone.0, set, (at.0, s, at.1, at.2, was.1))
     ]
 
-    module _ (s : Stamp) (not_own : name ≢ file_name_of c s) where
+    module _ (s : Stamp) (at : Contains stamps s) (not_own : name ≢ file_name_of c s) where
       abbrev file : List ℕ
       file = file_name_of c s
 
       opened_may : (old pruned unlinked : Content) (b : ℕ) → RemovesOnlyOld (log_files_of c (Some file)) (max_before c) old pruned → OpensBody file (after_make_folder pruned) unlinked b → MayGo old.names unlinked.names
       opened_may old pruned unlinked b only opens =
-          then_same old.names pruned.names unlinked.names (pruned_may file (max_before c) old pruned before_set only) (opened_other maps file (after_make_folder pruned) unlinked b name opens not_own)
+          then_same old.names pruned.names unlinked.names (pruned_may s at (max_before c) old pruned before_set only) (opened_other maps file (after_make_folder pruned) unlinked b name opens not_own)
 
       little_may : (old new : Content) → IsRefusalEffect c file old new → MayGo old.names new.names
       little_may old new little = elim little.rest [
-        | inl same ↦ then_same old.names little.pruned.names new.names (pruned_may file (max_before c) old little.pruned before_set little.only_old) (ap (λ (d : Content). fin.get d.names name) same)
-        | inr (inl same) ↦ then_same old.names little.pruned.names new.names (pruned_may file (max_before c) old little.pruned before_set little.only_old) (ap (λ (d : Content). fin.get d.names name) same)
+        | inl same ↦ then_same old.names little.pruned.names new.names (pruned_may s at (max_before c) old little.pruned before_set little.only_old) (ap (λ (d : Content). fin.get d.names name) same)
+        | inr (inl same) ↦ then_same old.names little.pruned.names new.names (pruned_may s at (max_before c) old little.pruned before_set little.only_old) (ap (λ (d : Content). fin.get d.names name) same)
         | inr (inr (unlinked, b, left, opens, frees, removes)) ↦
             then_same old.names unlinked.names new.names (opened_may old little.pruned unlinked b little.only_old opens)
             (unremoved_other maps c file old left new name removes not_own ∙ freed_other maps c.link unlinked left name frees not_link)
@@ -346,19 +350,19 @@ module _ (maps : NameLaws) (c : Config) where
           may_go_on a.before.names did.linked.names a.after.names
           (then_same a.before.names did.unlinked.names did.linked.names
           (opened_may a.before did.pruned did.unlinked b (subst (λ (x : Stamp). RemovesOnlyOld (log_files_of c (Some (file_name_of c x))) (max_before c) a.before did.pruned) is did.only_old) (subst (λ (x : Stamp). OpensBody (file_name_of c x) (after_make_folder did.pruned) did.unlinked b) is did.opens))
-          (linked_other maps c.link (file_name_of c a.stamp) did.unlinked did.linked name did.links (λ same. absurd (not_link same))))
-          (pruned_may (file_name_of c a.stamp) (max_after c) did.linked a.after after_set did.only_old_last)
+          (tried_other maps c (file_name_of c a.stamp) did.unlinked did.linked name did.links (λ same. absurd (not_link same))))
+          (pruned_may a.stamp (subst (Contains stamps) (sym is) at) (max_after c) did.linked a.after after_set did.only_old_last)
 
-    tried_may : (a : Attempt) → AttemptDoes c a → name ≢ file_name_of c a.stamp → MayGo a.before.names a.after.names
-    tried_may a did not_own = by a.body did
+    tried_may : (a : Attempt) → AttemptDoes c a → Contains stamps a.stamp → name ≢ file_name_of c a.stamp → MayGo a.before.names a.after.names
+    tried_may a did at not_own = by a.body did
       where
         by : (o : Option ℕ) → MatchOption o (IsRefusalEffect c (file_name_of c a.stamp) a.before a.after) (Succeeded c a) → MayGo a.before.names a.after.names
-        by None did = little_may a.stamp not_own a.before a.after did
-        by (Some b) did = succeeded_may a.stamp not_own a b refl did
+        by None did = little_may a.stamp at not_own a.before a.after did
+        by (Some b) did = succeeded_may a.stamp at not_own a b refl did
 
-    pub others_stay : (attempts : List Attempt) (h : List Event) (first last : Content) → OnlyAttemptsChange c attempts h first last → All (λ s. name ≢ file_name_of c s) (stamps_in attempts) → MayGo first.names last.names
-    others_stay [] h first last leads others = inl (ap (λ (d : Content). fin.get d.names name) leads)
-    others_stay (a ∷ rest) h first last leads others =
+    pub others_stay : (attempts : List Attempt) (h : List Event) (first last : Content) → OnlyAttemptsChange c attempts h first last → All (Contains stamps) (stamps_in attempts) → All (λ s. name ≢ file_name_of c s) (stamps_in attempts) → MayGo first.names last.names
+    others_stay [] h first last leads all others = inl (ap (λ (d : Content). fin.get d.names name) leads)
+    others_stay (a ∷ rest) h first last leads all others =
         then_same first.names a.after.names last.names
-        (may_go_on first.names a.before.names a.after.names (others_stay rest (events_before a.step h) first a.before leads.0 (All-tail (λ s. name ≢ file_name_of c s) a.stamp (stamps_in rest) others)) (tried_may a leads.1 (All-head (λ s. name ≢ file_name_of c s) a.stamp (stamps_in rest) others)))
+        (may_go_on first.names a.before.names a.after.names (others_stay rest (events_before a.step h) first a.before leads.0 (All-tail (Contains stamps) a.stamp (stamps_in rest) all) (All-tail (λ s. name ≢ file_name_of c s) a.stamp (stamps_in rest) others)) (tried_may a leads.1 (All-head (Contains stamps) a.stamp (stamps_in rest) all) (All-head (λ s. name ≢ file_name_of c s) a.stamp (stamps_in rest) others)))
         (ap (λ (m : NameMap). fin.get m name) (carried_names (open_body (a ∷ rest)) (pieces_since a.step h) a.after last leads.2))

@@ -3,14 +3,14 @@ use Rattle.std.proofs.Common.{◌≡◌, ◌≢◌, ◌∙◌, ◌⊎◌, ◌||�
 use Rattle.std.specs.Prelude.{◌==◌, option_and_then}
 use Rattle.std.specs.FinMap as fin
 use Rattle.appender_retain.specs.Rank.{LogFiles, rank_of, rank_survives}
-use Rattle.appender_store.specs.Content.{Content, NameMap, Entry, File, Link, OpensBody, IsSound, after_make_folder}
+use Rattle.appender_store.specs.Content.{Content, NameMap, Entry, File, Link, IsLink, OpensBody, IsSound, after_make_folder}
 use Rattle.appender_store.specs.Folder.{entry_row}
 use Rattle.appender_store.specs.NameLaws.{NameLaws}
 use Rattle.appender_retain.specs.Pruning.{IsQuiet}
 use Rattle.appender_retain.specs.Survival.{RemovesOnlyOld, KeepsSurvivors, name_rank, name_ranks, name_survives}
 use Rattle.appender_rolling.specs.Config.{Config, log_files_of, max_before, max_after}
-use Rattle.appender_rolling.specs.Opening.{file_name_of, MayRemoveLink, MayRemoveNew, ChangesLink, SparesOpened}
-use Rattle.appender_replay.specs.Run.{Attempt, IsOtherName, NamesAfter}
+use Rattle.appender_rolling.specs.Opening.{file_name_of, MayRemoveLink, MayRemoveNew, ChangesLink, MayChangeLink, SparesOpened}
+use Rattle.appender_replay.specs.Run.{Attempt, IsOtherName, LeavesLink, NamesAfter}
 
 -- a file's name is not that of a link that was made
 no_file : (target : List ℕ) (x : ℕ) (t : Option ℤ) → ¬ (◌≡◌ {A = Option Entry} (Some (Link target)) (Some (File x t)))
@@ -117,17 +117,17 @@ module _ (maps : NameLaws) where
   freed_other link old freed n (inl same) ne = ap (λ (d : Content). fin.get d.names n) same
   freed_other link old freed n (inr removes) ne = ap (λ (d : Content). fin.get d.names n) removes.after ∙ removed_other old.names link n ne
 
-  pub linked_other : (link name : List ℕ) (old new : Content) (n : List ℕ) → ChangesLink link name old new → (n ≡ link → link ≡ []) → fin.get new.names n ≡ fin.get old.names n
+  linked_other : (link name : List ℕ) (old new : Content) (n : List ℕ) → ChangesLink link name old new → (n ≡ link → link ≡ []) → fin.get new.names n ≡ fin.get old.names n
   linked_other [] name old new n same unset = ap (λ (d : Content). fin.get d.names n) same
   linked_other (b ∷ bs) name old new n (freed, frees, makes) unset =
       let ne : n ≢ b ∷ bs = λ is. let both : ◌≡◌ {A = List ℕ} (b ∷ bs) [] = unset is in cc in
       ap (λ (d : Content). fin.get d.names n) makes.after ∙ added_other freed.names (b ∷ bs) (Link name) n ne ∙ freed_other (b ∷ bs) old freed n frees ne
 
-  pub linked_name : (link name : List ℕ) (old new : Content) → ChangesLink link name old new → link ≢ [] → fin.get new.names link ≡ Some (Link name)
+  linked_name : (link name : List ℕ) (old new : Content) → ChangesLink link name old new → link ≢ [] → fin.get new.names link ≡ Some (Link name)
   linked_name [] name old new same is_set = absurd (is_set refl)
   linked_name (b ∷ bs) name old new (freed, frees, makes) is_set = ap (λ (d : Content). fin.get d.names (b ∷ bs)) makes.after ∙ added_name freed.names (b ∷ bs) (Link name)
 
-  pub apart_from_link : (link name : List ℕ) (old new : Content) (m : List ℕ) (x : ℕ) (t : Option ℤ) → ChangesLink link name old new → fin.get old.names m ≡ Some (File x t) → m ≡ link → link ≡ []
+  apart_from_link : (link name : List ℕ) (old new : Content) (m : List ℕ) (x : ℕ) (t : Option ℤ) → ChangesLink link name old new → fin.get old.names m ≡ Some (File x t) → m ≡ link → link ≡ []
   apart_from_link [] name old new m x t same at is = refl
   apart_from_link (b ∷ bs) name old new m x t (freed, inl same, makes) at is =
       absurd (let taken : fin.get freed.names (b ∷ bs) ≡ Some (File x t) = ap (λ (d : Content). fin.get d.names (b ∷ bs)) same ∙ ap (fin.get old.names) (sym is) ∙ at in
@@ -135,24 +135,84 @@ module _ (maps : NameLaws) where
   apart_from_link (b ∷ bs) name old new m x t (freed, inr removes, makes) at is =
       absurd (no_file removes.was_there.0 x t (sym removes.was_there.1 ∙ ap (fin.get old.names) (sym is) ∙ at))
 
+  -- what is not the link stays
+  pub tried_other : (c : Config) (name : List ℕ) (old new : Content) (n : List ℕ) → MayChangeLink c name old new → (n ≡ c.link → c.link ≡ []) → fin.get new.names n ≡ fin.get old.names n
+  tried_other c name old new n (inl changes) unset = linked_other c.link name old new n changes unset
+  tried_other c name old new n (inr (optional, is_set, frees)) unset = freed_other c.link old new n frees (λ is. is_set (unset is))
+
+  -- and so does each file
+  pub tried_file : (c : Config) (name : List ℕ) (old new : Content) (m : List ℕ) (x : ℕ) (t : Option ℤ) → MayChangeLink c name old new → fin.get old.names m ≡ Some (File x t) → fin.get new.names m ≡ Some (File x t)
+  tried_file c name old new m x t (inl changes) at = linked_other c.link name old new m changes (apart_from_link c.link name old new m x t changes at) ∙ at
+  tried_file c name old new m x t (inr (optional, is_set, inl same)) at = ap (λ (d : Content). fin.get d.names m) same ∙ at
+  tried_file c name old new m x t (inr (optional, is_set, inr removes)) at =
+      freed_other c.link old new m (inr removes) (λ is. no_file removes.was_there.0 x t (sym removes.was_there.1 ∙ ap (fin.get old.names) (sym is) ∙ at)) ∙ at
+
   -- after an attempt that opened a body
-  pub names_after : (c : Config) (a : Attempt) (b : ℕ) (pruned unlinked linked : Content) → RemovesOnlyOld (log_files_of c (Some (file_name_of c a.stamp))) (max_before c) a.before pruned → ((IsQuiet a.noted_before a.noted_after ⊎ (a.before.there ≡ false)) → KeepsSurvivors (log_files_of c (Some (file_name_of c a.stamp))) (max_before c) a.before pruned) → OpensBody (file_name_of c a.stamp) (after_make_folder pruned) unlinked b → ChangesLink c.link (file_name_of c a.stamp) unlinked linked
-      → RemovesOnlyOld (log_files_of c (Some (file_name_of c a.stamp))) (max_after c) linked a.after → ((IsQuiet a.noted_before a.noted_after ⊎ (a.before.there ≡ false)) → KeepsSurvivors (log_files_of c (Some (file_name_of c a.stamp))) (max_after c) linked a.after) → SparesOpened c (file_name_of c a.stamp) a.before linked a.after → NamesAfter c a b
-  names_after c a b pruned unlinked linked only_old survivors opens links only_old_last survivors_last spares =
-      let name = file_name_of c a.stamp in
-      let log = log_files_of c (Some name) in
-      let to = leads_to name (after_make_folder pruned) unlinked b opens in
-      let as_pruned : (other : List ℕ) → IsOtherName c a.stamp other → fin.get linked.names other ≡ fin.get pruned.names other = λ other is.
-      linked_other c.link name unlinked linked other links is.not_link ∙ opened_other name (after_make_folder pruned) unlinked b other opens is.not_own in
-      record {
-        own = (to.0, spares.file ∙ linked_other c.link name unlinked linked name links (apart_from_link c.link name unlinked linked name b to.0 links to.1) ∙ to.1);
-        link = λ is_set. spares.link is_set ∙ linked_name c.link name unlinked linked links is_set;
-        others = λ other is. elim (only_old_last.names other) [
-          | inl left ↦ elim (only_old.names other) [
-            | inl same ↦ inl (left ∙ as_pruned other is ∙ same)
-            | inr gone ↦ inr (left ∙ as_pruned other is ∙ gone.0, weaker_before c log a.before.names other gone.1)
-          ]
-          | inr gone ↦ inr (gone.0, weaker_after c log a.before.names other (sym (spares.same other) ∙ gone.1))
-        ];
-        survivors = λ quiet other is. left_by c log a.before.names linked.names a.after.names other (survivors_last quiet other) (spares.same other) (as_pruned other is ∙ survivors quiet other);
-      }
+  module _ (c : Config) (a : Attempt) (b : ℕ) (pruned unlinked linked : Content) (only_old : RemovesOnlyOld (log_files_of c (Some (file_name_of c a.stamp))) (max_before c) a.before pruned)
+      (survivors : (IsQuiet a.noted_before a.noted_after ⊎ (a.before.there ≡ false)) → KeepsSurvivors (log_files_of c (Some (file_name_of c a.stamp))) (max_before c) a.before pruned)
+      (opens : OpensBody (file_name_of c a.stamp) (after_make_folder pruned) unlinked b) (links : MayChangeLink c (file_name_of c a.stamp) unlinked linked)
+      (only_old_last : RemovesOnlyOld (log_files_of c (Some (file_name_of c a.stamp))) (max_after c) linked a.after)
+      (survivors_last : (IsQuiet a.noted_before a.noted_after ⊎ (a.before.there ≡ false)) → KeepsSurvivors (log_files_of c (Some (file_name_of c a.stamp))) (max_after c) linked a.after)
+      (spares : SparesOpened c (file_name_of c a.stamp) a.before linked a.after) where
+    abbrev opened_name : List ℕ
+    opened_name = file_name_of c a.stamp
+
+    abbrev log : LogFiles
+    log = log_files_of c (Some opened_name)
+
+    to : (t : Option ℤ) × (fin.get unlinked.names opened_name ≡ Some (File b t))
+    to = leads_to opened_name (after_make_folder pruned) unlinked b opens
+
+    as_pruned : (other : List ℕ) → IsOtherName c a.stamp other → fin.get linked.names other ≡ fin.get pruned.names other
+    as_pruned other is = tried_other c opened_name unlinked linked other links is.not_link ∙ opened_other opened_name (after_make_folder pruned) unlinked b other opens is.not_own
+
+    -- what retention leaves of a name that the opening does not change
+    left : (other : List ℕ) → fin.get linked.names other ≡ fin.get pruned.names other
+        → (fin.get a.after.names other ≡ fin.get a.before.names other) ⊎ ((fin.get a.after.names other ≡ None) × (name_survives log c.max_files a.before.names other ≡ false))
+    left other as_before = elim (only_old_last.names other) [
+      | inl stays ↦ elim (only_old.names other) [
+        | inl same ↦ inl (stays ∙ as_before ∙ same)
+        | inr gone ↦ inr (stays ∙ as_before ∙ gone.0, weaker_before c log a.before.names other gone.1)
+      ]
+      | inr gone ↦ inr (gone.0, weaker_after c log a.before.names other (sym (spares.same other) ∙ gone.1))
+    ]
+
+    survivors_left : (IsQuiet a.noted_before a.noted_after ⊎ (a.before.there ≡ false)) → (other : List ℕ) → fin.get linked.names other ≡ fin.get pruned.names other
+        → fin.get a.after.names other ≡ (if name_survives log c.max_files a.before.names other then fin.get a.before.names other else None)
+    survivors_left quiet other as_before = left_by c log a.before.names linked.names a.after.names other (survivors_last quiet other) (spares.same other) (as_before ∙ survivors quiet other)
+
+    -- a link that was not made
+    link_left : c.link ≢ opened_name → MayRemoveLink c.link unlinked linked → LeavesLink c a
+    link_left apart (inl same) =
+        let as_before : fin.get linked.names c.link ≡ fin.get pruned.names c.link = ap (λ (d : Content). fin.get d.names c.link) same ∙ opened_other opened_name (after_make_folder pruned) unlinked b c.link opens apart in
+        inr (left c.link as_before, λ quiet. survivors_left quiet c.link as_before)
+    link_left apart (inr removes) = inl (was_link, now_none)
+      where
+        target : List ℕ
+        target = removes.was_there.0
+
+        was_link : IsLink (fin.get a.before.names c.link)
+        was_link =
+            let there : fin.get pruned.names c.link ≡ Some (Link target) = sym (opened_other opened_name (after_make_folder pruned) unlinked b c.link opens apart) ∙ removes.was_there.1 in
+            elim (only_old.names c.link) [
+              | inl same ↦ subst IsLink (sym there ∙ same) tt
+              | inr gone ↦ absurd (let both : ◌≡◌ {A = Option Entry} None (Some (Link target)) = sym gone.0 ∙ there in cc)
+            ]
+
+        now_none : fin.get a.after.names c.link ≡ None
+        now_none =
+            let none : fin.get linked.names c.link ≡ None = ap (λ (d : Content). fin.get d.names c.link) removes.after ∙ removed_name unlinked.names c.link in
+            elim (only_old_last.names c.link) [ inl same ↦ same ∙ none | inr gone ↦ gone.0 ]
+
+    pub names_after : NamesAfter c a b
+    names_after = record {
+      own = (to.0, spares.file ∙ tried_file c opened_name unlinked linked opened_name b to.0 links to.1);
+      link = λ is_set. elim links [
+        | inl changes ↦
+            let made : fin.get linked.names c.link ≡ Some (Link opened_name) = linked_name c.link opened_name unlinked linked changes is_set in
+            inl (spares.link (inl (subst IsLink (sym made) tt)) ∙ made)
+        | inr (optional, set, frees) ↦ inr (optional, λ apart. link_left apart frees)
+      ];
+      others = λ other is. left other (as_pruned other is);
+      survivors = λ quiet other is. survivors_left quiet other (as_pruned other is);
+    }

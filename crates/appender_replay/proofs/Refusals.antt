@@ -1,5 +1,5 @@
 -- Wrong runs that the headline refuses.
-use Rattle.std.proofs.Common.{◌≡◌, ◌≢◌, ◌∙◌, ◌⊎◌, ℕ, ℤ, pos, ◌+◌, ◌-◌, ◌^◌, ◌<◌, ◌≤◌, Bool, true, false, nat_le, min, List, [], ◌∷◌, length, Option, None, Some, Result, Ok, Err, inl, inr, refl, ap, sym, subst, arith}
+use Rattle.std.proofs.Common.{◌≡◌, ◌≢◌, ◌∙◌, ◌⊎◌, ℕ, ℤ, pos, ◌+◌, ◌-◌, ◌^◌, ◌<◌, ◌≤◌, Bool, true, false, if◌then◌else◌, nat_le, min, List, [], ◌∷◌, length, Option, None, Some, is_some, Result, Ok, Err, inl, inr, refl, ap, sym, subst, arith}
 use Rattle.std.specs.FinMap as fin
 use Rattle.std.specs.Option.{option_map_or}
 use Rattle.std.specs.IoError.{error_kind}
@@ -8,22 +8,25 @@ use Rattle.std.specs.declared.io.ErrorKind.{ErrorKind}
 use Rattle.std.specs.declared.io.ErrorKind.TheVariants.{OutOfMemory}
 use Rattle.std.specs.Str.{bytes_eq}
 use Rattle.std.proofs.lemmas.Int.{ints}
-use Rattle.std.proofs.lemmas.List.Elements.{All-cons, All-nil}
+use Rattle.std.proofs.lemmas.List.Elements.{All-cons, All-nil, All-contains}
 use Rattle.std.proofs.lemmas.Slice.Eq.{bytes_eq-Decides}
-use Rattle.appender_store.specs.Content.{Entry, File, IsFile, NameMap}
+use Rattle.appender_store.specs.Content.{Entry, File, Link, IsFile, NameMap}
 use Rattle.appender_store.specs.Folder.{IsOneMore, NotedCounts, NoticeMessage, NotedList, NotedRemove, NotedFlush, NotedOpen, next_count}
 use Rattle.appender_store.specs.Notes.{Notes}
 use Rattle.appender_store.specs.MemoryState.{AppendLimits, MemoryState, TakesBytes, count_taken}
 use Rattle.appender_store.specs.declared.store.Folder.{Ghosts}
-use Rattle.appender_retain.specs.Survival.{name_survives}
+use Rattle.appender_retain.specs.Survival.{name_rank, name_survives}
 use Rattle.appender_rolling.specs.Config.{naming_of, log_files_of}
 use Rattle.appender_rolling.specs.Opening.{file_name_of}
 use Rattle.appender_rolling.specs.declared.rolling.setup.Stamp.{Stamp}
-use Rattle.appender_names.specs.Name.{NamesArePeriods}
+use Rattle.appender_names.specs.Name.{NamesArePeriods, reading_at}
+use Rattle.appender_names.specs.Rotation.{IsMoment, period_of}
+use Rattle.appender_names.proofs.NameLaws.{reads_as_start}
+use Rattle.appender_names.proofs.Reading.{reads_reading}
 use Rattle.appender_rolling.specs.Roller.{written_count}
 use Rattle.appender_replay.specs.Headline.{WriteList, kept_entry, Calls, CallsLead, NotesNothing, HasFault, begins, calls, appends, notes, notes_attempt}
 use Rattle.appender_replay.specs.Replay.{by_kind}
-use Rattle.appender_replay.specs.Inside.Refused.{WritesTwice, LosesByte, WritesOutOfOrder, TakesOutOfOrder, ShutdownTakesNoPlace, NeverPrunes, FollowsClockBack, ChangesOtherNames, LosesFile, ReusesNumber, TakesNothing, NotesNoFault, RemovesAtFailure, one_file, hourly, hourly_by_name}
+use Rattle.appender_replay.specs.Inside.Refused.{WritesTwice, LosesByte, WritesOutOfOrder, TakesOutOfOrder, ShutdownTakesNoPlace, NeverPrunes, FollowsClockBack, ChangesOtherNames, LosesFile, ReusesNumber, TakesNothing, NotesNoFault, RemovesLaterFile, RemovesAtFailure, LacksLink, LinksElsewhere, one_file, linked, hourly, hourly_by_name}
 use Rattle.appender_replay.specs.declared.replay.whole.Reply.{Reply}
 use Rattle.appender_replay.specs.declared.replay.whole.Reply.TheVariants.{Accepted, Full, NoMemory, Took}
 
@@ -116,14 +119,71 @@ changes_other_names kind limit room first last b c t u is_known was is differs l
 pub loses_file : {S F : Type 0} (kind : Ghosts S F) → LosesFile kind
 loses_file kind x y limit room first last is_known gone law = subst IsFile gone ((law.folder.content is_known).open_file (inr refl))
 
+-- the name of an hour's file reads as that hour
+hour_reads : (h : ℤ) → IsMoment h → period_of hourly.rotation h ≡ Some h → reading_at (naming_of hourly) (file_name_of hourly (stamp_at h)) ≡ Some (h, 0)
+hour_reads h is_moment starts = reads_reading (naming_of hourly) (file_name_of hourly (stamp_at h)) h 0 (reads_as_start (naming_of hourly) h h 0 is_moment starts (omega arith))
+
+pub removes_later_file : {S F : Type 0} (kind : Ghosts S F) → NamesArePeriods (naming_of hourly) → RemovesLaterFile kind
+removes_later_file kind names limit room first last b t is_known was gone law =
+    let own : List ℕ = file_name_of hourly (stamp_at (pos 0)) in
+    let later : List ℕ = file_name_of hourly (stamp_at (pos 3600)) in
+    let own_read = hour_reads (pos 0) (omega (arith, ints), omega (arith, ints)) refl in
+    let later_read = hour_reads (pos 3600) (omega (arith, ints), omega (arith, ints)) refl in
+    let differs : later ≢ own = λ same. (let both : true ≡ false = sym ((bytes_eq-Decides later own).1 same) ∙ names_differ names in cc) in
+    let some : ◌≢◌ {A = List ℕ} later [] = λ e. (let both : ◌≡◌ {A = List ℕ} later [] = e in cc) in
+    let apart : Stamp → Type 0 = λ s. later ≢ file_name_of hourly_by_name s in
+    let unranked : Stamp → Type 0 = λ s. is_some (name_rank (log_files_of hourly_by_name (Some (file_name_of hourly_by_name s))) (kind.content first).names later) ≡ false in
+    let none : unranked (stamp_at (pos 0)) = rw (was, own_read, later_read) refl in
+    elim ((law.folder.content is_known).others later (All-cons apart (stamp_at (pos 0)) [] differs (All-nil apart)) some) [
+      | inl same ↦ let both : ◌≡◌ {A = Option Entry} (Some (File b t)) None = sym was ∙ sym same ∙ gone in cc
+      | inr (free, set, old) ↦
+          let not_old = All-contains unranked (stamp_at (pos 0) ∷ []) old.1 (All-cons unranked (stamp_at (pos 0)) [] none (All-nil unranked)) (old.0, old.2, old.3) in
+          let both : true ≡ false = sym old.4 ∙ not_old in
+          cc
+    ]
+
 pub removes_at_failure : {S F : Type 0} (kind : Ghosts S F) → RemovesAtFailure kind
 removes_at_failure kind x limit room first last name is_known there lists removes few_lists few_removes not_first not_next unlinked kept gone law =
     let names = (law.folder.content is_known).names (inr refl) (inr (record { lists = rw there (omega (arith, lists)); removes = removes; below = (few_lists, few_removes) })) in
     kept (ap (λ (m : NameMap). kept_entry hourly_by_name (stamp_at (pos 0)) m name) (sym names.1.1) ∙ sym (names.1.2.others name not_first unlinked) ∙ sym (names.2.others name not_next unlinked) ∙ gone)
 
+link_set : ◌≢◌ {A = List ℕ} (108 ∷ []) []
+link_set e = let both : ◌≡◌ {A = List ℕ} (108 ∷ []) [] = e in cc
+
+link_apart : ◌≢◌ {A = List ℕ} (108 ∷ []) (97 ∷ [])
+link_apart e = let same : ◌≡◌ {A = ℕ} 108 97 = ap first_byte e in absurd (omega arith)
+
+pub lacks_link : {S F : Type 0} (kind : Ghosts S F) → LacksLink kind
+lacks_link kind limit room first last is_known lacks law = elim (((law.folder.content is_known).names (inl refl) (inl refl)).2.link link_set) [
+  | inl made ↦ lacks made
+  | inr missing ↦ let both : false ≡ true = missing.0 in cc
+]
+
+same_target : (a b : List ℕ) → ◌≡◌ {A = Option Entry} (Some (Link a)) (Some (Link b)) → a ≡ b
+same_target a b e = cc
+
+-- nothing is kept of a name that led to nothing
+none_kept : (t : Bool) (o : Option Entry) → o ≡ None → (if t then o else None) ≡ None
+none_kept true o none = none
+none_kept false o none = refl
+
+pub links_elsewhere : {S F : Type 0} (kind : Ghosts S F) → LinksElsewhere kind
+links_elsewhere kind limit room first last target is_known other free at law =
+    let names = (law.folder.content is_known).names (inl refl) (inl refl) in
+    let before : fin.get names.0 (108 ∷ []) ≡ None = ap (λ (m : NameMap). fin.get m (108 ∷ [])) names.1 ∙ free in
+    elim (names.2.link link_set) [
+      | inl made ↦ other (same_target target (97 ∷ []) (sym at ∙ made))
+      | inr missing ↦ elim (missing.1 link_apart) [
+        | inl kept ↦
+            let none : kept_entry (linked true) (stamp_at (pos 0)) names.0 (108 ∷ []) ≡ None = none_kept (name_survives (log_files_of (linked true) (Some (97 ∷ []))) 0 names.0 (108 ∷ [])) (fin.get names.0 (108 ∷ [])) before in
+            let both : ◌≡◌ {A = Option Entry} (Some (Link target)) None = sym at ∙ kept ∙ none in cc
+        | inr gone ↦ let both : ◌≡◌ {A = Option Entry} (Some (Link target)) None = sym at ∙ gone.1 in cc
+      ]
+    ]
+
 pub reuses_number : {S F : Type 0} (kind : Ghosts S F) → ReusesNumber kind
 reuses_number kind limit room past first last name entry k is_known lists below had in_it law = elim ((law.folder.content is_known).number refl) [
-  | inl first_number ↦ elim (first_number.above name entry k had in_it) [
+  | inl first_number ↦ elim (first_number.above name entry k (inl had) in_it) [
     | inl less ↦ absurd (omega (arith, less))
     | inr (inl most) ↦ absurd (omega (arith, most))
     | inr (inr last_file) ↦ let both : true ≡ false = sym last_file.1.continues in cc

@@ -2,7 +2,7 @@
 -- written to each. The folder then contains what it contained before, and exactly that. Read it from `Headline` upwards.
 -- Of other files: `is_moment`, a moment of the years 1 to 9998; `written_count`, the bytes that an answer took; `NotedCounts`, the notices by kind;
 -- `name_rank`, the rank of a log file's name; `name_survives`, whether retention leaves a name.
-use Rattle.std.specs.Prelude.{◌≡◌, ◌≢◌, ◌⊎◌, ◌↔◌, IsTrue, ℕ, ◌+◌, ◌-◌, ◌^◌, ◌<◌, ◌≤◌, nat_lt, min, ◌==◌, ℤ, Bool, true, false, not, ◌&&◌, if◌then◌else◌, List, [], ◌∷◌, ◌++◌, length, take, drop, get_or, All, Option, None, Some, is_some, unwrap_or, Result, Ok, Err, Vec}
+use Rattle.std.specs.Prelude.{◌≡◌, ◌≢◌, ◌⊎◌, ◌↔◌, IsTrue, ℕ, ◌+◌, ◌-◌, ◌^◌, ◌<◌, ◌≤◌, nat_lt, min, ◌==◌, ℤ, Bool, true, false, not, ◌&&◌, if◌then◌else◌, List, [], ◌∷◌, ◌++◌, length, take, drop, get_or, All, Any, Option, None, Some, is_some, unwrap_or, Result, Ok, Err, Vec}
 use Rattle.std.specs.Int.{int_max}
 use Rattle.std.specs.Str.{bytes_eq}
 use Rattle.std.specs.FinMap as fin
@@ -182,11 +182,13 @@ abbrev pub kept_entry : Config → Stamp → NameMap → List ℕ → Option Ent
 kept_entry c s names name = if name_survives (log_files_of c (Some (file_name_of c s))) c.max_files names name then fin.get names name else None
 
 -- The names after the opening of a file: what retention leaves of those before, the file's own, and the link. The file is the one that had
--- the name, or a new one, whose body is none of those that the folder had at first.
+-- the name, or a new one, whose body is none of those that the folder had at first. If an optional link can't be made, its name leads to
+-- what retention leaves, but an old link may be gone.
 pub record NamesAfterOpening (c : Config) (bodies : ℕ) (s : Stamp) (old new : NameMap) : Type 0 where
   pub own : (b : ℕ) × (t : Option ℤ) × (fin.get new (file_name_of c s) ≡ Some (File b t))
       × ((kept_entry c s old (file_name_of c s) ≡ Some (File b t)) ⊎ ((kept_entry c s old (file_name_of c s) ≡ None) × (bodies ≤ b)))
-  pub link : c.link ≢ [] → fin.get new c.link ≡ Some (Link (file_name_of c s))
+  pub link : c.link ≢ [] → (fin.get new c.link ≡ Some (Link (file_name_of c s)))
+      ⊎ ((c.link_optional ≡ true) × (c.link ≢ file_name_of c s → (fin.get new c.link ≡ kept_entry c s old c.link) ⊎ (IsLink (fin.get old c.link) × (fin.get new c.link ≡ None))))
   pub others : (name : List ℕ) → name ≢ file_name_of c s → name ≢ c.link → fin.get new name ≡ kept_entry c s old name
 
 -- The names after an attempt that failed, if retention doesn't come before it. A name that was free may lead to a new file, and the link may be gone.
@@ -222,9 +224,11 @@ IsHeld c start first =
 pub record Contains (c : Config) (start : Start) (f : Files) (first last : Content) (noted_first noted_last : NotedCounts) : Type 0 where
   -- A file holds what it held at first, which is nothing if it is new, and then exactly what was written while it was the open one.
   pub bytes : (name : List ℕ) (b : ℕ) (t : Option ℤ) → fin.get last.names name ≡ Some (File b t) → body_at last b ≡ body_at first b ++ written_to_name name f.writes
-  -- Whatever fails, no other name changes, except that log files may be removed if there is a maximum of them.
+  -- Whatever fails, no other name changes, except that log files may be removed if there is a maximum of them. By name each of these has a
+  -- period and number before those of some attempt's file (`is_before_opened`).
   pub others : (name : List ℕ) → All (λ s. name ≢ file_name_of c s) (f.newest ∷ f.earlier) → name ≢ c.link
-      → (fin.get last.names name ≡ fin.get first.names name) ⊎ ((fin.get last.names name ≡ None) × (c.max_files ≢ 0) × (is_some (name_rank (log_files_of c None) first.names name) ≡ true))
+      → (fin.get last.names name ≡ fin.get first.names name) ⊎ ((fin.get last.names name ≡ None) × (c.max_files ≢ 0)
+      × Any (λ s. is_some (name_rank (log_files_of c (Some (file_name_of c s))) first.names name) ≡ true) (f.newest ∷ f.earlier))
   -- Without a maximum each file that was there at first has its name, whatever fails, and so has each to which bytes were written.
   pub kept : c.max_files ≡ 0 → KeepsEachFile first last
   pub written : c.max_files ≡ 0 → (name : List ℕ) → written_to_name name f.writes ≢ [] → IsFile (fin.get last.names name)

@@ -6,14 +6,14 @@ use Rattle.std.specs.Int.{int_max}
 use Rattle.appender_names.specs.declared.rotation.Rotation.{Rotation}
 use Rattle.appender_names.specs.Rotation.{is_moment, period_of, is_same_start}
 use Rattle.std.specs.FinMap as fin
-use Rattle.appender_store.specs.Content.{Content, File, Link, OpensBody, after_append, after_make_folder, body_at}
+use Rattle.appender_store.specs.Content.{Content, File, Link, IsLink, OpensBody, after_append, after_make_folder, body_at}
 use Rattle.appender_store.specs.Folder.{NotedCounts}
 use Rattle.appender_retain.specs.Survival.{RemovesOnlyOld, KeepsSurvivors, name_survives, candidates_in}
 use Rattle.appender_retain.specs.Pruning.{IsQuiet}
-use Rattle.appender_rolling.specs.Config.{Config, log_files_of, is_limited, IsStamp, stamp, max_before, max_after}
+use Rattle.appender_rolling.specs.Config.{Config, log_files_of, is_limited, IsStamp, stamp, max_before, max_after, uncounted}
 use Rattle.appender_rolling.specs.Roller.{room_needed}
 use Rattle.appender_rolling.specs.declared.rolling.setup.Stamp.{Stamp}
-use Rattle.appender_rolling.specs.Opening.{file_name_of, ChangesLink, IsRefusalEffect, SparesOpened}
+use Rattle.appender_rolling.specs.Opening.{file_name_of, MayChangeLink, IsRefusalEffect, SparesOpened}
 use Rattle.appender_replay.specs.Start.{Start, start_stamp}
 use Rattle.appender_rolling.specs.declared.rolling.Switch.{Switch}
 use Rattle.appender_rolling.specs.declared.rolling.Switch.TheVariants.{None as Stayed, Opened as Switched, Failed as SwitchFailed}
@@ -180,11 +180,21 @@ pub record IsOtherName (c : Config) (s : Stamp) (name : List ℕ) : Type 0 where
   pub not_own : name ≢ file_name_of c s
   pub not_link : name ≡ c.link → c.link ≡ []
 
--- The names after an attempt that opened a body: its own, and the link, if one is set. Every other name is as it was, or is
+-- What an attempt that could not make the link leaves under its name: nothing in place of a link; else what every other name has.
+abbrev pub LeavesLink : Config → Attempt → Type 0
+LeavesLink c a =
+    (IsLink (fin.get a.before.names c.link) × (fin.get a.after.names c.link ≡ None))
+    ⊎ (((fin.get a.after.names c.link ≡ fin.get a.before.names c.link)
+    ⊎ ((fin.get a.after.names c.link ≡ None) × (name_survives (log_files_of c (Some (file_name_of c a.stamp))) c.max_files a.before.names c.link ≡ false)))
+    × ((IsQuiet a.noted_before a.noted_after ⊎ (a.before.there ≡ false))
+    → fin.get a.after.names c.link ≡ (if name_survives (log_files_of c (Some (file_name_of c a.stamp))) c.max_files a.before.names c.link then fin.get a.before.names c.link else None)))
+
+-- The names after an attempt that opened a body: its own, and the link, if one is set, unless it is optional. Every other name is as it was, or is
 -- removed and doesn't survive. If neither List nor Remove was noted, or there was no folder, exactly the survivors are left.
 pub record NamesAfter (c : Config) (a : Attempt) (b : ℕ) : Type 0 where
   pub own : (t : Option ℤ) × (fin.get a.after.names (file_name_of c a.stamp) ≡ Some (File b t))
-  pub link : c.link ≢ [] → fin.get a.after.names c.link ≡ Some (Link (file_name_of c a.stamp))
+  pub link : c.link ≢ [] → (fin.get a.after.names c.link ≡ Some (Link (file_name_of c a.stamp)))
+      ⊎ ((c.link_optional ≡ true) × (c.link ≢ file_name_of c a.stamp → LeavesLink c a))
   pub others : (name : List ℕ) → IsOtherName c a.stamp name
       → (fin.get a.after.names name ≡ fin.get a.before.names name)
       ⊎ ((fin.get a.after.names name ≡ None) × (name_survives (log_files_of c (Some (file_name_of c a.stamp))) c.max_files a.before.names name ≡ false))
@@ -194,7 +204,7 @@ pub record NamesAfter (c : Config) (a : Attempt) (b : ℕ) : Type 0 where
 
 -- What an attempt that opened a body did. It removed only log files that don't survive, and, if it noted neither List nor
 -- Remove, all of them: by name last, else first. In the folder, which is there now, it opened the file of its moment's name, and let the link
--- lead to it.
+-- lead to it, unless that is optional and could not be made.
 pub record Succeeded (c : Config) (a : Attempt) (b : ℕ) : Type 0 where
   pub pruned : Content
   pub unlinked : Content
@@ -202,12 +212,12 @@ pub record Succeeded (c : Config) (a : Attempt) (b : ℕ) : Type 0 where
   pub only_old : RemovesOnlyOld (log_files_of c (Some (file_name_of c a.stamp))) (max_before c) a.before pruned
   pub survivors : IsQuiet a.noted_before a.noted_after → KeepsSurvivors (log_files_of c (Some (file_name_of c a.stamp))) (max_before c) a.before pruned
   pub opens : OpensBody (file_name_of c a.stamp) (after_make_folder pruned) unlinked b
-  pub links : ChangesLink c.link (file_name_of c a.stamp) unlinked linked
+  pub links : MayChangeLink c (file_name_of c a.stamp) unlinked linked
   pub only_old_last : RemovesOnlyOld (log_files_of c (Some (file_name_of c a.stamp))) (max_after c) linked a.after
   pub survivors_last : IsQuiet a.noted_before a.noted_after → KeepsSurvivors (log_files_of c (Some (file_name_of c a.stamp))) (max_after c) linked a.after
   pub spares : SparesOpened c (file_name_of c a.stamp) a.before linked a.after
   pub names : NamesAfter c a b
-  pub at_most : IsQuiet a.noted_before a.noted_after → 0 < c.max_files → candidates_in (log_files_of c None) a.after ≤ c.max_files
+  pub at_most : IsQuiet a.noted_before a.noted_after → 0 < c.max_files → candidates_in (log_files_of c (Some (file_name_of c a.stamp))) a.after + uncounted c ≤ c.max_files
 
 -- what an attempt did
 abbrev pub AttemptDoes : Config → Attempt → Type 0

@@ -1,17 +1,15 @@
 -- Log files that are known by their names.
 use Rattle.std.proofs.Common.{◌≡◌, ◌∙◌, ◌||◌, ◌&&◌, ℕ, ◌≤◌, ◌<◌, ℤ, pos, negsuc, ◌+ℤ◌, ◌*ℤ◌, ◌<ℤ◌, Bool, true, false, if◌then◌else◌, List, Option, None, Some, refl, sym, ap, subst, arith, inl, inr}
-use Rattle.std.specs.Prelude.{◌==◌}
-use Rattle.std.specs.Str.{bytes_eq}
-use Rattle.std.specs.Option.{option_map, option_map_or, option_and_then}
+use Rattle.std.specs.Prelude.{◌==◌, ◌≤ℤ◌, int_lt}
+use Rattle.std.specs.Option.{option_map, option_and_then}
 use Rattle.std.specs.FinMap as fin
 use Rattle.std.proofs.lemmas.Int.{ints}
-use Rattle.std.proofs.lemmas.Slice.Eq.{bytes_eq-Decides}
 use Rattle.appender_names.specs.Name.{Naming, IsLaterName, greatest_number, reading, reading_at}
 use Rattle.appender_names.specs.Rotation.{is_moment, is_same_start, period_of}
 use Rattle.appender_names.proofs.Reading.{reading_reads}
 use Rattle.appender_store.specs.Content.{Entry, NameMap, File, Link, Folder}
 use Rattle.appender_store.specs.Folder.{entry_row}
-use Rattle.appender_retain.specs.Rank.{LogFiles, key_by_name, candidate_key, rank_of}
+use Rattle.appender_retain.specs.Rank.{LogFiles, key_by_name, opened_key, candidate_key, rank_of}
 use Rattle.appender_retain.specs.Survival.{NamesAreKept, KeysRise, name_survives}
 
 -- what is read without numbers has the number 0
@@ -41,21 +39,37 @@ keyless_survives log name keyless max names = rw (no_rank (fin.get names name)) 
     no_rank (Some (Link target)) = refl
     no_rank (Some Folder) = refl
 
+-- a number is not below one that it reaches
+not_below : (x y : ℤ) → x ≤ℤ y → int_lt y x ≡ false
+not_below x y reaches = by (int_lt y x) refl
+  where
+    by : (t : Bool) → int_lt y x ≡ t → t ≡ false
+    by true e = absurd (omega (arith, ints, reaches, e))
+    by false e = refl
+
+-- by name a file from the one that is opened next on has no key
+late_keyless : (log : LogFiles) (opened name : List ℕ) (x y : ℤ) → log.by_name ≡ true → log.opened ≡ Some opened → key_by_name log.naming opened ≡ Some x → key_by_name log.naming name ≡ Some y → x ≤ℤ y → (created : Option ℤ) → candidate_key log name created ≡ None
+late_keyless log opened name x y by_name is key_opened key reaches created =
+    let own : opened_key log ≡ Some x = ap (option_and_then (key_by_name log.naming)) is ∙ key_opened in
+    rw (by_name, key, own, not_below x y reaches) refl
+
 -- by name the file that is opened next has no key
 pub opened_keyless : (log : LogFiles) (name : List ℕ) → log.by_name ≡ true → log.opened ≡ Some name → (created : Option ℤ) → candidate_key log name created ≡ None
-opened_keyless log name by_name is created =
-    let own : option_map_or (bytes_eq name) log.opened false ≡ true = ap (λ (o : Option (List ℕ)). option_map_or (bytes_eq name) o false) is ∙ (bytes_eq-Decides name name).1 refl in
-    rw (by_name, own) refl
+opened_keyless log name by_name is created = by (key_by_name log.naming name) refl
+  where
+    itself : (x : ℤ) → x ≤ℤ x
+    itself x = omega (arith, ints)
+
+    by : (o : Option ℤ) → key_by_name log.naming name ≡ o → candidate_key log name created ≡ None
+    by None e = rw (by_name, e) refl
+    by (Some x) e = late_keyless log name name x x by_name is e e (itself x) created
 
 pub spared : (log : LogFiles) → log.by_name ≡ true → NamesAreKept log
 spared log by_name = record {
   opened = λ name is. keyless_survives log name (opened_keyless log name by_name is);
-  others = λ name none. keyless_survives log name (λ created. rw (by_name, none) (either (option_map_or (bytes_eq name) log.opened false)));
+  later = λ opened name x y is key_opened key reaches. keyless_survives log name (late_keyless log opened name x y by_name is key_opened key reaches);
+  others = λ name none. keyless_survives log name (λ created. rw (by_name, none) refl);
 }
-  where
-    either : (b : Bool) → ◌≡◌ {A = Option ℤ} (if b then None else None) None
-    either true = refl
-    either false = refl
 
 -- the key of a name that reads as this period and number
 key_is : (n : Naming) (name : List ℕ) (p : ℤ) (k : ℕ) (x : ℤ) → reading_at n name ≡ Some (p, k) → key_by_name n name ≡ Some x → (x ≡ ((p *ℤ pos 1000000) +ℤ pos k)) × (k ≤ 999999)

@@ -1,9 +1,8 @@
 -- How many candidates stand.
-use Rattle.std.proofs.Common.{◌≡◌, ◌≢◌, ◌∙◌, ◌||◌, ◌⊎◌, ℕ, ℤ, ◌+◌, ◌<◌, ◌≤◌, if◌then◌else◌, Bool, true, false, leb, List, [], ◌++◌, length, length-append, get_or, Option, None, Some, inl, inr, refl, sym, ap, arith, Ordering}
+use Rattle.std.proofs.Common.{◌≡◌, ◌∙◌, ◌||◌, ◌⊎◌, ℕ, ℤ, ◌+◌, ◌<◌, ◌≤◌, if◌then◌else◌, Bool, true, false, leb, List, [], ◌++◌, length, length-append, get_or, Option, None, Some, inl, inr, refl, sym, ap, arith, Ordering}
 use Rattle.std.specs.Prelude.{◌==◌}
 use Rattle.std.specs.List.{Contains, IsDistinct, cons_option, count_by}
-use Rattle.std.specs.Str.{bytes_eq}
-use Rattle.std.specs.Option.{option_map, option_map_or, option_and_then}
+use Rattle.std.specs.Option.{option_map_or, option_and_then}
 use Rattle.std.specs.Ordering.{nat_cmp, int_cmp, ordering_then, is_lt, is_eq, eq_by_cmp}
 use Rattle.std.specs.Cmp.Lexicographic.{slice_cmp, nat_list_cmp_total}
 use Rattle.std.specs.declared.cmp.Ordering.TheVariants.{Less, Equal, Greater}
@@ -14,13 +13,12 @@ use Rattle.std.proofs.lemmas.List.Elements.{Contains-append_left, Contains-appen
 use Rattle.std.proofs.lemmas.Map.Keys.{IsDistinct-from_apart}
 use Rattle.std.proofs.lemmas.Map.Made.{length-le_from_is_member}
 use Rattle.std.proofs.lemmas.Map.Views.{Contains-from_any, list_any-from_Contains, tells_apart}
-use Rattle.std.proofs.lemmas.Slice.Eq.{bytes_eq-Decides}
 use Rattle.std.proofs.lemmas.Map.Lookups.{exact_bytes}
-use Rattle.appender_store.specs.Content.{Content, NameMap, Entry, File, Link, Folder, MakesLink, OpensBody, RemovesLink}
+use Rattle.appender_store.specs.Content.{Content, NameMap, Entry, File, Link, MakesLink, OpensBody, RemovesLink}
 use Rattle.appender_store.specs.Folder.{entry_row}
 use Rattle.appender_store.specs.NameLaws.{NameLaws}
-use Rattle.appender_retain.specs.Rank.{LogFiles, Rank, candidate_key, rank_cmp, rank_of}
-use Rattle.appender_retain.specs.Survival.{KeepsSurvivors, LinksAddNone, OpeningsAddOne, OpenedIsOne, name_survives, name_ranks, candidates_in}
+use Rattle.appender_retain.specs.Rank.{LogFiles, Rank, rank_cmp, rank_of}
+use Rattle.appender_retain.specs.Survival.{KeepsSurvivors, LinksAddNone, OpeningsAddOne, name_survives, name_ranks, candidates_in}
 use Rattle.appender_retain.proofs.Elements.{filter_map_Contains, Contains_filter_map, all_pairs_filter_map}
 use Rattle.appender_retain.proofs.Entries.{entries_rise, entry_there, there_entry}
 use Rattle.appender_retain.proofs.Order.{few}
@@ -101,10 +99,6 @@ no_more_stand log its old new some stood =
           | inr before ↦ Contains-append_right some (name_ranks log old.names) q (Contains_filter_map (entry_rank log) (fin.entries old.names) w.0 q (there_entry exact_bytes old.names w.0.0 w.0.1 before.0) before.1)
         ]
 
--- the log files, and the file that is opened next among them
-abbrev all_of : LogFiles → LogFiles
-all_of log = record log { opened = None }
-
 module _ (maps : NameLaws) (log : LogFiles) where
   -- links are none
   pub links_stand_aside : LinksAddNone log
@@ -127,55 +121,12 @@ module _ (maps : NameLaws) (log : LogFiles) where
             | inr w ↦ inr (sym w.1 ∙ (rw removes.after at now), is)
           ]
 
-  -- another name than that of the file that is opened next has the same rank among all log files
-  same_rank : (name other : List ℕ) (v : Entry) → log.opened ≡ Some name → other ≢ name → entry_rank log (other, v) ≡ entry_rank (all_of log) (other, v)
-  same_rank name other v is differs = by v
-    where
-      spared : option_map_or (bytes_eq other) log.opened false ≡ false
-      spared = ap (λ (o : Option (List ℕ)). option_map_or (bytes_eq other) o false) is ∙ test (bytes_eq other name) refl
-        where
-          test : (t : Bool) → bytes_eq other name ≡ t → t ≡ false
-          test true e = absurd (differs ((bytes_eq-Decides other name).0 e))
-          test false e = refl
-
-      same_key : (t : Option ℤ) → candidate_key log other t ≡ candidate_key (all_of log) other t
-      same_key t = rw spared refl
-
-      by : (v : Entry) → entry_rank log (other, v) ≡ entry_rank (all_of log) (other, v)
-      by (File b t) = ap (λ (k : Option ℤ). option_map (λ (key : ℤ). (key, other, 0)) k) (same_key t)
-      by (Link target) = refl
-      by Folder = refl
-
-  -- the file that is opened is at most one beside the others
-  pub opened_stands_one : OpenedIsOne log
-  opened_stands_one name c next =
-      omega (arith, at_most_one own, no_more_stand log (all_of log) c c (cons_option own []) stood)
-    where
-      all : List ℕ × Entry → Option Rank
-      all e = entry_rank (all_of log) e
-
-      own : Option Rank
-      own = option_and_then (λ (e : Entry). all (name, e)) (fin.get c.names name)
-
-      at_most_one : (o : Option Rank) → length (cons_option o []) ≤ 1
-      at_most_one None = omega arith
-      at_most_one (Some r) = omega arith
-
-      only : (o : Option Rank) (r : Rank) → o ≡ Some r → Contains (cons_option o []) r
-      only o r is = rw is (0, omega arith, refl)
-
-      stood : (other : List ℕ) (v : Entry) (r : Rank) → fin.get c.names other ≡ Some v → all (other, v) ≡ Some r → Contains (cons_option own []) r ⊎ ((fin.get c.names other ≡ Some v) × (entry_rank log (other, v) ≡ Some r))
-      stood other v r now is = elim (maps.additions c.names name Folder other) [
-        | inl w ↦ inl (only own r (ap (option_and_then (λ (e : Entry). all (name, e))) (ap (fin.get c.names) (sym w.0) ∙ now) ∙ ap (λ (n : List ℕ). all (n, v)) (sym w.0) ∙ is))
-        | inr w ↦ inr (now, same_rank name other v next w.0 ∙ is)
-      ]
-
   -- a file that is opened is at most one
   pub openings_stand_one : OpeningsAddOne log
-  openings_stand_one name old new b next opens = by opens
+  openings_stand_one name old new b opens = by opens
     where
       all : List ℕ × Entry → Option Rank
-      all e = entry_rank (all_of log) e
+      all e = entry_rank log e
 
       at_most_one : (o : Option Rank) → length (cons_option o []) ≤ 1
       at_most_one None = omega arith
@@ -188,15 +139,15 @@ module _ (maps : NameLaws) (log : LogFiles) where
       Stood : ℕ → Option ℤ → Type 0
       Stood x t = (other : List ℕ) (v : Entry) (r : Rank) → fin.get new.names other ≡ Some v → all (other, v) ≡ Some r → Contains (cons_option (all (name, File x t)) []) r ⊎ ((fin.get old.names other ≡ Some v) × (entry_rank log (other, v) ≡ Some r))
 
-      one : (x : ℕ) (t : Option ℤ) → Stood x t → candidates_in (all_of log) new ≤ candidates_in log old + 1
-      one x t stood = omega (arith, at_most_one (all (name, File x t)), no_more_stand log (all_of log) old new (cons_option (all (name, File x t)) []) stood)
+      one : (x : ℕ) (t : Option ℤ) → Stood x t → candidates_in log new ≤ candidates_in log old + 1
+      one x t stood = omega (arith, at_most_one (all (name, File x t)), no_more_stand log log old new (cons_option (all (name, File x t)) []) stood)
 
       own : (x : ℕ) (t : Option ℤ) (other : List ℕ) (v : Entry) (r : Rank) → other ≡ name → Some (File x t) ≡ Some v → all (other, v) ≡ Some r → Contains (cons_option (all (name, File x t)) []) r
       own x t other v r same file is =
           let entry : File x t ≡ v = (cc) in
           only (all (name, File x t)) r (ap (λ (m : List ℕ). all (m, File x t)) (sym same) ∙ ap (λ (e : Entry). all (other, e)) entry ∙ is)
 
-      by : OpensBody name old new b → candidates_in (all_of log) new ≤ candidates_in log old + 1
+      by : OpensBody name old new b → candidates_in log new ≤ candidates_in log old + 1
       by (there, inl (t, at, unchanged)) = one b t stood
         where
           stood : Stood b t
@@ -204,7 +155,7 @@ module _ (maps : NameLaws) (log : LogFiles) where
               let before : fin.get old.names other ≡ Some v = ap (λ (c : Content). fin.get c.names other) (sym unchanged) ∙ now in
               elim (maps.additions old.names name (File b t) other) [
                 | inl w ↦ inl (own b t other v r w.0 (sym at ∙ ap (fin.get old.names) (sym w.0) ∙ before) is)
-                | inr w ↦ inr (before, same_rank name other v next w.0 ∙ is)
+                | inr w ↦ inr (before, is)
               ]
       by (there, inr (t, free, number, after)) = one b t stood
         where
@@ -212,5 +163,5 @@ module _ (maps : NameLaws) (log : LogFiles) where
           stood other v r now is =
               elim (maps.additions old.names name (File b t) other) [
                 | inl w ↦ inl (own b t other v r w.0 (sym w.1 ∙ (rw after at now)) is)
-                | inr w ↦ inr (sym w.1 ∙ (rw after at now), same_rank name other v next w.0 ∙ is)
+                | inr w ↦ inr (sym w.1 ∙ (rw after at now), is)
               ]

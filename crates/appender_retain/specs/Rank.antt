@@ -1,5 +1,5 @@
 -- Candidates of retention, their rank, and which of a listing survive.
-use Rattle.std.specs.Prelude.{◌≡◌, ◌≢◌, ◌↔◌, ℕ, ◌+◌, ℤ, ◌*ℤ◌, ◌+ℤ◌, pos, Bool, true, false, not, ◌&&◌, ◌||◌, ◌==◌, nat_eq, nat_le, if◌then◌else◌, List, [], filter_map, count_by, Option, None, Some, is_some, slice_get, option_and_then, Contains, AllPairs}
+use Rattle.std.specs.Prelude.{◌≡◌, ◌≢◌, ◌↔◌, ℕ, ◌+◌, ℤ, ◌*ℤ◌, ◌+ℤ◌, pos, Bool, true, false, not, ◌&&◌, ◌||◌, ◌==◌, nat_eq, nat_le, int_lt, if◌then◌else◌, List, [], filter_map, count_by, Option, None, Some, is_some, slice_get, option_and_then, Contains, AllPairs}
 use Rattle.std.specs.Option.{option_map, option_map_or}
 use Rattle.std.specs.List.{starts_with, ends_with, enumerate_from}
 use Rattle.std.specs.Str.{bytes_eq}
@@ -12,8 +12,8 @@ use Rattle.appender_names.specs.Name.{Naming, reading, reading_at}
 use Rattle.appender_store.specs.Folder.{Row}
 use Rattle.appender_store.specs.declared.store.Kind.TheVariants.{File}
 
--- Which files are log files: by name, those whose names read as names of this log, without the file that is opened next; else, as in
--- tracing-appender, those whose names have the prefix and the suffix.
+-- Which files are log files: by name, those whose names read as names of this log, of a time before that of the file that is opened next; else,
+-- as in tracing-appender, those whose names have the prefix and the suffix.
 pub record LogFiles : Type 0 where
   pub naming : Naming
   pub by_name : Bool
@@ -33,10 +33,27 @@ abbrev pub key_by_name : Naming → List ℕ → Option ℤ
 key_by_name n name = option_and_then (λ (read : ℤ × ℕ).
     if is_moment read.0 && is_same_start (period_of n.rotation read.0) (Some read.0) then Some ((read.0 *ℤ pos 1000000) +ℤ pos read.1) else None) (reading_at n name)
 
--- A log file's key: by name its period and number; else the nanosecond of its creation, or if that is unknown, of the second that its name reads as.
+-- By name, the key of the file that is opened next, if its name has one.
+abbrev pub opened_key : LogFiles → Option ℤ
+opened_key log = option_and_then (key_by_name log.naming) log.opened
+
+-- Whether a key is below that of the file that is opened next, if one is. So neither that file nor a later one is a candidate.
+abbrev pub is_before_opened : LogFiles → ℤ → Bool
+is_before_opened log key = option_map_or (int_lt key) (opened_key log) (not (is_some log.opened))
+
+-- by name, whether a name is of a later time than the file that is opened next
+abbrev pub is_later_name : LogFiles → List ℕ → Bool
+is_later_name log name = option_map_or (λ own. option_map_or (int_lt own) (key_by_name log.naming name) false) (opened_key log) false
+
+-- whether an entry is a plain file of such a name
+abbrev pub is_later : LogFiles → Row → Bool
+is_later log (Some name, File, created) = is_later_name log name
+is_later log row = false
+
+-- A log file's key: by name its period and number, if it is before the file that is opened next; else the nanosecond of its creation, or if that is unknown, of the second that its name reads as.
 abbrev pub candidate_key : LogFiles → List ℕ → Option ℤ → Option ℤ
 candidate_key log name created =
-    if log.by_name then (if option_map_or (bytes_eq name) log.opened false then None else key_by_name log.naming name)
+    if log.by_name then option_and_then (λ key. if is_before_opened log key then Some key else None) (key_by_name log.naming name)
     else if has_parts log.naming name then option_map_or Some created (option_map (λ second. second *ℤ pos 1000000000) (reading log.naming name)) else None
 
 -- a candidate's key, name and place

@@ -1,5 +1,5 @@
 -- Which names of a folder survive retention.
-use Rattle.std.specs.Prelude.{◌≡◌, ◌⊎◌, ℕ, ℤ, ◌<ℤ◌, ◌+◌, ◌≤◌, Bool, true, false, if◌then◌else◌, List, length, filter_map, Option, None, Some, option_and_then}
+use Rattle.std.specs.Prelude.{◌≡◌, ◌⊎◌, ℕ, ℤ, ◌<ℤ◌, ◌≤ℤ◌, ◌+◌, ◌≤◌, Bool, true, false, if◌then◌else◌, List, length, filter_map, Option, None, Some, option_and_then}
 use Rattle.std.specs.FinMap as fin
 use Rattle.appender_names.specs.Name.{Naming, IsLaterName, reading_at}
 use Rattle.appender_store.specs.Content.{Content, NameMap, OpensBody, RemovesLink, MakesLink}
@@ -33,22 +33,20 @@ abbrev pub KeepsSurvivors : LogFiles → ℕ → Content → Content → Type 0
 KeepsSurvivors log max old new =
     (name : List ℕ) → fin.get new.names name ≡ (if name_survives log max old.names name then fin.get old.names name else None)
 
--- A file that is opened is at most one candidate more. By name it was none before, even if it was there.
+-- a file that is opened is at most one candidate more
 abbrev pub OpeningsAddOne : LogFiles → Type 0
-OpeningsAddOne log = (name : List ℕ) (old new : Content) (b : ℕ) → log.opened ≡ Some name → OpensBody name old new b → candidates_in (record log { opened = None }) new ≤ candidates_in log old + 1
-
--- The file that is opened is at most one candidate beside the others.
-abbrev pub OpenedIsOne : LogFiles → Type 0
-OpenedIsOne log = (name : List ℕ) (c : Content) → log.opened ≡ Some name → candidates_in (record log { opened = None }) c ≤ candidates_in log c + 1
+OpeningsAddOne log = (name : List ℕ) (old new : Content) (b : ℕ) → OpensBody name old new b → candidates_in log new ≤ candidates_in log old + 1
 
 -- neither a link that is made nor one that is removed is a candidate more
 pub record LinksAddNone (log : LogFiles) : Type 0 where
   pub made : (link target : List ℕ) (old new : Content) → MakesLink link target old new → candidates_in log new ≤ candidates_in log old
   pub removed : (link : List ℕ) (old new : Content) → RemovesLink link old new → candidates_in log new ≤ candidates_in log old
 
--- retention removes neither the file that is opened next, nor a file whose name is not that of a log file
+-- retention removes neither the file that is opened next, nor a later one, nor a file whose name is not that of a log file
 pub record NamesAreKept (log : LogFiles) : Type 0 where
   pub opened : (name : List ℕ) → log.opened ≡ Some name → (max : ℕ) (names : NameMap) → name_survives log max names name ≡ true
+  pub later : (opened name : List ℕ) (x y : ℤ) → log.opened ≡ Some opened → key_by_name log.naming opened ≡ Some x → key_by_name log.naming name ≡ Some y → x ≤ℤ y
+      → (max : ℕ) (names : NameMap) → name_survives log max names name ≡ true
   pub others : (name : List ℕ) → key_by_name log.naming name ≡ None → (max : ℕ) (names : NameMap) → name_survives log max names name ≡ true
 
 -- the same names survive in both

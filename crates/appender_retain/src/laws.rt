@@ -3,20 +3,13 @@
 ghost use Rattle.std.specs.Prelude.{◌≡◌, true};
 ghost use Rattle.appender_names.specs.Name.{Naming};
 ghost use Rattle.appender_retain.specs.Rank.{LogFiles};
-ghost use Rattle.appender_retain.specs.Survival.{OpeningsAddOne, OpenedIsOne, LinksAddNone, NamesAreKept, SurvivorsStay, KeysRise};
+ghost use Rattle.appender_retain.specs.Survival.{OpeningsAddOne, LinksAddNone, NamesAreKept, SurvivorsStay, KeysRise};
 
 use appender_store::laws::names_change_one_at_a_time;
 
 /// One file more is at most one candidate more.
 pub fn openings_add_one()
     ensures { (log : LogFiles) → OpeningsAddOne log }
-{
-    names_change_one_at_a_time();
-}
-
-/// The file that is opened is at most one candidate beside the others.
-pub fn opened_is_one()
-    ensures { (log : LogFiles) → OpenedIsOne log }
 {
     names_change_one_at_a_time();
 }
@@ -28,7 +21,7 @@ pub fn links_add_none()
     names_change_one_at_a_time();
 }
 
-/// By name, the file that is opened next is not removed, nor is one whose name is not that of a log file.
+/// By name, the file that is opened next is not removed, nor is a later one, nor one whose name is not that of a log file.
 pub fn names_are_spared()
     ensures { (log : LogFiles) → log.by_name ≡ true → NamesAreKept log }
 {}

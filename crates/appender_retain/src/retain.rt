@@ -1,9 +1,9 @@
 //! Retention: the oldest log files are removed, so that at most a maximum remains. By default log files are known and
 //! ranked as the documentation of tracing-appender has it; by name, only those that the log itself can have made count.
 ghost use Rattle.std.specs.Prelude.{◌≡◌, IfOk, map};
-ghost use Rattle.std.specs.Prelude.{◌&&◌, Some, false};
+ghost use Rattle.std.specs.Prelude.{◌&&◌, Some};
+ghost use Rattle.std.specs.Prelude.{count_by, false, int_lt};
 ghost use Rattle.std.specs.Option.{option_map, option_map_or};
-ghost use Rattle.std.specs.Str.{bytes_eq};
 ghost use Rattle.appender_names.specs.Name.{reading_at};
 ghost use Rattle.appender_names.specs.Rotation.{is_moment, is_same_start, period_of};
 ghost use Rattle.appender_store.specs.Folder.{listed_row};
@@ -49,8 +49,8 @@ impl<'a> Model for LogFiles<'a> {
 impl<'a> LogFiles<'a> {
     /// Returns the log files that are there before the file of the name `opened` is opened.
     ///
-    /// If `by_name` is set, they are the plain files whose names read as the start of a period, without that file.
-    /// They rank by period, and then by number. Under `NEVER` there are none. If it is not set, they are those of
+    /// If `by_name` is set, they are the plain files whose names read as the start of a period, and with their numbers
+    /// are before that file. They rank by period, and then by number. Under `NEVER` there are none. If it is not set, they are those of
     /// `matching`.
     pub fn new(names: &'a Names, by_name: bool, opened: &'a str) -> LogFiles<'a>
         ensures { result ≡ record { naming = names.now; by_name = by_name; opened = Some opened.now } }
@@ -115,6 +115,46 @@ pub fn plan_log_files(
     places(alloc, &all[..count])
 }
 
+/// Returns how many files of a listing are later than the file that is opened. By name they neither count nor go.
+pub fn count_later(log: &LogFiles<'_>, listed: &[Listed]) -> usize
+    ensures { result ≡ count_by (rank.is_later log.now) (map listed_row listed.now) }
+{
+    let mut count = 0;
+    for entry in listed {
+        if is_later(log, entry) {
+            count += 1;
+        }
+    }
+    count
+}
+
+fn is_later(log: &LogFiles<'_>, entry: &Listed) -> bool
+    ensures { result ≡ rank.is_later log.now (listed_row entry.now) }
+{
+    match &entry.name {
+        Some(name) => entry.kind == Kind::File && is_later_name(log, name.as_str()),
+        None => false,
+    }
+}
+
+fn is_later_name(log: &LogFiles<'_>, name: &str) -> bool
+    ensures { result ≡ rank.is_later_name log.now name.now }
+{
+    match opened_key(log) {
+        Some(opened) => is_above(opened, key_by_name(log.names, name)),
+        None => false,
+    }
+}
+
+fn is_above(low: i128, key: Option<i128>) -> bool
+    ensures { result ≡ option_map_or (int_lt low) key false }
+{
+    match key {
+        Some(key) => low < key,
+        None => false,
+    }
+}
+
 // Returns the candidates of a listing, in its order.
 fn candidates<'a>(
     alloc: Global,
@@ -152,21 +192,28 @@ fn key(log: &LogFiles<'_>, name: &str, created: Option<i128>) -> Option<i128>
     if !log.by_name {
         return key_by_creation(log.names, name, created);
     }
-    if is_opened(log, name) {
-        return None;
-    }
-    key_by_name(log.names, name)
+    let key = key_by_name(log.names, name)?;
+    is_before_opened(log, key).then_some(key)
 }
 
-// Returns whether this is the name of the file that is opened next. By name it is no candidate: at the greatest rank it
-// would be removed with a maximum of 1, or take the place of another file.
-fn is_opened(log: &LogFiles<'_>, name: &str) -> bool
-    ensures { result ≡ option_map_or (bytes_eq name.now) log.now.opened false }
+// Returns whether a key is below that of the file that is opened next. By name neither that file nor a later one is a
+// candidate: the opened one would be removed with a maximum of 1, and later ones, which a clock that was ahead left, would
+// take the places of all others.
+fn is_before_opened(log: &LogFiles<'_>, key: i128) -> bool
+    ensures { result ≡ rank.is_before_opened log.now key }
 {
-    match log.opened {
-        Some(opened) => name == opened,
-        None => false,
+    match opened_key(log) {
+        Some(opened) => key < opened,
+        // The name of the week in which the year 1 begins has none: nothing is before it.
+        None => log.opened.is_none(),
     }
+}
+
+// Returns the key of the file that is opened next, if its name has one.
+fn opened_key(log: &LogFiles<'_>) -> Option<i128>
+    ensures { result ≡ rank.opened_key log.now }
+{
+    key_by_name(log.names, log.opened?)
 }
 
 // Returns the period and the number that a name reads as, as one number.

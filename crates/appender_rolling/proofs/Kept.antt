@@ -6,7 +6,7 @@ use Rattle.appender_store.specs.Content.{Content, NameMap, Entry, File, Link, af
 use Rattle.appender_store.specs.NameLaws.{NameLaws, RemovalsTakeOneName, AdditionsAddOneName}
 use Rattle.appender_retain.specs.Survival.{RemovesOnlyOld}
 use Rattle.appender_rolling.specs.Config.{Config, log_files_of, max_before}
-use Rattle.appender_rolling.specs.Opening.{MayRemoveLink, ChangesLink, MayRemoveNew, IsRefusalEffect}
+use Rattle.appender_rolling.specs.Opening.{MayRemoveLink, ChangesLink, MayChangeLink, MayRemoveNew, IsRefusalEffect}
 use Rattle.appender_rolling.specs.Kept.{KeepsBodies, HadFile, AddsNoFile, AddsNoOtherFile, OpeningPartsKeepBodies}
 
 same_file : (a b : ℕ) (t u : Option ℤ) → File a t ≡ File b u → a ≡ b
@@ -115,9 +115,13 @@ module _ (maps : NameLaws) where
         | inr before ↦ before
       ]))
 
-  pub keeps_linked : (link name : List ℕ) (old new : Content) → ChangesLink link name old new → AddsNoFile old new
+  keeps_linked : (link name : List ℕ) (old new : Content) → ChangesLink link name old new → AddsNoFile old new
   keeps_linked [] name old new same = rw same (keeps_all old)
   keeps_linked (b ∷ bs) name old new (freed, frees, makes) = files_on old freed new (keeps_freed (b ∷ bs) old freed frees) (keeps_link (b ∷ bs) name freed new makes)
+
+  pub keeps_tried : (config : Config) (name : List ℕ) (old new : Content) → MayChangeLink config name old new → AddsNoFile old new
+  keeps_tried config name old new (inl changes) = keeps_linked config.link name old new changes
+  keeps_tried config name old new (inr (optional, is_set, frees)) = keeps_freed config.link old new frees
 
   keeps_removed : (config : Config) (name : List ℕ) (old left new : Content) → MayRemoveNew config name old left new → AddsNoFile left new
   keeps_removed config name old left new (inl same) = rw same (keeps_all left)
@@ -142,6 +146,6 @@ module _ (maps : NameLaws) where
     retention = keeps_pruned;
     folder = keeps_made;
     opening = keeps_opened;
-    link = keeps_linked;
+    link = keeps_tried;
     refusal = keeps_little;
   }

@@ -13,7 +13,7 @@ use Rattle.appender_retain.specs.Rank.{LogFiles}
 use Rattle.appender_retain.specs.Survival.{RemovesOnlyOld, name_survives}
 use Rattle.appender_retain.specs.Pruning.{Prunes}
 use Rattle.appender_rolling.specs.Config.{Config, log_files_of, max_before, max_after}
-use Rattle.appender_rolling.specs.Opening.{OpensNamedFile, MayRemoveLink, ChangesLink, TriesRemoveLink, TriesRemove, RemovesNewFile, MayRemoveNew, BlocksLink, FailsToLink, OpensFile, RefusesFile, IsRefusalEffect, IsFileOrFolder}
+use Rattle.appender_rolling.specs.Opening.{OpensNamedFile, MayRemoveLink, ChangesLink, MayChangeLink, TriesRemoveLink, TriesRemove, RemovesNewFile, MayRemoveNew, BlocksLink, FailsToLink, OpensFile, RefusesFile, IsRefusalEffect, IsFileOrFolder}
 use Rattle.appender_rolling.proofs.Kept.{removed_name}
 use Rattle.appender_rolling.proofs.Openings.{all_survive}
 use Rattle.appender_rolling.proofs.Refusals.{may_remove, unpruned, refuses_little}
@@ -41,10 +41,11 @@ module _ (maps : NameLaws) where
     fails T P is_known old fault new (inr (same, inl memory)) = inl (inr memory)
     fails T P is_known old fault new (inr (same, inr forbidden)) = inr forbidden
 
-    link_has_reason : (link name : List ℕ) (old pruned unlinked : S) (file : F) (left : S) (fault : Error) (new : S) → c.link ≡ link → Prunes kind (log_files_of c (Some name)) (max_before c) old pruned → OpensNamedFile kind name pruned file unlinked → FailsToLink kind link name unlinked fault left
+    link_has_reason : (link name : List ℕ) (old pruned unlinked : S) (file : F) (left : S) (fault : Error) (new : S) → c.link_optional ≡ false → c.link ≡ link → Prunes kind (log_files_of c (Some name)) (max_before c) old pruned → OpensNamedFile kind name pruned file unlinked → FailsToLink kind link name unlinked fault left
         → RemovesNewFile kind c name (kind.made_file unlinked) file left new → HasReason kind c name old (Symlink fault) new
-    link_has_reason [] name old pruned unlinked file left fault new is prunes gets never removes = absurd never
-    link_has_reason (b ∷ bs) name old pruned unlinked file left fault new is prunes gets links_not removes = (
+    link_has_reason [] name old pruned unlinked file left fault new required is prunes gets never removes = absurd never
+    link_has_reason (b ∷ bs) name old pruned unlinked file left fault new required is prunes gets links_not removes = (
+      required,
       pruned,
       file,
       unlinked,
@@ -91,7 +92,7 @@ module _ (maps : NameLaws) where
         | inr forbidden ↦ inr (forbidden.0, found IsLinkOrFolder (λ never. never) (log_files_of c (Some name)) (max_before c) (kind.content old) (kind.content pruned) (prunes.only_old forbidden.0) name forbidden.1)
       ],
     )
-    refusal_has_reason name old (Symlink fault) new (pruned, unlinked, file, left, prunes, gets, links_not, removes) = link_has_reason c.link name old pruned unlinked file left fault new refl prunes gets links_not removes
+    refusal_has_reason name old (Symlink fault) new (required, pruned, unlinked, file, left, prunes, gets, links_not, removes) = link_has_reason c.link name old pruned unlinked file left fault new required refl prunes gets links_not removes
     refusal_has_reason name old Memory new same = same
     refusal_has_reason name old Moment new (pruned, prunes, never) = never
     refusal_has_reason name old (Name fault) new (pruned, prunes, never) = never
@@ -159,13 +160,17 @@ module _ (maps : NameLaws) where
     | inr gone ↦ inr gone
   ]
 
+  stays_tried : (c : Config) (name : List ℕ) (old new : Content) → MayChangeLink c name old new → (m : List ℕ) (e : Entry) → fin.get old.names m ≡ Some e → (fin.get new.names m ≡ Some e) ⊎ ((m ≡ c.link) × IsLink (Some e))
+  stays_tried c name old new (inl changes) = stays_linked c.link name old new changes
+  stays_tried c name old new (inr (optional, is_set, frees)) = stays_freed c.link old new frees
+
   module _ {S F : Type 0} (kind : Ghosts S F) (c : Config) where
     pub opening_takes_little : (name : List ℕ) (old : S) (file : F) (new : S) → OpensFile kind c name old file new → IsTrue kind.is_known → RemovesOnlyOldNames c c.max_files name (kind.content old) (kind.content new)
     opening_takes_little name old file new o is_known m e at =
         elim ((o.prunes.only_old is_known).names m) [
           | inl same ↦
               let opened : fin.get (kind.content o.unlinked).names m ≡ Some e = stays_opened name (after_make_folder (kind.content o.pruned)) (kind.content o.unlinked) (kind.body file) (o.gets.opens is_known) m e (same ∙ at) in
-              elim (stays_linked c.link name (kind.content o.unlinked) (kind.content o.linked) (o.changes_link is_known) m e opened) [
+              elim (stays_tried c name (kind.content o.unlinked) (kind.content o.linked) (o.changes_link is_known) m e opened) [
                 | inl still ↦ elim ((o.prunes_last.only_old is_known).names m) [
                   | inl left ↦ inl (left ∙ still)
                   | inr gone ↦ inr (inl (weaker_after c (log_files_of c (Some name)) (kind.content old).names m (sym ((o.spares is_known).same m) ∙ gone.1)))
@@ -259,7 +264,7 @@ module _ (maps : NameLaws) where
         inl (ap (λ (d : Content). fin.get d.names name) none.content ∙ ap (λ (s : S). fin.get (kind.content s).names name) (unpruned kind c (log_files_of c (Some name)) old pruned prunes by_name))
     own_stays name old (NoFile fault) new by_name is_known (pruned, prunes, none) =
         inl (ap (λ (d : Content). fin.get d.names name) (none.content is_known) ∙ ap (λ (s : S). fin.get (kind.content s).names name) (unpruned kind c (log_files_of c (Some name)) old pruned prunes by_name))
-    own_stays name old (Symlink fault) new by_name is_known (pruned, unlinked, file, left, prunes, gets, links_not, removes) =
+    own_stays name old (Symlink fault) new by_name is_known (required, pruned, unlinked, file, left, prunes, gets, links_not, removes) =
         let same : pruned ≡ old = unpruned kind c (log_files_of c (Some name)) old pruned prunes by_name in
         linked_not_leaves name old unlinked left file new by_name is_known
         (subst (λ (s : S). OpensBody name (after_make_folder (kind.content s)) (kind.content unlinked) (kind.body file)) same (gets.opens is_known))

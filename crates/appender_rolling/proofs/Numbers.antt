@@ -2,6 +2,7 @@
 use Rattle.std.proofs.Common.{◌≡◌, ◌∙◌, ◌⊎◌, ◌&&◌, inl, inr, ℕ, zero, suc, ◌+◌, ◌<◌, ◌≤◌, ℤ, Bool, true, false, if◌then◌else◌, List, [], ◌∷◌, map, Option, None, Some, refl, sym, ap, subst, arith, lit≤}
 use Rattle.std.specs.Prelude.{nat_lt, min, max, unwrap_or}
 use Rattle.std.specs.FinMap as fin
+use Rattle.std.specs.Option.{option_and_then, option_map_or}
 use Rattle.std.specs.Cmp.Lexicographic.{nat_list_cmp_total}
 use Rattle.std.proofs.lemmas.Bool.{cases_lt}
 use Rattle.std.proofs.lemmas.Bool.Decides.{nat_tests}
@@ -9,6 +10,7 @@ use Rattle.std.proofs.lemmas.Int.{ints}
 use Rattle.std.proofs.lemmas.List.Sorted.{Contains-permutation, IsPermutation-sym}
 use Rattle.std.proofs.lemmas.Map.Lookups.{exact_bytes}
 use Rattle.appender_names.specs.Rotation.{IsMoment, period_of, is_same_start, is_in_period}
+use Rattle.appender_names.specs.Archive.{before_ending}
 use Rattle.appender_names.specs.Name.{Naming, ReadsAt, reading_at, greatest_number}
 use Rattle.appender_names.proofs.Periods.{is_same_is, is_same_to, has_start, same_period, step_is}
 use Rattle.appender_names.proofs.Reading.{reading_reads, reads_reading}
@@ -21,8 +23,8 @@ use Rattle.appender_retain.proofs.Elements.{Contains_later, Contains_map, map_Co
 use Rattle.appender_retain.proofs.Entries.{entry_there, there_entry}
 use Rattle.appender_retain.proofs.Listing.{row_name}
 use Rattle.appender_rolling.specs.Config.{Config, naming_of}
-use Rattle.appender_rolling.specs.Opening.{IsLastFile, IsFirstNumber, IsListed, HasEntry}
-use Rattle.appender_rolling.specs.Inside.Numbers.{is_plain, continues_at, number_after, number_after_row, first_number}
+use Rattle.appender_rolling.specs.Opening.{IsLastFile, IsNextNumber, IsTaken, IsFirstNumber, IsListed, HasEntry}
+use Rattle.appender_rolling.specs.Inside.Numbers.{is_plain, continues_at, number_after, number_after_row, number_after_archive, number_after_listed, first_number}
 
 some_is : {X : Type 0} (x y : X) → ◌≡◌ {A = Option X} (Some x) (Some y) → x ≡ y
 some_is x y e = ap (λ (o : Option _). unwrap_or o x) e
@@ -69,7 +71,7 @@ module _ (c : Config) (m : ℤ) (moment : IsMoment m) where
       rw (is.continues, is.plain, ap (λ (x : ℤ × ℕ). x.0) same, begins) (is_same_is (Some start))
 
   -- among entries that are the same
-  moved : (P Q : List ℕ → Kind → Type 0) (number : ℕ) → ((name : List ℕ) (kind : Kind) → P name kind → Q name kind) → ((name : List ℕ) (kind : Kind) → Q name kind → P name kind) → IsFirstNumber c m P number → IsFirstNumber c m Q number
+  moved : (P Q : List ℕ → Kind → Type 0) (number : ℕ) → ((name : List ℕ) (kind : Kind) → P name kind → Q name kind) → ((name : List ℕ) (kind : Kind) → Q name kind → P name kind) → IsNextNumber c m P number → IsNextNumber c m Q number
   moved P Q number to from is = record {
     at_most = is.at_most;
     above = λ name kind k there. is.above name kind k (from name kind there);
@@ -83,7 +85,7 @@ module _ (c : Config) (m : ℤ) (moment : IsMoment m) where
   InRow row name kind = (row.0 ≡ Some name) × (row.1 ≡ kind)
 
   -- of one listed name
-  of_row : (row : Row) → IsFirstNumber c m (InRow row) (number_after_row n c.continues m row)
+  of_row : (row : Row) → IsNextNumber c m (InRow row) (number_after_row n c.continues m row)
   of_row (None, kind, created) = record {
     at_most = lit≤ tt;
     above = λ name other k there. absurd (let both : ◌≡◌ {A = Option (List ℕ)} None (Some name) = there.0 in cc);
@@ -98,7 +100,7 @@ module _ (c : Config) (m : ℤ) (moment : IsMoment m) where
 
       -- one that is not continued
       within : (key : ℤ × ℕ) → reading_at n name ≡ Some key → test key kind ≡ false → (t u : Bool) → is_in_period n.rotation m key.0 ≡ t → nat_lt key.1 999999 ≡ u
-          → IsFirstNumber c m (InRow (Some name, kind, created)) (if t then (if u then key.1 + 1 else 999999) else 0)
+          → IsNextNumber c m (InRow (Some name, kind, created)) (if t then (if u then key.1 + 1 else 999999) else 0)
       within key e anew false u in_period below = record {
         at_most = lit≤ tt;
         above = λ other which k there has.
@@ -131,7 +133,7 @@ module _ (c : Config) (m : ℤ) (moment : IsMoment m) where
           }
 
       -- one that is continued
-      itself : (key : ℤ × ℕ) → reading_at n name ≡ Some key → test key kind ≡ true → IsFirstNumber c m (InRow (Some name, kind, created)) (min key.1 999999)
+      itself : (key : ℤ × ℕ) → reading_at n name ≡ Some key → test key kind ≡ true → IsNextNumber c m (InRow (Some name, kind, created)) (min key.1 999999)
       itself key e on =
           let reads = reading_reads n name key e in
           let same_number : min key.1 999999 ≡ key.1 = omega (arith, reads.number_is, last_low n.numbered) in
@@ -145,11 +147,11 @@ module _ (c : Config) (m : ℤ) (moment : IsMoment m) where
             least = inr (name, kind, key.1, (refl, refl), (key.0, reads, own_period key.0 (is_same_to (period_of c.rotation m) (Some key.0) start)), inr (inr (refl, is)));
           })
 
-      with_key : (key : ℤ × ℕ) → reading_at n name ≡ Some key → (t : Bool) → test key kind ≡ t → IsFirstNumber c m (InRow (Some name, kind, created)) (if t then min key.1 999999 else number_after n.rotation m key)
+      with_key : (key : ℤ × ℕ) → reading_at n name ≡ Some key → (t : Bool) → test key kind ≡ t → IsNextNumber c m (InRow (Some name, kind, created)) (if t then min key.1 999999 else number_after n.rotation m key)
       with_key key e true on = itself key e on
       with_key key e false anew = within key e anew (is_in_period n.rotation m key.0) (nat_lt key.1 999999) refl refl
 
-      by : (o : Option (ℤ × ℕ)) → reading_at n name ≡ o → IsFirstNumber c m (InRow (Some name, kind, created)) (number_after_row n c.continues m (Some name, kind, created))
+      by : (o : Option (ℤ × ℕ)) → reading_at n name ≡ o → IsNextNumber c m (InRow (Some name, kind, created)) (number_after_row n c.continues m (Some name, kind, created))
       by None e = rw e (record {
         at_most = lit≤ tt;
         above = λ other which k there has.
@@ -160,10 +162,10 @@ module _ (c : Config) (m : ℤ) (moment : IsMoment m) where
       by (Some key) e = rw e (with_key key e (test key kind) refl)
 
   -- of entries of two kinds it is the greater of theirs
-  joined : (P Q : List ℕ → Kind → Type 0) (a b : ℕ) → IsFirstNumber c m P a → IsFirstNumber c m Q b → IsFirstNumber c m (λ name kind. P name kind ⊎ Q name kind) (max a b)
+  joined : (P Q : List ℕ → Kind → Type 0) (a b : ℕ) → IsNextNumber c m P a → IsNextNumber c m Q b → IsNextNumber c m (λ name kind. P name kind ⊎ Q name kind) (max a b)
   joined P Q a b first second = by (nat_lt a b) refl
     where
-      by : (t : Bool) → nat_lt a b ≡ t → IsFirstNumber c m (λ name kind. P name kind ⊎ Q name kind) (max a b)
+      by : (t : Bool) → nat_lt a b ≡ t → IsNextNumber c m (λ name kind. P name kind ⊎ Q name kind) (max a b)
       by true e =
           let less : a < b = grind (arith, nat_tests) in
           let greatest : max a b ≡ b = omega (arith, less) in
@@ -204,29 +206,108 @@ module _ (c : Config) (m : ℤ) (moment : IsMoment m) where
             ];
           })
 
-  -- of a listing
-  pub of_listing : (rows : List Row) → IsFirstNumber c m (IsListed rows) (first_number n c.continues m rows)
-  of_listing [] = record {
+  -- an archive of this name is listed
+  abbrev Archived : Row → List ℕ → Kind → Type 0
+  Archived row name kind = (archive : List ℕ) × (kind ≡ ListedOther) × (row.0 ≡ Some archive) × (before_ending archive ≡ Some name)
+
+  -- the names that a row takes, if archives count
+  abbrev InTaken : Bool → Row → List ℕ → Kind → Type 0
+  InTaken by_name row name kind = InRow row name kind ⊎ ((by_name ≡ true) × Archived row name kind)
+
+  -- of one listed archive
+  of_archive : (row : Row) → IsNextNumber c m (Archived row) (number_after_archive n m row)
+  of_archive (None, kind, created) = record {
     at_most = lit≤ tt;
-    above = λ name kind k there has. absurd (let low = there.1.1 in omega (arith, low));
+    above = λ name other k (archive, is, named, ends) has. absurd (let both : ◌≡◌ {A = Option (List ℕ)} None (Some archive) = named in cc);
     least = inl refl;
   }
-  of_listing (row ∷ rows) =
-      moved (λ name kind. InRow row name kind ⊎ IsListed rows name kind) (IsListed (row ∷ rows)) (first_number n c.continues m (row ∷ rows)) to from
-      (joined (InRow row) (IsListed rows) (number_after_row n c.continues m row) (first_number n c.continues m rows) (of_row row) (of_listing rows))
+  of_archive (Some full, kind, created) = by (before_ending full) refl
     where
-      to : (name : List ℕ) (kind : Kind) → InRow row name kind ⊎ IsListed rows name kind → IsListed (row ∷ rows) name kind
-      to name kind (inl is) = (row, (0, omega arith, refl), is.0, is.1)
-      to name kind (inr (other, there, named, which)) = (other, Contains_later row rows other there, named, which)
+      -- what is no plain file is not continued
+      anew : (t : Bool) (o : Option (ℤ × ℕ)) → option_map_or (λ (key : ℤ × ℕ). if t && false then min key.1 999999 else number_after n.rotation m key) o 0 ≡ option_map_or (number_after n.rotation m) o 0
+      anew true o = refl
+      anew false o = refl
 
-      from : (name : List ℕ) (kind : Kind) → IsListed (row ∷ rows) name kind → InRow row name kind ⊎ IsListed rows name kind
-      from name kind (other, (zero, low, at), named, which) = inl (ap (λ (r : Row). r.0) at ∙ named, ap (λ (r : Row). r.1) at ∙ which)
-      from name kind (other, (suc k, low, at), named, which) = inr (other, (k, omega arith, at), named, which)
+      by : (o : Option (List ℕ)) → before_ending full ≡ o → IsNextNumber c m (Archived (Some full, kind, created)) (option_map_or (number_after n.rotation m) (option_and_then (reading_at n) o) 0)
+      by None e = record {
+        at_most = lit≤ tt;
+        above = λ name other k (archive, is, named, ends) has.
+            absurd (let both : ◌≡◌ {A = Option (List ℕ)} None (Some name) = sym e ∙ ap before_ending (some_is full archive named) ∙ ends in cc);
+        least = inl refl;
+      }
+      by (Some base) e =
+          moved (InRow (Some base, ListedOther, None)) (Archived (Some full, kind, created)) (option_map_or (number_after n.rotation m) (reading_at n base) 0)
+          (λ name other (named, is). (full, sym is, refl, e ∙ named))
+          (λ name other (archive, is, named, ends). (sym e ∙ ap before_ending (some_is full archive named) ∙ ends, sym is))
+          (subst (IsNextNumber c m (InRow (Some base, ListedOther, None))) (anew c.continues (reading_at n base)) (of_row (Some base, ListedOther, None)))
+
+  -- of one row
+  of_listed : (row : Row) → IsNextNumber c m (InTaken c.by_name row) (number_after_listed n c.by_name c.continues m row)
+  of_listed row = by c.by_name
+    where
+      by : (t : Bool) → IsNextNumber c m (InTaken t row) (number_after_listed n t c.continues m row)
+      by true =
+          moved (λ name kind. InRow row name kind ⊎ Archived row name kind) (InTaken true row) (max (number_after_row n c.continues m row) (number_after_archive n m row))
+          (λ name kind there. elim there [ inl own ↦ inl own | inr archive ↦ inr (refl, archive) ])
+          (λ name kind there. elim there [ inl own ↦ inl own | inr archive ↦ inr archive.1 ])
+          (joined (InRow row) (Archived row) (number_after_row n c.continues m row) (number_after_archive n m row) (of_row row) (of_archive row))
+      by false =
+          moved (InRow row) (InTaken false row) (number_after_row n c.continues m row) (λ name kind own. inl own)
+          (λ name kind there. elim there [ inl own ↦ own | inr archive ↦ absurd (let both : false ≡ true = archive.0 in cc) ])
+          (of_row row)
+
+  -- of a listing
+  pub of_listing : (rows : List Row) → IsFirstNumber c m (IsListed rows) (first_number n c.by_name c.continues m rows)
+  of_listing [] = record {
+    at_most = lit≤ tt;
+    above = λ name kind k there has. absurd (none there);
+    least = inl refl;
+  }
+    where
+      nothing : (name : List ℕ) (kind : Kind) → IsListed [] name kind → ⊥
+      nothing name kind there = let low = there.1.1 in omega (arith, low)
+
+      none : {name : List ℕ} {kind : Kind} → IsTaken c (IsListed []) name kind → ⊥
+      none {name} {kind} (inl there) = nothing name kind there
+      none (inr (archive, its, on, is, there, ends)) = nothing archive its there
+  of_listing (row ∷ rows) =
+      moved (λ name kind. InTaken c.by_name row name kind ⊎ IsTaken c (IsListed rows) name kind) (IsTaken c (IsListed (row ∷ rows))) (first_number n c.by_name c.continues m (row ∷ rows)) to from
+      (joined (InTaken c.by_name row) (IsTaken c (IsListed rows)) (number_after_listed n c.by_name c.continues m row) (first_number n c.by_name c.continues m rows) (of_listed row) (of_listing rows))
+    where
+      first : (name : List ℕ) (kind : Kind) → InRow row name kind → IsListed (row ∷ rows) name kind
+      first name kind is = (row, (0, omega arith, refl), is.0, is.1)
+
+      later : (name : List ℕ) (kind : Kind) → IsListed rows name kind → IsListed (row ∷ rows) name kind
+      later name kind (other, there, named, which) = (other, Contains_later row rows other there, named, which)
+
+      either : (name : List ℕ) (kind : Kind) → IsListed (row ∷ rows) name kind → InRow row name kind ⊎ IsListed rows name kind
+      either name kind (other, (zero, low, at), named, which) = inl (ap (λ (r : Row). r.0) at ∙ named, ap (λ (r : Row). r.1) at ∙ which)
+      either name kind (other, (suc k, low, at), named, which) = inr (other, (k, omega arith, at), named, which)
+
+      to : (name : List ℕ) (kind : Kind) → InTaken c.by_name row name kind ⊎ IsTaken c (IsListed rows) name kind → IsTaken c (IsListed (row ∷ rows)) name kind
+      to name kind (inl (inl is)) = inl (first name kind is)
+      to name kind (inl (inr (on, (archive, is, named, ends)))) = inr (archive, row.1, on, is, first archive row.1 (named, refl), ends)
+      to name kind (inr (inl there)) = inl (later name kind there)
+      to name kind (inr (inr (archive, its, on, is, there, ends))) = inr (archive, its, on, is, later archive its there, ends)
+
+      from : (name : List ℕ) (kind : Kind) → IsTaken c (IsListed (row ∷ rows)) name kind → InTaken c.by_name row name kind ⊎ IsTaken c (IsListed rows) name kind
+      from name kind (inl there) = elim (either name kind there) [
+        | inl is ↦ inl (inl is)
+        | inr more ↦ inr (inl more)
+      ]
+      from name kind (inr (archive, its, on, is, there, ends)) = elim (either archive its there) [
+        | inl own ↦ inl (inr (on, (archive, is, own.0, ends)))
+        | inr more ↦ inr (inr (archive, its, on, is, more, ends))
+      ]
 
   -- and so of what the folder holds
   pub of_content : (d : Content) (all : List Listed) (number : ℕ) → Lists d all → IsFirstNumber c m (IsListed (map listed_row all)) number → IsFirstNumber c m (HasEntry d) number
-  of_content d all number lists = moved (IsListed (map listed_row all)) (HasEntry d) number to from
+  of_content d all number lists = moved (IsTaken c (IsListed (map listed_row all))) (IsTaken c (HasEntry d)) number (taken (IsListed (map listed_row all)) (HasEntry d) to) (taken (HasEntry d) (IsListed (map listed_row all)) from)
     where
+      taken : (P Q : List ℕ → Kind → Type 0) → ((name : List ℕ) (kind : Kind) → P name kind → Q name kind) → (name : List ℕ) (kind : Kind) → IsTaken c P name kind → IsTaken c Q name kind
+      taken P Q into name kind (inl there) = inl (into name kind there)
+      taken P Q into name kind (inr (archive, its, on, is, there, ends)) = inr (archive, its, on, is, into archive its there, ends)
+
       to : (name : List ℕ) (kind : Kind) → IsListed (map listed_row all) name kind → HasEntry d name kind
       to name kind (row, there, named, is_kind) =
           let w = map_Contains entry_row (fin.entries d.names) row (Contains-permutation (map listed_row all) (map entry_row (fin.entries d.names)) row lists there) in

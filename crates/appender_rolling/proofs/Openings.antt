@@ -1,18 +1,23 @@
 -- The parts of an opening make the whole.
-use Rattle.std.proofs.Common.{◌≡◌, ◌≢◌, ◌∙◌, ◌⊎◌, ◌||◌, ℕ, ◌-◌, ◌^◌, ◌<◌, ◌≤◌, if◌then◌else◌, Bool, true, false, List, [], ◌∷◌, Option, None, Some, Result, Ok, Err, IsTrue, arith, ap, inl, inr, refl, sym, subst}
+use Rattle.std.proofs.Common.{◌≡◌, ◌≢◌, ◌∙◌, ◌⊎◌, ◌||◌, ◌&&◌, ℕ, ℤ, pos, ◌+ℤ◌, ◌*ℤ◌, ◌+◌, ◌-◌, ◌^◌, ◌<◌, ◌≤◌, if◌then◌else◌, Bool, true, false, List, [], ◌∷◌, Option, None, Some, Result, Ok, Err, IsTrue, arith, ap, inl, inr, refl, sym, subst}
 use Rattle.std.specs.Prelude.{◌==◌, IsSome, OnErr, OnOk, IfErr, option_and_then}
 use Rattle.std.specs.declared.io.Error.{Error}
 use Rattle.std.specs.FinMap as fin
-use Rattle.appender_retain.specs.Rank.{LogFiles, rank_of, rank_survives}
+use Rattle.appender_names.specs.Name.{reading_at}
+use Rattle.appender_names.specs.Rotation.{is_moment, period_of}
+use Rattle.appender_names.proofs.Periods.{has_start}
+use Rattle.appender_names.proofs.Reading.{reading_reads}
+use Rattle.appender_retain.specs.Rank.{LogFiles, key_by_name, rank_of, rank_survives}
 use Rattle.appender_store.specs.declared.store.Folder.{Ghosts}
 use Rattle.appender_store.specs.Content.{Content, NameMap, Entry, File, Link, Folder, RemovesLink, after_make_folder, IsLink, ForbidsMakeLink, ForbidsRemoveLink}
 use Rattle.appender_store.specs.Folder.{NotedCounts, HasCause, IsOneMore, entry_row}
-use Rattle.appender_retain.specs.Survival.{OpeningsAddOne, OpenedIsOne, LinksAddNone, NamesAreKept, SurvivorsStay, SameSurvive, RemovesOnlyOld, candidates_in, name_rank, name_ranks, name_survives}
+use Rattle.appender_retain.specs.Survival.{OpeningsAddOne, LinksAddNone, NamesAreKept, SurvivorsStay, SameSurvive, RemovesOnlyOld, candidates_in, name_ranks, name_survives}
 use Rattle.appender_retain.specs.Pruning.{Prunes, IsQuiet}
-use Rattle.appender_rolling.specs.Config.{Config, log_files_of, max_before, max_after}
-use Rattle.appender_rolling.specs.Opening.{OpensNamedFile, MayRemoveLink, TriesRemoveLink, IsFileOrFolder, BlocksLink, ReplacesLink, FailsToReplaceLink, LinksTo, ChangesLink, OpensFile, KeepsMaximum, SparesOpened}
+use Rattle.appender_rolling.specs.Config.{Config, naming_of, log_files_of, max_before, max_after, uncounted}
+use Rattle.appender_rolling.specs.Opening.{OpensNamedFile, MayRemoveLink, TriesRemoveLink, IsFileOrFolder, BlocksLink, ReplacesLink, FailsToReplaceLink, LinksTo, FailsToLink, TriesLink, ChangesLink, MayChangeLink, HasDatedName, OpensFile, KeepsMaximum, SparesOpened}
 use Rattle.appender_store.specs.NameLaws.{NameLaws}
-use Rattle.appender_rolling.proofs.Kept.{removed_name, keeps_linked}
+use Rattle.appender_rolling.proofs.Kept.{removed_name, keeps_tried}
+use Rattle.appender_rolling.proofs.Refusals.{may_remove as fails_may_remove}
 
 -- what follows from a forbidden call follows from its cause
 weaker_cause : (is_known : Bool) (P Q : Type 0) (old new : ℕ) (fault : Error) → (IsTrue is_known → P → Q) → HasCause {T = Unit {0}} is_known P old new (Err fault) → HasCause {T = Unit {0}} is_known Q old new (Err fault)
@@ -27,16 +32,22 @@ any_entry (Some (Link target)) some = inr tt
 any_entry (Some Folder) some = inl tt
 
 -- a link is no candidate
+freed_candidates : (log : LogFiles) (link : List ℕ) (old new : Content) → LinksAddNone log → MayRemoveLink link old new → candidates_in log new ≤ candidates_in log old
+freed_candidates log link old new law (inl same) = omega (arith, ap (candidates_in log) same)
+freed_candidates log link old new law (inr removes) = law.removed link old new removes
+
 linked_candidates : (log : LogFiles) (link name : List ℕ) (old new : Content) → LinksAddNone log → ChangesLink link name old new → candidates_in log new ≤ candidates_in log old
 linked_candidates log [] name old new law same = omega (arith, ap (candidates_in log) same)
-linked_candidates log (b ∷ bs) name old new law (freed, inl same, makes) = omega (arith, ap (candidates_in log) same, law.made (b ∷ bs) name freed new makes)
-linked_candidates log (b ∷ bs) name old new law (freed, inr removes, makes) = omega (arith, law.removed (b ∷ bs) old freed removes, law.made (b ∷ bs) name freed new makes)
+linked_candidates log (b ∷ bs) name old new law (freed, frees, makes) = omega (arith, freed_candidates log (b ∷ bs) old freed law frees, law.made (b ∷ bs) name freed new makes)
+
+tried_candidates : (log : LogFiles) (config : Config) (name : List ℕ) (old new : Content) → LinksAddNone log → MayChangeLink config name old new → candidates_in log new ≤ candidates_in log old
+tried_candidates log config name old new law (inl changes) = linked_candidates log config.link name old new law changes
+tried_candidates log config name old new law (inr (optional, is_set, frees)) = freed_candidates log config.link old new law frees
 
 -- what an opening needs to know of retention
 pub record RetentionLaws (log : LogFiles) : Type 0 where
   pub one : OpeningsAddOne log
-  pub beside : OpenedIsOne log
-  pub none : LinksAddNone (record log { opened = None })
+  pub none : LinksAddNone log
   pub kept : log.by_name ≡ true → NamesAreKept log
   pub stay : log.by_name ≡ true → SurvivorsStay log
 
@@ -52,27 +63,47 @@ spared log max old new name took is = elim (took.names name) [
 ]
 
 -- a link survives
-link_survives : (log : LogFiles) (max : ℕ) (names : NameMap) (link target : List ℕ) → fin.get names link ≡ Some (Link target) → name_survives log max names link ≡ true
-link_survives log max names link target at =
-    let none : name_rank log names link ≡ None = ap (option_and_then (λ (e : Entry). rank_of log (0, entry_row (link, e)))) at in
-    ap (rank_survives max (name_ranks log names)) none ∙ either (max == 0)
+link_survives : (log : LogFiles) (max : ℕ) (names : NameMap) (link : List ℕ) → IsLink (fin.get names link) → name_survives log max names link ≡ true
+link_survives log max names link is = ap (rank_survives max (name_ranks log names)) (no_rank (fin.get names link) is) ∙ either (max == 0)
   where
+    no_rank : (o : Option Entry) → IsLink o → option_and_then (λ (e : Entry). rank_of log (0, entry_row (link, e))) o ≡ None
+    no_rank None never = absurd never
+    no_rank (Some (File b t)) never = absurd never
+    no_rank (Some (Link target)) is = refl
+    no_rank (Some Folder) never = absurd never
+
     either : (b : Bool) → (b || true) ≡ true
     either true = refl
     either false = refl
 
--- and changes no other name's survival
+-- what is not the name of a log file has no key
+undated_keyless : (config : Config) (name : List ℕ) → (¬ HasDatedName config name) → key_by_name (naming_of config) name ≡ None
+undated_keyless config name undated = by (reading_at (naming_of config) name) refl
+  where
+    by : (o : Option (ℤ × ℕ)) → reading_at (naming_of config) name ≡ o → key_by_name (naming_of config) name ≡ None
+    by None e = rw e refl
+    by (Some key) e = at (period_of config.rotation key.0) refl
+      where
+        unstarted : (b : Bool) → (if b && false then Some ((key.0 *ℤ pos 1000000) +ℤ pos key.1) else None) ≡ None
+        unstarted true = refl
+        unstarted false = refl
+
+        at : (p : Option ℤ) → period_of config.rotation key.0 ≡ p → key_by_name (naming_of config) name ≡ None
+        at None none = rw (e, none) (unstarted (is_moment key.0))
+        at (Some p) some = absurd (undated (has_start config.rotation key.0 p some, (key.0, (key.1, reading_reads (naming_of config) name key e))))
+
+-- a link changes no other name's survival
+freed_same : (log : LogFiles) → SurvivorsStay log → (link : List ℕ) (old new : Content) → MayRemoveLink link old new → SameSurvive log old new
+freed_same log stay link old new (inl same) max other = ap (λ (c : Content). name_survives log max c.names other) same
+freed_same log stay link old new (inr removes) max other = stay.removed link old new removes max other
+
 linked_same : (log : LogFiles) → SurvivorsStay log → (link name : List ℕ) (old new : Content) → ChangesLink link name old new → SameSurvive log old new
 linked_same log stay [] name old new same max other = ap (λ (c : Content). name_survives log max c.names other) same
-linked_same log stay (b ∷ bs) name old new (freed, inl same, makes) max other = stay.made (b ∷ bs) name freed new makes max other ∙ ap (λ (c : Content). name_survives log max c.names other) same
-linked_same log stay (b ∷ bs) name old new (freed, inr removes, makes) max other = stay.made (b ∷ bs) name freed new makes max other ∙ stay.removed (b ∷ bs) old freed removes max other
+linked_same log stay (b ∷ bs) name old new (freed, frees, makes) max other = stay.made (b ∷ bs) name freed new makes max other ∙ freed_same log stay (b ∷ bs) old freed frees max other
 
-linked_name : NameLaws → (link name : List ℕ) (old new : Content) → ChangesLink link name old new → link ≢ [] → fin.get new.names link ≡ Some (Link name)
-linked_name maps [] name old new same is_set = absurd (is_set refl)
-linked_name maps (b ∷ bs) name old new (freed, frees, makes) is_set = ap (λ (d : Content). fin.get d.names (b ∷ bs)) makes.after ∙ added
-  where
-    added : fin.get (fin.insert freed.names (b ∷ bs) (Link name)) (b ∷ bs) ≡ Some (Link name)
-    added = elim (maps.additions freed.names (b ∷ bs) (Link name) (b ∷ bs)) [ inl own ↦ own.1 | inr other ↦ absurd (other.0 refl) ]
+tried_same : (log : LogFiles) → SurvivorsStay log → (config : Config) (name : List ℕ) (old new : Content) → MayChangeLink config name old new → SameSurvive log old new
+tried_same log stay config name old new (inl changes) = linked_same log stay config.link name old new changes
+tried_same log stay config name old new (inr (optional, is_set, frees)) = freed_same log stay config.link old new frees
 
 module _ {S F : Type 0} (kind : Ghosts S F) where
   -- ---- the link
@@ -147,21 +178,39 @@ module _ {S F : Type 0} (kind : Ghosts S F) where
   linked_to [] name old new is_known same = ap kind.content same
   linked_to (b ∷ bs) name old new is_known relinks = let w = relinks.content is_known in (kind.content relinks.freed, w.0, w.1)
 
+  -- a link that was refused is set
+  was_set : (link name : List ℕ) (old : S) (fault : Error) (new : S) → FailsToLink kind link name old fault new → link ≢ []
+  was_set [] name old fault new never = absurd never
+  was_set (b ∷ bs) name old fault new links_not = λ e. let both : ◌≡◌ {A = List ℕ} (b ∷ bs) [] = e in cc
+
+  tried_to : (config : Config) (name : List ℕ) (old new : S) → IsTrue kind.is_known → TriesLink kind config name old new → MayChangeLink config name (kind.content old) (kind.content new)
+  tried_to config name old new is_known (inl links) = inl (linked_to config.link name old new is_known links)
+  tried_to config name old new is_known (inr (optional, fault, links_not)) =
+      inr (optional, was_set config.link name old fault new links_not, fails_may_remove kind config config.link name old fault new is_known links_not)
+
   links_noted : (link name : List ℕ) (old new : S) → LinksTo kind link name old new → kind.noted new ≡ kind.noted old
   links_noted [] name old new same = ap kind.noted same
   links_noted (b ∷ bs) name old new relinks = relinks.noted
+
+  links_not_noted : (link name : List ℕ) (old : S) (fault : Error) (new : S) → FailsToLink kind link name old fault new → kind.noted new ≡ kind.noted old
+  links_not_noted [] name old fault new never = absurd never
+  links_not_noted (b ∷ bs) name old fault new links_not = links_not.noted
+
+  tries_noted : (config : Config) (name : List ℕ) (old new : S) → TriesLink kind config name old new → kind.noted new ≡ kind.noted old
+  tries_noted config name old new (inl links) = links_noted config.link name old new links
+  tries_noted config name old new (inr (optional, fault, links_not)) = links_not_noted config.link name old fault new links_not
 
   quiet_from : (a b : NotedCounts) → b.lists ≡ a.lists → b.removes ≡ a.removes → b.lists < 2 ^ 64 - 1 → b.removes < 2 ^ 64 - 1 → IsQuiet a b
   quiet_from a b lists removes low lower = record { lists = lists; removes = removes; below = (low, lower) }
 
   module _ (maps : NameLaws) (config : Config) (name : List ℕ) (laws : RetentionLaws (log_files_of config (Some name))) (old pruned unlinked linked new : S) (file : F)
       (prunes : Prunes kind (log_files_of config (Some name)) (max_before config) old pruned) (gets : OpensNamedFile kind name pruned file unlinked)
-      (links : LinksTo kind config.link name unlinked linked) (prunes_last : Prunes kind (log_files_of config (Some name)) (max_after config) linked new) where
+      (links : TriesLink kind config name unlinked linked) (prunes_last : Prunes kind (log_files_of config (Some name)) (max_after config) linked new) where
     abbrev log : LogFiles
     log = log_files_of config (Some name)
 
     noted : kind.noted linked ≡ kind.noted pruned
-    noted = links_noted config.link name unlinked linked links ∙ gets.noted
+    noted = tries_noted config name unlinked linked links ∙ gets.noted
 
     -- by name nothing was removed before the opening, else nothing after it
     unpruned : config.by_name ≡ true → pruned ≡ old
@@ -170,24 +219,25 @@ module _ {S F : Type 0} (kind : Ghosts S F) where
     unpruned_last : config.by_name ≡ false → new ≡ linked
     unpruned_last by_parts = prunes_last.none (ap (λ (t : Bool). if t then config.max_files else 0) by_parts)
 
-    at_most : KeepsMaximum kind config old new
+    at_most : KeepsMaximum kind config name old new
     at_most quiet is_known some = by config.by_name refl
       where
-        by : (t : Bool) → config.by_name ≡ t → candidates_in (log_files_of config None) (kind.content new) ≤ config.max_files
+        by : (t : Bool) → config.by_name ≡ t → candidates_in log (kind.content new) + uncounted config ≤ config.max_files
         by false is =
             let same : new ≡ linked = unpruned_last is in
             let max : max_before config ≡ config.max_files = ap (λ (t : Bool). if t then 0 else config.max_files) is in
+            let all : uncounted config ≡ 0 = ap (λ (t : Bool). if t then 1 else 0) is in
             let as_pruned : kind.noted new ≡ kind.noted pruned = ap kind.noted same ∙ noted in
             let before = prunes.fewer (subst (λ (n : NotedCounts). IsQuiet (kind.noted old) n) as_pruned quiet) is_known (omega (arith, max, some)) in
-            let more = laws.one name (after_make_folder (kind.content pruned)) (kind.content unlinked) (kind.body file) refl (gets.opens is_known) in
-            let still = linked_candidates (log_files_of config None) config.link name (kind.content unlinked) (kind.content linked) laws.none (linked_to config.link name unlinked linked is_known links) in
-            rw same (omega (arith, before, more, still, max))
+            let more = laws.one name (after_make_folder (kind.content pruned)) (kind.content unlinked) (kind.body file) (gets.opens is_known) in
+            let still = tried_candidates log config name (kind.content unlinked) (kind.content linked) laws.none (tried_to config name unlinked linked is_known links) in
+            rw same (omega (arith, before, more, still, max, all))
         by true is =
             let max : max_after config ≡ config.max_files = ap (λ (t : Bool). if t then config.max_files else 0) is in
             let as_old : kind.noted linked ≡ kind.noted old = noted ∙ ap kind.noted (unpruned is) in
             let left = prunes_last.fewer (subst (λ (n : NotedCounts). IsQuiet n (kind.noted new)) (sym as_old) quiet) is_known (omega (arith, max, some)) in
-            let more = laws.beside name (kind.content new) refl in
-            omega (arith, left, more, max)
+            let one : uncounted config ≡ 1 = ap (λ (t : Bool). if t then 1 else 0) is in
+            omega (arith, left, one, max)
 
     quiet_both : IsQuiet (kind.noted old) (kind.noted new) → IsQuiet (kind.noted old) (kind.noted pruned) × IsQuiet (kind.noted linked) (kind.noted new)
     quiet_both quiet = by config.by_name refl
@@ -208,16 +258,22 @@ module _ {S F : Type 0} (kind : Ghosts S F) where
     spares : IsTrue kind.is_known → SparesOpened config name (kind.content old) (kind.content linked) (kind.content new)
     spares is_known = record {
       file = spared log (max_after config) (kind.content linked) (kind.content new) name last (own config.by_name refl);
-      link = λ is_set. spared log (max_after config) (kind.content linked) (kind.content new) config.link last
-          (link_survives log (max_after config) (kind.content linked).names config.link name (linked_name maps config.link name (kind.content unlinked) (kind.content linked) changes is_set));
+      link = λ which. spared log (max_after config) (kind.content linked) (kind.content new) config.link last (elim which [
+        | inl is_link ↦ link_survives log (max_after config) (kind.content linked).names config.link is_link
+        | inr undated ↦ undated_survives undated config.by_name refl
+      ]);
       same = λ other. same other config.by_name refl;
     }
       where
         last : RemovesOnlyOld log (max_after config) (kind.content linked) (kind.content new)
         last = prunes_last.only_old is_known
 
-        changes : ChangesLink config.link name (kind.content unlinked) (kind.content linked)
-        changes = linked_to config.link name unlinked linked is_known links
+        changes : MayChangeLink config name (kind.content unlinked) (kind.content linked)
+        changes = tried_to config name unlinked linked is_known links
+
+        undated_survives : (¬ HasDatedName config config.link) → (t : Bool) → config.by_name ≡ t → name_survives log (max_after config) (kind.content linked).names config.link ≡ true
+        undated_survives undated false is = all_survive log (max_after config) (ap (λ (t : Bool). if t then config.max_files else 0) is) (kind.content linked).names config.link
+        undated_survives undated true is = (laws.kept is).others config.link (undated_keyless config config.link undated) (max_after config) (kind.content linked).names
 
         own : (t : Bool) → config.by_name ≡ t → name_survives log (max_after config) (kind.content linked).names name ≡ true
         own false is = all_survive log (max_after config) (ap (λ (t : Bool). if t then config.max_files else 0) is) (kind.content linked).names name
@@ -229,7 +285,7 @@ module _ {S F : Type 0} (kind : Ghosts S F) where
             all_survive log (max_after config) none (kind.content linked).names other ∙ sym (all_survive log (max_after config) none (kind.content old).names other)
         same other true is =
             let stay = laws.stay is in
-            linked_same log stay config.link name (kind.content unlinked) (kind.content linked) changes (max_after config) other
+            tried_same log stay config name (kind.content unlinked) (kind.content linked) changes (max_after config) other
             ∙ stay.opened name (after_make_folder (kind.content pruned)) (kind.content unlinked) (kind.body file) refl (gets.opens is_known) (max_after config) other
             ∙ ap (λ (s : S). name_survives log (max_after config) (kind.content s).names other) (unpruned is)
 
@@ -242,9 +298,9 @@ module _ {S F : Type 0} (kind : Ghosts S F) where
       gets = gets;
       links = links;
       prunes_last = prunes_last;
-      changes_link = λ is_known. linked_to config.link name unlinked linked is_known links;
+      changes_link = λ is_known. tried_to config name unlinked linked is_known links;
       body_is_there = λ is_known.
-          rw (prunes_last.only_old is_known).bodies ((keeps_linked maps config.link name (kind.content unlinked) (kind.content linked) (linked_to config.link name unlinked linked is_known links)).keeps.more (kind.body file) (gets.body_is_there is_known));
+          rw (prunes_last.only_old is_known).bodies ((keeps_tried maps config name (kind.content unlinked) (kind.content linked) (tried_to config name unlinked linked is_known links)).keeps.more (kind.body file) (gets.body_is_there is_known));
       spares = spares;
       noted = noted;
       quiet = quiet_both;

@@ -58,7 +58,7 @@ module _ {S F : Type 0} (kind : Ghosts S F) (config : Config) where
   pub refuses_little : (name : List ℕ) (old : S) (e : InitError) (new : S) → IsTrue kind.is_known → RefusesFile kind config name old e new → IsRefusalEffect config name (kind.content old) (kind.content new)
   refuses_little name old (Directory fault) new is_known (pruned, prunes, none) = record { pruned = kind.content pruned; only_old = prunes.only_old is_known; rest = inl none.content }
   refuses_little name old (File fault) new is_known (pruned, prunes, none) = record { pruned = kind.content pruned; only_old = prunes.only_old is_known; rest = inr (inl (none.content is_known)) }
-  refuses_little name old (Symlink fault) new is_known (pruned, unlinked, file, left, prunes, gets, links_not, removes) = record {
+  refuses_little name old (Symlink fault) new is_known (required, pruned, unlinked, file, left, prunes, gets, links_not, removes) = record {
     pruned = kind.content pruned;
     only_old = prunes.only_old is_known;
     rest = inr (inr (

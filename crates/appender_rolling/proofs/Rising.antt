@@ -13,7 +13,7 @@ use Rattle.appender_store.specs.declared.store.Listed.{Listed}
 use Rattle.appender_store.proofs.Rising.{cause_rises, equal_notes_rise, same_rises, rises_on, call_rises, note_rises, fault_rises}
 use Rattle.appender_retain.proofs.Rising.{prunes_rise}
 use Rattle.appender_rolling.specs.Config.{Config, log_files_of, is_limited, max_before, max_after}
-use Rattle.appender_rolling.specs.Opening.{IsFirstNumber, IsListed, ListsNumbers, FindsNumber, OpensDirectly, RefusesDirectly, MakesFolder, OpensInNewFolder, OpensNamedFile, FailsToOpen, TriesRemoveLink, BlocksLink, LinksTo, FailsToLink, TriesRemove, RemovesEmpty, RemovesNewFile, OpensFile, RefusesFile}
+use Rattle.appender_rolling.specs.Opening.{IsFirstNumber, IsListed, ListsNumbers, FindsNumber, OpensDirectly, RefusesDirectly, MakesFolder, OpensInNewFolder, OpensNamedFile, FailsToOpen, TriesRemoveLink, BlocksLink, LinksTo, FailsToLink, TriesLink, TriesRemove, RemovesEmpty, RemovesNewFile, OpensFile, RefusesFile}
 use Rattle.appender_rolling.specs.Roller.{Rolling, ClosesLast, ChecksClock, Writes, Puts, Flushes}
 use Rattle.appender_rolling.specs.declared.rolling.Switch.{Switch}
 use Rattle.appender_rolling.specs.declared.rolling.Switch.TheVariants.{None as Stayed, Opened as Switched, Failed as SwitchFailed}
@@ -88,6 +88,10 @@ module _ {S F : Type 0} (kind : Ghosts S F) (failures_fit : (s : S) → kind.fai
       let making = cause_rises {T = Unit {0}} kind.is_known (BlocksLink kind (b ∷ bs) old relinks_not.freed) (kind.failures relinks_not.freed) (kind.failures new) (Err fault) (failures_fit relinks_not.freed) relinks_not.cause in
       equal_notes_rise kind old new (omega (arith, removal.failures, making)) relinks_not.noted
 
+  tries_rise : (config : Config) (name : List ℕ) (old new : S) → TriesLink kind config name old new → CountsRise kind old new
+  tries_rise config name old new (inl links) = links_rise config.link name old new links
+  tries_rise config name old new (inr (optional, fault, links_not)) = links_not_rise config.link name old fault new links_not
+
   -- ---- a new file whose link was refused
 
   removes_rise : (name : List ℕ) (old new : S) → TriesRemove kind name old new → CountsRise kind old new
@@ -115,7 +119,7 @@ module _ {S F : Type 0} (kind : Ghosts S F) (failures_fit : (s : S) → kind.fai
   opens_rise config name old file new opens =
       rises_on kind old opens.pruned new (prunes_rise kind failures_fit noted_fit (log_files_of config (Some name)) (max_before config) old opens.pruned opens.prunes)
       (rises_on kind opens.pruned opens.unlinked new (gets_rise name opens.pruned file opens.unlinked opens.gets)
-      (rises_on kind opens.unlinked opens.linked new (links_rise config.link name opens.unlinked opens.linked opens.links)
+      (rises_on kind opens.unlinked opens.linked new (tries_rise config name opens.unlinked opens.linked opens.links)
       (prunes_rise kind failures_fit noted_fit (log_files_of config (Some name)) (max_after config) opens.linked new opens.prunes_last)))
 
   pub refuses_rise : (config : Config) (name : List ℕ) (old : S) (error : InitError) (new : S) → RefusesFile kind config name old error new → CountsRise kind old new
@@ -123,7 +127,7 @@ module _ {S F : Type 0} (kind : Ghosts S F) (failures_fit : (s : S) → kind.fai
       rises_on kind old pruned new (prunes_rise kind failures_fit noted_fit (log_files_of config (Some name)) (max_before config) old pruned prunes) (gets_no_rise name pruned (Directory fault) new none)
   refuses_rise config name old (File fault) new (pruned, prunes, none) =
       rises_on kind old pruned new (prunes_rise kind failures_fit noted_fit (log_files_of config (Some name)) (max_before config) old pruned prunes) (gets_no_rise name pruned (File fault) new none)
-  refuses_rise config name old (Symlink fault) new (pruned, unlinked, file, left, prunes, gets, links_not, removes) =
+  refuses_rise config name old (Symlink fault) new (required, pruned, unlinked, file, left, prunes, gets, links_not, removes) =
       rises_on kind old pruned new (prunes_rise kind failures_fit noted_fit (log_files_of config (Some name)) (max_before config) old pruned prunes)
       (rises_on kind pruned unlinked new (gets_rise name pruned file unlinked gets)
       (rises_on kind unlinked left new (links_not_rise config.link name unlinked fault left links_not) (new_file_rises config name (kind.made_file unlinked) file left new removes)))

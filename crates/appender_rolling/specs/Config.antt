@@ -8,13 +8,15 @@ use Rattle.appender_names.specs.Name.{Naming, last_number, IsLaterName}
 use Rattle.appender_retain.specs.Rank.{LogFiles}
 use Rattle.appender_rolling.specs.declared.rolling.setup.Stamp.{Stamp}
 
--- What a builder has set. An empty text is none, and so is a maximum of 0 files or 0 bytes. `by_name` says that log files are known by
--- just their names, and `continues` that an opening continues the last file of its period.
+-- What a builder has set. An empty text is none, and so is a maximum of 0 files or 0 bytes. `link_optional` says that an opening succeeds
+-- without a link that can't be made, `by_name` that log files are known by just their names, and `continues` that an opening continues the last
+-- file of its period.
 pub record Config : Type 0 where
   pub rotation : Rotation
   pub prefix : List ℕ
   pub suffix : List ℕ
   pub link : List ℕ
+  pub link_optional : Bool
   pub max_files : ℕ
   pub by_name : Bool
   pub max_bytes : ℕ
@@ -22,7 +24,7 @@ pub record Config : Type 0 where
 
 -- the defaults: one file for all time, with neither prefix nor suffix, no link and no maximum of files or bytes
 abbrev pub defaults : Config
-defaults = record { rotation = rotation_of Never; prefix = []; suffix = []; link = []; max_files = 0; by_name = false; max_bytes = 0; continues = false }
+defaults = record { rotation = rotation_of Never; prefix = []; suffix = []; link = []; link_optional = false; max_files = 0; by_name = false; max_bytes = 0; continues = false }
 
 -- a file has a limit of bytes; its name then has a number
 abbrev pub is_limited : Config → Bool
@@ -42,6 +44,10 @@ max_before c = if c.by_name then 0 else c.max_files
 
 abbrev pub max_after : Config → ℕ
 max_after c = if c.by_name then c.max_files else 0
+
+-- how many files are kept that aren't counted beside the open one: by name that itself
+abbrev pub uncounted : Config → ℕ
+uncounted c = if c.by_name then 1 else 0
 
 -- with a limit there have to be periods
 abbrev pub MayLimit : Config → Type 0

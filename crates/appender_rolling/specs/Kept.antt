@@ -5,7 +5,7 @@ use Rattle.appender_retain.specs.Rank.{LogFiles}
 use Rattle.appender_store.specs.Content.{Content, File, OpensBody, after_make_folder, body_at}
 use Rattle.appender_retain.specs.Survival.{RemovesOnlyOld}
 use Rattle.appender_rolling.specs.Config.{Config}
-use Rattle.appender_rolling.specs.Opening.{ChangesLink, IsRefusalEffect}
+use Rattle.appender_rolling.specs.Opening.{MayChangeLink, IsRefusalEffect}
 
 -- every body is there still, holds its bytes, and has no name that it didn't have
 pub record KeepsBodies (old new : Content) : Type 0 where
@@ -32,5 +32,5 @@ pub record OpeningPartsKeepBodies : Type 0 where
   pub retention : (log : LogFiles) (max : ℕ) (old new : Content) → RemovesOnlyOld log max old new → AddsNoFile old new
   pub folder : (old : Content) → AddsNoFile old (after_make_folder old)
   pub opening : (name : List ℕ) (old new : Content) (b : ℕ) → OpensBody name old new b → AddsNoOtherFile name old new
-  pub link : (link name : List ℕ) (old new : Content) → ChangesLink link name old new → AddsNoFile old new
+  pub link : (config : Config) (name : List ℕ) (old new : Content) → MayChangeLink config name old new → AddsNoFile old new
   pub refusal : (config : Config) (name : List ℕ) (old new : Content) → IsRefusalEffect config name old new → AddsNoOtherFile name old new

@@ -60,7 +60,7 @@ HasReason kind c name old (NoFile fault) new =
     (refused : _) × (ready : _) × RefusesFirstOpening kind c name old refused × MakesFolder kind refused ready × kind.open_gives ready name (Err fault) new
     × (FailsByItself (kind.failures ready) fault (kind.failures new) ⊎ (IsTrue kind.is_known × IsLinkOrFolder (fin.get (kind.content old).names name)))
 HasReason {S} {F} kind c name old (Symlink fault) new =
-    (pruned : S) × (file : F) × (unlinked : S) × (freed : S) × (left : S)
+    (c.link_optional ≡ false) × (pruned : S) × (file : F) × (unlinked : S) × (freed : S) × (left : S)
     × Prunes kind (log_files_of c (Some name)) (max_before c) old pruned × OpensNamedFile kind name pruned file unlinked × TriesRemoveLink kind c.link unlinked freed
     × kind.make_link_gives freed c.link name (Err fault) left × RemovesNewFile kind c name (kind.made_file unlinked) file left new
     × (FailsByItself (kind.failures freed) fault (kind.failures left)

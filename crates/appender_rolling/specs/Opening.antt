@@ -9,12 +9,13 @@ use Rattle.appender_names.specs.declared.error.InitError.TheVariants.{Directory,
 use Rattle.appender_names.specs.declared.error.NameFault.{NameFault}
 use Rattle.appender_names.specs.declared.error.NameFault.TheVariants.{Link as LinkName, Clash}
 use Rattle.appender_names.specs.Rotation.{IsMoment, IsNever, period_of}
+use Rattle.appender_names.specs.Archive.{before_ending}
 use Rattle.appender_names.specs.Name.{IsAllowed, IsPartFault, IsEntry, IsNumberIn, Reads, name_at}
 use Rattle.appender_store.specs.declared.store.Folder.{Ghosts}
 use Rattle.appender_store.specs.Content.{Content, Entry, File as PlainFile, Link, Folder, OpensBody, Removes, RemovesLink, MakesLink, after_make_folder, body_at, IsLink, IsLinkOrFolder, ForbidsOpen, ForbidsRemove, ForbidsRemoveLink, ForbidsList}
 use Rattle.appender_store.specs.Folder.{HasCause, IsOneMore, Row, NotedList, listed_row, entry_row}
 use Rattle.appender_store.specs.declared.store.Kind.{Kind}
-use Rattle.appender_store.specs.declared.store.Kind.TheVariants.{File as ListedFile}
+use Rattle.appender_store.specs.declared.store.Kind.TheVariants.{File as ListedFile, Other as ListedOther}
 use Rattle.appender_store.specs.Notes.{Notes}
 use Rattle.appender_store.specs.declared.store.Listed.{Listed}
 use Rattle.std.specs.declared.alloc.Global.{Global}
@@ -22,7 +23,7 @@ use Rattle.std.specs.List.{Contains}
 use Rattle.appender_rolling.specs.declared.rolling.setup.Stamp.{Stamp}
 use Rattle.appender_retain.specs.Survival.{RemovesOnlyOld, candidates_in, name_survives}
 use Rattle.appender_retain.specs.Pruning.{Prunes, IsQuiet}
-use Rattle.appender_rolling.specs.Config.{Config, naming_of, log_files_of, is_limited, max_before, max_after, MayLimit, stamp, last_of}
+use Rattle.appender_rolling.specs.Config.{Config, naming_of, log_files_of, is_limited, max_before, max_after, uncounted, MayLimit, stamp, last_of}
 
 -- the name of the file with this stamp; without a limit of bytes the number of a stamp is 0
 abbrev pub file_name_of : Config → Stamp → List ℕ
@@ -40,10 +41,14 @@ pub record NamesEntries (c : Config) : Type 0 where
 abbrev pub ReadsAsDate : Config → List ℕ → Type 0
 ReadsAsDate c name = (s : ℤ) × Reads (naming_of c) name s
 
+-- a name that reads as a date, which under NEVER log files don't have
+abbrev pub HasDatedName : Config → List ℕ → Type 0
+HasDatedName c name = (¬ IsNever c.rotation) × ReadsAsDate c name
+
 -- a link is set whose name is that of the first file, or, unless the rotation is NEVER, one that reads as a date
 pub record LinkClashes (c : Config) (m : ℤ) : Type 0 where
   pub is_set : c.link ≢ []
-  pub clashes : (c.link ≡ file_name_of c (stamp m 0)) ⊎ ((¬ IsNever c.rotation) × ReadsAsDate c c.link)
+  pub clashes : (c.link ≡ file_name_of c (stamp m 0)) ⊎ HasDatedName c c.link
 
 -- a log with this configuration can be opened at this moment
 pub record MayOpen (config : Config) (m : ℤ) : Type 0 where
@@ -80,14 +85,24 @@ pub record IsLastFile (c : Config) (m : ℤ) (name : List ℕ) (kind : Kind) : T
   pub plain : kind ≡ ListedFile
   pub own : (start : ℤ) × (period_of c.rotation m ≡ Some start) × Reads (naming_of c) name start
 
--- One above the greatest number that an entry has in the period of m, 0 if none has one there, and at most 999999. An entry that is continued
+-- One above the greatest number that one of these has in the period of m, 0 if none has one there, and at most 999999. A file that is continued
 -- counts its number itself.
-pub record IsFirstNumber (c : Config) (m : ℤ) (IsThere : List ℕ → Kind → Type 0) (number : ℕ) : Type 0 where
+pub record IsNextNumber (c : Config) (m : ℤ) (IsThere : List ℕ → Kind → Type 0) (number : ℕ) : Type 0 where
   pub at_most : number ≤ 999999
   pub above : (name : List ℕ) (kind : Kind) (k : ℕ) → IsThere name kind → IsNumberIn (naming_of c) m name k
       → (k < number) ⊎ (number ≡ 999999) ⊎ ((k ≡ number) × IsLastFile c m name kind)
   pub least : (number ≡ 0) ⊎ ((name : List ℕ) × (kind : Kind) × (k : ℕ) × IsThere name kind × IsNumberIn (naming_of c) m name k
       × (((number ≡ k + 1) × (¬ (IsLastFile c m name kind))) ⊎ ((k ≡ 999999) × (number ≡ 999999)) ⊎ ((number ≡ k) × IsLastFile c m name kind)))
+
+-- Names that are taken: those of entries, and by name those of which an entry is an archive, as if something else than a file had them.
+abbrev pub IsTaken : Config → (List ℕ → Kind → Type 0) → List ℕ → Kind → Type 0
+IsTaken c IsThere name kind =
+    IsThere name kind
+    ⊎ ((archive : List ℕ) × (its : Kind) × (c.by_name ≡ true) × (kind ≡ ListedOther) × IsThere archive its × (before_ending archive ≡ Some name))
+
+-- the next number by the names that are taken
+abbrev pub IsFirstNumber : Config → ℤ → (List ℕ → Kind → Type 0) → ℕ → Type 0
+IsFirstNumber c m IsThere number = IsNextNumber c m (IsTaken c IsThere) number
 
 -- a listed entry has this name and is of this kind
 abbrev pub IsListed : List Row → List ℕ → Kind → Type 0
@@ -260,6 +275,12 @@ abbrev pub FailsToLink : {S F : Type 0} → Ghosts S F → List ℕ → List ℕ
 FailsToLink kind [] name old fault new = ⊥
 FailsToLink kind (b ∷ bs) name old fault new = FailsToReplaceLink kind (b ∷ bs) name old fault new
 
+-- If a link is set, it leads to this name now; or it is optional, and could not be made to lead there.
+abbrev pub TriesLink : {S F : Type 0} → Ghosts S F → Config → List ℕ → S → S → Type 0
+TriesLink kind config name old new =
+    LinksTo kind config.link name old new
+    ⊎ ((config.link_optional ≡ true) × (fault : Error) × FailsToLink kind config.link name old fault new)
+
 -- ---- a new file whose link was refused
 
 -- a call removed the file of this name, and its refusal was ignored
@@ -290,45 +311,54 @@ MayRemoveNew config name old left new = (new ≡ left) ⊎ ((config.by_name ≡ 
 
 -- ---- all of it
 
--- if neither List nor Remove was noted, there are no more log files than the maximum, if one is set
-abbrev pub KeepsMaximum : {S F : Type 0} → Ghosts S F → Config → S → S → Type 0
-KeepsMaximum kind config old new =
-    IsQuiet (kind.noted old) (kind.noted new) → IsTrue kind.is_known → 0 < config.max_files → candidates_in (log_files_of config None) (kind.content new) ≤ config.max_files
+-- If neither List nor Remove was noted, there are no more log files than the maximum, if one is set. By name the file of this name is one more
+-- than those that are counted, and later ones aren't.
+abbrev pub KeepsMaximum : {S F : Type 0} → Ghosts S F → Config → List ℕ → S → S → Type 0
+KeepsMaximum kind config name old new =
+    IsQuiet (kind.noted old) (kind.noted new) → IsTrue kind.is_known → 0 < config.max_files → candidates_in (log_files_of config (Some name)) (kind.content new) + uncounted config ≤ config.max_files
 
 -- what the link did to the content, if one is set
 abbrev pub ChangesLink : List ℕ → List ℕ → Content → Content → Type 0
 ChangesLink [] name old new = new ≡ old
 ChangesLink (b ∷ bs) name old new = (freed : Content) × MayRemoveLink (b ∷ bs) old freed × MakesLink (b ∷ bs) name freed new
 
--- What was removed after the file of this name was opened is what would have been removed before. The file and the link are not.
+-- what the try to make it did, if it may fail
+abbrev pub MayChangeLink : Config → List ℕ → Content → Content → Type 0
+MayChangeLink config name old new =
+    ChangesLink config.link name old new
+    ⊎ ((config.link_optional ≡ true) × (config.link ≢ []) × MayRemoveLink config.link old new)
+
+-- What was removed after the file of this name was opened is what would have been removed before. The file and the link are not, nor is
+-- what else has the link's name, unless that reads as a log file's.
 pub record SparesOpened (config : Config) (name : List ℕ) (old linked new : Content) : Type 0 where
   pub file : fin.get new.names name ≡ fin.get linked.names name
-  pub link : config.link ≢ [] → fin.get new.names config.link ≡ fin.get linked.names config.link
+  pub link : IsLink (fin.get linked.names config.link) ⊎ (¬ HasDatedName config config.link) → fin.get new.names config.link ≡ fin.get linked.names config.link
   pub same : (other : List ℕ) → name_survives (log_files_of config (Some name)) (max_after config) linked.names other ≡ name_survives (log_files_of config (Some name)) (max_after config) old.names other
 
--- Old log files were removed, the file of this name was opened, and the link, if one is set, leads to it. By name they were removed last.
+-- Old log files were removed, the file of this name was opened, and the link, if one is set, leads to it, unless it is optional and could not
+-- be made. By name they were removed last.
 pub record OpensFile {S F : Type 0} (kind : Ghosts S F) (config : Config) (name : List ℕ) (old : S) (file : F) (new : S) : Type 0 where
   pub pruned : S
   pub unlinked : S
   pub linked : S
   pub prunes : Prunes kind (log_files_of config (Some name)) (max_before config) old pruned
   pub gets : OpensNamedFile kind name pruned file unlinked
-  pub links : LinksTo kind config.link name unlinked linked
+  pub links : TriesLink kind config name unlinked linked
   pub prunes_last : Prunes kind (log_files_of config (Some name)) (max_after config) linked new
-  pub changes_link : IsTrue kind.is_known → ChangesLink config.link name (kind.content unlinked) (kind.content linked)
+  pub changes_link : IsTrue kind.is_known → MayChangeLink config name (kind.content unlinked) (kind.content linked)
   pub body_is_there : IsTrue kind.is_known → kind.body file < length (kind.content new).bodies
   pub spares : IsTrue kind.is_known → SparesOpened config name (kind.content old) (kind.content linked) (kind.content new)
   pub noted : kind.noted linked ≡ kind.noted pruned
   -- if the opening noted neither List nor Remove, neither of the two noted one
   pub quiet : IsQuiet (kind.noted old) (kind.noted new) → IsQuiet (kind.noted old) (kind.noted pruned) × IsQuiet (kind.noted linked) (kind.noted new)
-  pub at_most : KeepsMaximum kind config old new
+  pub at_most : KeepsMaximum kind config name old new
 
--- It was not, for this reason. Without memory for the name no call was made; else old log files were removed, but none by name. If the
--- link was refused the file stays, but by name an empty file that this opening made is removed.
+-- It was not, for this reason. Without memory for the name no call was made; else old log files were removed, but none by name. If a
+-- link that isn't optional was refused the file stays, but by name an empty file that this opening made is removed.
 abbrev pub RefusesFile : {S F : Type 0} → Ghosts S F → Config → List ℕ → S → InitError → S → Type 0
 RefusesFile kind config name old Memory new = new ≡ old
 RefusesFile {S} {F} kind config name old (Symlink fault) new =
-    (pruned : S) × (unlinked : S) × (file : F) × (left : S) × Prunes kind (log_files_of config (Some name)) (max_before config) old pruned
+    (config.link_optional ≡ false) × (pruned : S) × (unlinked : S) × (file : F) × (left : S) × Prunes kind (log_files_of config (Some name)) (max_before config) old pruned
     × OpensNamedFile kind name pruned file unlinked × FailsToLink kind config.link name unlinked fault left
     × RemovesNewFile kind config name (kind.made_file unlinked) file left new
 RefusesFile kind config name old error new =

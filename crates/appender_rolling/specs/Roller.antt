@@ -156,7 +156,7 @@ pub record SwitchesFile {S F : Type 0} (kind : Ghosts S F) (m : ℤ) (len : ℕ)
   pub content : kind.content new.folder ≡ kind.content ready
   -- if the switch noted neither List nor Remove, its opening noted neither
   pub quiet : IsQuiet (kind.noted old.folder) (kind.noted new.folder) → IsQuiet (kind.noted old.folder) (kind.noted ready)
-  pub at_most : KeepsMaximum kind old.config old.folder new.folder
+  pub at_most : KeepsMaximum kind old.config (file_name_of old.config at_stamp) old.folder new.folder
 
 -- None was, for a reason which the folder noted: the last file stays open, the next boundary is set, and the folder
 -- is left as little changed as the refused opening left it.

@@ -43,8 +43,8 @@ pub fn openings_take_little<S: Folder>()
 /// - `Memory`: there was no memory for the name. The folder was not called.
 /// - The call of the folder whose error is returned counted a failure, or was refused memory.
 /// - `File`: a link or a folder had the name of the file.
-/// - `Symlink`: a file or a folder had the name of the link, or the log file has the same name. Or a link had the
-///   name, and the call that removes it counted a failure.
+/// - `Symlink`, which no optional link gives: a file or a folder had the name of the link, or the log file has the same
+///   name. Or a link had the name, and the call that removes it counted a failure.
 pub fn refusals_have_reasons<S: Folder>()
     ensures { (config : Config) (name : List ℕ) (old : S) (error : InitError) (new : S)
         → RefusesFile S.Folder config name old error new → HasReason S.Folder config name old error new }

@@ -1,11 +1,11 @@
 -- Wrong runs. The headline by itself refuses each of them.
-use Rattle.std.specs.Prelude.{false, None, ◌≡◌, ◌≢◌, IsTrue, ℕ, ◌-◌, ◌^◌, ◌<◌, ℤ, pos, true, List, [], ◌∷◌, Option, Some, Ok, Vec}
+use Rattle.std.specs.Prelude.{Bool, false, None, ◌≡◌, ◌≢◌, IsTrue, ℕ, ◌-◌, ◌^◌, ◌<◌, ℤ, pos, true, List, [], ◌∷◌, Option, Some, Ok, Vec}
 use Rattle.std.specs.declared.alloc.Global.{Global}
 use Rattle.std.specs.FinMap as fin
 use Rattle.appender_names.specs.Name.{IsNumberIn}
 use Rattle.appender_names.specs.Rotation.{rotation_of}
 use Rattle.appender_names.specs.declared.rotation.RotationKind.TheVariants.{Hourly, Never}
-use Rattle.appender_store.specs.Content.{File, body_at}
+use Rattle.appender_store.specs.Content.{File, Link, body_at}
 use Rattle.appender_store.specs.declared.store.Folder.{Ghosts}
 use Rattle.appender_store.specs.declared.store.Kind.{Kind}
 use Rattle.appender_store.specs.MemoryState.{MemoryState}
@@ -20,11 +20,11 @@ use Rattle.appender_replay.specs.declared.replay.whole.Reply.TheVariants.{Accept
 
 -- one file for all time, whose name is `a`, with a maximum of files
 abbrev pub one_file : ℕ → Config
-one_file max = record { rotation = rotation_of Never; prefix = 97 ∷ []; suffix = []; link = []; max_files = max; by_name = false; max_bytes = 0; continues = false }
+one_file max = record { rotation = rotation_of Never; prefix = 97 ∷ []; suffix = []; link = []; link_optional = false; max_files = max; by_name = false; max_bytes = 0; continues = false }
 
 -- a file each hour, with the prefix `a`
 abbrev pub hourly : Config
-hourly = record { rotation = rotation_of Hourly; prefix = 97 ∷ []; suffix = []; link = []; max_files = 0; by_name = false; max_bytes = 0; continues = false }
+hourly = record { rotation = rotation_of Hourly; prefix = 97 ∷ []; suffix = []; link = []; link_optional = false; max_files = 0; by_name = false; max_bytes = 0; continues = false }
 
 -- the file of this name has a body that was empty at first, and these bytes at the end
 pub record FileContains {S F : Type 0} (kind : Ghosts S F) (name bytes : List ℕ) (first last : S) : Type 0 where
@@ -121,6 +121,13 @@ NotesNoFault {S} {F} kind = (limit : ℕ) (c : Config) (moment : ℤ) (number ro
 abbrev pub hourly_by_name : Config
 hourly_by_name = record hourly { max_files = 2; by_name = true }
 
+-- The file of 00 o'clock is opened, and that of 01 o'clock, which was there, is gone.
+abbrev pub RemovesLaterFile : {S F : Type 0} → Ghosts S F → Type 0
+RemovesLaterFile {S} {F} kind = (limit room : ℕ) (first last : S) (b : ℕ) (t : Option ℤ) → IsTrue kind.is_known
+    → fin.get (kind.content first).names (file_name_of hourly_by_name (record { moment = pos 3600; number = 0 })) ≡ Some (File b t)
+    → fin.get (kind.content last).names (file_name_of hourly_by_name (record { moment = pos 3600; number = 0 })) ≡ None
+    → Headline kind limit hourly_by_name (pos 0) 0 room [] first last → ⊥
+
 -- An attempt fails, and a file that retention had left is gone, though no listing or removal was noted as failed.
 abbrev pub RemovesAtFailure : {S F : Type 0} → Ghosts S F → Type 0
 RemovesAtFailure {S} {F} kind = (x : Vec ℕ Global) (limit room : ℕ) (first last : S) (name : List ℕ) → IsTrue kind.is_known → (kind.content first).there ≡ true
@@ -129,3 +136,18 @@ RemovesAtFailure {S} {F} kind = (x : Vec ℕ Global) (limit room : ℕ) (first l
     → name ≢ file_name_of hourly_by_name (record { moment = pos 0; number = 0 }) → name ≢ file_name_of hourly_by_name (record { moment = pos 3600; number = 0 }) → name ≢ []
     → kept_entry hourly_by_name (record { moment = pos 0; number = 0 }) (kind.content first).names name ≢ None → fin.get (kind.content last).names name ≡ None
     → Headline kind limit hourly_by_name (pos 0) 0 room ((Work (pos 3600), Wrote SwitchFailed (Ok 1)) ∷ (Work (pos 0), Took 1) ∷ (Offer 0 x, Accepted 1) ∷ []) first last → ⊥
+
+-- one file for all time, with the link `l`
+abbrev pub linked : Bool → Config
+linked optional = record (one_file 0) { link = 108 ∷ []; link_optional = optional }
+
+-- The log was opened, and its link, which is not optional, is not there.
+abbrev pub LacksLink : {S F : Type 0} → Ghosts S F → Type 0
+LacksLink {S} {F} kind = (limit room : ℕ) (first last : S) → IsTrue kind.is_known
+    → fin.get (kind.content last).names (108 ∷ []) ≢ Some (Link (97 ∷ [])) → Headline kind limit (linked false) (pos 0) 0 room [] first last → ⊥
+
+-- An optional link that was not there leads to another file.
+abbrev pub LinksElsewhere : {S F : Type 0} → Ghosts S F → Type 0
+LinksElsewhere {S} {F} kind = (limit room : ℕ) (first last : S) (target : List ℕ) → IsTrue kind.is_known → target ≢ 97 ∷ []
+    → fin.get (kind.content first).names (108 ∷ []) ≡ None → fin.get (kind.content last).names (108 ∷ []) ≡ Some (Link target)
+    → Headline kind limit (linked true) (pos 0) 0 room [] first last → ⊥

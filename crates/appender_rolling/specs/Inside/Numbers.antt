@@ -3,6 +3,7 @@ use Rattle.std.specs.Prelude.{ℕ, ◌+◌, ℤ, Bool, true, false, ◌&&◌, if
 use Rattle.std.specs.Option.{option_map_or}
 use Rattle.appender_names.specs.declared.rotation.Rotation.{Rotation}
 use Rattle.appender_names.specs.Rotation.{is_in_period, is_same_start, period_of}
+use Rattle.appender_names.specs.Archive.{archive_at}
 use Rattle.appender_names.specs.Name.{Naming, reading_at}
 use Rattle.appender_store.specs.Folder.{Row}
 use Rattle.appender_store.specs.declared.store.Kind.{Kind}
@@ -25,7 +26,16 @@ abbrev pub number_after_row : Naming → Bool → ℤ → Row → ℕ
 number_after_row n continues m row =
     option_map_or (λ (key : ℤ × ℕ). if continues && continues_at n.rotation m key.0 row.1 then min key.1 999999 else number_after n.rotation m key) (option_and_then (reading_at n) row.0) 0
 
+-- the number after that of the log's name of which a listed name is an archive's; 0 for another name
+abbrev pub number_after_archive : Naming → ℤ → Row → ℕ
+number_after_archive n m row = option_map_or (number_after n.rotation m) (option_and_then (archive_at n) row.0) 0
+
+-- the greater of both, if archives count
+abbrev pub number_after_listed : Naming → Bool → Bool → ℤ → Row → ℕ
+number_after_listed n by_name continues m row =
+    if by_name then max (number_after_row n continues m row) (number_after_archive n m row) else number_after_row n continues m row
+
 -- the greatest of them, which is 0 if no listed name is one of the period
-abbrev pub first_number : Naming → Bool → ℤ → List Row → ℕ
-first_number n continues m [] = 0
-first_number n continues m (row ∷ rows) = max (number_after_row n continues m row) (first_number n continues m rows)
+abbrev pub first_number : Naming → Bool → Bool → ℤ → List Row → ℕ
+first_number n by_name continues m [] = 0
+first_number n by_name continues m (row ∷ rows) = max (number_after_listed n by_name continues m row) (first_number n by_name continues m rows)

@@ -35,6 +35,7 @@ pub struct Builder {
     prefix: Option<String>,
     suffix: Option<String>,
     link: Option<String>,
+    link_optional: bool,
     max_files: usize,
     by_name: bool,
     max_bytes: u64,
@@ -51,6 +52,7 @@ impl Model for Builder {
       prefix = text_or_empty b.prefix;
       suffix = text_or_empty b.suffix;
       link = text_or_empty b.link;
+      link_optional = b.link_optional;
       max_files = b.max_files;
       by_name = b.by_name;
       max_bytes = b.max_bytes;
@@ -70,6 +72,7 @@ impl Builder {
             prefix: None,
             suffix: None,
             link: None,
+            link_optional: false,
             max_files: 0,
             by_name: false,
             max_bytes: 0,
@@ -116,6 +119,20 @@ impl Builder {
         Ok(self)
     }
 
+    /// Sets whether an opening succeeds without the link of `latest_symlink` if that can't be made. The file is then open,
+    /// and old log files are removed as after any success. A folder with the link's name is kept, and so is a file, unless
+    /// `max_log_files` counts it. An old link may be removed. Each opening tries again. That the link could not be made is
+    /// not reported; `DirFolder::link_fault` has the fault.
+    ///
+    /// By default, as in the crate tracing-appender, the opening fails with `InitError::Symlink`.
+    #[must_use]
+    pub fn optional_symlink(mut self, optional: bool) -> Builder
+        ensures { result ≡ record self { link_optional = optional } }
+    {
+        self.link_optional = optional;
+        self
+    }
+
     /// Sets how many log files are kept; 0 is no maximum. Before a file is opened, the oldest are removed.
     ///
     /// By default, as in the crate tracing-appender, this counts each plain file whose name begins with the prefix and
@@ -129,10 +146,13 @@ impl Builder {
         self
     }
 
-    /// Sets whether `max_log_files` goes only by names. Then it counts the plain files whose names read as the start of
-    /// a period of this log. The oldest is that of the earliest period and lowest number. The file that is opened is
-    /// never removed, and no file with another name is. Old files are removed last: if the next file can't be opened, or the
-    /// link can't be made, none is. Under `NEVER`, which has no periods, none is removed.
+    /// Sets whether `max_log_files` goes only by names. Then it counts the file that is opened, and the plain files whose
+    /// names read as the start of a period of this log and with their numbers are before it. The oldest is that of the
+    /// earliest period and lowest number. Neither the file that is opened nor a later one, as a clock that was ahead
+    /// leaves, is ever removed, and no file with another name is. With a limit of bytes the number of an archive stays
+    /// taken: of an entry that has such a name with a dot and 1 to 8 ASCII letters or digits after it, as `NAME.gz`.
+    /// Old files are removed last: if the next file can't be opened, or the link can't be made, none is. Under `NEVER`,
+    /// which has no periods, none is removed.
     #[must_use]
     pub fn log_files_by_name(mut self, by_name: bool) -> Builder
         ensures { result ≡ record self { by_name = by_name } }
@@ -192,6 +212,12 @@ impl Builder {
         text(&self.link)
     }
 
+    pub(crate) fn link_optional(&self) -> bool
+        ensures { result ≡ self.now.link_optional }
+    {
+        self.link_optional
+    }
+
     pub(crate) fn max_files(&self) -> usize
         ensures { result ≡ self.now.max_files }
     {
@@ -236,6 +262,7 @@ impl Clone for Builder {
             prefix: self.prefix.clone()?,
             suffix: self.suffix.clone()?,
             link: self.link.clone()?,
+            link_optional: self.link_optional,
             max_files: self.max_files,
             by_name: self.by_name,
             max_bytes: self.max_bytes,

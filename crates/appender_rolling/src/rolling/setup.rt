@@ -1,17 +1,16 @@
 // The opening of a log file: old ones are removed, the file is opened, and a link is made to it.
 ghost use Rattle.std.specs.Prelude.{◌≡◌, ◌↔◌, ◌<◌, ◌≤◌, true, length, ℤ, Some, IsOk, IfOk, IfErr, OnOk, IsTrue, Err, map, option_and_then};
 ghost use Rattle.appender_names.specs.Rotation.{IsMoment, period_of, is_same_start};
+ghost use Rattle.appender_names.specs.Archive.{archive_at};
 ghost use Rattle.appender_names.specs.Name.{reading_at};
 ghost use Rattle.appender_store.specs.Folder.{listed_row};
-ghost use Rattle.appender_rolling.specs.Inside.Numbers.{number_after as after_of, number_after_row, continues_at, first_number as first_of};
+ghost use Rattle.appender_rolling.specs.Inside.Numbers.{number_after as after_of, number_after_archive, number_after_listed, number_after_row, continues_at, first_number as first_of};
 ghost use Rattle.appender_rolling.specs.Opening.{OpensNamedFile, FailsToOpen, ReplacesLink, FailsToReplaceLink, RemovesEmpty};
 
 use super::{Builder, InitError, NameFault};
 use appender_names::names::Names;
 use appender_names::rotation::{Rotation, in_range};
-use appender_retain::laws::{
-    links_add_none, names_are_spared, opened_is_one, openings_add_one, survivors_stay,
-};
+use appender_retain::laws::{links_add_none, names_are_spared, openings_add_one, survivors_stay};
 use appender_retain::retain::{LogFiles, prune_log_files};
 use appender_store::laws::names_change_one_at_a_time;
 use appender_store::store::{Folder, Kind, Listed, Notice};
@@ -25,6 +24,7 @@ pub(super) struct Setup {
     alloc: Global,
     names: Names,
     link: String,
+    link_optional: bool,
     max_files: usize,
     by_name: bool,
     max_bytes: u64,
@@ -42,6 +42,7 @@ impl Model for Setup {
       prefix = s.names.prefix;
       suffix = s.names.suffix;
       link = string_bytes s.link;
+      link_optional = s.link_optional;
       max_files = s.max_files;
       by_name = s.by_name;
       max_bytes = s.max_bytes;
@@ -69,12 +70,12 @@ pub(super) struct Opened<F: Drop> {
 }
 
 impl Setup {
-    ghost use Rattle.std.specs.Prelude.{◌≢◌, ◌⊎◌, ◌<◌, length, string_bytes, string_len, string_capacity};
+    ghost use Rattle.std.specs.Prelude.{◌≢◌, ◌⊎◌, ◌<◌, false, length, string_bytes, string_len, string_capacity};
     ghost use Rattle.appender_names.specs.declared.error.InitError.TheVariants.{Memory};
     ghost use Rattle.appender_names.specs.Rotation.{IsNever};
     ghost use Rattle.appender_rolling.specs.Config.{naming_of, log_files_of, is_limited, max_before, max_after, MayLimit, IsStamp, stamp, last_of};
     ghost use Rattle.appender_rolling.specs.Opening.{NamesEntries, ReadsAsDate, LinkClashes, IsReady, IsNotReady, FindsNumber};
-    ghost use Rattle.appender_rolling.specs.Opening.{IsFirstRoom, LinksTo, FailsToLink, RemovesNewFile, OpensFile, RefusesFile, file_name_of};
+    ghost use Rattle.appender_rolling.specs.Opening.{IsFirstRoom, TriesLink, FailsToLink, RemovesNewFile, OpensFile, RefusesFile, file_name_of};
 
     // Copies what a builder has set. `Name` if prefix, suffix or link make no names of entries of a folder; else `Limit`
     // if a limit of bytes is set under `NEVER`. The inner error: there is no room for the copies.
@@ -103,6 +104,7 @@ impl Setup {
             alloc,
             names,
             link: String::from_str(alloc, builder.link())?,
+            link_optional: builder.link_optional(),
             max_files: builder.max_files(),
             by_name: builder.by_name(),
             max_bytes: builder.max_bytes(),
@@ -164,7 +166,7 @@ impl Setup {
     }
 
     /// Returns the number of the first file: the one after the greatest that is listed for the moment's
-    /// period, up to 999,999, or 0 if none is listed. If the log continues its last file, that of a plain file with the
+    /// period, up to 999,999, or 0 if none is listed. By name those of archives count too. If the log continues its last file, that of a plain file with the
     /// greatest number is that number itself. A listing that fails is noted, and gives 0. Without
     /// a limit of bytes the number is 0, and no call is made.
     pub(super) fn first_number<S: Folder>(&self, folder: &mut S, moment: i64) -> u32
@@ -175,7 +177,7 @@ impl Setup {
             return 0;
         }
         match folder.list() {
-            Ok(listed) => first_number(&self.names, self.continues, moment, &listed),
+            Ok(listed) => first_number(&self.names, self.by_name, self.continues, moment, &listed),
             Err(fault) => {
                 folder.note(Notice::List(&fault));
                 0
@@ -225,7 +227,8 @@ impl Setup {
     }
 
     /// Removes old log files, opens the file of this name, and makes the link to it. By name they are removed
-    /// last, so that an opening that fails removes none. If the link is refused, by name a new file is removed.
+    /// last, so that an opening that fails removes none. If a link that isn't optional is refused, by name a new file is
+    /// removed.
     pub(super) fn open_file<S: Folder>(
         &self,
         folder: &mut S,
@@ -240,7 +243,6 @@ impl Setup {
         names_change_one_at_a_time();
         openings_add_one();
         links_add_none();
-        opened_is_one();
         names_are_spared();
         survivors_stay();
         let log = self.log_files(name);
@@ -280,10 +282,11 @@ impl Setup {
         if self.by_name { self.max_files } else { 0 }
     }
 
-    // Makes the link to the file of this name, if a link is set.
+    // Makes the link to the file of this name, if a link is set. The error: it could not be made, and isn't optional.
     fn link_to<S: Folder>(&self, folder: &mut S, name: &str) -> io::Result<()>
         requires { IsTrue S.is_known → (S.content folder.old).there ≡ true }
-        ensures ok { OnOk result (LinksTo S.Folder self.now.link name.now folder.old folder.new) }
+        ensures ok { OnOk result (TriesLink S.Folder self.now name.now folder.old folder.new) }
+        ensures required { IfErr result (λ fault. self.now.link_optional ≡ false) }
         ensures err { IfErr result (λ fault. FailsToLink S.Folder self.now.link name.now
             folder.old fault folder.new) }
     {
@@ -291,7 +294,10 @@ impl Setup {
         if link.is_empty() {
             return Ok(());
         }
-        relink(folder, link, name)
+        match relink(folder, link, name) {
+            Err(_) if self.link_optional => Ok(()),
+            made => made,
+        }
     }
 
     // By name, removes the open file of this name if its opening made it and it has no bytes.
@@ -326,17 +332,62 @@ impl Setup {
 
 // The number after the greatest of those listed for the moment's period. Those of folders and links count too, since no
 // file can be opened under their names.
-fn first_number(names: &Names, continues: bool, moment: i64, listed: &[Listed]) -> u32
+fn first_number(
+    names: &Names,
+    by_name: bool,
+    continues: bool,
+    moment: i64,
+    listed: &[Listed],
+) -> u32
     requires moment { IsMoment moment }
     requires numbered { names.now.numbered ≡ true }
-    ensures value { result ≡ first_of names.now continues moment (map listed_row listed.now) }
+    ensures value { result ≡ first_of names.now by_name continues moment (map listed_row listed.now) }
     ensures bound { result ≤ 999_999 }
 {
     let mut first = 0;
     for entry in listed {
-        first = first.max(number_after_entry(names, continues, moment, entry));
+        first = first.max(number_after_listed(names, by_name, continues, moment, entry));
     }
     first
+}
+
+// The number after that of a listed name, or by name after that of an archive.
+fn number_after_listed(
+    names: &Names,
+    by_name: bool,
+    continues: bool,
+    moment: i64,
+    entry: &Listed,
+) -> u32
+    requires moment { IsMoment moment }
+    requires numbered { names.now.numbered ≡ true }
+    ensures value { result ≡ number_after_listed names.now by_name continues moment (listed_row entry.now) }
+    ensures bound { result ≤ 999_999 }
+{
+    let own = number_after_entry(names, continues, moment, entry);
+    if by_name {
+        own.max(number_after_archive(names, moment, entry))
+    } else {
+        own
+    }
+}
+
+// The number after that of the log's name that a listed name is an archive of, if it is one of the moment's period; else 0.
+fn number_after_archive(names: &Names, moment: i64, entry: &Listed) -> u32
+    requires { IsMoment moment }
+    ensures value { result ≡ number_after_archive names.now moment (listed_row entry.now) }
+    ensures bound { result ≤ 999_999 }
+{
+    match read_archive(names, entry) {
+        Some((second, number)) => number_after(names.rotation(), moment, second, number),
+        None => 0,
+    }
+}
+
+fn read_archive(names: &Names, entry: &Listed) -> Option<(i64, u32)>
+    ensures { result ≡ option_and_then (archive_at names.now) (listed_row entry.now).0 }
+{
+    names.read_archive(entry.name.as_ref()?.as_str())
 }
 
 // The number after that of a listed name, if it is one of the moment's period; else 0. The number itself, if the file of

@@ -14,7 +14,7 @@ use Rattle.appender_store.specs.declared.store.memory.MemoryFolder.{MemoryFolder
 use Rattle.appender_rolling.specs.Config.{naming_of}
 use Rattle.appender_replay.specs.Headline.{Calls, Lists, Removes, Opens, MakesFolder, RemovesLink, MakesLink, Flushes}
 use Rattle.appender_replay.specs.Inside.Refused.{hourly}
-use Rattle.appender_replay.proofs.Refusals.{writes_twice, loses_byte, writes_out_of_order, takes_out_of_order, shutdown_takes_no_place, never_prunes, follows_clock_back, changes_other_names, loses_file, reuses_number, takes_nothing, notes_no_fault, removes_at_failure}
+use Rattle.appender_replay.proofs.Refusals.{writes_twice, loses_byte, writes_out_of_order, takes_out_of_order, shutdown_takes_no_place, never_prunes, follows_clock_back, changes_other_names, loses_file, reuses_number, takes_nothing, notes_no_fault, removes_later_file, removes_at_failure, lacks_link, links_elsewhere}
 use Rattle.appender_replay.proofs.replay.refused.headline_refuses.Goals as goal
 
 -- no call changes the limits of appends
@@ -58,5 +58,8 @@ returns g c = record {
   reuses_number = reuses_number g.S.Folder;
   takes_nothing = takes_nothing ghosts state_of limits_stay (λ old new notice gives. ap (λ (s : MemoryState). s.shortened) gives) (λ old new file after bytes answer gives. gives);
   notes_no_fault = notes_no_fault ghosts removal_counts;
+  removes_later_file = removes_later_file g.S.Folder (c.names_are_periods.ensures (naming_of hourly));
   removes_at_failure = removes_at_failure g.S.Folder;
+  lacks_link = lacks_link g.S.Folder;
+  links_elsewhere = links_elsewhere g.S.Folder;
 }

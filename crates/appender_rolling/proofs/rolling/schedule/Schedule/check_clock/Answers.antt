@@ -71,6 +71,9 @@ invariant_of-self-in-Err g c =
       };
     }
 
+pub invariant_of-log : goal.invariant_of-log
+invariant_of-log g c is_known = rw c.close_last.ensures.content (c.in-Ok.ensures.ok.body_is_there is_known)
+
 pub invariant_of-log-in-Err : goal.invariant_of-log-in-Err
 invariant_of-log-in-Err g c is_known =
     rw c.note.ensures.content ((keeps_little (maps c.names_change_one_at_a_time.ensures.removals c.names_change_one_at_a_time.ensures.additions) _ _ _ _ (refuses_little _ _ _ _ _ _ is_known c.in-Err.ensures.err)).keeps.more _ (c.log.invariant is_known))

@@ -1,4 +1,4 @@
-use Rattle.std.proofs.Common.{ℕ, Some, None, subst}
+use Rattle.std.proofs.Common.{ℕ, Some, subst}
 use Rattle.appender_retain.specs.Rank.{LogFiles}
 use Rattle.appender_retain.specs.Pruning.{Prunes}
 use Rattle.appender_rolling.specs.Config.{log_files_of}
@@ -13,8 +13,7 @@ returns-in-Ok-clause-ok g c =
     let log = log_files_of config (Some name) in
     let laws : RetentionLaws log = record {
       one = c.openings_add_one.ensures log;
-      beside = c.opened_is_one.ensures log;
-      none = c.links_add_none.ensures (log_files_of config None);
+      none = c.links_add_none.ensures log;
       kept = c.names_are_spared.ensures log;
       stay = c.survivors_stay.ensures log;
     } in
