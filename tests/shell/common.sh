@@ -55,9 +55,14 @@ run_closed() {
   run bash -c "exec \"\$@\"$closings" run_closed "$@"
 }
 
+# What standard error has, with `@` in place of the title of a log, as `rolltee: DIR/PREFIX: `.
+said() {
+  sed -E 's/^rolltee: [^ ]*\/[^ ]*: /@/' "$err"
+}
+
 # The status, and both streams.
 told() {
-  echo "$status|$(cat "$out")|$(cat "$err")"
+  echo "$status|$(cat "$out")|$(said)"
 }
 
 # The bytes of a file, and whether there is none.
@@ -121,6 +126,12 @@ has() {
   command -v "$1" > /dev/null && return
   skip "$2" "no $1"
   return 1
+}
+
+# recipe WORDS: a recipe of RUNNING, from the line with these words to the end of its block.
+recipe() {
+  awk -v words="$1" '!/^    / { found = 0 } /^    / && (found || index($0, words)) { found = 1; print substr($0, 5) }' \
+    "$top/docs/RUNNING.md"
 }
 
 # Ends the script, with the count of its checks.

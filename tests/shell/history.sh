@@ -1,7 +1,7 @@
 #!/usr/bin/env bash
 # What starts, restarts, kills and faults leave of the lines that were there, and of those that come. Runs the built programs.
-# Each check prints a line, and the last line is `N passed, M failed`. It ends within 180 seconds.
-if [ "${1-}" != bounded ]; then exec timeout -k 6 170 bash "$0" bounded; fi
+# Each check prints a line, and the last line is `N passed, M failed`. It ends within five minutes.
+if [ "${1-}" != bounded ]; then exec timeout -k 6 290 bash "$0" bounded; fi
 . "$(dirname "${BASH_SOURCE[0]}")/common.sh"
 
 seq -f 'line %g' 60 > "$work/sixty"
@@ -30,13 +30,6 @@ mkdir "$work/refusing"
 for number in 0 1 2 3 4; do seq 20 > "$work/refusing/app.2026-01-01.00000$number.log"; done
 touch "$work/refusing/.app.lock"
 keeping=(--keep 5 --max-bytes 1K --suffix log daily "$work/refusing" app)
-for direct in '' ' --direct'; do
-  for entry in latest .latest.new; do
-    echo mine > "$work/refusing/$entry"
-    refuses "rolltee$direct, $entry is a file" "$entry" "$rolltee" $direct --link latest "${keeping[@]}"
-    rm "$work/refusing/$entry"
-  done
-done
 refuses 'rolltee, no memory for the queue' 'no memory' "$rolltee" --queue 99999999999 "${keeping[@]}"
 if has strace 'no thread'; then
   threadless=(strace -f -qq -o /dev/null -e trace=clone,clone3 -e inject=clone,clone3:error=EAGAIN "$rolltee")
@@ -55,7 +48,7 @@ for direct in '' ' --direct'; do
   echo one >&9
   wait_until eval 'cat "$folder"/audit.* 2> /dev/null | grep -q one'
   run "${keeping[@]}" audit < "$lines"
-  check "$name, a second one" '1||another rolltee --keep writes this log' "$(told)"
+  check "$name, a second one" '1||@another rolltee --keep writes this log' "$(told)"
   run "$rolltee" $direct daily "$folder" audit < "$lines"
   check "$name, one without --keep beside it" '0||' "$(told)"
   run "${keeping[@]}" app < "$lines"
@@ -73,7 +66,7 @@ for direct in '' ' --direct'; do
   rm "$folder/.audit.lock"
   mkfifo "$folder/.audit.lock"
   run "${keeping[@]}" audit < "$lines"
-  check "$name, a lock that is a FIFO" "0||$folder/.audit.lock can't be locked: no plain file" "$(told)"
+  check "$name, a lock that is a FIFO" "0||@.audit.lock can't be locked: no plain file" "$(told)"
 done
 if [ "$EUID" = 0 ] && has setpriv 'a lock of another user' && has flock 'a lock of another user'; then
   rm "$folder/.audit.lock"
@@ -83,7 +76,7 @@ if [ "$EUID" = 0 ] && has setpriv 'a lock of another user' && has flock 'a lock 
   exec 8> "$folder/.audit.lock"
   flock -n 8
   run setpriv --reuid 65534 --regid 65534 --clear-groups "$work/program" --keep 2 daily "$folder" audit < "$lines"
-  check 'rolltee --keep, a lock of another user' '1||another rolltee --keep writes this log' "$(told)"
+  check 'rolltee --keep, a lock of another user' '1||@another rolltee --keep writes this log' "$(told)"
   exec 8>&-
   chmod 700 "$work"
 fi
@@ -201,26 +194,6 @@ if has strace 'a kill before old files are removed'; then
   check 'a kill before old files are removed: the next start' '0||2 03' "$(told)$(find "$folder" -name 'audit.*' | wc -l) $(cat "$folder"/audit.2020*)"
 fi
 
-# ---- a link's name that is taken during a run
-
-for direct in '' ' --direct'; do
-  for entry in latest .latest.new; do
-    folder=$work/taken
-    rm -rf "$folder"
-    begin "$rolltee" $direct --keep 3 --max-bytes 40 --link latest daily "$folder" app
-    head -n 3 "$work/sixty" >&9
-    wait_until has_lines "$folder/latest" 3
-    rm "$folder/latest"
-    echo mine > "$folder/$entry"
-    tail -n +4 "$work/sixty" >&9
-    end
-    name="rolltee$direct, $entry becomes a file"
-    check "$name: the status" 0 "$status"
-    check "$name: it says so" yes "$(says "Couldn't create writer for logs" && echo yes || cat "$err")"
-    check "$name: all lines" all "$(keeps_all "$folder" "$work/sixty")"
-  done
-done
-
 # ---- a folder without room for one more name
 
 mkdir "$disk"
@@ -253,8 +226,8 @@ if has strace 'calls of the system'; then
     file=$(readlink -f "$folder/latest.log")
     run strace -f -qq -o /dev/null -P "$file" -e trace=write -e "inject=write:error=$fault:when=1..2" "${trail[@]}" \
       daily "$folder" audit < "$lines"
-    check "an audit trail, $fault twice" $'0||writes pause|writes go on|[one\ntwo]' \
-      "$status|$(cat "$out")|$(sed 's/:.*//' "$err" | paste -s -d '|')|$(content "$folder/latest.log")"
+    check "an audit trail, $fault twice" $'0||@writes pause|@writes go on|[one\ntwo]' \
+      "$status|$(cat "$out")|$(said | sed 's/:.*//' | paste -s -d '|')|$(content "$folder/latest.log")"
   done
 
   # syncs COUNT: whether so many syncs were made.
@@ -393,15 +366,58 @@ killed '1,000 lines a second' slow_lines $((8 * 96)) $((8 * 96))
 # What one read takes, and a line that it cuts at each end.
 killed 'at full speed' fast_lines $((8192 + 2 * 96)) $((8 * (8192 + 2 * 96)))
 
+# Waits for the next day if this one has few seconds left.
+begin_in_one_day() {
+  local left=$((86400 - $(date +%s) % 86400))
+  [ "$left" -gt 8 ] || sleep "$left"
+}
+
+# ---- a timer that compresses
+
+# The lines that a timer runs, by RUNNING.
+archived=$work/archived
+timer=$(recipe 'find -H' | sed "s#/var/log/app#$archived#g")
+
+# The names in that folder, without the day.
+archived_names() {
+  ls "$archived" | sed "s/$(date -u +%F)/D/" | paste -s -d ' '
+}
+
+for direct in '' ' --direct'; do
+  name="rolltee$direct, a timer"
+  rm -rf "$archived"
+  mkdir "$archived"
+  touch -d '20 days ago' "$archived/app.2020-01-02.gz"
+  touch -d '40 days ago' "$archived/app.2020-01-01.gz" "$archived/app.conf"
+  begin_in_one_day
+  words=("$rolltee" $direct --max-bytes 1K --link latest daily "$archived" app)
+  begin "${words[@]}"
+  seq 500 >&9
+  wait_until eval 'cat "$archived"/app.*[0-9] 2> /dev/null | grep -q 500'
+  touch -d '2 hours ago' "$archived"/app.*[0-9]
+  eval "$timer"
+  check "$name: the names" 'app.2020-01-02.gz app.D.000000.gz app.D.000001 app.conf latest' "$(archived_names)"
+  seq 501 700 >&9
+  end
+  check "$name: the open file goes on" '0||' "$(told)"
+  # Then someone compresses the last file too, and the service is started again.
+  gzip "$archived"/app.*[0-9]
+  seq 701 1000 | run "${words[@]}"
+  check "$name, a restart" '0||' "$(told)"
+  check "$name, a restart: the names" \
+    'app.2020-01-02.gz app.D.000000.gz app.D.000001.gz app.D.000002.gz app.D.000003 app.D.000004 app.conf latest' "$(archived_names)"
+  touch -d '2 hours ago' "$archived"/app.*[0-9]
+  eval "$timer"
+  check "$name, a restart: all lines" same "$(zcat -f "$archived/app.$(date -u +%F)".* | same - <(seq 1000))"
+done
+
 # ---- a folder that an earlier version left
 
 # The program that `rolltee --direct` replaces had the same names.
 name='an audit trail of an earlier version'
 folder=$work/before
 mkdir "$folder"
-# All is to be of one day.
-left=$((86400 - $(date +%s) % 86400))
-[ "$left" -gt 4 ] || sleep "$left"
+begin_in_one_day
 today=audit.$(date -u +%F).log
 for day in 1 2 3 4 5 6 7 8; do echo "$day" > "$folder/audit.2020-01-0$day.log"; done
 echo before > "$folder/$today"

@@ -1,7 +1,7 @@
 #!/usr/bin/env bash
 # Runs the built programs as a user does, and compares what they write and how they end. `rt run` in the folder of each
-# builds them before. Each check prints a line, and the last line is `N passed, M failed`. It ends within 100 seconds.
-if [ "${1-}" != bounded ]; then exec timeout -k 6 90 bash "$0" bounded; fi
+# builds them before. Each check prints a line, and the last line is `N passed, M failed`. It ends within five minutes.
+if [ "${1-}" != bounded ]; then exec timeout -k 6 290 bash "$0" bounded; fi
 . "$(dirname "${BASH_SOURCE[0]}")/common.sh"
 
 script=$work/script
@@ -39,7 +39,7 @@ for streams in '' $streams_closed; do
     *0*) lines_wanted='[]' fault_status=0 ;;
     *) lines_wanted=$'[one\ntwo]' fault_status=1 ;;
   esac
-  case $streams in *2*) fault_told= ;; *) fault_told='read failed' ;; esac
+  case $streams in *2*) fault_told= ;; *) fault_told=$'read failed\n@Is a directory (os error 21)' ;; esac
   [ "$fault_status" = 0 ] && fault_told=
 
   for direct in '' ' --direct'; do
@@ -90,7 +90,7 @@ run_turned() {
 for stream in 0 1 2; do
   name="stream $stream the wrong way round"
   case $stream in
-    0) lines_wanted='[]' tee_told='1||read failed' play_told='2||read failed' ;;
+    0) lines_wanted='[]' tee_told=$'1||read failed\n@Bad file descriptor (os error 9)' play_told='2||read failed' ;;
     1) lines_wanted=$'[one\ntwo]' tee_told='0||' play_told='2||' ;;
     2) lines_wanted=$'[one\ntwo]' tee_told='0||' play_told="0|$played|" ;;
   esac
@@ -138,7 +138,7 @@ for name in rolltee rollplay; do
   check "$name --version" "0|$name $version|" "$(told)"
   check "$name --version: 80 characters" 0 "$(awk 'length > 80' "$out" | wc -l)"
   for option in -x --helpme -; do
-    case $name in rollplay) unknown= ;; *) unknown="$option: unknown option"$'\n' ;; esac
+    case $name in rollplay) unknown= ;; *) unknown="rolltee: $option: unknown option"$'\n' ;; esac
     run "$program" "$option" "$work/option" app --help < /dev/null
     check "$name $option" "2||$unknown$usage" "$(told)"
   done
@@ -162,14 +162,15 @@ run "$rolltee" never -- "$work/dashes" -- < "$lines"
 check 'rolltee never -- DIR --' '0||' "$(told)"
 check 'rolltee never -- DIR --: the log' $'[one\ntwo]' "$(content "$work/dashes/--")"
 run "$rolltee" -- --help < "$lines"
-check 'rolltee -- --help' '2||usage: rolltee ROTATION DIR PREFIX' "$(told)"
+check 'rolltee -- --help' \
+  $'2||usage: rolltee ROTATION DIR PREFIX\nrolltee: three words are wanted, ROTATION DIR PREFIX, and not 1' "$(told)"
 run "$rolltee" never '' app < "$lines"
-check 'rolltee, an empty folder' '2||usage: rolltee ROTATION DIR PREFIX' "$(told)"
+check 'rolltee, an empty folder' $'2||usage: rolltee ROTATION DIR PREFIX\nrolltee: DIR is empty' "$(told)"
 
 # A word that is not UTF-8 is named, also after `--`.
 for words in "never $work/switch" "-- never"; do
   run "$rolltee" $words $'caf\xe9' < "$lines"
-  check "rolltee ${words//$work/} and a word that is not UTF-8" $'2||caf\xef\xbf\xbd: not UTF-8' "$(told)"
+  check "rolltee ${words//$work/} and a word that is not UTF-8" $'2||rolltee: caf\xef\xbf\xbd: not UTF-8' "$(told)"
 done
 
 # Options may be anywhere before `--`.
@@ -185,10 +186,11 @@ rm -rf "$work/switch"
 usage='usage: rolltee ROTATION DIR PREFIX'
 while IFS='|' read -r words wanted; do
   run "$rolltee" $words < "$lines"
-  check "rolltee ${words//$work/}" "2||$wanted" "$(told)"
+  check "rolltee ${words//$work/}" "2||$(printf '%b' "$wanted" | sed 's/^-/rolltee: -/')" "$(told)"
 done << END
--- --no-wait $work/switch app|$usage
---no-wait never $work/switch|$usage
+-- --no-wait $work/switch app|$usage\\nrolltee: '--no-wait' is no rotation: take minutely, hourly, daily, weekly or never
+day $work/switch app|$usage\\nrolltee: 'day' is no rotation: take minutely, hourly, daily, weekly or never
+--no-wait never $work/switch|$usage\\nrolltee: three words are wanted, ROTATION DIR PREFIX, and not 2
 --no-wait --no-wait never $work/switch app|--no-wait: given twice
 never $work/switch app --keep|--keep: a value is missing
 never $work/switch app --keep 0|--keep: not a number from 1
@@ -205,24 +207,39 @@ never $work/switch app --keep -3|--keep: not a number from 1
 --max-bytes 1KK|--max-bytes: not a number of bytes from 1, as 500, 64K, 10M or 2G
 --max-bytes 17179869184G|--max-bytes: not a number of bytes from 1, as 500, 64K, 10M or 2G
 --keep 18446744073709551616 daily $work/switch app|--keep: not a number from 1
-never $work/switch app --keep 1|--keep: not with never, a log of one file; take weekly, whose files are the longest
-never $work/switch app --max-bytes 1|--max-bytes: not with never, a log of one file; take weekly, whose files are the longest
+never $work/switch app --keep 1|@--keep: not with never, a log of one file; take weekly, whose files are the longest
+never $work/switch app --max-bytes 1|@--max-bytes: not with never, a log of one file; take weekly, whose files are the longest
 --max-bytes x hourly $work/switch app|--max-bytes: not a number of bytes from 1, as 500, 64K, 10M or 2G
 --max-bytes 0K hourly $work/switch app|--max-bytes: not a number of bytes from 1, as 500, 64K, 10M or 2G
 --max-bytes=1KB hourly $work/switch app|--max-bytes: not a number of bytes from 1, as 500, 64K, 10M or 2G
---direct --queue 2 never $work/switch app|--queue: not with --direct
-hourly $work/switch app --queue=2 --direct|--queue: not with --direct
---lossy never $work/switch app --direct|--lossy: not with --direct
---direct daily $work/switch app --lossy|--lossy: not with --direct
+--direct --queue 2 never $work/switch app|@--queue: not with --direct
+hourly $work/switch app --queue=2 --direct|@--queue: not with --direct
+--lossy never $work/switch app --direct|@--lossy: not with --direct
+--direct daily $work/switch app --lossy|@--lossy: not with --direct
 never --link=a --link=b $work/switch app|--link: given twice
 END
 for word in -x --no-wait=1 --kep=1 --Keep --helpme -; do
   run "$rolltee" "$word" never "$work/switch" app < "$lines"
-  check "rolltee $word never DIR app" "2||$word: unknown option"$'\n'"$usage" "$(told)"
+  check "rolltee $word never DIR app" "2||rolltee: $word: unknown option"$'\n'"$usage" "$(told)"
 done
+# So is what makes no name, or one that is too long.
+long=$(printf '%0250d' 0)
+while IFS='|' read -r words wanted; do
+  run "$rolltee" $words < "$lines"
+  check "rolltee ${words//$work/}" "1||$(printf '%b' "$wanted")" "$(told)"
+done << END
+daily $work/switch a/b|name not allowed\\nrolltee: PREFIX 'a/b' has a '/'
+never $work/switch ..|name not allowed\\nrolltee: PREFIX '..' makes no file name
+daily $work/switch app --suffix a/b|name not allowed\\nrolltee: --suffix 'a/b' has a '/'
+daily $work/switch app --link a/b|name not allowed\\nrolltee: --link 'a/b' has a '/'
+daily $work/clash app --link app.2026-01-01|name not allowed\\nrolltee: --link 'app.2026-01-01' has the name of a log file
+daily $work/switch $long|failed to create log file: File name too long (os error 36)\\n@no log was opened
+END
 check 'rolltee, wrong options make no folder' no "$([ -e "$work/switch" ] && echo yes || echo no)"
 
-run "$rolltee" never "$work/names" app --suffix log --link=latest < "$lines"
+run "$rolltee" never "$work/names" app --suffix .log --link=latest --max-bytes 0k < "$lines"
+check 'rolltee --max-bytes 0k' '2||rolltee: --max-bytes: not a number of bytes from 1, as 500, 64K, 10M or 2G' "$(told)"
+run "$rolltee" never "$work/names" app --suffix .log --link=latest < "$lines"
 check 'rolltee --suffix --link' $'0||[one\ntwo]' "$(told)$(content "$work/names/latest")"
 check 'rolltee --suffix --link: names' $'app.log\nlatest' "$(ls "$work/names")"
 # The last line has no newline.
@@ -241,12 +258,12 @@ for direct in '' ' --direct'; do
   done
   timeout 5 "$rolltee" $direct never "$work/unheard${direct# }" app --echo > /dev/full 2> "$err" < "$lines"
   check "rolltee$direct --echo > /dev/full" \
-    $'1|lines are not echoed: No space left on device (os error 28)\nlines not echoed: 2' "$?|$(cat "$err")"
+    $'1|@lines are not echoed: No space left on device (os error 28)\n@lines not echoed: 2' "$?|$(said)"
   check "rolltee$direct --echo > /dev/full: the log" $'[one\ntwo]' "$(content "$work/unheard${direct# }/app")"
   # A reader that ends after a line, as a pager does.
   seq 20000 | timeout 9 "$rolltee" $direct --echo never "$work/reader${direct# }" app 2> "$err" | head -n 1 > "$out"
-  check "rolltee$direct --echo | head" $'1|lines are not echoed: Broken pipe (os error 32)\nlines not echoed: ' \
-    "${PIPESTATUS[1]}|$(sed '2s/[0-9]*$//' "$err")"
+  check "rolltee$direct --echo | head" $'1|@lines are not echoed: Broken pipe (os error 32)\n@lines not echoed: ' \
+    "${PIPESTATUS[1]}|$(said | sed '2s/[0-9]*$//')"
   check "rolltee$direct --echo | head: the log" same "$(seq 20000 | same - "$work/reader${direct# }/app")"
 
   # 8 of these 20 lines are 1 KiB.
@@ -256,7 +273,7 @@ for direct in '' ' --direct'; do
   check "$name: the sizes of the files" '0||1024 1024 512' "$(told)$(stat -c %s "$kept"/app.* | paste -s -d ' ')"
   check "$name: the log" same "$(cat "$kept"/app.* | same - "$work/lines.20")"
   touch "$kept/app.conf" "$kept/app.2020-01-01.log"
-  run "$rolltee" $direct --max-bytes=1K --keep 2 --suffix log --link latest.log weekly "$kept" app < "$work/lines.20"
+  run "$rolltee" $direct --max-bytes=1k --keep 2 --suffix log --link latest.log weekly "$kept" app < "$work/lines.20"
   check "$name --keep 2: the sizes of the files" '0||1024 1024' "$(told)$(stat -c %s "$kept"/app.*.0* | paste -s -d ' ')"
   check "$name --keep 2: the names" 'app.2020-01-01.log app.D.000003.log app.D.000004.log app.conf latest.log' \
     "$(ls "$kept" | sed -E 's/[0-9-]{10}\.0/D.0/' | paste -s -d ' ')"
@@ -294,7 +311,7 @@ lost_file() {
     wait_until has_lines "$log" 1
     echo three >&9
     end
-    check "rolltee$direct, a log file that is $what" "1||$log: log file $words"$'\nlog files not found again: 1' "$(told)"
+    check "rolltee$direct, a log file that is $what" "1||@app: log file $words"$'\n@log files not found again: 1' "$(told)"
     check "rolltee$direct, a log file that is $what: the log" $'[two\nthree]' "$(content "$log")"
   done
 }
@@ -324,9 +341,9 @@ mkdir "$disk"
 if mount -t tmpfs -o size=16k programs "$disk" 2> "$err"; then
   for direct in '' ' --direct'; do
     run "$rolltee" $direct --no-wait never "$disk/logs" app < "$many"
-    lost=$(sed -n 's/^lines not written whole: //p' "$err")
+    lost=$(said | sed -n 's/^@lines not written whole: //p')
     check "rolltee$direct --no-wait, a full disk" \
-      $'1||lines are lost: No space left on device (os error 28)\nlines not written whole: '"$lost" "$(told)"
+      $'1||@lines are lost: No space left on device (os error 28)\n@lines not written whole: '"$lost" "$(told)"
     check "rolltee$direct --no-wait, a full disk: each line is in the log or counted" 400 $(($(line_count "$disk/logs/app") + lost))
     check "rolltee$direct --no-wait, a full disk: the log begins with the lines" same \
       "$(head -c "$(stat -c %s "$disk/logs/app")" "$many" | same - "$disk/logs/app")"
@@ -341,16 +358,27 @@ if mount -t tmpfs -o size=16k programs "$disk" 2> "$err"; then
     timeout 9 "$@" < "$many" > "$out" 2> "$err" &
     waiting=$!
     wait_until [ -s "$err" ]
-    check "$name, a full disk: it says so at once" 'writes pause: No space left on device (os error 28)' "$(cat "$err")"
+    check "$name, a full disk: it says so at once" '@writes pause: No space left on device (os error 28)' "$(said)"
     mount -o remount,size=1m "$disk"
     wait "$waiting"
     status=$?
-    check "$name, a full disk" $'0||writes pause: No space left on device (os error 28)\nwrites go on' "$(told)"
+    check "$name, a full disk" $'0||@writes pause: No space left on device (os error 28)\n@writes go on' "$(told)"
     check "$name, a full disk: the log" same "$(cat "$disk/logs"/a* | same - "$many")"
     rm -r "$disk/logs"
   }
   waits rolltee "$rolltee" never "$disk/logs" app
   waits 'an audit trail' "${trail[@]}" daily "$disk/logs" audit
+  # A lossy queue has at most 16 MiB of lines, also if none ends. The peak is that of the process, in KiB.
+  mount -o remount,size=16k "$disk"
+  "$rolltee" --lossy never "$disk/logs" app < "$fifo" > "$out" 2> "$err" &
+  running=$!
+  { head -c 200M /dev/zero | tr '\0' x; cat "$lines"; } > "$fifo"
+  peak=$(sed -n 's/^VmHWM:[^0-9]*\([0-9]*\) kB/\1/p' "/proc/$running/status")
+  check 'rolltee --lossy, a full disk and a line that does not end: at most 32 MiB' yes \
+    "$([ "$peak" -le 32768 ] && says 'lines are dropped' && echo yes || echo "$peak")"
+  kill -9 "$running"
+  wait "$running" 2> /dev/null
+  rm -r "$disk/logs"
   # The file is removed while it has a part of a line. That line is lost, and the next file begins with one.
   for direct in '' ' --direct'; do
     mount -o remount,size=16k "$disk"
@@ -364,7 +392,7 @@ if mount -t tmpfs -o size=16k programs "$disk" 2> "$err"; then
     status=$?
     name="rolltee$direct, a file that is removed amid a line"
     check "$name" 1 "$status"
-    check "$name: it says so" 'lines not written whole: 1; log files not found again: 1' "$(tail -n 1 "$err")"
+    check "$name: it says so" '@lines not written whole: 1; log files not found again: 1' "$(said | tail -n 1)"
     check "$name: the next file" same "$(seq 3500 9999 | same - "$disk/logs/app")"
     rm -r "$disk/logs"
   done
@@ -413,6 +441,18 @@ if has python3 'an input that does not block'; then
   done
 fi
 
+# ---- a FIFO whose writers come and go
+
+log=$work/writers/app
+"$rolltee" never "$work/writers" app <> "$fifo" &
+running=$!
+for ((count = 1; count <= 3; count++)); do
+  timeout 5 bash -c 'echo "$1" > "$2"' bash "$count" "$fifo"
+  wait_until has_lines "$log" "$count"
+done
+check 'rolltee <> FIFO, three writers' $'[1\n2\n3]' "$(content "$log")"
+{ kill "$running" && wait "$running"; } 2> /dev/null
+
 # ---- a folder that another file system covers
 
 # Runs rolltee in a file system of its own. Another one then covers that, whose log file has the same inode number. Ends with
@@ -445,7 +485,7 @@ if [ "$status" = 77 ] || ! unshare -m true 2> /dev/null; then
   skip 'rolltee --direct, a covered folder' "$(head -1 "$err")"
 else
   check 'rolltee --direct, a covered folder: the log file is another one' \
-    "1||$covered/app: log file removed, renamed or replaced"$'\nlog files not found again: 1' "$(told)"
+    $'1||@app: log file removed, renamed or replaced\n@log files not found again: 1' "$(told)"
 fi
 
 # ---- log files that others change
@@ -463,41 +503,81 @@ wait_until has_lines "$log" 1
 rm -r "$work/closed"
 echo file > "$work/closed"
 echo two >&9
-wait_until says '^writes pause: '
+wait_until says ': writes pause: '
 check 'rolltee, a folder that is replaced by a file: it says so at once' \
-  "$log: log file not found again: Not a directory (os error 20)"$'\nwrites pause: File exists (os error 17)' "$(cat "$err")"
+  $'@app: log file not found again: Not a directory (os error 20)\n@writes pause: File exists (os error 17)' "$(said)"
 rm "$work/closed"
 echo three >&9
 end
 check 'rolltee, a folder that is replaced by a file' 1 "$status"
 check 'rolltee, a folder that is replaced by a file: what is reported at the end' \
-  $'writes go on\nlog files not found again: 1' "$(tail -n 2 "$err")"
+  $'@writes go on\n@log files not found again: 1' "$(said | tail -n 2)"
 check 'rolltee, a folder that is replaced by a file: the log' $'[two\nthree]' "$(content "$log")"
 
-# Something else has the link's name: nothing is removed or made, at a start and during a run.
+# Something else has the link's name: it stays, and files begin and go, at a start and during a run. It is said once, until
+# there is a link again.
 mkdir "$work/linked"
 echo mine > "$work/linked/cur"
 seq 2 > "$work/linked/app.2020-02-01.000000"
 run "$rolltee" --keep 1 --max-bytes 1K --link cur daily "$work/linked" app < "$lines"
-check 'rolltee, a link that is a file' \
-  '1||failed to create symlink to latest log file: cur is no symbolic link' "$(told)"
-check 'rolltee, a link that is a file: the folder' 'app.2020-02-01.000000 cur' "$(ls "$work/linked" | paste -s -d ' ')"
-rm "$work/linked/cur"
-begin "$rolltee" --keep 1 --max-bytes 1K --link cur daily "$work/linked" app
-echo one >&9
-wait_until has_lines "$work/linked/cur" 1
-log=$(readlink -f "$work/linked/cur")
-rm "$work/linked/cur" "$log"
-echo mine > "$work/linked/cur"
-echo two >&9
-wait_until says '^writes pause: cur is no symbolic link'
-sleep 0.3
-check 'rolltee, a link that becomes a file: the folder' cur "$(ls "$work/linked")"
-rm "$work/linked/cur"
-echo three >&9
-end
-check 'rolltee, a link that becomes a file' 1 "$status"
-check 'rolltee, a link that becomes a file: the log' $'[two\nthree]' "$(content "$work/linked/cur")"
+check 'rolltee, a link that is a file' '0||@cur is no symbolic link, and stays' "$(told)"
+check 'rolltee, a link that is a file: the folder' '1 [mine]' \
+  "$(find "$work/linked" -name 'app.*' | wc -l) $(content "$work/linked/cur")"
+rm "$work/linked"/*
+for direct in '' ' --direct'; do
+  name="rolltee$direct, a link that becomes a file"
+  begin "$rolltee" $direct --keep 3 --max-bytes 1K --link cur daily "$work/linked" app
+  echo one >&9
+  wait_until has_lines "$work/linked/cur" 1
+  rm "$work/linked/cur"
+  echo mine > "$work/linked/cur"
+  cat "$work/lines.20" "$work/lines.20" >&9
+  wait_until eval '[ -e "$work"/linked/app.*.000005 ]'
+  check "$name: each file has its bytes" '1024 1024' "$(stat -c %s "$work"/linked/app.*.00000[34] | paste -s -d ' ')"
+  check "$name: old ones are removed" 3 "$(find "$work/linked" -name 'app.*' | wc -l)"
+  check "$name: it stays" '[mine]' "$(content "$work/linked/cur")"
+  rm "$work/linked/cur"
+  cat "$work/lines.20" >&9
+  wait_until [ -L "$work/linked/cur" ]
+  echo mine > "$work/linked/.cur.new"
+  cat "$work/lines.20" >&9
+  end
+  check "$name: it is said once" \
+    $'0||@cur is no symbolic link, and stays\n@cur can\'t be made: the name for the new link is in use' "$(told)"
+  rm -r "$work/linked"
+  mkdir "$work/linked"
+done
+# So it is if the system refuses the link.
+if has strace 'rolltee, a link that is refused'; then
+  run strace -f -qq -o /dev/null -e trace=symlink,symlinkat -e 'inject=symlink,symlinkat:error=ENOSPC' \
+    "$rolltee" --max-bytes 1K --link cur daily "$work/linked" app < "$work/lines.20"
+  check 'rolltee, a link that is refused' $'0||@cur can\'t be made: No space left on device (os error 28)' "$(told)"
+  check 'rolltee, a link that is refused: the log' same "$(cat "$work/linked"/app.* | same - "$work/lines.20")"
+fi
+
+# The input is the open file of the log: nothing is written.
+run "$rolltee" --link cur never "$work/itself" app < "$lines"
+for direct in '' ' --direct'; do
+  run "$rolltee" $direct --link cur never "$work/itself" app < "$work/itself/cur"
+  check "rolltee$direct, an input that is the log" $'1||@input is the log[one\ntwo]' "$(told)$(content "$work/itself/app")"
+done
+
+# ---- files of a later time, and archives
+
+mkdir "$work/later"
+touch "$work"/later/app.203{0,1,2}-01-01 "$work/later/app.2020-01-01" "$work/later/app.2020-01-02"
+run "$rolltee" --keep 2 daily "$work/later" app < "$lines"
+check 'rolltee --keep, files of a later time' '0||@3 log files are of a later time: not counted' "$(told)"
+check 'rolltee --keep, files of a later time: the folder' "app.2020-01-02 app.$(date -u +%F) app.2030-01-01 app.2031-01-01 app.2032-01-01" \
+  "$(cd "$work/later" && echo app.*)"
+# The archives of the morning are there in the evening, though the last file was compressed too.
+for part in morning evening; do
+  seq -f "$part %g" 100 > "$work/$part"
+  run "$rolltee" --max-bytes 1K --keep 9 daily "$work/archives" app < "$work/$part"
+  gzip -f "$work"/archives/app.*[0-9]
+done
+check 'rolltee --max-bytes, files that are compressed' same \
+  "$(zcat "$work"/archives/app.*.gz | same - <(cat "$work/morning" "$work/evening"))"
 
 # refused FAULT ARGUMENT..: runs `rolltee` with these lines, and with this fault of one of its calls, as write:error=EIO.
 refused() {
@@ -515,21 +595,23 @@ else
     run "$rolltee" never "$work/refused" app < "$lines"
     refused write:error=EROFS $direct
     check "rolltee$direct, a write to a disk that is read only" \
-      $'0||writes pause: Read-only file system (os error 30)\nwrites go on' "$(told)"
+      $'0||@writes pause: Read-only file system (os error 30)\n@writes go on' "$(told)"
     refused write:error=EROFS --no-wait $direct
     check "rolltee$direct --no-wait, a write to a disk that is read only" \
-      $'1||lines are lost: Read-only file system (os error 30)\nlines not written whole: 1' "$(told)"
+      $'1||@lines are lost: Read-only file system (os error 30)\n@lines not written whole: 1' "$(told)"
     check "rolltee$direct, a disk that is read only: the log" $'[one\ntwo\none\ntwo\ntwo]' "$(content "$work/refused/app")"
     refused fdatasync:error=EIO --sync $direct
-    check "rolltee$direct --sync, a sync that fails" '1||syncs that failed: 1' "$(told)"
+    check "rolltee$direct --sync, a sync that fails" '1||@syncs that failed: 1' "$(told)"
   done
 fi
 
 # ---- a supervisor
 
-# Sends signals to the log of a service, whose run script is that of `rolltee --help`, and then ends both.
+# Sends signals to the log of a service, whose run script is that of `rolltee --help`. Then it starts the log anew by this
+# command, and ends both.
 supervised() {
-  local service=$work/service turn signal running
+  local service=$work/service/app SVDIR=$work/service turn signal running
+  export SVDIR
   mkdir -p "$service/log"
   cat > "$service/run" << 'END'
 #!/bin/sh
@@ -550,16 +632,61 @@ END
     for signal in term interrupt hup quit; do sv "$signal" "$service/log"; done
     sleep 0.01
   done
+  starts=$(line_count "$work/starts")
+  eval "$1"
+  for ((turn = 0; turn < 300; turn++)); do
+    [ "$(cat "$work"/supervised/app.* 2> /dev/null | wc -l)" -lt 2000 ] || break
+    sleep 0.01
+  done
   sv exit "$service"
   wait "$running"
 } > /dev/null 2>&1
 if command -v runsv > /dev/null && command -v sv > /dev/null; then
-  supervised
-  check 'rolltee under runsv, after signals: it was started once' 1 "$(line_count "$work/starts")"
-  check 'rolltee under runsv, after signals: the log' same \
-    "$(cat "$work"/supervised/app.* | same - <(seq -f 'line %g' 1000))"
+  supervised "$(recipe 'sv stop app')"
+  check 'rolltee under runsv, after signals: it was started once' 1 "$starts"
+  check 'rolltee under runsv, after a KILL while its service is down: it was started again' 2 "$(line_count "$work/starts")"
+  check 'rolltee under runsv: the log' same \
+    "$(cat "$work"/supervised/app.* | same - <(seq -f 'line %g' 1000; seq -f 'line %g' 1000))"
 else
   skip 'rolltee under runsv' 'no runsv'
+fi
+
+# Starts the log of a service at full speed anew by this command. Then it ends both.
+restarted() {
+  local running turn
+  mkdir -p "$SVDIR/app/log"
+  cat > "$SVDIR/app/run" << 'END'
+#!/usr/bin/env bash
+# Each start goes on after the last number of the one before.
+trap 'ends=1' TERM
+number=$(cat ../last || echo 0)
+until [ "${ends-}" ]; do
+  seq $((number + 1)) $((number + 1000))
+  number=$((number + 1000))
+done
+echo "$number" > ../last
+END
+  printf "#!/bin/sh\ntrap '' INT TERM HUP QUIT\necho >> '%s'\nexec '%s' daily ./main app\n" "$SVDIR/starts" "$rolltee" > "$SVDIR/app/log/run"
+  chmod +x "$SVDIR/app/run" "$SVDIR/app/log/run"
+  runsvdir "$SVDIR" &
+  running=$!
+  wait_until [ -s "$SVDIR/starts" ]
+  wait_until eval 'cat "$SVDIR"/app/log/main/app.* | grep -q 1000'
+  eval "$1"
+  # runsvdir looks every five seconds.
+  for ((turn = 0; turn < 6; turn++)); do
+    ! wait_until has_lines "$SVDIR/starts" 2 || break
+  done
+  kill "$running"
+  sv -v -w 20 exit app
+  wait "$running"
+} > /dev/null 2>&1
+name='a log that is started anew under runsvdir'
+if has runsvdir "$name"; then
+  export SVDIR=$work/services
+  restarted "$(recipe 'sv exit')"
+  check "$name: its starts" 2 "$(line_count "$SVDIR/starts")"
+  check "$name: the log" same "$(cat "$SVDIR"/app/log/main/app.* | same - <(seq "$(cat "$SVDIR/last")"))"
 fi
 
 # ---- what rolltee says of lines that it drops, loses or does not echo
@@ -577,23 +704,23 @@ if has strace 'rolltee, lines that are dropped or lost'; then
   seq 2000 > "$work/told.lines"
   on_log /dev/stdout delay_enter=1000 --lossy --queue 2 --echo < "$work/told.lines"
   check 'rolltee --lossy --queue 2 --echo, a slow log: it says so once' \
-    $'1|lines are dropped: the queue is full\nlines dropped: ' "$status|$(sed '2s/[0-9]*$//' "$err")"
+    $'1|@lines are dropped: the queue is full\n@lines dropped: ' "$status|$(said | sed '2s/[0-9]*$//')"
   check 'rolltee --lossy --queue 2 --echo, a slow log: all lines but those' 2000 \
-    $(($(line_count "$work/told/app") + $(sed -n 's/^lines dropped: //p' "$err")))
+    $(($(line_count "$work/told/app") + $(said | sed -n 's/^@lines dropped: //p')))
   check 'rolltee --lossy --queue 2 --echo, a slow log: all lines are echoed' same \
     "$(same "$work/told.lines" "$out")"
   on_log /dev/full error=ENOSPC --no-wait --echo < "$lines"
-  check 'rolltee --no-wait --echo > /dev/full' "$(printf '%s\n' '1|lines are lost: No space left on device (os error 28)' \
-    'lines are not echoed: No space left on device (os error 28)' 'lines not written whole: 2; lines not echoed: 2')" \
-    "$status|$(sort -k 3 "$err")"
+  check 'rolltee --no-wait --echo > /dev/full' "$(printf '%s\n' '1|@lines are lost: No space left on device (os error 28)' \
+    '@lines are not echoed: No space left on device (os error 28)' '@lines not written whole: 2; lines not echoed: 2')" \
+    "$status|$(said | sort -k 3)"
   : > "$work/told/app"
   on_log /dev/stdout error=ESTALE:when=1 < "$lines"
-  check 'rolltee, a fault of another kind' "$(printf '%s\n' '0||writes pause: Stale file handle (os error 116)' 'writes go on')" "$(told)"
+  check 'rolltee, a fault of another kind' "$(printf '%s\n' '0||@writes pause: Stale file handle (os error 116)' '@writes go on')" "$(told)"
   check 'rolltee, a fault of another kind: the log' $'[one\ntwo]' "$(content "$work/told/app")"
   run strace -f -qq -o /dev/null -e trace=fdatasync -e inject=fdatasync:error=EIO \
     "$rolltee" --sync --max-bytes 1K daily "$work/told" synced < "$work/told.lines"
   check 'rolltee --sync --max-bytes 1K, syncs that fail: one for each file at least' yes \
-    "$([ "$(sed -n 's/^syncs that failed: //p' "$err")" -ge "$(find "$work/told" -name 'synced.*' | wc -l)" ] && echo yes || cat "$err")"
+    "$([ "$(said | sed -n 's/^@syncs that failed: //p')" -ge "$(find "$work/told" -name 'synced.*' | wc -l)" ] && echo yes || cat "$err")"
 fi
 run "$rolltee" --queue 1 never "$work/told" one < "$many"
 check 'rolltee --queue 1' '0||same' "$(told)$(same "$many" "$work/told/one")"
@@ -606,52 +733,104 @@ for ((length = 0; length < 1100; length++)); do printf "%0${length}d\n" 0; done 
 run "${trail[@]}" daily "$work/told.trail" audit < "$work/told.source"
 check 'an audit trail, lines of all lengths' '0||same' "$(told)$(same "$work/told.source" "$work/told.trail/latest.log")"
 
-# ---- a service that is stopped
+# ---- the recipes that keep the status of a service
 
-# It prints lines until TERM, then 40 more, and leaves their number.
+# The service prints numbers. On TERM, or after 200 of them, it prints 40 more and its last words, and ends as the file `way` says.
 stopped=$work/stopped
-mkdir "$stopped"
-cat > "$stopped/service" << 'end'
-trap 'for i in $(seq 40); do echo $((n += 1)); done; echo "$n" > "${0%/*}/last"; exit' TERM
-n=0
-while :; do
-  echo $((n += 1))
-  [ $((n % 50)) != 0 ] || sleep 0.01
+mkdir -p "$stopped/bin"
+ln -s service "$stopped/bin/job"
+cat > "$stopped/bin/service" << 'end'
+#!/usr/bin/env bash
+cd "${0%/*}/.."
+trap 'ends=1' TERM
+way=$(cat way)
+case $way in TERM) most=20000 ;; *) most=200 ;; esac
+echo $$ > pid
+number=0
+pause() { { sleep 0.01; } 2> /dev/null; }
+until [ "${ends-}" ] || ((number >= most)); do
+  echo $((number += 1))
+  [ $((number % 50)) != 0 ] || pause
 done
+: > ending
+for ((turn = 0; turn < 200; turn++)); do
+  [ "$way" = TERM ] && [ ! -e again ] || break
+  pause
+done
+for more in {1..40}; do echo $((number += 1)); done
+echo "$number" > last
+echo 'last words' >&2
+[ "$way" != KILL ] || kill -KILL $$
+exit 3
 end
-# Checks that the log has all lines of the service.
-all_of_service() {
-  wait_until [ -s "$stopped/last" ]
-  wait_until has_lines "$stopped/log/app" "$(cat "$stopped/last")"
-  check "$1" same "$(seq "$(cat "$stopped/last")" | same - "$stopped/log/app")"
-  rm -rf "$stopped/log" "$stopped/last"
+# A log on a slow disk: once all is written it waits for the file `go`, and then adds a line.
+cat > "$stopped/bin/rolltee" << end
+#!/usr/bin/env bash
+'$rolltee' "\$@"
+status=\$?
+cd '$stopped'
+: > written
+for ((turn = 0; turn < 200; turn++)); do
+  [ "\$(cat way)" = TERM ] && [ ! -e go ] || break
+  sleep 0.01
+done
+echo "end \$status" | tee -a log/* > /dev/null
+end
+chmod +x "$stopped/bin/service" "$stopped/bin/rolltee"
+
+# in_place WORDS: the recipe with these words, in this folder.
+in_place() {
+  recipe "$1" | sed "s#/tmp/log#$stopped/pipe#g; s#/var/log/app\|/var/log\|/logs#$stopped/log#g"
 }
-setsid sh -c "bash '$stopped/service' | (trap '' INT TERM HUP QUIT; exec '$rolltee' never '$stopped/log' app)" &
-running=$!
-wait_until has_lines "$stopped/log/app" 100
-kill -TERM -"$running"
-wait "$running" 2> /dev/null
-all_of_service 'rolltee, TERM to all processes of a unit'
-cat > "$stopped/entry" << end
-mkfifo '$stopped/pipe'
-(trap '' INT TERM HUP QUIT; exec '$rolltee' never '$stopped/log' app) < '$stopped/pipe' &
-bash '$stopped/service' > '$stopped/pipe' 2>&1 &
-service=\$!
-trap 'kill "\$service"' INT TERM
-wait
-wait
-end
-if unshare -p -f true 2> /dev/null; then
-  unshare -p -f sh "$stopped/entry" &
-  running=$!
-  wait_until has_lines "$stopped/log/app" 100
-  kill -TERM "$(pgrep -P "$running")"
-  wait "$running"
-  check 'rolltee, TERM to the first process of a container' 0 "$?"
-  all_of_service 'rolltee, TERM to the first process of a container: the log'
-else
-  skip 'rolltee, TERM to the first process of a container' 'no unshare'
-fi
+in_place '[Service]' | sed -n 's/^ExecStart=/exec /p' > "$stopped/systemd"
+in_place '#!/bin/sh' > "$stopped/container"
+in_place 'job 2>&1' > "$stopped/cron"
+
+# Sends TERM to those that the supervisor sends it to.
+send_term() {
+  case $place in
+    systemd) kill -TERM -"$running" ;;
+    container) kill -TERM "$(pgrep -P "$running")" ;;
+    cron) kill -TERM "$(cat "$stopped/pid")" 2> /dev/null ;;
+  esac
+}
+
+has_logged() {
+  [ "$(cat "$stopped"/log/* 2> /dev/null | wc -l)" -ge "$1" ]
+}
+
+for place in systemd container cron; do
+  case $place in systemd) shell=(setsid bash) ;; container) shell=(unshare -p -f sh) ;; cron) shell=(sh) ;; esac
+  if ! "${shell[@]}" -c true 2> "$err"; then
+    skip "the recipe of $place" "$(head -1 "$err")"
+    continue
+  fi
+  for way in 3 TERM KILL; do
+    (cd "$stopped" && rm -rf log last ending again written go)
+    echo "$way" > "$stopped/way"
+    PATH=$stopped/bin:$PATH "${shell[@]}" "$stopped/$place" > "$out" 2> "$err" &
+    running=$!
+    # The second TERM comes while the service is ending, and the third after that.
+    if [ "$way" = TERM ]; then
+      wait_until has_logged 100
+      send_term
+      wait_until [ -e "$stopped/ending" ]
+      send_term
+      touch "$stopped/again"
+      wait_until [ -e "$stopped/written" ]
+      send_term
+      touch "$stopped/go"
+    fi
+    wait "$running"
+    status=$?
+    case $way in KILL) wanted=137 ;; *) wanted=3 ;; esac
+    name="the recipe of $place, a service that ends by $way"
+    check "$name: the status" "$wanted" "$status"
+    check "$name: the log" same "$( (seq "$(cat "$stopped/last")" && printf 'last words\nend 0\n') | same - <(cat "$stopped"/log/*))"
+    # The shell reports a KILL.
+    [ "$way" = KILL ] || check "$name: nothing is reported" '' "$(cat "$out" "$err")"
+  done
+done
 
 # ---- what a guard and a worker print
 

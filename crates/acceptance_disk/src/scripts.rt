@@ -113,5 +113,5 @@ fn a_disk_has_the_content_of_memory(rt: HostRuntime) {
         rest = behind;
     }
     expect_eq(&rt, rest, "");
-    expect_eq(&rt, compared, 79);
+    expect_eq(&rt, compared, 88);
 }

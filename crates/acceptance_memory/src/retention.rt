@@ -111,17 +111,21 @@ static NAMED: [Entry; 7] = [
 ];
 
 // How many files are kept by name, which one is opened next, and which entries go then.
-static GONE_BY_NAME: [(usize, &str, &[usize]); 6] = [
+static GONE_BY_NAME: [(usize, &str, &[usize]); 8] = [
     (0, "app.2020-02-01-11.log", &[]),
     (4, "app.2020-02-01-11.log", &[]),
     (3, "app.2020-02-01-11.log", &[1]),
     (1, "app.2020-02-01-11.log", &[1, 2, 0]),
     (3, "app.2020-02-01-10.log", &[]),
     (1, "app.2020-02-01-10.log", &[1, 2]),
+    (1, "app.2020-02-01-09.log", &[1]),
+    (1, "app.2020-02-01-08.log", &[]),
 ];
 
 #[test]
-fn by_name_the_earliest_periods_are_removed_but_not_the_opened_file(rt: HostRuntime) {
+fn by_name_the_earliest_periods_are_removed_but_neither_the_opened_file_nor_later_ones(
+    rt: HostRuntime,
+) {
     let names = names_of(&rt, Rotation::HOURLY, "app", "log");
     let listed = listing(&rt, &NAMED);
     for (max, opened, wanted) in &GONE_BY_NAME {

@@ -71,6 +71,38 @@ fn a_roller_returns_what_is_open(rt: HostRuntime) {
     );
 }
 
+// A builder of an hourly log of two files by name, which does without its link.
+fn with_optional_link(rt: &impl AllocAndAbort) -> Builder {
+    let builder = hourly_log(rt, 2, "latest").log_files_by_name(true);
+    builder.optional_symlink(true)
+}
+
+// Files of two earlier hours, and one with the name of the link.
+static IN_USE: [(&str, &str); 3] = [
+    ("app.2020-02-01-08", "x"),
+    ("app.2020-02-01-09", "y"),
+    ("latest", "z"),
+];
+
+// Opens two files of a log whose link can't be made.
+fn open_two_unlinked(rt: &impl AllocAndAbort) -> MemoryFolder {
+    let builder = with_optional_link(rt);
+    let mut roller = open_roller(rt, &builder, folder_with(rt, &IN_USE));
+    expect_eq(rt, roller.see(TWELVE), Switch::Opened);
+    roller.into_folder()
+}
+
+#[test]
+fn a_log_goes_on_without_an_optional_link_and_makes_it_again(rt: HostRuntime) {
+    let mut folder = open_two_unlinked(&rt);
+    expect_eq(&rt, folder.bytes("latest"), Some(b"z".as_slice()));
+    expect_count(&rt, &folder, 3);
+    folder.remove("latest").expect(&rt, "a file");
+    let roller = open_roller(&rt, &with_optional_link(&rt), folder);
+    let folder = roller.into_folder();
+    expect_eq(&rt, folder.target("latest"), Some("app.2020-02-01-10"));
+}
+
 // Checks the name that an hourly log begins with.
 fn expect_first_name(rt: &impl AllocAndAbort) {
     let names = with_suffix(rt, "log").names(rt.alloc()).expect(rt, "names");

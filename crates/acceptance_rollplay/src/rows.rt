@@ -17,7 +17,7 @@ pub fn first_row(text: &str) -> Option<(&str, &str, &str)> {
 
 /// Scripts without a queue whose log is opened, and their pages.
 pub static PLAYED: Table = Table {
-    rows: 102,
+    rows: 111,
     text: concat!(
         // Arrivals an hour apart; a clock that is set back keeps the file.
         "rotation hourly\nprefix app\nstart 1580551260\nput 1580554800 a\nput 1580554799 b\n|",
@@ -146,11 +146,33 @@ pub static PLAYED: Table = Table {
         "open app.2020-01-26\nfile app.2020-01-25 1 x\nfile app.2020-01-26 0\n|",
         "prefix app\nmax 1\nby-name\nfile app.2020-01-31 x\nfile app.old y\nstart 1580551260\n|",
         "open app\nfile app 0\nfile app.2020-01-31 1 x\nfile app.old 1 y\n|",
-        // By name, the oldest is that of the earliest period and the lowest number. A file of a later period is the newest.
+        // By name, the oldest is that of the earliest period and the lowest number.
         "rotation daily\nprefix app\nmax 2\nby-name\nbytes 1\nfile app.2020-02-01.000000 x\nfile app.2020-02-01.000009 y\nfile app.2020-01-31.000010 z\nstart 1580551260\nput 1580551260 a\nput 1580551261 b\n|",
         "open app.2020-02-01.000010\nnone ok 1\nopened ok 1\nfile app.2020-02-01.000010 1 a\nfile app.2020-02-01.000011 1 b\n|",
+        // By name, files that are later than the open one neither count nor go. Once one of them is opened, the others before it count.
         "rotation hourly\nprefix app\nmax 2\nby-name\nfile app.2020-02-01-09 p\nfile app.2020-02-01-12 q\nstart 1580551260\n|",
-        "open app.2020-02-01-10\nfile app.2020-02-01-10 0\nfile app.2020-02-01-12 1 q\n|",
+        "open app.2020-02-01-10\nfile app.2020-02-01-09 1 p\nfile app.2020-02-01-10 0\nfile app.2020-02-01-12 1 q\n|",
+        "rotation daily\nprefix app\nmax 2\nby-name\nfile app.2020-01-30 a\nfile app.2020-01-31 b\nfile app.2030-01-01 x\nfile app.2030-01-02 y\nfile app.2030-01-03 z\nstart 1580551260\n|",
+        "open app.2020-02-01\nfile app.2020-01-31 1 b\nfile app.2020-02-01 0\nfile app.2030-01-01 1 x\nfile app.2030-01-02 1 y\nfile app.2030-01-03 1 z\n|",
+        "rotation hourly\nprefix app\nmax 2\nby-name\nfile app.2020-02-01-11 p\nfile app.2020-02-01-12 q\nstart 1580551260\nsee 1580558400\n|",
+        "open app.2020-02-01-10\nopened\nfile app.2020-02-01-11 1 p\nfile app.2020-02-01-12 1 q\n|",
+        // The week in which the year 1 begins has no key, and nothing is before it.
+        "rotation weekly\nprefix app\nmax 2\nby-name\nfile app.2020-01-05 a\nfile app.2020-01-12 b\nfile app.2020-01-19 c\nstart -62135424000\n|",
+        "open app.0000-12-31\nfile app.0000-12-31 0\nfile app.2020-01-05 1 a\nfile app.2020-01-12 1 b\nfile app.2020-01-19 1 c\n|",
+        // An archive of a log file neither counts nor goes. By name its number stays taken, and it is not continued.
+        "rotation daily\nprefix app\nmax 1\nby-name\nfile app.2020-01-30 a\nfile app.2020-01-31.gz b\nstart 1580551260\n|",
+        "open app.2020-02-01\nfile app.2020-01-31.gz 1 b\nfile app.2020-02-01 0\n|",
+        "rotation daily\nprefix app\nby-name\nbytes 4\nfile app.2020-02-01.000004.1 a\nstart 1580551260\n|",
+        "open app.2020-02-01.000005\nfile app.2020-02-01.000004.1 1 a\nfile app.2020-02-01.000005 0\n|",
+        "rotation daily\nprefix app\nby-name\nbytes 4\ncontinue\nfile app.2020-02-01.000000.gz a\nstart 1580551260\n|",
+        "open app.2020-02-01.000001\nfile app.2020-02-01.000000.gz 1 a\nfile app.2020-02-01.000001 0\n|",
+        "rotation daily\nprefix app\nby-name\nbytes 4\ncontinue\nfile app.2020-02-01.000003 b\nfile app.2020-02-01.000003.gz a\nstart 1580551260\n|",
+        "open app.2020-02-01.000004\nfile app.2020-02-01.000003 1 b\nfile app.2020-02-01.000003.gz 1 a\nfile app.2020-02-01.000004 0\n|",
+        "rotation daily\nprefix app\nbytes 4\nfile app.2020-02-01.000003.gz a\nstart 1580551260\n|",
+        "open app.2020-02-01.000000\nfile app.2020-02-01.000000 0\nfile app.2020-02-01.000003.gz 1 a\n|",
+        // An archive's name is a log's, and then a dot and 1 to 8 letters or digits. That of another log is none.
+        "rotation daily\nprefix app\nsuffix log\nby-name\nbytes 4\nfile app.2020-02-01.000001. a\nfile app.2020-02-01.000002.log.gz.tmp b\nfile app.2020-02-01.000003.log.ninebytes c\nfile app.2020-02-01.000004.log.g-z d\nfile app.2020-02-01.000005.gz e\nfile app.2020-02-01.000006.loggz f\nfile app.2020-02-02.000007.log.gz g\nstart 1580551260\n|",
+        "open app.2020-02-01.000000.log\nfile app.2020-02-01.000000.log 0\nfile app.2020-02-01.000001. 1 a\nfile app.2020-02-01.000002.log.gz.tmp 1 b\nfile app.2020-02-01.000003.log.ninebytes 1 c\nfile app.2020-02-01.000004.log.g-z 1 d\nfile app.2020-02-01.000005.gz 1 e\nfile app.2020-02-01.000006.loggz 1 f\nfile app.2020-02-02.000007.log.gz 1 g\n|",
         // By name old files are removed last: an opening that fails removes none, and the next one removes them.
         "rotation hourly\nprefix app\nmax 1\nby-name\nfile app.2020-02-01-08 o\nfail 4\nfail 6\nstart 1580551260\nput 1580554800 a\n|",
         "open app.2020-02-01-10\nfailed ok 1\nfile app.2020-02-01-10 1 a\n|",

@@ -80,13 +80,16 @@ fn check_fault_at<R: Host + Abort>(
     Ok(())
 }
 
-static CUT: &str = "lines not written whole: 1\n";
+static CUT: &str = "@lines not written whole: 1\n";
 
 // However the lines are gathered, a fault cuts the line in which it is, and no other one.
 #[test]
 fn a_fault_cuts_one_line(rt: HostRuntime) -> Result<(), Fail> {
     for (line, told) in [
-        ("never dir app", "write failed\n"),
+        (
+            "never dir app",
+            "write failed\n@lines not written whole: 1\n",
+        ),
         ("never dir app --no-wait", CUT),
         ("never dir app --direct", CUT),
         ("hourly dir app --direct --no-wait --max-bytes 64", CUT),

@@ -154,7 +154,11 @@ fn loses_no_line(rt: HostRuntime) -> Result<(), Fail> {
 // An input that is interrupted after its first line, or can't be read on. What was read before is written, but for a part of a line.
 static HALTS: [(io::ErrorKind, (u8, &str), &str); 3] = [
     (io::ErrorKind::Interrupted, (0, ""), "a\nbc\nd"),
-    (io::ErrorKind::PermissionDenied, (1, "read failed\n"), "a\n"),
+    (
+        io::ErrorKind::PermissionDenied,
+        (1, "read failed\n@permission denied\n"),
+        "a\n",
+    ),
     (io::ErrorKind::OutOfMemory, (3, "no memory\n"), "a\n"),
 ];
 
@@ -231,7 +235,7 @@ fn reports_lines_that_the_log_did_not_take(rt: HostRuntime) {
         (
             "never dir app",
             io::ErrorKind::OutOfMemory,
-            "write failed\n",
+            "write failed\n@lines not written whole: 1\n",
         ),
         ("never dir app --no-wait", io::ErrorKind::StorageFull, CUT),
         (
@@ -248,14 +252,14 @@ fn reports_lines_that_the_log_did_not_take(rt: HostRuntime) {
     }
 }
 
-static CUT: &str = "lines not written whole: 1\n";
+static CUT: &str = "@lines not written whole: 1\n";
 
 // A lost file is reported, and a flush that failed.
 #[test]
 fn reports_what_the_log_lost(rt: HostRuntime) {
     for (gone, unsynced, told) in [
-        (1, 0, "log files not found again: 1\n"),
-        (0, 1, "syncs that failed: 1\n"),
+        (1, 0, "@log files not found again: 1\n"),
+        (0, 1, "@syncs that failed: 1\n"),
     ] {
         let losses = TeeLosses {
             gone,
@@ -276,7 +280,7 @@ fn reports_the_first_fault(rt: HostRuntime) {
         Part::Bytes(b"refused\n"),
         Part::Fails(io::ErrorKind::PermissionDenied),
     ];
-    let told = (1, "read failed\n");
+    let told = (1, "read failed\n@permission denied\n");
     for line in ["never dir app", "never dir app --direct"] {
         let kind = io::ErrorKind::OutOfMemory;
         check_log(
@@ -300,7 +304,10 @@ fn reports_that_the_log_is_still_flushed(rt: HostRuntime) {
         Stuck { rt },
         "never dir app",
         &mut input,
-        (1, "shutdown pending\n"),
+        (
+            1,
+            "shutdown pending\n@the last flush takes more than a second\n",
+        ),
     );
 }
 
@@ -316,7 +323,7 @@ fn reports_why_no_log_is_opened(rt: HostRuntime) {
             line,
             &mut input,
             io::sink(),
-            (1, "out of memory\n"),
+            (1, "out of memory\n@no log was opened\n"),
         );
     }
 }
@@ -332,7 +339,7 @@ fn reports_a_name_that_is_not_allowed(rt: HostRuntime) -> Result<(), Fail> {
         &rt,
         line.as_str(),
         &mut input,
-        (1, "name not allowed\n"),
+        (1, "name not allowed\nrolltee: PREFIX 'a/b' has a '/'\n"),
     );
     expect_eq(&rt, fs::exists(&rt, directory)?, false);
     Ok(())
@@ -344,7 +351,7 @@ fn reports_a_folder_that_is_none(rt: HostRuntime) -> Result<(), Fail> {
     let path = path.as_str();
     fs::write(&rt, path, "here")?;
     let line = format!(in rt.alloc(); "never {path} app")?;
-    let told = "failed to create log directory: File exists (os error 17)\n";
+    let told = "failed to create log directory: File exists (os error 17)\n@no log was opened\n";
     check_files(rt, &rt, line.as_str(), &mut b"a\n".as_slice(), (1, told));
     expect_file(&rt, path, b"here");
     fs::remove_file(&rt, path)?;

@@ -137,6 +137,25 @@ fn length_of(folder: &MemoryFolder, name: &str) -> usize {
 
 type SceneLog<'a> = FileLog<MemoryFolder, &'a Scene, SceneCheck<'a>, SceneOpener<'a>>;
 
+// The settings of an hourly log with a limit of bytes.
+fn settings_of(alloc: Global, limit: u64) -> Result<Builder, Fail> {
+    let settings = Builder::new().rotation(Rotation::HOURLY);
+    let settings = settings.filename_prefix(alloc, "app")?;
+    Ok(settings.max_file_bytes(limit))
+}
+
+// A log of this scene, opened by this.
+fn opened_by<'a>(
+    opener: SceneOpener<'a>,
+    scene: &'a Scene,
+    whole_lines: bool,
+) -> Result<SceneLog<'a>, Fail> {
+    match FileLog::new(opener, SceneCheck { scene }, whole_lines) {
+        Ok(log) => Ok(log),
+        Err(error) => Err(Fail::from(error)),
+    }
+}
+
 // A log of this scene, by the calls that are not as usual.
 fn log_of(
     alloc: Global,
@@ -146,17 +165,15 @@ fn log_of(
     failing: u64,
     short: (u64, usize),
 ) -> Result<SceneLog<'_>, Fail> {
+    let settings = settings_of(alloc, limit)?;
     let opener = SceneOpener {
         alloc,
-        settings: Builder::new()
-            .rotation(Rotation::HOURLY)
-            .filename_prefix(alloc, "app")?
-            .max_file_bytes(limit),
+        settings,
         failing,
         short,
         scene,
     };
-    Ok(FileLog::new(opener, SceneCheck { scene }, whole_lines)?)
+    opened_by(opener, scene, whole_lines)
 }
 
 // The first three bytes, then the others in the next hour, and a line. If the line is given up, or ends there, the others are a line of

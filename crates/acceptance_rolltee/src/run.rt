@@ -43,7 +43,7 @@ pub(crate) fn run<R: Host + Abort, L: Logs, I: Read, O: Write + Drop>(
     (status, errors)
 }
 
-/// The same, and compares its status and what it reports.
+/// The same, and compares its status and what it reports, in which `@` is the title of the log.
 pub(crate) fn check<R: Host + Abort, L: Logs, I: Read, O: Write + Drop>(
     rt: R,
     logs: &L,
@@ -53,8 +53,26 @@ pub(crate) fn check<R: Host + Abort, L: Logs, I: Read, O: Write + Drop>(
     told: (u8, &str),
 ) {
     let (status, errors) = run(rt, logs, line, input, output);
-    expect_eq(&rt, errors.as_slice(), told.1.as_bytes());
+    let wanted = titled(&rt, line, told.1).expect(&rt, "memory");
+    expect_eq(&rt, errors.as_slice(), wanted.as_bytes());
     expect_eq(&rt, status, told.0);
+}
+
+// Returns a text with the title of the log of this command line in place of each `@`.
+fn titled<R: AllocGlobal + Abort>(rt: &R, line: &str, text: &str) -> Result<String, AllocError> {
+    let (_, arguments) = request_of(rt, line);
+    let title = match arguments.as_slice() {
+        [_, directory, prefix] => format!(in rt.alloc(); "rolltee: {directory}/{prefix}: ")?,
+        _ => String::new(rt.alloc()),
+    };
+    let mut whole = String::new(rt.alloc());
+    for (place, part) in text.split('@').enumerate() {
+        if place > 0 {
+            whole.push_str(title.as_str())?;
+        }
+        whole.push_str(part)?;
+    }
+    Ok(whole)
 }
 
 /// The same over this log.

@@ -120,7 +120,13 @@ fn waits_for_a_slow_log_after_a_fault(rt: HostRuntime) -> Result<(), Fail> {
         Part::Fails(io::ErrorKind::PermissionDenied),
     ];
     let mut input = Parts { parts: &parts };
-    check(rt, manner, &mut input, (1, "read failed\n"), 4)
+    check(
+        rt,
+        manner,
+        &mut input,
+        (1, "read failed\n@permission denied\n"),
+        4,
+    )
 }
 
 // The pauses before the first bytes are 463 milliseconds in all, so it neither spins nor sleeps for long.
@@ -148,7 +154,7 @@ fn waits_for_a_disk_that_refuses_writes(rt: HostRuntime) -> Result<(), Fail> {
         (13, (0, ""), 3),
         (30, (0, ""), 3),
         (27, (0, ""), 3),
-        (12, (1, "write failed\n"), 1u64),
+        (12, (1, "write failed\n@lines not written whole: 2\n"), 1u64),
     ] {
         let manner = Manner {
             failures: 2,
@@ -265,8 +271,8 @@ fn drops_lines_that_find_no_room(rt: HostRuntime) -> Result<(), Fail> {
     let line = "never dir app --lossy --queue 1";
     let (status, errors, _) = run_gated(rt, line, text.as_slice(), false)?;
     expect_eq(&rt, status, 1);
-    let few = errors.as_slice() == b"lines dropped: 48\n".as_slice()
-        || errors.as_slice() == b"lines dropped: 49\n".as_slice();
+    let few = errors.as_slice() == b"rolltee: dir/app: lines dropped: 48\n".as_slice()
+        || errors.as_slice() == b"rolltee: dir/app: lines dropped: 49\n".as_slice();
     expect_eq(&rt, few, true);
     Ok(())
 }

@@ -1,5 +1,5 @@
 -- The options of a command line.
-use Rattle.std.specs.Prelude.{◌≡◌, ◌≢◌, ◌==◌, ◌&&◌, if◌then◌else◌, ◌⊎◌, ◌<◌, ◌≤◌, ◌*◌, ◌^◌, ℕ, zero, suc, Bool, true, false, List, [], ◌∷◌, ◌++◌, String, string_bytes, codes, map, nat_lt, Contains}
+use Rattle.std.specs.Prelude.{◌≡◌, ◌≢◌, ◌==◌, ◌&&◌, ◌||◌, if◌then◌else◌, ◌⊎◌, ◌<◌, ◌≤◌, ◌*◌, ◌^◌, ℕ, zero, suc, Bool, true, false, List, [], ◌∷◌, ◌++◌, String, string_bytes, Option, None, Some, codes, map, nat_lt, Contains}
 use Rattle.std.specs.Char.{is_ascii_digit}
 use Rattle.std.specs.Str.Parse.{IsNumeral, digits_value}
 use Rattle.std.specs.declared.alloc.Global.{Global}
@@ -40,13 +40,16 @@ pub record IsPositiveNumber (word : List ℕ) (n : ℕ) : Type 0 where
   pub number : IsNumber word n
   pub from_one : 1 ≤ n
 
+-- the number of bytes of the unit of a letter, which may be small
+abbrev pub unit_bytes : ℕ → Option ℕ
+unit_bytes letter =
+    if (letter == 75) || (letter == 107) then Some 1024
+    else if (letter == 77) || (letter == 109) then Some 1048576
+    else if (letter == 71) || (letter == 103) then Some 1073741824 else None
+
 -- the digits, and the letter of a unit of this number of bytes; no letter is one byte
 abbrev pub HasUnit : List ℕ → List ℕ → ℕ → Type 0
-HasUnit text digits bytes =
-    ((text ≡ digits ++ codes "K") × (bytes ≡ 1024))
-    ⊎ ((text ≡ digits ++ codes "M") × (bytes ≡ 1048576))
-    ⊎ ((text ≡ digits ++ codes "G") × (bytes ≡ 1073741824))
-    ⊎ ((text ≡ digits) × (bytes ≡ 1))
+HasUnit text digits bytes = ((letter : ℕ) × (text ≡ digits ++ (letter ∷ [])) × (unit_bytes letter ≡ Some bytes)) ⊎ ((text ≡ digits) × (bytes ≡ 1))
 
 -- a number from 1, times the bytes of its unit
 pub record IsByteCount (text : List ℕ) (n : ℕ) : Type 0 where

@@ -4,7 +4,7 @@ ghost use Rattle.std.specs.Str.Parse.{IsNumeral};
 ghost use Rattle.program_io.specs.declared.options.Flag.{Flag};
 ghost use Rattle.program_io.specs.declared.options.Next.{Next};
 ghost use Rattle.program_io.specs.declared.options.Valued.{Valued};
-ghost use Rattle.program_io.specs.Options.{begins_negative, begins_with_dash, dashed_reason, flag_word, valued_word, AreUndashed, HasUnit, IsByteCount, IsPositiveNumber, IsFaultOf, IsNextAfter, IsNumber, IsPlain, IsRead, IsWrong, NamesSomeWord, IsNoByteCount, IsNoPositiveNumber};
+ghost use Rattle.program_io.specs.Options.{begins_negative, begins_with_dash, dashed_reason, flag_word, unit_bytes, valued_word, AreUndashed, HasUnit, IsByteCount, IsPositiveNumber, IsFaultOf, IsNextAfter, IsNumber, IsPlain, IsRead, IsWrong, NamesSomeWord, IsNoByteCount, IsNoPositiveNumber};
 
 use std::alloc::{AllocError, Global};
 use thiserror::Error;
@@ -163,7 +163,7 @@ pub enum OptionError {
     /// The value is not a decimal number from 1 that a `usize` can represent.
     #[error("not a number from 1")]
     Count,
-    /// The value is not a decimal number from 1, with `K`, `M`, `G` or no letter after it, that a `u64` can represent.
+    /// The value is not a decimal number from 1, with `K`, `M`, `G`, a small one of them or no letter after it, that a `u64` can represent.
     #[error("not a number of bytes from 1, as 500, 64K, 10M or 2G")]
     ByteCount,
 }
@@ -207,7 +207,7 @@ pub enum Request {
 /// Each option is set at most once, anywhere before `--`. The words after that are arguments. A value follows a `=`
 /// or is the next word, as in `--keep=7` and `--keep 7`. In a word of its own it may not begin with a dash, since a value
 /// may have been forgotten. A negative number is reported as what it is.
-/// `--max-bytes` takes `N[K|M|G]`, with 1,024 bytes for `K`.
+/// `--max-bytes` takes `N[K|M|G]`, with 1,024 bytes for `K` or `k`.
 ///
 /// `OptionFault::Unknown` and `OptionFault::Wrong` report the first wrong word.
 pub fn read(alloc: Global, words: &[String]) -> Result<Request, OptionFault>
@@ -514,20 +514,29 @@ fn read_count(word: &str) -> Option<usize>
     word.parse::<usize>().ok()
 }
 
-// Returns the text before the letter of a unit, and the number of bytes of the unit.
+// Returns the text before the letter of a unit, which may be small, and the number of bytes of the unit.
 fn split_unit(text: &str) -> (&str, u64)
     ensures unit { HasUnit text.now result.0.now result.1 }
     ensures only { (digits : List ℕ) (unit : ℕ) → IsNumeral 10 digits → HasUnit text.now digits unit
         → (digits ≡ result.0.now) × (unit ≡ result.1) }
 {
-    if let Some(digits) = text.strip_suffix('K') {
-        return (digits, 1 << 10);
+    let Some(letter) = text.as_bytes().last() else {
+        return (text, 1);
+    };
+    match bytes_of(*letter) {
+        Some(unit) => (&text[..text.len() - 1], unit),
+        None => (text, 1),
     }
-    if let Some(digits) = text.strip_suffix('M') {
-        return (digits, 1 << 20);
+}
+
+// Returns the number of bytes of a unit.
+fn bytes_of(letter: u8) -> Option<u64>
+    ensures { result ≡ unit_bytes letter }
+{
+    match letter {
+        b'K' | b'k' => Some(1 << 10),
+        b'M' | b'm' => Some(1 << 20),
+        b'G' | b'g' => Some(1 << 30),
+        _ => None,
     }
-    if let Some(digits) = text.strip_suffix('G') {
-        return (digits, 1 << 30);
-    }
-    (text, 1)
 }

@@ -7,7 +7,7 @@ use program_io::report::print;
 use program_io::streams::fill_streams;
 use program_io::{arguments, version};
 use rolltee_core::tee;
-use rolltee_core::tee::Fault;
+use rolltee_core::tee::{Fault, PROGRAM};
 use std::process::ExitCode;
 use tracing_appender::non_blocking::Host;
 
@@ -28,7 +28,7 @@ static HELP: &str = concat!(
     "  --sync         syncs the file to the disk whenever no line waits\n",
     "  --no-wait      loses lines that the disk refuses, in place of waiting\n",
     "  --queue N      lets up to N lines wait to be written, in place of 1,024\n",
-    "  --lossy        drops a line that finds the queue full; else the input waits\n",
+    "  --lossy        drops a line if the queue is full or has 16 MiB; else it waits\n",
     "  --echo         writes each line to standard output too\n",
     "  --timestamps   begins each line with the time, as 2026-11-28T10:00:00.000000Z\n",
     "  --whole-lines  ends a part of a line that an earlier run left by a newline\n",
@@ -62,7 +62,7 @@ fn main(rt: HostRuntime) -> ExitCode {
     }
     let status = match arguments(&rt) {
         Ok(words) => run(rt, &rt, words.as_slice()),
-        Err(fault) => tee::report_fault(&Fault::from(fault), &mut rt.stderr()),
+        Err(fault) => tee::report_fault(&Fault::from(fault), PROGRAM, &mut rt.stderr()),
     };
     ExitCode::from(status)
 }
@@ -84,6 +84,6 @@ fn run<R: Host>(rt: R, host: &HostRuntime, words: &[String]) -> u8 {
                 &mut errors,
             )
         }
-        Err(fault) => tee::report_fault(&Fault::from(fault), &mut errors),
+        Err(fault) => tee::report_fault(&Fault::from(fault), PROGRAM, &mut errors),
     }
 }

@@ -61,7 +61,8 @@ pub record KeepsOptions {Q O : Type 0} (old new : Feeding Q O) : Type 0 where
 abbrev pub fed_in : {Q O : Type 0} → (Q → Option (List ℕ)) → Feeding Q O → Option (List ℕ)
 fed_in sent f = cond f.timestamps None (sent f.sink)
 
--- what a sender sent, and the lines that it was offered
+-- what a sender sent, the lines that it was offered, and how many of them were dropped before that
 pub record Offering : Type 0 where
   pub sent : SentLines
   pub offered : List (List ℕ)
+  pub dropped : ℕ

@@ -1,5 +1,5 @@
 -- The log of a run. `kind` has the ghost members of a kind of folder, and `time` those of a kind of clock.
-use Rattle.std.specs.Prelude.{◌≡◌, ◌≢◌, ◌⊎◌, ℕ, ℤ, ◌+◌, List, [], ◌∷◌, length, take, Ok, Err, Result, Bool, true, false, ◌&&◌, not, nat_lt, IsTrue, string_bytes}
+use Rattle.std.specs.Prelude.{◌≡◌, ◌≢◌, ◌⊎◌, ℕ, ℤ, ◌+◌, List, [], ◌∷◌, length, take, Ok, Err, Result, Bool, true, false, ◌&&◌, ◌==◌, if◌then◌else◌, not, nat_lt, IsTrue, string_bytes}
 use Rattle.std.specs.Io.BufRead.{ends_with_byte}
 use Rattle.std.specs.declared.io.Error.{Error}
 use Rattle.appender_names.specs.declared.error.InitError.TheVariants.{File as FileRefused}
@@ -14,13 +14,19 @@ use Rattle.appender_rolling.specs.Config.{Config}
 use Rattle.appender_rolling.specs.Roller.{ChecksClock}
 use Rattle.program_io.specs.declared.options.Options.{Options}
 
--- The configuration that is asked for. Files are kept by their names, and an opening continues the last one.
+-- a suffix without a dot at its beginning
+abbrev pub undotted : List ℕ → List ℕ
+undotted [] = []
+undotted (byte ∷ bytes) = if byte == 46 then bytes else byte ∷ bytes
+
+-- The configuration that is asked for. Files are kept by their names, an opening continues the last one, and a link may be missing.
 abbrev pub config_of : Rotation → List ℕ → Options → Config
 config_of rotation prefix o = record {
   rotation = rotation;
   prefix = prefix;
-  suffix = string_bytes o.suffix;
+  suffix = undotted (string_bytes o.suffix);
   link = string_bytes o.link;
+  link_optional = true;
   max_files = o.keep;
   by_name = true;
   max_bytes = o.max_bytes;

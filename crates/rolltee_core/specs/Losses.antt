@@ -3,6 +3,9 @@ use Rattle.std.specs.Prelude.{◌≡◌, ℕ, List, [], ◌∷◌, ◌++◌, not
 use Rattle.std.specs.List.{filter, join_by}
 use Rattle.rolltee_core.specs.declared.losses.TeeLosses.{TeeLosses}
 
+abbrev pub nothing_lost : TeeLosses
+nothing_lost = record { unwritten = 0; dropped = 0; unechoed = 0; gone = 0; unsynced = 0 }
+
 -- the words and the number of each count, in the order in which they are reported
 abbrev pub losses_counts : TeeLosses → List (List ℕ × ℕ)
 losses_counts losses =

@@ -2,11 +2,14 @@
 ghost use Rattle.std.specs.Prelude.{◌≡◌, true};
 ghost use Rattle.rolltee_core.specs.Log.{EndsLine};
 
-use std::alloc::AllocError;
+use appender_names::names::Names;
+use program_io::options::Options;
 use std::fs::{OpenFile, OpenOptions};
-use std::io;
 use std::io::{ErrorKind, Read, Seek, SeekFrom};
+use std::{fs, io};
 use tracing_appender::folder::{DirFolder, FilesHost};
+use tracing_appender::retain::{LogFiles, count_later};
+use tracing_appender::rolling::{Builder, InitError};
 use tracing_appender::store::{Folder, NoticeKind};
 
 /// Checks the open file of a log in a folder.
@@ -30,17 +33,32 @@ pub trait FileCheck<S: Folder>: Drop {
     /// Returns the number of flushes that the folder noted as failed.
     fn unsynced(&self, folder: &S) -> u64
         ensures { result ≡ (S.noted folder.now).flushes };
+
+    /// Reports what is amiss beside the file of this name, which was just opened.
+    fn look_beside(&mut self, _folder: &S, _name: &str) {}
 }
 
 /// Checks the open file of a log in a folder of the file system. A file that was truncated, whose name leads
 /// elsewhere, or that couldn't be compared with what its name leads to, is reported on standard error. One that
 /// couldn't be for want of memory is taken for found: for want of it the log can't be opened anew either, and the next look
-/// decides.
+/// decides. Once until it works again, so is a link that can't be made, and with a maximum of files how many are of a later
+/// time, whenever that number changes.
 #[derive(Drop)]
 pub struct DirCheck<R> {
     rt: R,
     // Ends with a slash.
     path: String,
+    // What each report begins with.
+    title: String,
+    names: Names,
+    // The name of the link, or empty.
+    link: String,
+    // Whether there is a maximum of files.
+    keeps: bool,
+    // Whether it was reported that there is no link.
+    is_link_reported: bool,
+    // The number of files of a later time that was last reported.
+    later: usize,
 }
 
 // What happened to a log file.
@@ -51,16 +69,33 @@ enum Loss {
 }
 
 impl<R: FilesHost> DirCheck<R> {
-    /// Watches the folder at a path. An empty path is the current directory.
-    pub fn new(rt: R, path: &str) -> Result<DirCheck<R>, AllocError> {
-        let mut base = String::from_str(rt.alloc(), path)?;
+    /// Watches the folder at a path for a log with these settings and options. An empty path is the current directory.
+    /// Errors are those of `Builder::names`.
+    pub fn new(
+        rt: R,
+        settings: &Builder,
+        path: &str,
+        title: &str,
+        options: &Options,
+    ) -> Result<DirCheck<R>, InitError> {
+        let alloc = rt.alloc();
+        let mut base = String::from_str(alloc, path)?;
         if base.is_empty() {
             base.push('.')?;
         }
         if !base.ends_with('/') {
             base.push('/')?;
         }
-        Ok(DirCheck { rt, path: base })
+        Ok(DirCheck {
+            rt,
+            path: base,
+            title: String::from_str(alloc, title)?,
+            names: settings.names(alloc)?,
+            link: options.link.clone()?,
+            keeps: options.keep > 0,
+            is_link_reported: false,
+            later: 0,
+        })
     }
 
     // Returns the last byte of a file of the folder.
@@ -92,12 +127,60 @@ impl<R: FilesHost> DirCheck<R> {
 
     // Reports a file that was lost, or not found again, on standard error, whose own faults are ignored.
     fn report(&self, name: &str, found: io::Result<Loss>) {
-        let (rt, path) = (&self.rt, &self.path);
+        let (rt, title) = (&self.rt, &self.title);
         let _ = match found {
-            Ok(Loss::Moved) => eprintln!(rt; "{path}{name}: log file removed, renamed or replaced"),
-            Ok(Loss::Truncated) => eprintln!(rt; "{path}{name}: log file truncated"),
-            Err(fault) => eprintln!(rt; "{path}{name}: log file not found again: {fault}"),
+            Ok(Loss::Moved) => eprintln!(rt;
+                "{title}{name}: log file removed, renamed or replaced"
+            ),
+            Ok(Loss::Truncated) => eprintln!(rt; "{title}{name}: log file truncated"),
+            Err(fault) => eprintln!(rt; "{title}{name}: log file not found again: {fault}"),
         };
+    }
+
+    // Reports a link that was not made.
+    fn report_link(&self, fault: io::Error) {
+        let (rt, title, link) = (&self.rt, &self.title, &self.link);
+        let _ = if self.is_other(link.as_str()) {
+            eprintln!(rt; "{title}{link} is no symbolic link, and stays")
+        } else {
+            eprintln!(rt; "{title}{link} can't be made: {fault}")
+        };
+    }
+
+    // Returns whether something else than a symbolic link has a name.
+    fn is_other(&self, name: &str) -> bool {
+        let Ok(path) = format!(in self.rt.alloc(); "{}{name}", self.path) else {
+            return false;
+        };
+        match fs::symlink_metadata(&self.rt, path.as_str()) {
+            Ok(found) => !found.is_symlink(),
+            Err(_) => false,
+        }
+    }
+
+    // Reports how many files are of a later time than the one of this name, if that number changed. Nothing is known of a
+    // folder that can't be listed.
+    fn report_later(&mut self, name: &str) {
+        let Ok(later) = self.count_later(name) else {
+            return;
+        };
+        if later == self.later {
+            return;
+        }
+        self.later = later;
+        let (rt, title) = (&self.rt, &self.title);
+        let _ = match later {
+            0 => Ok(()),
+            1 => eprintln!(rt; "{title}1 log file is of a later time: not counted"),
+            _ => eprintln!(rt; "{title}{later} log files are of a later time: not counted"),
+        };
+    }
+
+    fn count_later(&self, name: &str) -> io::Result<usize> {
+        let mut folder = DirFolder::new(self.rt.clone()?, self.path.as_str())?;
+        let listed = folder.list()?;
+        let log = LogFiles::new(&self.names, true, name);
+        Ok(count_later(&log, listed.as_slice()))
     }
 }
 
@@ -132,5 +215,19 @@ impl<R: FilesHost> FileCheck<DirFolder<R>> for DirCheck<R> {
 
     fn unsynced(&self, folder: &DirFolder<R>) -> u64 {
         folder.notices(NoticeKind::Flush)
+    }
+
+    fn look_beside(&mut self, folder: &DirFolder<R>, name: &str) {
+        match folder.link_fault() {
+            Some(fault) if !self.is_link_reported => {
+                self.is_link_reported = true;
+                self.report_link(fault);
+            }
+            Some(_) => {}
+            None => self.is_link_reported = false,
+        }
+        if self.keeps {
+            self.report_later(name);
+        }
     }
 }

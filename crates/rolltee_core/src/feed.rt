@@ -38,9 +38,11 @@ pub trait FeedSink {
     {}
 }
 
-// The most bytes that are queued, and then one line more. The queue counts only lines, and a piece may have 1 MiB. A lossy
-// queue has no such limit, since the input must not wait.
-const MOST_BYTES: usize = 1 << 24;
+// The queue counts only lines, and a piece may have 1 MiB. So 16 parts of 1 MiB of lines are the most that are queued, and then
+// one line more.
+const PARTS: usize = 16;
+
+const PART: usize = 1 << 20;
 
 // The first pause of a wait for the log and the longest one, in milliseconds.
 const FIRST_MILLIS: u64 = 1;
@@ -58,8 +60,10 @@ pub struct SenderQueue<'a, R, S: RecordedSender + Drop> {
     counts: &'a LineCounts,
     // The number of lines that it took or dropped.
     sent: u64,
-    // The number of bytes that it took after it was last known to be empty.
-    unwritten: usize,
+    // What may wait in it.
+    backlog: Backlog,
+    // The number of lines that were dropped since too many bytes waited.
+    dropped: u64,
     // Whether it is lossy, and whether that was reported.
     lossy: bool,
     reported: bool,
@@ -71,10 +75,53 @@ impl<'a, R, S: RecordedSender + Drop> Model for SenderQueue<'a, R, S> {
 
     ghost Value = { Offering };
 
-    ghost view = { λ q. record { sent = S.sent q.sender; offered = q.offered.lines } };
+    ghost view = { λ q. record { sent = S.sent q.sender; offered = q.offered.lines; dropped = q.dropped } };
 
     // Each line that was not dropped was queued.
-    ghost invariant = { λ q. (S.sent q.sender).dropped ≡ 0 → (S.sent q.sender).lines ≡ q.offered.lines };
+    ghost invariant = { λ q. q.dropped ≡ 0 → (S.sent q.sender).dropped ≡ 0 → (S.sent q.sender).lines ≡ q.offered.lines };
+}
+
+// Parts of the lines that a queue took: after how many lines each whole one ends, and how many bytes came after them.
+#[derive(Drop)]
+struct Backlog {
+    ends: [u64; PARTS],
+    parts: usize,
+    bytes: usize,
+}
+
+impl Backlog {
+    fn new() -> Backlog {
+        Backlog {
+            ends: [0; PARTS],
+            parts: 0,
+            bytes: 0,
+        }
+    }
+
+    fn is_full(&self) -> bool {
+        self.parts >= PARTS
+    }
+
+    // Adds a line, which was the last of so many.
+    fn add(&mut self, line: &[u8], lines: u64) {
+        self.bytes = self.bytes.saturating_add(line.len());
+        if self.bytes >= PART && self.parts < PARTS {
+            self.ends[self.parts] = lines;
+            self.parts += 1;
+            self.bytes = 0;
+        }
+    }
+
+    // Removes the parts of which no line waits, since so many were written or lost.
+    fn remove(&mut self, lines: u64) {
+        for _ in 0..PARTS {
+            if self.parts == 0 || self.ends[0] > lines {
+                return;
+            }
+            self.ends.rotate_left(1);
+            self.parts -= 1;
+        }
+    }
 }
 
 // A sender that has sent lines.
@@ -90,7 +137,7 @@ impl<'a, S: RecordedSender> Recorded for Before<'a, S> {
 impl<'a, R: Drop, S: RecordedSender + Drop> SenderQueue<'a, R, S> {
     /// Returns the queue of this sender, which may be lossy. The counts are those of its worker's log.
     pub fn new(rt: R, sender: S, counts: &'a LineCounts, lossy: bool) -> SenderQueue<'a, R, S>
-        ensures { result ≡ record { sent = S.sent sender; offered = (S.sent sender).lines } }
+        ensures { result ≡ record { sent = S.sent sender; offered = (S.sent sender).lines; dropped = 0 } }
     {
         let offered = Tape::of(&Before { sender: &sender });
         SenderQueue {
@@ -99,7 +146,8 @@ impl<'a, R: Drop, S: RecordedSender + Drop> SenderQueue<'a, R, S> {
             offered,
             counts,
             sent: 0,
-            unwritten: 0,
+            backlog: Backlog::new(),
+            dropped: 0,
             lossy,
             reported: false,
         }
@@ -111,10 +159,17 @@ impl<'a, R: Drop, S: RecordedSender + Drop> SenderQueue<'a, R, S> {
         self.counts.lost().saturating_add(left)
     }
 
-    /// Returns the sender. If it dropped no line, it queued all lines that it was offered.
+    /// Returns the number of lines that were dropped.
+    pub fn dropped(&self) -> u64
+        ensures { result ≡ 0 → (self.now.dropped ≡ 0) × (self.now.sent.dropped ≡ 0) }
+    {
+        self.dropped.saturating_add(self.sender.dropped() as u64)
+    }
+
+    /// Returns the sender. If no line was dropped, it queued all lines that it was offered.
     pub fn into_sender(self) -> S
         ensures sender { S.sent result ≡ self.entry.sent }
-        ensures queued { self.entry.sent.dropped ≡ 0 → self.entry.sent.lines ≡ self.entry.offered }
+        ensures queued { self.entry.dropped ≡ 0 → self.entry.sent.dropped ≡ 0 → self.entry.sent.lines ≡ self.entry.offered }
     {
         self.sender
     }
@@ -133,26 +188,49 @@ impl<'a, R: Wait + Clock + Eprint + Drop, S: RecordedSender + Drop> SenderQueue<
             thread::sleep(&self.rt, Duration::from_millis(millis));
             millis = millis.saturating_mul(2).min(LONGEST_MILLIS);
         }
-        self.unwritten = 0;
+        self.backlog = Backlog::new();
     }
 
-    // Waits if there are many bytes in a queue that isn't lossy.
-    fn wait_for_room(&mut self)
+    // Returns whether 16 MiB of lines wait.
+    fn is_full(&mut self) -> bool
         ensures { self.new ≡ self.old }
     {
-        if !self.lossy && self.unwritten >= MOST_BYTES {
-            self.settle();
+        if self.backlog.is_full() {
+            let done = self.counts.taken().saturating_add(self.counts.lost());
+            self.backlog.remove(done);
         }
+        self.backlog.is_full()
     }
 
-    // Reports the first line that a lossy queue drops, at once.
+    // Reports the first line that is dropped, at once.
     fn report_drops(&mut self)
         ensures { self.new ≡ self.old }
     {
-        if !self.reported && self.sender.dropped() > 0 {
+        if !self.reported && self.dropped() > 0 {
             self.reported = true;
             let _ = eprintln!(self.rt; "lines are dropped: the queue is full");
         }
+    }
+
+    fn drop_line(&mut self, line: &[u8])
+        ensures { concat self.new.offered ≡ concat self.old.offered ++ line.now }
+    {
+        self.offered.note(line);
+        self.dropped = self.dropped.saturating_add(1);
+        self.report_drops();
+    }
+
+    fn queue_line(&mut self, line: &[u8]) -> io::Result<()>
+        ensures { MatchResult result (λ _. concat self.new.offered ≡ concat self.old.offered ++ line.now)
+            (λ _. concat self.new.offered ≡ concat self.old.offered) }
+    {
+        self.sender.write_line(line)?;
+        self.offered.note(line);
+        self.sent = self.sent.saturating_add(1);
+        let taken = self.sent.saturating_sub(self.sender.dropped() as u64);
+        self.backlog.add(line, taken);
+        self.report_drops();
+        Ok(())
     }
 }
 
@@ -160,15 +238,16 @@ impl<'a, R: Wait + Clock + Eprint + Drop, S: RecordedSender + Drop> FeedSink
     for SenderQueue<'a, R, S> {
     ghost sent = { λ q. Some (concat q.offered) };
 
-    /// Queues a line. If there are 16 MiB in a queue that isn't lossy, waits before until they are written.
+    /// Queues a line. If 16 MiB wait, a lossy queue drops it, and another waits before until they are written.
     fn send(&mut self, line: &[u8]) -> io::Result<()> {
-        self.wait_for_room();
-        self.sender.write_line(line)?;
-        self.offered.note(line);
-        self.sent = self.sent.saturating_add(1);
-        self.unwritten = self.unwritten.saturating_add(line.len());
-        self.report_drops();
-        Ok(())
+        if self.is_full() {
+            if self.lossy {
+                self.drop_line(line);
+                return Ok(());
+            }
+            self.settle();
+        }
+        self.queue_line(line)
     }
 }
 

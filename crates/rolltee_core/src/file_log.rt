@@ -83,10 +83,11 @@ impl<S: Folder, C: Clock, W: FileCheck<S>, O: Opens<S, C>> FileLog<S, C, W, O> {
     ghost use Rattle.rolltee_core.specs.Log.{EndsNoPart, EndsOwed, FindsFile, IsNewLog, IsSameOrLosesRest, LetsGo, MayCheckOnce, PutsBytes, PutsNone};
 
     /// Opens the log.
-    pub fn new(opener: O, check: W, whole_lines: bool) -> Result<FileLog<S, C, W, O>, InitError>
+    pub fn new(opener: O, mut check: W, whole_lines: bool) -> Result<FileLog<S, C, W, O>, InitError>
         ensures { IfOk result (λ opened. IsNewLog S.Folder C.Clock (O.config opener) opened) }
     {
         let log = opener.open()?;
+        check.look_beside(log.folder(), log.open_name());
         let cut = !ends_whole(&check, &log);
         let length = check.length(log.open_file());
         Ok(FileLog {
@@ -104,6 +105,11 @@ impl<S: Folder, C: Clock, W: FileCheck<S>, O: Opens<S, C>> FileLog<S, C, W, O> {
             flushed: false,
             unsynced: 0,
         })
+    }
+
+    /// Returns the open file.
+    pub fn open_file(&self) -> &S::File {
+        self.log.open_file()
     }
 
     // Compares the open file with what its name leads to. If it is not found, or was truncated, flushes it, and opens the log
@@ -162,6 +168,7 @@ impl<S: Folder, C: Clock, W: FileCheck<S>, O: Opens<S, C>> FileLog<S, C, W, O> {
         // The folder that comes next has noted no flush.
         let noted = self.check.unsynced(self.log.folder());
         self.unsynced = self.unsynced.saturating_add(noted);
+        self.check.look_beside(log.folder(), log.open_name());
         self.length = self.check.length(log.open_file());
         self.cut = !ends_whole(&self.check, &log);
         self.owed = self.whole_lines && self.cut;
@@ -187,6 +194,8 @@ impl<S: Folder, C: Clock, W: FileCheck<S>, O: Opens<S, C>> FileLog<S, C, W, O> {
             self.cut = !ends_whole(&self.check, &self.log);
         }
         if switch == Switch::Opened {
+            self.check
+                .look_beside(self.log.folder(), self.log.open_name());
             self.length = self.check.length(self.log.open_file());
             self.owed = self.whole_lines && self.cut;
         }

@@ -8,6 +8,8 @@ mod lock;
 pub mod logs;
 pub mod losses;
 mod opening;
+mod reason;
 pub mod tee;
+mod title;
 mod waiting;
 mod writers;

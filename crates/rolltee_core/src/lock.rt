@@ -7,8 +7,14 @@ use tracing_appender::rolling::InitError;
 
 /// Locks the log of this folder and prefix, until the file that is returned is closed: by `.PREFIX.lock` there, which may be
 /// another user's. `Fault::Locked` if another process has the lock; `InitError::Memory`.
-/// If there can be no lock, as where that name is not a plain file's, standard error says so, and the result is `None`.
-pub fn lock_log(rt: &HostRuntime, directory: &str, prefix: &str) -> Result<Option<File>, Fault> {
+/// If there can be no lock, as where that name is not a plain file's, standard error says so after `title`, and the result is
+/// `None`.
+pub fn lock_log(
+    rt: &HostRuntime,
+    directory: &str,
+    prefix: &str,
+    title: &str,
+) -> Result<Option<File>, Fault> {
     let path = format!(in rt.alloc(); "{directory}/.{prefix}.lock").map_err(InitError::from)?;
     let fault = match open_lock(rt, path.as_str()) {
         Ok(file) => match file.try_lock() {
@@ -22,7 +28,7 @@ pub fn lock_log(rt: &HostRuntime, directory: &str, prefix: &str) -> Result<Optio
         ErrorKind::OutOfMemory => return Err(Fault::Open(InitError::Memory)),
         ErrorKind::NotFound => {}
         _ => {
-            let _ = eprintln!(rt; "{path} can't be locked: {fault}");
+            let _ = eprintln!(rt; "{title}.{prefix}.lock can't be locked: {fault}");
         }
     }
     Ok(None)

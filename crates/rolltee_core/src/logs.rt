@@ -1,7 +1,7 @@
 //! The log of a run, and its opening in the file system, with the options that are asked for.
 ghost use Rattle.std.specs.Prelude.{◌≡◌, [], ℕ, List, IfOk};
 ghost use Rattle.std.specs.Io.{WritesAtMost};
-ghost use Rattle.rolltee_core.specs.Log.{config_of, taken_of};
+ghost use Rattle.rolltee_core.specs.Log.{config_of, taken_of, undotted};
 ghost use Rattle.rolltee_core.specs.Losses.{HasLostNothing};
 ghost use Rattle.appender_names.specs.declared.rotation.Rotation.{Rotation};
 ghost use Rattle.program_io.specs.declared.options.Options.{Options};
@@ -12,10 +12,12 @@ use crate::lock::lock_log;
 use crate::losses::TeeLosses;
 use crate::opening::{open_dir, prepare_dir};
 use crate::tee::Fault;
+use crate::title::title;
 use program_io::options::Options;
 use std::alloc::Global;
-use std::fs::File;
-use std::io;
+use std::fs::{File, OpenFile};
+use std::os::unix::fs::MetadataExt;
+use std::{fs, io};
 use tracing_appender::folder::{DirFolder, FilesHost};
 use tracing_appender::rolling::{Builder, InitError, RollingFile, Rotation, SystemClock};
 
@@ -72,8 +74,8 @@ pub trait Logs {
     /// A log.
     type Log: TeeLog + Send + Drop + 'static;
 
-    /// Opens a log of this rotation in this folder. The names of its files begin with `prefix`. `Fault::Open`, or `Fault::Locked` if
-    /// another process may remove its files.
+    /// Opens a log of this rotation in this folder. The names of its files begin with `prefix`. `Fault::Open`, `Fault::Locked` if
+    /// another process may remove its files, or `Fault::Input` if the standard input is read from its open file.
     fn open_log(
         &self,
         rotation: Rotation,
@@ -95,16 +97,29 @@ impl Logs for HostRuntime {
         options: &Options,
     ) -> Result<DirLog<HostRuntime>, Fault> {
         let settings = settings(self.alloc(), rotation, prefix, options)?;
+        let title = title(self.alloc(), directory, prefix).map_err(InitError::from)?;
+        let title = title.as_str();
         let lock = if options.keep > 0 {
             prepare_dir(self, &settings, directory, options.link.as_str())?;
-            lock_log(self, directory, prefix)?
+            lock_log(self, directory, prefix, title)?
         } else {
             None
         };
-        let opener = DirOpener::new(*self, settings, directory, options, lock)?;
-        let check = DirCheck::new(*self, directory).map_err(InitError::from)?;
+        let check = DirCheck::new(*self, &settings, directory, title, options)?;
+        let opener = DirOpener::new(*self, settings, directory, title, options, lock)?;
         let log = FileLog::new(opener, check, options.whole_lines)?;
+        if is_input(self, log.open_file()) {
+            return Err(Fault::Input);
+        }
         Ok(log)
+    }
+}
+
+// Returns whether the standard input is read from this file. If that can't be seen, it isn't.
+fn is_input(rt: &HostRuntime, file: &File) -> bool {
+    match (fs::metadata(rt, "/dev/stdin"), file.metadata()) {
+        (Ok(input), Ok(opened)) => input.dev() == opened.dev() && input.ino() == opened.ino(),
+        _ => false,
     }
 }
 
@@ -114,6 +129,8 @@ pub struct DirOpener<R> {
     rt: R,
     settings: Builder,
     directory: String,
+    // What each notice begins with.
+    title: String,
     // The name of the link, if it is not empty.
     link: String,
     // Whether each flush syncs.
@@ -129,17 +146,19 @@ impl<R: AllocGlobal + Drop> DirOpener<R> {
         rt: R,
         settings: Builder,
         directory: &str,
+        title: &str,
         options: &Options,
         lock: Option<File>,
     ) -> Result<DirOpener<R>, InitError>
         ensures { IfOk result (λ opener. opener.settings ≡ settings) }
     {
-        let directory = String::from_str(rt.alloc(), directory)?;
-        let link = String::from_str(rt.alloc(), options.link.as_str())?;
+        let alloc = rt.alloc();
+        let link = options.link.clone()?;
         Ok(DirOpener {
             rt,
             settings,
-            directory,
+            directory: String::from_str(alloc, directory)?,
+            title: String::from_str(alloc, title)?,
             link,
             syncs: options.sync,
             _lock: lock,
@@ -152,7 +171,7 @@ impl<R: FilesHost + std::time::Clock> Opens<DirFolder<R>, SystemClock<R>> for Di
 
     fn open(&self) -> Result<RollingFile<DirFolder<R>, SystemClock<R>>, InitError> {
         let directory = self.directory.as_str();
-        let folder = DirFolder::new(self.rt.clone()?, directory)?;
+        let folder = DirFolder::new(self.rt.clone()?, directory)?.titled(self.title.as_str())?;
         let folder = if self.syncs { folder.synced() } else { folder };
         open_dir(
             &self.rt,
@@ -176,15 +195,26 @@ fn settings(
     let named = Builder::new()
         .rotation(rotation)
         .filename_prefix(alloc, prefix)?
-        .filename_suffix(alloc, options.suffix.as_str())?;
+        .filename_suffix(alloc, without_dot(options.suffix.as_str()))?;
     let linked = named.latest_symlink(alloc, options.link.as_str())?;
     Ok(
         linked
+            .optional_symlink(true)
             .max_log_files(options.keep)
             .log_files_by_name(true)
             .max_file_bytes(options.max_bytes)
             .continue_last_file(true),
     )
+}
+
+// Returns a suffix without a dot at its beginning: names have one before the suffix.
+fn without_dot(suffix: &str) -> &str
+    ensures { result.now ≡ undotted suffix.now }
+{
+    match suffix.strip_prefix('.') {
+        Some(rest) => rest,
+        None => suffix,
+    }
 }
 
 /// A log in the file system.

@@ -13,12 +13,13 @@ use tracing_appender::folder::{DirFolder, FilesHost};
 use tracing_appender::rolling::{Builder, Clock, InitError, RollingFile, SystemClock};
 use tracing_appender::store::Folder;
 
-// The most bytes of a link's name that are in the name of a new one, as `DirFolder` has it.
-const LONGEST: usize = 250;
+// The most bytes of an entry's name (Linux: `NAME_MAX`), and the error of a longer one (POSIX: `ENAMETOOLONG`).
+const MOST_BYTES: usize = 255;
+
+const ENAMETOOLONG: i32 = 36;
 
 /// Makes the folder of a log, so that programs that begin one log at once find it. `link` is the name of its link, or empty.
-/// `InitError::Name` if the names are not allowed, before that. `InitError::Symlink` if something else than a symbolic link has
-/// the link's name, or the one of a new link, `.NAME.new`. The opening returns it too, but only after it made a file.
+/// Before that `InitError::Name` if the names are not allowed, and `InitError::File` if those of files are too long.
 pub fn prepare_dir<R: Files + AllocGlobal>(
     rt: &R,
     settings: &Builder,
@@ -29,8 +30,16 @@ pub fn prepare_dir<R: Files + AllocGlobal>(
     if !link.is_empty() && !is_entry_name(link) {
         return Err(InitError::Name(NameFault::Link));
     }
-    make_folder(rt, settings, directory)?;
-    check_link(rt, directory, link)
+    // All names of a log are of one length.
+    let name = settings.names(rt.alloc())?.file_name(0)?;
+    if name.len() > MOST_BYTES {
+        return Err(InitError::File(Error::from_raw_os_error(ENAMETOOLONG)));
+    }
+    match fs::create_dir_all(rt, directory) {
+        Ok(()) => Ok(()),
+        Err(fault) if fault.kind() == ErrorKind::OutOfMemory => Err(InitError::Memory),
+        Err(fault) => Err(InitError::Directory(fault)),
+    }
 }
 
 /// Prepares this folder, and opens a log in it by the system's clock. If the last file is to be continued and can't be opened,
@@ -80,52 +89,6 @@ fn open_next<S: Folder, C: Clock>(
     match next.open_in(alloc, folder, clock) {
         Ok(log) => Ok(log),
         Err((error, _, _)) => Err(error),
-    }
-}
-
-// Makes the folder of the log, unless the names of its files are not allowed.
-fn make_folder<R: Files + AllocGlobal>(
-    rt: &R,
-    settings: &Builder,
-    directory: &str,
-) -> Result<(), InitError> {
-    let _ = settings.names(rt.alloc())?;
-    match fs::create_dir_all(rt, directory) {
-        Ok(()) => Ok(()),
-        Err(fault) if fault.kind() == ErrorKind::OutOfMemory => Err(InitError::Memory),
-        Err(fault) => Err(InitError::Directory(fault)),
-    }
-}
-
-// Returns an error if something else has the name of the link or of a new one.
-fn check_link<R: Files + AllocGlobal>(
-    rt: &R,
-    directory: &str,
-    link: &str,
-) -> Result<(), InitError> {
-    if link.is_empty() {
-        return Ok(());
-    }
-    check_entry(rt, directory, link)?;
-    let kept = &link[..link.floor_char_boundary(LONGEST)];
-    let spare = format!(in rt.alloc(); ".{kept}.new")?;
-    check_entry(rt, directory, spare.as_str())
-}
-
-// Returns an error that begins with this name, if something else than a symbolic link has it.
-fn check_entry<R: Files + AllocGlobal>(
-    rt: &R,
-    directory: &str,
-    name: &str,
-) -> Result<(), InitError> {
-    let path = format!(in rt.alloc(); "{directory}/{name}")?;
-    match fs::symlink_metadata(rt, path.as_str()) {
-        Ok(found) if !found.is_symlink() => {
-            let words = format!(in rt.alloc(); "{name} is no symbolic link")?;
-            let fault = Error::new(ErrorKind::AlreadyExists, words.as_str());
-            Err(InitError::Symlink(fault))
-        }
-        _ => Ok(()),
     }
 }
 

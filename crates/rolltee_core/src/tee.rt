@@ -7,19 +7,21 @@ ghost use Rattle.program_io.specs.Options.{AreDefaults};
 ghost use Rattle.program_io.specs.declared.options.Options.{Options};
 ghost use Rattle.rolltee_core.specs.Losses.{HasLostNothing};
 ghost use Rattle.rolltee_core.specs.Taken.{IsCopied, WasOpened, LogsText, TookText};
-ghost use Rattle.rolltee_core.specs.Fault.{tee_status, tee_fault_unless_memory, tee_fault_words, HasNoFolder, NamesNoRotation, ReportsTeeFault};
+ghost use Rattle.rolltee_core.specs.Fault.{tee_status, tee_fault_unless_memory, tee_fault_words, HasNoFolder, NamesNoRotation, is_titled_fault, ExplainsTeeFault, ReportsLine, ReportsTeeFault};
 ghost use Rattle.appender_names.specs.RotationText.{IsNoRotation, rotation_word};
 
 use crate::feed::{Feed, FeedSink, SenderQueue};
 pub use crate::logs::{Logs, TeeLog};
 use crate::losses::TeeLosses;
+use crate::reason::reason;
+use crate::title::{Titled, title};
 use crate::waiting::{Asked, LogPlace, Opened};
 use crate::writers::{DirectWriter, TeeWriter};
 use program_io::blocking::{BlockingInput, Ready};
 use program_io::options::{OptionError, OptionFault, Options};
 use program_io::report::report;
 use program_io::{ArgumentFault, CopyFault, Split, copy_pieces};
-use std::alloc::AllocError;
+use std::alloc::{AllocError, Global};
 use std::io;
 use std::io::{BufRead, BufReader, ErrorKind, Read, Write};
 use std::marker::{Brand, Model, PhantomData};
@@ -61,12 +63,15 @@ pub enum Fault {
     /// The thread that writes was not made.
     #[error("no thread")]
     Thread,
+    /// The input is the open file of the log, which would grow without end.
+    #[error("input is the log")]
+    Input,
     /// The input was not read.
     #[error("read failed")]
-    Read,
-    /// A line was not taken whole, by the queue or by the log.
+    Read(io::Error),
+    /// A line was not taken whole, by the queue or by the log, or a sync failed. What was lost is known of a log.
     #[error("write failed")]
-    Write,
+    Write(TeeLosses),
     /// Lines or log files were lost.
     #[error("{0}")]
     Lost(TeeLosses),
@@ -90,6 +95,17 @@ impl Fault {
         }
     }
 
+    // Returns whether its line begins with the title of the log. The others are known to programs that call this one.
+    fn is_titled(&self) -> bool
+        ensures { result ≡ is_titled_fault self.now }
+    {
+        match self {
+            Fault::Unknown(_) | Fault::Option(_, _) | Fault::Argument(_) => true,
+            Fault::Locked | Fault::Input | Fault::Lost(_) => true,
+            _ => false,
+        }
+    }
+
     // Returns what is reported of it, on a line, if that is the same for all faults of its kind; else nothing.
     fn words(&self) -> &'static [u8]
         ensures { IfSome (tee_fault_words self.now) (λ words. result.now ≡ words) }
@@ -98,8 +114,9 @@ impl Fault {
             Fault::Usage => b"usage: rolltee ROTATION DIR PREFIX\n",
             Fault::Locked => b"another rolltee --keep writes this log\n",
             Fault::Thread => b"no thread\n",
-            Fault::Read => b"read failed\n",
-            Fault::Write => b"write failed\n",
+            Fault::Input => b"input is the log\n",
+            Fault::Read(_) => b"read failed\n",
+            Fault::Write(_) => b"write failed\n",
             Fault::Pending => b"shutdown pending\n",
             Fault::Memory => b"no memory\n",
             _ => b"",
@@ -167,10 +184,10 @@ impl From<ArgumentFault> for Fault {
 impl From<io::Error> for Fault {
     ghost use Rattle.rolltee_core.specs.declared.tee.Fault.TheVariants.{Read};
 
-    ghost from_gives = { λ error fault. fault ≡ tee_fault_unless_memory (error_kind error) Read };
+    ghost from_gives = { λ error fault. fault ≡ tee_fault_unless_memory (error_kind error) (Read error) };
 
     fn from(error: io::Error) -> Fault {
-        Fault::Read.unless_memory(error.kind())
+        Fault::Read(error).unless_memory(error.kind())
     }
 }
 
@@ -182,9 +199,9 @@ impl From<CopyFault> for Fault {
 
     fn from(fault: CopyFault) -> Fault {
         match fault {
-            CopyFault::Read(error) => Fault::Read.unless_memory(error.kind()),
-            CopyFault::Write(error) => Fault::Write.unless_memory(error.kind()),
-            CopyFault::Cut => Fault::Write,
+            CopyFault::Read(error) => Fault::Read(error).unless_memory(error.kind()),
+            CopyFault::Write(error) => { Fault::Write(TeeLosses::NONE).unless_memory(error.kind()) }
+            CopyFault::Cut => Fault::Write(TeeLosses::NONE),
         }
     }
 }
@@ -206,17 +223,21 @@ pub fn tee<R: Host, L: Logs, I: Read, E: Write>(
     ensures no_rotation { NamesNoRotation arguments.now → result ≡ 2 }
     ensures no_folder { HasNoFolder arguments.now → result ≡ 2 }
     ensures silent { result ≡ 0 → Keeps (E.contents errors.old) (E.contents errors.new) }
-    ensures reported { 1 ≤ result → (fault : Fault) × ReportsTeeFault fault result (E.contents errors.old) (E.contents errors.new) }
+    ensures reported { 1 ≤ result → (fault : Fault) × ReportsTeeFault [] fault result (E.contents errors.old) (E.contents errors.new) }
     ensures written { result ≡ 0 → (text : List ℕ) → I.remaining input.old ≡ Some text →
         (options : Options) × AreDefaults options × LogsText L.Log.opens options L.Log.takes L.Log.is_kept arguments.now text }
 {
     let options = Options::new(rt.alloc());
-    tee_with(rt, logs, &options, arguments, input, io::sink(), errors)
+    match copy_through(rt, logs, &options, arguments, input, io::sink()) {
+        Ok(()) => 0,
+        Err(fault) => report_fault(&fault, "", errors),
+    }
 }
 
 /// Does what `tee` does, with options. If they ask for it, each line is also written to `output`. The status is also 1 if a
 /// line was dropped or not written whole to `output`, or a log file was not found again. It is 2 if the rotation does not
-/// allow an option.
+/// allow an option. What `errors` get begins with the title of the log, `rolltee: DIR/PREFIX: `, or is a line of `tee` with one
+/// after it that says what is meant.
 pub fn tee_with<R: Host, L: Logs, I: Read, O: Write + Drop, E: Write>(
     rt: R,
     logs: &L,
@@ -231,19 +252,57 @@ pub fn tee_with<R: Host, L: Logs, I: Read, O: Write + Drop, E: Write>(
     ensures no_rotation { NamesNoRotation arguments.now → result ≡ 2 }
     ensures no_folder { HasNoFolder arguments.now → result ≡ 2 }
     ensures silent { result ≡ 0 → Keeps (E.contents errors.old) (E.contents errors.new) }
-    ensures reported { 1 ≤ result → (fault : Fault) × ReportsTeeFault fault result (E.contents errors.old) (E.contents errors.new) }
+    ensures reported { 1 ≤ result → (fault : Fault) × ExplainsTeeFault fault result (E.contents errors.old) (E.contents errors.new) }
     ensures written { result ≡ 0 → options.now.timestamps ≡ false → (text : List ℕ) → I.remaining input.old ≡ Some text →
         LogsText L.Log.opens options.now L.Log.takes L.Log.is_kept arguments.now text }
 {
     match copy_through(rt, logs, options, arguments, input, output) {
         Ok(()) => 0,
-        Err(fault) => report_fault(&fault, errors),
+        Err(fault) => explain(rt.alloc(), &fault, options, arguments, errors),
     }
 }
 
-/// Reports a fault on `errors`, and returns its status.
-pub fn report_fault<E: Write>(fault: &Fault, errors: &mut E) -> u8
-    ensures { ReportsTeeFault fault.now result (E.contents errors.old) (E.contents errors.new) }
+// Reports a fault on `errors`, and what is meant by it, and returns its status.
+fn explain<E: Write>(
+    alloc: Global,
+    fault: &Fault,
+    options: &Options,
+    arguments: &[String],
+    errors: &mut E,
+) -> u8
+    ensures { ExplainsTeeFault fault.now result (E.contents errors.old) (E.contents errors.new) }
+{
+    let title = title_of(alloc, arguments);
+    let status = report_fault(fault, title.as_str(), errors);
+    let reason = reason(alloc, fault, arguments, options).unwrap_or(String::new(alloc));
+    let _ = report(errors, reason.as_bytes());
+    status
+}
+
+// Returns the title of the log of three arguments, or of the program.
+fn title_of(alloc: Global, arguments: &[String]) -> String {
+    let title = match arguments {
+        [_, directory, prefix] => title(alloc, directory.as_str(), prefix.as_str()),
+        _ => String::from_str(alloc, PROGRAM),
+    };
+    title.unwrap_or(String::new(alloc))
+}
+
+/// What a line on standard error begins with, if it is about no log.
+pub const PROGRAM: &str = "rolltee: ";
+
+/// Reports a fault on `errors`, after `title` if its line begins with one, and returns its status.
+pub fn report_fault<E: Write>(fault: &Fault, title: &str, errors: &mut E) -> u8
+    ensures { ReportsTeeFault title.now fault.now result (E.contents errors.old) (E.contents errors.new) }
+{
+    let title = if fault.is_titled() { title } else { "" };
+    let _ = report(errors, title.as_bytes());
+    report_line(fault, errors)
+}
+
+// Reports a fault on a line of `errors`, and returns its status.
+fn report_line<E: Write>(fault: &Fault, errors: &mut E) -> u8
+    ensures { ReportsLine fault.now result (E.contents errors.old) (E.contents errors.new) }
 {
     let words = fault.words();
     let _ = if words.is_empty() {
@@ -323,27 +382,29 @@ fn copy_to<N: Asked + Send + 'static, R: Host, L: Logs, I: Read, O: Write + Drop
     ensures { OnOk result (options.now.timestamps ≡ false → (text : List ℕ) → I.remaining input.old ≡ Some text →
         TookText (WasOpened L.Log.opens N.asked) L.Log.takes L.Log.is_kept text) }
 {
+    let (directory, prefix) = (directory.as_str(), prefix.as_str());
     let input = BufReader::new(rt.alloc(), BlockingInput::new(rt, input))?;
+    let titled = Titled::new(rt, directory, prefix)?;
     let limit = if options.queue == 0 {
         LIMIT
     } else {
         options.queue
     };
-    let (writer, place, counts) = TeeWriter::<R, L::Log, N>::new(
-        rt,
+    let (writer, place, counts) = TeeWriter::<Titled<R>, L::Log, N>::new(
+        Titled::new(rt, directory, prefix)?,
         !options.no_wait,
         options.max_bytes,
     )?;
     let opening = LogOpening {
         logs,
         rotation,
-        directory: directory.as_str(),
-        prefix: prefix.as_str(),
+        directory,
+        prefix,
         options,
         opening: PhantomData,
     };
     let work = TeeWork {
-        rt,
+        titled,
         opening,
         place,
         counts,
@@ -388,16 +449,18 @@ fn copy_directly<N: Asked + Send + 'static, R: Host, L: Logs, I: Read, O: Write 
     ensures { OnOk result (options.now.timestamps ≡ false → (text : List ℕ) → I.remaining input.old ≡ Some text →
         TookText (WasOpened L.Log.opens N.asked) L.Log.takes L.Log.is_kept text) }
 {
+    let (directory, prefix) = (directory.as_str(), prefix.as_str());
     let mut input = BufReader::new(rt.alloc(), BlockingInput::new(rt, input))?;
-    let (writer, place) = DirectWriter::<R, L::Log, N>::new(
-        rt,
+    let titled = Titled::new(rt, directory, prefix)?;
+    let (writer, place) = DirectWriter::<Titled<R>, L::Log, N>::new(
+        Titled::new(rt, directory, prefix)?,
         !options.no_wait,
         options.max_bytes,
     )?;
-    let log = logs.open_log(rotation, directory.as_str(), prefix.as_str(), options)?;
+    let log = logs.open_log(rotation, directory, prefix, options)?;
     let opened = Opened::new(log);
     place.put(&rt, opened);
-    let mut feed = Feed::new(rt, writer, options, output);
+    let mut feed = Feed::new(titled, writer, options, output);
     let copied = copy_pieces(rt.alloc(), &mut input, &mut feed, Split::Blocks);
     let unechoed = feed.unechoed();
     let mut writer = feed.into_sink();
@@ -410,8 +473,8 @@ fn copy_directly<N: Asked + Send + 'static, R: Host, L: Logs, I: Read, O: Write 
 
 // Opens the log, and copies the input to it.
 #[derive(Drop)]
-struct TeeWork<'a, R: Host, L: Logs, I, O, N: Asked> {
-    rt: R,
+struct TeeWork<'a, R, L: Logs, I, O, N: Asked> {
+    titled: Titled<R>,
     opening: LogOpening<'a, L, N>,
     place: LogPlace<L::Log, N>,
     counts: LineCounts,
@@ -431,7 +494,7 @@ impl<'a, R: Host, L: Logs, I: BufRead + Ready, O: Write, N: Asked> RecordedWork
     // loses the lines of a slow disk.
     fn run<S: RecordedSender + Drop>(&mut self, sender: S) -> S {
         let TeeWork {
-            rt,
+            titled,
             opening,
             place,
             counts,
@@ -450,16 +513,17 @@ impl<'a, R: Host, L: Logs, I: BufRead + Ready, O: Write, N: Asked> RecordedWork
                 return sender;
             }
         };
-        place.put(rt, log);
-        let queue = SenderQueue::new(*rt, sender, counts, opening.options.lossy);
-        let mut feed = Feed::new(*rt, queue, opening.options, output);
-        let copied = copy_pieces(rt.alloc(), input, &mut feed, Split::Lines);
+        let titled = &*titled;
+        place.put(titled, log);
+        let queue = SenderQueue::new(titled, sender, counts, opening.options.lossy);
+        let mut feed = Feed::new(titled, queue, opening.options, output);
+        let copied = copy_pieces(titled.alloc(), input, &mut feed, Split::Lines);
         let unechoed = feed.unechoed();
         let mut queue = feed.into_sink();
         queue.settle();
         let unwritten = queue.lost();
+        let dropped = queue.dropped();
         let sender = queue.into_sender();
-        let dropped = sender.dropped() as u64;
         *outcome = match copied {
             Ok(()) => Ok(TeeLosses {
                 unwritten,
@@ -506,7 +570,7 @@ fn all_written(lost: TeeLosses, is_plain: bool) -> Result<(), Fault>
     if lost == TeeLosses::NONE {
         Ok(())
     } else if is_plain && lost.gone == 0 {
-        Err(Fault::Write)
+        Err(Fault::Write(lost))
     } else {
         Err(Fault::Lost(lost))
     }

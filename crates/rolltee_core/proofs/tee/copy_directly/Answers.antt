@@ -6,7 +6,7 @@ use Rattle.rolltee_core.proofs.Taken.{reader_new}
 use Rattle.rolltee_core.proofs.tee.copy_directly.Goals as goal
 
 pub new-opened-requires : goal.new-opened-requires
-new-opened-requires g c = (_, _, _, _, rw (c.as_str.ensures.value, c.as_str-2.ensures.value) c.requires, c.in_ok-log.ensures)
+new-opened-requires g c = (_, _, _, _, rw (c.as_str-directory.ensures.value, c.as_str-prefix.ensures.value) c.requires, c.in_ok-log.ensures)
 
 pub returns : goal.returns
 returns g c = on_ok_weaker c.all_written.result (λ none plain text is.
