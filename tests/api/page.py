@@ -8,14 +8,14 @@ WIDTH = 120
 # The ghost members of a `Model` that only proofs see.
 INNER_VIEW = ("view", "invariant", "inverse")
 
-HEAD = """# API
-
-Each public item has its documentation, its signature, and its contract (`requires` before a call, `ensures` after it). Left
+ABOUT = """Each public item has its documentation, its signature, and its contract (`requires` before a call, `ensures` after it). Left
 out are bodies, private fields, proofs, and functions of a trait's `impl` without a contract or documentation of their own.
 In a clause `x.now` is what a reference leads to, and `x.old` and `x.new` are what a `&mut` leads to before and after the
 call. The names in it are defined in `specs/` of the crate in the table: [PROMISES](PROMISES.md) explains the main ones.
 [CALLING](CALLING.md) shows how to name them.
 """
+# What most programs use.
+FIRST = "daily Builder FileAppender RollingFile NonBlockingBuilder NonBlocking WorkerGuard Losses LogSink InitError".split()
 TAIL = "`tests/api/run.py --write` makes this page from the sources, and `.ci/run` compares it with them."
 
 
@@ -146,6 +146,13 @@ def section(library, path):
     return lines
 
 
+def first_items(library):
+    """What most programs use."""
+    items = {name: (path, it) for it in library.described() for path, name in [library.main_path(it)] if name in FIRST}
+    links = [(f"[`{name}`](#{items[name][0].replace(':', '')})", items[name][1]) for name in FIRST]
+    return ["Most programs need ten items:", "", *(f"- {link}: {first_sentence(it.docs)}" for link, it in links), ""]
+
+
 def index(library):
     """The modules with their crates, and a line for each type, trait, function and constant that is described under them."""
     lines = []
@@ -158,7 +165,7 @@ def index(library):
 
 def page(library):
     """The parts of the page, each under the text of its heading."""
-    parts = {"API": HEAD.split("\n") + index(library)}
+    parts = {"API": ["# API", ""] + first_items(library) + ABOUT.split("\n") + index(library)}
     for path in sorted(library.pages, key=page_order):
         parts[f"`{path}`"] = section(library, path)
     return {name: "\n".join(lines) for name, lines in parts.items()}

@@ -44,6 +44,11 @@ def tokens_of(path, text):
     return found
 
 
+def text_of(comment):
+    """A line of documentation, which keeps its indentation."""
+    return comment.text[3:].removeprefix(" ").rstrip()
+
+
 class Item:
     """A declaration: its kind, name and visibility, its documentation, and its text as it is in the source."""
 
@@ -128,7 +133,7 @@ class Reader:
         while self.at < len(self.tokens):
             token = self.tokens[self.at]
             if token.kind == "doc":
-                docs.append(token.text[3:].strip())
+                docs.append(text_of(token))
                 self.at += 1
             elif token.kind == "inner":
                 self.at += 1
@@ -158,7 +163,7 @@ class Reader:
 
     def read_module(self):
         module = self.module
-        module.docs = [it.text[3:].strip() for it in self.tokens if it.kind == "inner"]
+        module.docs = [text_of(it) for it in self.tokens if it.kind == "inner"]
         while self.at < len(self.tokens):
             item = self.item()
             if item is not None:

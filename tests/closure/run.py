@@ -1,7 +1,7 @@
 #!/usr/bin/env python3
 """Counts the definitions that a contract stands on, and compares the counts with docs/PROMISES.md.
 
-    tests/closure/run.py                              compares the table 'What a reader has to read' of docs/PROMISES.md
+    tests/closure/run.py                              compares the first table of docs/PROMISES.md
     tests/closure/run.py CRATE FUNCTION [CLAUSE..]    prints the counts of a function, and of each of its clauses
     tests/closure/run.py --list CRATE FUNCTION [CLAUSE..]    lists the definitions too
 

@@ -32,7 +32,7 @@ import tempfile
 sys.dont_write_bytecode = True
 
 HERE = pathlib.Path(__file__).resolve().parent
-CRATES = ["acceptance_threads", "acceptance_disk", "appender_log"]
+CRATES = ["acceptance_threads", "acceptance_folders", "acceptance_log"]
 # Tests of this module hold however slow threads are: time may pass also while a thread can go on.
 OF_SLOW_THREADS = "schedules::"
 # These write hundreds or thousands of lines, so that one schedule has tens of thousands of steps. Small tests of
@@ -47,12 +47,11 @@ TOO_LONG = {
         "counted::tickets_are_returned_and_lines_are_in_order",
         "counting::lines_of_many_senders_are_taken_or_lost",
     ],
-    "acceptance_disk": [
-        "folders::limited::no_line_of_full_files_is_lost",
-        "folders::links::a_reader_finds_a_file_at_every_moment",
-        "folders::links::three_writers_of_one_link_all_make_it",
+    "acceptance_folders": [
+        "crowds::no_line_of_full_files_is_lost",
+        "links::three_writers_of_one_link_make_it_and_a_reader_always_finds_a_file",
     ],
-    "appender_log": ["tests::times::times_rise_in_a_long_log_of_threads", "tests::two_threads_share_a_sink"],
+    "acceptance_log": ["records::times::times_rise_in_a_long_log_of_threads", "records::two_threads_share_a_sink"],
 }
 SEARCHES = ["each", "random", "pct"]
 EACH_SECONDS = 5

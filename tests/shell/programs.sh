@@ -210,7 +210,7 @@ never $work/switch app --keep -3|--keep: not a number from 1
 never $work/switch app --keep 1|@--keep: not with never, a log of one file; take weekly, whose files are the longest
 never $work/switch app --max-bytes 1|@--max-bytes: not with never, a log of one file; take weekly, whose files are the longest
 --max-bytes x hourly $work/switch app|--max-bytes: not a number of bytes from 1, as 500, 64K, 10M or 2G
---max-bytes 0K hourly $work/switch app|--max-bytes: not a number of bytes from 1, as 500, 64K, 10M or 2G
+--max-bytes 0k hourly $work/switch app|--max-bytes: not a number of bytes from 1, as 500, 64K, 10M or 2G
 --max-bytes=1KB hourly $work/switch app|--max-bytes: not a number of bytes from 1, as 500, 64K, 10M or 2G
 --direct --queue 2 never $work/switch app|@--queue: not with --direct
 hourly $work/switch app --queue=2 --direct|@--queue: not with --direct
@@ -234,16 +234,61 @@ daily $work/switch app --suffix a/b|name not allowed\\nrolltee: --suffix 'a/b' h
 daily $work/switch app --link a/b|name not allowed\\nrolltee: --link 'a/b' has a '/'
 daily $work/clash app --link app.2026-01-01|name not allowed\\nrolltee: --link 'app.2026-01-01' has the name of a log file
 daily $work/switch $long|failed to create log file: File name too long (os error 36)\\n@no log was opened
+never $lines app|failed to create log directory: File exists (os error 17)\\n@no log was opened
 END
 check 'rolltee, wrong options make no folder' no "$([ -e "$work/switch" ] && echo yes || echo no)"
 
-run "$rolltee" never "$work/names" app --suffix .log --link=latest --max-bytes 0k < "$lines"
-check 'rolltee --max-bytes 0k' '2||rolltee: --max-bytes: not a number of bytes from 1, as 500, 64K, 10M or 2G' "$(told)"
 run "$rolltee" never "$work/names" app --suffix .log --link=latest < "$lines"
 check 'rolltee --suffix --link' $'0||[one\ntwo]' "$(told)$(content "$work/names/latest")"
 check 'rolltee --suffix --link: names' $'app.log\nlatest' "$(ls "$work/names")"
 # The last line has no newline.
 seq 3000 | head -c -1 > "$work/numbers"
+# More lines than wait, to a log of each rotation. If a minute ends meanwhile, they are written once more.
+names_now() {
+  echo $(date -u +'daily/app.%F hourly/app.%F-%H minutely/app.%F-%H-%M never/app') \
+    "$(date -u -d "-$(date -u +%w) days" +weekly/app.%F)"
+}
+for turn in 1 2 3; do
+  rm -rf "$work/each"
+  names=$(names_now)
+  told_each=
+  for rotation in daily hourly minutely never weekly; do
+    run "$rolltee" "$rotation" "$work/each/$rotation" app < "$work/numbers"
+    told_each+="$(told) $(cat "$work/each/$rotation"/* | same - "$work/numbers"), "
+  done
+  [ "$names" != "$(names_now)" ] || break
+done
+check 'rolltee, each rotation' '0|| same, 0|| same, 0|| same, 0|| same, 0|| same, ' "$told_each"
+check 'rolltee, each rotation: the names' "$names" "$(cd "$work/each" && echo */*)"
+# Files of others stay.
+mkdir "$work/others"
+touch "$work"/others/{app.2020-02-01-10,app.2020-02-01,app.conf,app-access.2020-02-01-10,apple,app.2020-02-01-10.gz}
+run "$rolltee" --keep 1 hourly "$work/others" app < "$lines"
+check 'rolltee --keep 1: files of others stay' '0||app-access.2020-02-01-10 app.2020-02-01 app.2020-02-01-10.gz app.H app.conf apple' \
+  "$(told)$(ls "$work/others" | sed "s/^app\.$(date -u +%Y-%m)-..-..$/app.H/" | paste -s -d ' ')"
+# A line that is longer than the limit has a file of its own.
+printf 'a\nb\nc\nd\nlonger\ne\n' | run "$rolltee" --keep 3 --max-bytes 4 weekly "$work/longer" app
+check 'rolltee --max-bytes, a longer line' '4 7 2' "$(stat -c %s "$work"/longer/* | paste -s -d ' ')"
+# A part of a line that another run left is ended if that is asked for.
+for direct in '' ' --direct'; do
+  while IFS='|' read -r option before wanted; do
+    printf "$before" > "$work/part"
+    run "$rolltee" $direct $option never "$work" part < "$lines"
+    check "rolltee$direct $option, after '$before'" "0||[$(printf "$wanted")]" "$(told)$(content "$work/part")"
+  done << 'END'
+--whole-lines|par|par\none\ntwo
+--whole-lines|whole\n|whole\none\ntwo
+--whole-lines||one\ntwo
+|par|parone\ntwo
+END
+done
+# A last file with a second link, as a copy of the folder by links leaves it, is left as it is: the next number is begun.
+for words in one two three; do
+  run "$rolltee" --max-bytes 100 --link latest daily "$work/copied" app <<< "$words"
+  [ $words != one ] || ln "$work/copied/$(readlink "$work/copied/latest")" "$work/copied/copy"
+done
+check 'rolltee --max-bytes, a file with a second link' $'0||[two\nthree][one]' \
+  "$(told)$(content "$work/copied/latest")$(content "$work/copied/copy")"
 for ((i = 0; i < 20; i++)); do printf '%0127d\n' "$i"; done > "$work/lines.20"
 for direct in '' ' --direct'; do
   for words in --echo --timestamps '--echo --timestamps'; do
@@ -278,9 +323,6 @@ for direct in '' ' --direct'; do
   check "$name --keep 2: the names" 'app.2020-01-01.log app.D.000003.log app.D.000004.log app.conf latest.log' \
     "$(ls "$kept" | sed -E 's/[0-9-]{10}\.0/D.0/' | paste -s -d ' ')"
   check "$name --keep 2: the link" "$(tail -n 8 "$work/lines.20")" "$(cat "$kept/latest.log")"
-  printf par > "$kept/part"
-  run "$rolltee" $direct --whole-lines never "$kept" part < "$lines"
-  check "rolltee$direct --whole-lines" $'0||[par\none\ntwo]' "$(told)$(content "$kept/part")"
 done
 if has strace 'rolltee --sync'; then
   for option in '' --sync; do
@@ -516,14 +558,20 @@ check 'rolltee, a folder that is replaced by a file: the log' $'[two\nthree]' "$
 
 # Something else has the link's name: it stays, and files begin and go, at a start and during a run. It is said once, until
 # there is a link again.
+while IFS='|' read -r name words; do
+  mkdir "$work/linked"
+  echo mine > "$work/linked/$name"
+  seq 2 > "$work/linked/app.2020-02-01.000000"
+  for start in 1 2; do run "$rolltee" --keep 1 --max-bytes 1K --link cur daily "$work/linked" app < "$lines"; done
+  check "rolltee, $name is a file" "0||@cur $words" "$(told)"
+  check "rolltee, $name is a file: the folder" '1 [mine]' \
+    "$(find "$work/linked" -name 'app.*' | wc -l) $(content "$work/linked/$name")"
+  rm -r "$work/linked"
+done << 'END'
+cur|is no symbolic link, and stays
+.cur.new|can't be made: the name for the new link is in use
+END
 mkdir "$work/linked"
-echo mine > "$work/linked/cur"
-seq 2 > "$work/linked/app.2020-02-01.000000"
-run "$rolltee" --keep 1 --max-bytes 1K --link cur daily "$work/linked" app < "$lines"
-check 'rolltee, a link that is a file' '0||@cur is no symbolic link, and stays' "$(told)"
-check 'rolltee, a link that is a file: the folder' '1 [mine]' \
-  "$(find "$work/linked" -name 'app.*' | wc -l) $(content "$work/linked/cur")"
-rm "$work/linked"/*
 for direct in '' ' --direct'; do
   name="rolltee$direct, a link that becomes a file"
   begin "$rolltee" $direct --keep 3 --max-bytes 1K --link cur daily "$work/linked" app
@@ -554,6 +602,20 @@ if has strace 'rolltee, a link that is refused'; then
   check 'rolltee, a link that is refused' $'0||@cur can\'t be made: No space left on device (os error 28)' "$(told)"
   check 'rolltee, a link that is refused: the log' same "$(cat "$work/linked"/app.* | same - "$work/lines.20")"
 fi
+
+# Of ten lines one is soon in the file, since the machine may be busy.
+least=5000
+begin "$rolltee" never "$work/slow" app
+for ((count = 1; count <= 10; count++)); do
+  start=$(date +%s%N)
+  echo "$count" >&9
+  wait_until has_lines "$work/slow/app" "$count"
+  took=$((($(date +%s%N) - start) / 1000000))
+  [ $took -ge $least ] || least=$took
+done
+end
+check 'rolltee, a slow input: the milliseconds until a line is in the file' '0||below 100' \
+  "$(told)$([ $least -lt 100 ] && echo below 100 || echo $least)"
 
 # The input is the open file of the log: nothing is written.
 run "$rolltee" --link cur never "$work/itself" app < "$lines"

@@ -6,6 +6,7 @@ use std::fmt::{Display, Write as _};
 use std::fs::Metadata;
 use std::io;
 use std::io::{Error, ErrorKind};
+use std::time::Duration;
 
 /// The path of the one folder that a disk has.
 pub const FOLDER: &str = "log/";
@@ -26,7 +27,7 @@ pub enum Call {
 }
 
 /// The result of a call that fails.
-#[derive(Clone, Copy)]
+#[derive(Clone, Copy, Debug)]
 pub enum DiskFault {
     /// An error of this kind.
     Kind(ErrorKind),
@@ -41,6 +42,17 @@ impl DiskFault {
             DiskFault::Number(number) => Error::from_raw_os_error(number),
         }
     }
+}
+
+/// What happens at a call.
+#[derive(Clone, Copy, Debug)]
+pub enum Event {
+    /// It fails.
+    Fails,
+    /// Just before it a name becomes an entry of this kind with these bytes.
+    Comes(&'static str, Kind, &'static str),
+    /// Just before it a name is removed.
+    Goes(&'static str),
 }
 
 /// What an entry is.
@@ -151,8 +163,8 @@ pub(crate) fn take_name(entries: &mut [Entry], name: &[u8]) {
 #[derive(Drop)]
 pub struct Disk {
     pub(crate) alloc: Global,
-    /// The call of this number fails; the first one has number 1.
-    pub fails_at: Cell<Option<usize>>,
+    /// What happens at the call of this number; the first one has number 1.
+    pub event: Cell<(usize, Event)>,
     /// Each call of this sort fails.
     pub fails_each: Cell<Option<Call>>,
     /// The result of a call that fails.
@@ -161,17 +173,12 @@ pub struct Disk {
     pub takes: Cell<Option<usize>>,
     /// The number of bytes for which there is room.
     pub room: Cell<Option<usize>>,
-    /// Just before the call of this number the first name becomes a link to the second.
-    pub link_comes: Cell<Option<(usize, &'static str, &'static str)>>,
-    /// Just before the call of this number the name becomes an entry of this kind: a file of the byte `x`, or a pipe
-    /// without a reader.
-    pub entry_comes: Cell<Option<(usize, &'static str, Kind)>>,
     /// No file may be read.
     pub hides_bytes: Cell<bool>,
     /// The metadata of this name can't be read.
     pub hides: Cell<Option<&'static str>>,
-    /// The time of the clock, in seconds since 1970.
-    pub seconds: Cell<u64>,
+    /// The time of the clock since 1970, if it can be read.
+    pub time: Cell<Option<Duration>>,
     calls: Cell<usize>,
     pub(crate) syncs: Cell<usize>,
     waits: Cell<usize>,
@@ -186,16 +193,14 @@ impl Disk {
     pub fn new(alloc: Global) -> Disk {
         Disk {
             alloc,
-            fails_at: Cell::new(None),
+            event: Cell::new((0, Event::Fails)),
             fails_each: Cell::new(None),
             fault: Cell::new(DiskFault::Kind(ErrorKind::PermissionDenied)),
             takes: Cell::new(None),
             room: Cell::new(None),
-            link_comes: Cell::new(None),
-            entry_comes: Cell::new(None),
             hides_bytes: Cell::new(false),
             hides: Cell::new(None),
-            seconds: Cell::new(0),
+            time: Cell::new(None),
             calls: Cell::new(0),
             syncs: Cell::new(0),
             waits: Cell::new(0),
@@ -205,19 +210,9 @@ impl Disk {
         }
     }
 
-    /// Puts a file into the folder. Its name need not be UTF-8.
-    pub fn put_file(&self, name: &[u8], bytes: &[u8]) -> io::Result<()> {
-        self.put(name, Kind::File, bytes)
-    }
-
-    /// Puts a folder into the folder.
-    pub fn put_folder(&self, name: &str) -> io::Result<()> {
-        self.put(name.as_bytes(), Kind::Folder, b"")
-    }
-
-    /// Puts a link into the folder.
-    pub fn put_link(&self, name: &str, target: &str) -> io::Result<()> {
-        self.put(name.as_bytes(), Kind::Link, target.as_bytes())
+    /// Sets the clock, in seconds since 1970.
+    pub fn set_seconds(&self, seconds: u64) {
+        self.time.set(Some(Duration::from_secs(seconds)));
     }
 
     /// Removes the folder with all names in it.
@@ -282,7 +277,8 @@ impl Disk {
         }
     }
 
-    fn put(&self, name: &[u8], kind: Kind, bytes: &[u8]) -> io::Result<()> {
+    /// Puts an entry into the folder, in place of what has the name. That need not be UTF-8.
+    pub fn put(&self, name: &[u8], kind: Kind, bytes: &[u8]) -> io::Result<()> {
         let entry = Entry {
             name: name.to_vec(self.alloc)?,
             kind,
@@ -298,19 +294,21 @@ impl Disk {
     pub(crate) fn begin(&self, call: Call) -> io::Result<()> {
         let number = self.calls.get().saturating_add(1);
         self.calls.set(number);
-        match self.link_comes.get() {
-            Some((at, name, target)) if at == number => self.put_link(name, target)?,
-            _ => {}
+        let (at, event) = self.event.get();
+        if at == number {
+            self.happen(event)?;
         }
-        match self.entry_comes.get() {
-            Some((at, name, Kind::File)) if at == number => {
-                self.put(name.as_bytes(), Kind::File, b"x")?
-            }
-            Some((at, name, kind)) if at == number => self.put(name.as_bytes(), kind, b"")?,
-            _ => {}
-        }
-        if self.fails_at.get() == Some(number) || self.fails_each.get() == Some(call) {
+        if self.fails_each.get() == Some(call) {
             return Err(self.fault.get().error());
+        }
+        Ok(())
+    }
+
+    fn happen(&self, event: Event) -> io::Result<()> {
+        match event {
+            Event::Fails => return Err(self.fault.get().error()),
+            Event::Comes(name, kind, text) => self.put(name.as_bytes(), kind, text.as_bytes())?,
+            Event::Goes(name) => take_name(&mut self.entries()?, name.as_bytes()),
         }
         Ok(())
     }
@@ -363,17 +361,6 @@ impl Disk {
                 self.waits.set(self.waits.get().saturating_add(1));
                 Err(Error::other("waits for ever"))
             }
-        }
-    }
-
-    // Returns the target of a link.
-    pub(crate) fn target_at(&self, path: &str) -> io::Result<String> {
-        let name = self.name_in(path)?;
-        let entries = self.entries()?;
-        let (_, entry) = find(&entries, name)?;
-        match entry.kind {
-            Kind::Link => Ok(String::from_str(self.alloc, text_of(entry.bytes.as_slice()))?),
-            _ => Err(Error::from(ErrorKind::InvalidInput)),
         }
     }
 }

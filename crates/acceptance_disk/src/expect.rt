@@ -25,16 +25,6 @@ pub(crate) fn expect_eq_of<P: Copy + Debug, T: Copy + PartialEq + Debug>(
     );
 }
 
-/// Ends the test if the `Debug` text of a value isn't the expected one.
-pub(crate) fn expect_shown<T: Copy + Debug>(rt: &impl AllocAndAbort, value: T, wanted: &str) {
-    expect_eq(rt, debug_text(rt, value).as_str(), wanted);
-}
-
-/// Ends the test if the `Debug` text of a value doesn't begin with this.
-pub(crate) fn expect_shown_start<T: Copy + Debug>(rt: &impl AllocAndAbort, value: T, start: &str) {
-    expect_eq(rt, debug_text(rt, value).as_str().starts_with(start), true);
-}
-
 /// Returns the `Debug` text of a value.
 pub(crate) fn debug_text<T: Copy + Debug>(rt: &impl AllocAndAbort, value: T) -> String {
     format!(in rt.alloc(); "{value:?}").expect(rt, "memory")
@@ -47,9 +37,4 @@ pub(crate) fn pair_text<A: Copy + Display, B: Copy + Display>(
     second: B,
 ) -> String {
     format!(in rt.alloc(); "{first}{second}").expect(rt, "memory")
-}
-
-/// Returns the bytes of a text.
-pub(crate) fn bytes(rt: &impl AllocAndAbort, text: &str) -> Vec<u8> {
-    text.as_bytes().to_vec(rt.alloc()).expect(rt, "memory")
 }

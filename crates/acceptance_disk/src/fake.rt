@@ -5,7 +5,6 @@ use std::alloc::{Allocator, Global};
 use std::fmt::Display;
 use std::fs::{Metadata, OpenFile, OpenOptions};
 use std::io::{Error, ErrorKind, Read, Seek, SeekFrom, Write};
-use std::path::PathBuf;
 use std::rt::Files;
 use std::time::Duration;
 use std::{io, time};
@@ -51,7 +50,7 @@ impl time::Clock for Fake<'_> {
     }
 
     fn since_1970(&self) -> io::Result<Duration> {
-        Ok(Duration::from_secs(self.disk.seconds.get()))
+        self.disk.time.get().ok_or_else(unsupported_error)
     }
 }
 
@@ -143,12 +142,6 @@ impl<'a> Files for Fake<'a> {
 
     fn remove_dir_all<B: Allocator>(&self, _alloc: B, _path: &str) -> io::Result<()> {
         Err(unsupported_error())
-    }
-
-    fn read_link<B: Allocator>(&self, alloc: B, path: &str) -> io::Result<PathBuf<B>> {
-        self.disk.begin(Call::Other)?;
-        let target = self.disk.target_at(path)?;
-        Ok(PathBuf::from_str(alloc, target.as_str())?)
     }
 
     fn symlink(&self, original: &str, link: &str) -> io::Result<()> {

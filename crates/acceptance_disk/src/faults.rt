@@ -1,125 +1,244 @@
-// Full disks, short writes, links that are made in between, and a folder that is removed.
+// Calls of the system that fail, disks that are full, writes that are cut short, and a folder that is removed.
 
-use crate::disk::{Call, Disk, DiskFault};
-use crate::expect::{AllocAndAbort, expect_eq_of, pair_text};
-use crate::runs::{DiskStep, Outcome, folder_of};
-use crate::scene::{ELEVEN, START, TWELVE, disk_of, expect_texts, put_file, write_log};
+use crate::disk::{Call, Disk, DiskFault, Event};
+use crate::expect::{AllocAndAbort, expect_eq_of};
+use crate::runs::DiskStep::{Dir, Fail, Fault, File, Flush, Put, RemoveFolder, Room, Syncs, Take};
+use crate::runs::{
+    DiskStep, ELEVEN, KEEPS_TWO, LINKED, LOG, NOTHING, PLAIN, Row, START, Settings, TWELVE,
+    check_runs, disk_after, folder_of, run_log,
+};
 use std::io::ErrorKind;
+use std::process::Abort;
 use tracing_appender::store::Folder;
 use tracing_appender::waiting::Faults;
 
-// A disk that holds only `other.txt`.
-fn kept_disk(rt: &impl AllocAndAbort) -> Disk {
-    disk_of(rt, &[("other.txt", "kept")])
-}
+// An hourly log of two files with a link.
+const LINKED_TWO: Settings = Settings { max: 2, ..LINKED };
 
-// Writes a log without a link on such a disk, and returns the result.
-fn write_unlinked(rt: &impl AllocAndAbort, steps: &[DiskStep]) -> Outcome {
-    write_log(rt, &kept_disk(rt), 0, "", steps)
-}
+const SYNCED: Settings = Settings {
+    syncs: true,
+    ..PLAIN
+};
 
-// Steps with their replies, the files at the end, and what is printed.
+const KEPT: &[DiskStep] = &[File("other.txt", "kept")];
+
+// The logs of two hours, a file that is no log, and a folder.
 #[rattlefmt::skip]
-static WRITES: [(&[DiskStep], &str, &str, &str); 5] = [
-    // A disk that is full takes what there is room for, and more once there is room again.
-    (&[DiskStep::Room(4), DiskStep::Put(START, "one"), DiskStep::Put(START, "two"), DiskStep::Put(START, "three"),
-        DiskStep::Put(START, ""), DiskStep::Flush, DiskStep::Room(9), DiskStep::Put(START, "four")],
-        "open\nnone ok 3\nnone ok 1\nnone err\nnone ok 0\nok\nnone ok 4\n",
-        "app.2020-02-01-10 onetfour\nother.txt kept\n", "failures 1\n"),
-    // So it is at a boundary.
-    (&[DiskStep::Room(0), DiskStep::Put(ELEVEN, "one"), DiskStep::Room(9), DiskStep::Put(ELEVEN, "two")],
-        "open\nopened err\nnone ok 3\n", "app.2020-02-01-10 \napp.2020-02-01-11 two\nother.txt kept\n", "failures 1\n"),
-    // A short write is no failure.
-    (&[DiskStep::Take(2), DiskStep::Put(START, "hello"), DiskStep::Take(0), DiskStep::Put(START, "hello"),
-        DiskStep::Take(5), DiskStep::Put(START, "hello"), DiskStep::Take(6), DiskStep::Put(START, "hello")],
-        "open\nnone ok 2\nnone ok 0\nnone ok 5\nnone ok 5\n", "app.2020-02-01-10 hehellohello\nother.txt kept\n",
-        "failures 0\n"),
-    // If the folder is removed, lines are written to the open file until the boundary makes the folder again.
-    (&[DiskStep::Put(START, "one"), DiskStep::RemoveFolder, DiskStep::Put(START, "two"), DiskStep::Flush,
-        DiskStep::Put(ELEVEN, "three")], "open\nnone ok 3\nnone ok 3\nok\nopened ok 5\n", "app.2020-02-01-11 three\n",
-        "failures 1\n"),
-    // It can't be made before the boundary after the next.
-    (&[DiskStep::RemoveFolder, DiskStep::Fail(Some(Call::CreateDir)), DiskStep::Put(ELEVEN, "one"),
-        DiskStep::Fail(None), DiskStep::Put(ELEVEN, "two"), DiskStep::Put(TWELVE, "three")],
-        "open\nfailed ok 3\nnone ok 3\nopened ok 5\n", "app.2020-02-01-12 three\n",
-        "Couldn't create writer for logs: failed to create log directory: permission denied\nfailures 3\n"),
+const OLD_LOGS: &[DiskStep] = &[
+    File("app.2020-02-01-08", "o"), File("app.2020-02-01-09", "p"), File("other.txt", "kept"), Dir("app.d"),
 ];
 
-// What puts counted follows what the disk held at first.
-fn expect_counted(rt: &impl AllocAndAbort, outcome: &Outcome, of: &[DiskStep]) {
-    let counted = pair_text(rt, "kept", outcome.counted.as_str());
-    expect_eq_of(rt, of, outcome.appended.as_str(), counted.as_str());
+// Runs without a link, on a disk that holds other files.
+#[rattlefmt::skip]
+static WRITES: [Row<'static>; 8] = [
+    // A disk that is full takes what there is room for, and more once there is room again.
+    (PLAIN, KEPT, NOTHING, &[Room(4), Put(START, "one"), Put(START, "two"), Put(START, "three"), Put(START, ""), Flush,
+        Room(9), Put(START, "four")],
+        ("open\nnone ok 3\nnone ok 1\nnone err\nnone ok 0\nok\nnone ok 4\n",
+        "app.2020-02-01-10 onetfour\nother.txt kept\n", "failures 1\n")),
+    // So it is at a boundary.
+    (PLAIN, KEPT, NOTHING, &[Room(0), Put(ELEVEN, "one"), Room(9), Put(ELEVEN, "two")],
+        ("open\nopened err\nnone ok 3\n", "app.2020-02-01-10 \napp.2020-02-01-11 two\nother.txt kept\n",
+        "failures 1\n")),
+    // A short write is no failure.
+    (PLAIN, KEPT, NOTHING, &[Take(2), Put(START, "hello"), Take(0), Put(START, "hello"), Take(5), Put(START, "hello"),
+        Take(6), Put(START, "hello")],
+        ("open\nnone ok 2\nnone ok 0\nnone ok 5\nnone ok 5\n", "app.2020-02-01-10 hehellohello\nother.txt kept\n",
+        "failures 0\n")),
+    // If the folder is removed, lines are written to the open file until the boundary makes the folder again.
+    (PLAIN, KEPT, NOTHING, &[Put(START, "one"), RemoveFolder, Put(START, "two"), Flush, Put(ELEVEN, "three")],
+        ("open\nnone ok 3\nnone ok 3\nok\nopened ok 5\n", "app.2020-02-01-11 three\n", "failures 1\n")),
+    // It can't be made before the boundary after the next.
+    (PLAIN, KEPT, NOTHING, &[RemoveFolder, Fail(Some(Call::CreateDir)), Put(ELEVEN, "one"), Fail(None),
+        Put(ELEVEN, "two"), Put(TWELVE, "three")],
+        ("open\nfailed ok 3\nnone ok 3\nopened ok 5\n", "app.2020-02-01-12 three\n",
+        "Couldn't create writer for logs: failed to create log directory: permission denied\nfailures 3\n")),
+    // A first start prints nothing.
+    (KEEPS_TWO, &[RemoveFolder], NOTHING, &[], ("open\n", "app.2020-02-01-10 \n", "failures 2\n")),
+    // A flush syncs if that was asked for.
+    (PLAIN, &[], NOTHING, &[Put(START, "one"), Flush, Syncs(0)],
+        ("open\nnone ok 3\nok\n", "app.2020-02-01-10 one\n", "failures 0\n")),
+    (SYNCED, &[], NOTHING, &[Put(START, "one"), Flush, Syncs(1), Fail(Some(Call::Flush)), Flush, Syncs(1),
+        Fail(Some(Call::Sync)), Flush, Put(ELEVEN, "two"), Fail(None), Put(TWELVE, "three"), Syncs(2)],
+        ("open\nnone ok 3\nok\nerr\nerr\nopened ok 3\nopened ok 5\n",
+        "app.2020-02-01-10 one\napp.2020-02-01-11 two\napp.2020-02-01-12 three\n",
+        "Couldn't flush previous writer: permission denied\nfailures 3\n")),
+];
+
+const OPENED: &str = "open\nnone ok 3\nopened ok 3\nnone ok 5\nopened ok 4\n";
+
+const FAILED: &str = "open\nnone ok 3\nfailed ok 3\nnone ok 5\nfailed ok 4\n";
+
+const ALL_KEPT: &str = "app.2020-02-01-09 p\napp.2020-02-01-10 one\napp.2020-02-01-11 twothree\n\
+    app.2020-02-01-12 four\napp.d/\nother.txt kept\n";
+
+const TWO_KEPT: &str =
+    "app.2020-02-01-11 twothree\napp.2020-02-01-12 four\napp.d/\nother.txt kept\n";
+
+// Calls that fail at two boundaries; the replies, the files, and what is printed: the fault once at each boundary.
+#[rattlefmt::skip]
+static BOUNDARIES: [(Settings, Call, (&str, &str, &str)); 5] = [
+    (KEEPS_TWO, Call::OpenDir, (OPENED, ALL_KEPT, "Error reading the log directory/files: permission denied\n\
+         Error reading the log directory/files: permission denied\nfailures 2\n")),
+    // One file more goes at the second boundary.
+    (KEEPS_TWO, Call::RemoveFile, (OPENED, ALL_KEPT,
+        "Failed to remove old log file log/app.2020-02-01-09: permission denied\n\
+         Failed to remove old log file log/app.2020-02-01-09: permission denied\n\
+         Failed to remove old log file log/app.2020-02-01-10: permission denied\nfailures 3\n")),
+    (KEEPS_TWO, Call::Flush, (OPENED, TWO_KEPT, "Couldn't flush previous writer: permission denied\n\
+         Couldn't flush previous writer: permission denied\nfailures 2\n")),
+    // Each opening is tried twice.
+    (KEEPS_TWO, Call::OpenFile, (FAILED, "app.2020-02-01-10 onetwothreefour\napp.d/\nother.txt kept\n",
+        "Couldn't create writer for logs: failed to create log file: permission denied\n\
+         Couldn't create writer for logs: failed to create log file: permission denied\nfailures 4\n")),
+    // There was no link to replace at first. At the boundaries it stays, and at the second one the open file's name
+    // goes.
+    (LINKED_TWO, Call::Symlink, (FAILED,
+        "app.2020-02-01-11 \napp.2020-02-01-12 \napp.d/\nlatest.log -> app.2020-02-01-10\nother.txt kept\n",
+        "Couldn't create writer for logs: failed to create symlink to latest log file: permission denied\n\
+         Couldn't create writer for logs: failed to create symlink to latest log file: permission denied\n\
+         failures 3\n")),
+];
+
+const THREE_PUTS: &[DiskStep] = &[
+    Put(START, "a"),
+    Put(ELEVEN, "b"),
+    Put(ELEVEN - 1, "c"),
+    Flush,
+];
+
+const ANSWERS: &str = "open\nnone ok 1\nopened ok 1\nnone ok 1\nok\n";
+
+const FILES: &str =
+    "app.2020-02-01-10 a\napp.2020-02-01-11 bc\napp.d/\nlatest.log -> app.2020-02-01-11\nother.txt kept\n";
+
+// The oldest log is kept longer.
+const OLD_FILES: &str = "app.2020-02-01-09 p\napp.2020-02-01-10 a\napp.2020-02-01-11 bc\napp.d/\n\
+    latest.log -> app.2020-02-01-11\nother.txt kept\n";
+
+// There is no link to remove at first, which is a failure by itself.
+const PRINTED: &str = "failures 1\n";
+
+const LIST: &str = "Error reading the log directory/files: permission denied\nfailures 2\n";
+
+// The calls that fail, each in a run of its own; the replies, the files, and what is printed.
+#[rattlefmt::skip]
+static TURNS: [(&[usize], (&str, &str, &str)); 18] = [
+    // The listing at the opening; at the boundary two files go.
+    (&[1, 2, 4, 6, 8, 10], (ANSWERS, FILES, LIST)),
+    // An entry that can't be looked at is no log file.
+    (&[3, 5, 7, 9], (ANSWERS, FILES, PRINTED)),
+    (&[11, 12], (ANSWERS, FILES,
+        "Failed to remove old log file log/app.2020-02-01-08: permission denied\nfailures 2\n")),
+    // The opening is tried again once the folder is there.
+    (&[13, 14], (ANSWERS, FILES, "failures 2\n")),
+    // It is not known whether there is a link, and there is none.
+    (&[15], (ANSWERS, FILES, PRINTED)),
+    (&[16], ("failed to create symlink to latest log file: permission denied\n",
+        "app.2020-02-01-09 p\napp.2020-02-01-10 \napp.d/\nother.txt kept\n", "failures 2\n")),
+    (&[17], ("open\nnone err\nopened ok 1\nnone ok 1\nok\n",
+        "app.2020-02-01-10 \napp.2020-02-01-11 bc\napp.d/\nlatest.log -> app.2020-02-01-11\nother.txt kept\n",
+        "failures 2\n")),
+    // The listing at the boundary.
+    (&[18, 19, 21, 23, 25, 27, 29], (ANSWERS, OLD_FILES, LIST)),
+    // One log file fewer is known, so that none is removed.
+    (&[20, 26], (ANSWERS, OLD_FILES, PRINTED)),
+    (&[22, 24, 28, 43], (ANSWERS, FILES, PRINTED)),
+    (&[30, 31], (ANSWERS, OLD_FILES,
+        "Failed to remove old log file log/app.2020-02-01-09: permission denied\nfailures 2\n")),
+    (&[32, 33], (ANSWERS, FILES, "failures 2\n")),
+    // Whether there is a link is looked at again when it is made.
+    (&[34], (ANSWERS, FILES, "failures 2\n")),
+    // A link that is not replaced leads where it did. The next file is made, and nothing is written to it.
+    (&[35, 36, 37, 38], ("open\nnone ok 1\nfailed ok 1\nnone ok 1\nok\n",
+        "app.2020-02-01-10 abc\napp.2020-02-01-11 \napp.d/\nlatest.log -> app.2020-02-01-10\nother.txt kept\n",
+        "Couldn't create writer for logs: failed to create symlink to latest log file: permission denied\nfailures 2\n")),
+    (&[39], (ANSWERS, FILES, "Couldn't flush previous writer: permission denied\nfailures 2\n")),
+    (&[40], ("open\nnone ok 1\nopened err\nnone ok 1\nok\n",
+        "app.2020-02-01-10 a\napp.2020-02-01-11 c\napp.d/\nlatest.log -> app.2020-02-01-11\nother.txt kept\n",
+        "failures 2\n")),
+    (&[41], ("open\nnone ok 1\nopened ok 1\nnone err\nok\n",
+        "app.2020-02-01-10 a\napp.2020-02-01-11 b\napp.d/\nlatest.log -> app.2020-02-01-11\nother.txt kept\n",
+        "failures 2\n")),
+    (&[42], ("open\nnone ok 1\nopened ok 1\nnone ok 1\nerr\n", FILES, "failures 2\n")),
+];
+
+#[test]
+fn each_call_fails_in_its_turn(rt: HostRuntime) {
+    for (numbers, wanted) in &TURNS {
+        let row = (
+            LINKED_TWO,
+            OLD_LOGS,
+            (Event::Fails, *numbers),
+            THREE_PUTS,
+            *wanted,
+        );
+        check_runs(&rt, &[row]);
+    }
+}
+
+#[test]
+fn each_fault_is_reported_once_at_each_boundary(rt: HostRuntime) {
+    for (settings, call, wanted) in &BOUNDARIES {
+        let (first, fail) = (Put(START, "one"), Fail(Some(*call)));
+        let steps = [
+            first,
+            fail,
+            Put(ELEVEN, "two"),
+            Put(ELEVEN, "three"),
+            Put(TWELVE, "four"),
+        ];
+        check_runs(&rt, &[(*settings, OLD_LOGS, NOTHING, &steps, *wanted)]);
+    }
 }
 
 #[test]
 fn counts_are_of_what_was_written(rt: HostRuntime) {
-    for (steps, answers, files, printed) in &WRITES {
-        let outcome = write_unlinked(&rt, steps);
-        expect_texts(&rt, &outcome, (*answers, *files, *printed), steps);
-        expect_counted(&rt, &outcome, steps);
+    check_runs(&rt, &WRITES);
+}
+
+#[rattlefmt::skip]
+const LONG_STEPS: &[DiskStep] = &[
+    Put(START, "one"), Take(2), Put(START, "two"), Put(ELEVEN, "three"), Flush, Put(TWELVE, "four"), Put(ELEVEN, "five"),
+    Flush,
+];
+
+// Checks that no byte is lost if the call of this number fails, and returns how many calls there were.
+fn count_calls(rt: &impl AllocAndAbort, number: usize) -> usize {
+    let disk = disk_after(rt, OLD_LOGS);
+    disk.event.set((number, Event::Fails));
+    let outcome = run_log(rt, &disk, &LINKED_TWO, LONG_STEPS);
+    expect_eq_of(
+        rt,
+        number,
+        outcome.appended.as_str(),
+        outcome.counted.as_str(),
+    );
+    let files = outcome.files.as_str();
+    expect_eq_of(rt, number, files.contains("app.d/\n"), true);
+    expect_eq_of(rt, number, files.ends_with("other.txt kept\n"), true);
+    disk.calls()
+}
+
+#[test]
+fn no_counted_byte_is_lost_whichever_call_fails(rt: HostRuntime) {
+    for number in 1..100usize {
+        if count_calls(&rt, number) < number {
+            return;
+        }
     }
+    rt.panic("more calls than there can be");
 }
 
 // An append that finds no room waits, and is no failure then.
 #[test]
 fn an_append_to_a_full_disk_waits(rt: HostRuntime) {
-    let disk = kept_disk(&rt);
+    let disk = Disk::new(rt.alloc());
     disk.fault.set(DiskFault::Kind(ErrorKind::StorageFull));
     let mut folder = folder_of(&rt, &disk).waiting(rt, Faults::Temporary);
     let mut file = folder.open(LOG).expect(&rt, "a file");
-    disk.fails_at.set(Some(disk.calls().saturating_add(1)));
+    disk.event
+        .set((disk.calls().saturating_add(1), Event::Fails));
     let taken = folder.append(&mut file, b"one").ok();
     expect_eq_of(&rt, LOG, (taken, folder.failures()), (Some(3), 0));
-}
-
-const LOG: &str = "app.2020-02-01-10";
-
-const NEXT: &str = "app.2020-02-01-11";
-
-const REFUSED: &str = "failed to create log file: not a plain file\n";
-
-const LINKED: &str = "app.2020-02-01-10 -> other.txt\nother.txt kept\n";
-
-// Whether the log exists at first, the call before which a name becomes a link to `other.txt` and
-// that name; the replies, the files, and what is printed.
-#[rattlefmt::skip]
-static LINKS: [(bool, usize, &str, &str, &str, &str); 6] = [
-    // Before the look at the name, and between look and opening.
-    (false, 1, LOG, REFUSED, LINKED, "failures 2\n"),
-    (false, 2, LOG, REFUSED, LINKED, "failures 2\n"),
-    (true, 2, LOG, REFUSED, LINKED, "failures 2\n"),
-    // Between the opening and the second look.
-    (true, 4, LOG, REFUSED, LINKED, "failures 2\n"),
-    // At a boundary, whose line is written to the last file then.
-    (false, 5, NEXT, "open\nnone ok 3\nfailed ok 3\n",
-        "app.2020-02-01-10 onetwo\napp.2020-02-01-11 -> other.txt\nother.txt kept\n",
-        "Couldn't create writer for logs: failed to create log file: not a plain file\nfailures 2\n"),
-    // Once the file is open its name means nothing.
-    (false, 3, LOG, "open\nnone ok 3\nopened ok 3\n",
-        "app.2020-02-01-10 -> other.txt\napp.2020-02-01-11 two\nother.txt kept\n", "failures 0\n"),
-];
-
-static TWO_LINES: [DiskStep; 2] = [DiskStep::Put(START, "one"), DiskStep::Put(ELEVEN, "two")];
-
-// Writes two lines while this name becomes a link before this call.
-fn write_linked(rt: &impl AllocAndAbort, stands: bool, call: usize, name: &'static str) -> Outcome {
-    let disk = kept_disk(rt);
-    if stands {
-        put_file(rt, &disk, LOG.as_bytes(), "x");
-    }
-    disk.link_comes.set(Some((call, name, "other.txt")));
-    write_log(rt, &disk, 0, "", &TWO_LINES)
-}
-
-#[test]
-fn a_link_that_is_made_meanwhile_is_not_followed(rt: HostRuntime) {
-    for (stands, call, name, answers, files, printed) in &LINKS {
-        let outcome = write_linked(&rt, *stands, *call, *name);
-        expect_texts(
-            &rt,
-            &outcome,
-            (*answers, *files, *printed),
-            &(*call, *stands),
-        );
-    }
 }

@@ -1,5 +1,5 @@
 //! Tests of logs over a disk in memory whose calls fail as a test chooses, and that a disk in the end holds what a
-//! folder in memory does. `folders` has those over real folders.
+//! folder in memory does.
 #![tactic(auto)]
 
 #[cfg(test)]
@@ -11,15 +11,7 @@ mod fake;
 #[cfg(test)]
 mod faults;
 #[cfg(test)]
-mod folders;
-#[cfg(test)]
-mod links;
-#[cfg(test)]
 mod listings;
-#[cfg(test)]
-mod logs;
-#[cfg(test)]
-mod notices;
 #[cfg(test)]
 mod openings;
 #[cfg(test)]
@@ -27,8 +19,4 @@ mod others;
 #[cfg(test)]
 mod runs;
 #[cfg(test)]
-mod scene;
-#[cfg(test)]
 mod scripts;
-#[cfg(test)]
-mod turns;

@@ -1,139 +1,108 @@
 // What other processes do to the folder of a log, and what a log file's owner may do with it.
 
-use crate::disk::{Call, Disk, Kind};
-use crate::expect::{AllocAndAbort, expect_eq, expect_eq_of};
-use crate::runs::{DiskStep, Outcome, folder_of};
-use crate::scene::{ELEVEN, START, disk_of, expect_texts, write_log};
-use std::io::ErrorKind;
-use tracing_appender::store::Folder;
+use crate::disk::{Event, Kind};
+use crate::runs::DiskStep::{Dir, File, HideBytes, Link, Put};
+use crate::runs::{
+    DiskStep, ELEVEN, LINKED, LOG, NOTHING, PLAIN, Row, START, Settings, check_runs,
+};
 
-const LOG: &str = "app.2020-02-01-10";
+const BY_NAME: Settings = Settings {
+    by_name: true,
+    ..LINKED
+};
 
-static TWO_LINES: [DiskStep; 2] = [DiskStep::Put(START, "one"), DiskStep::Put(ELEVEN, "two")];
+const LATEST: &str = "latest.log";
 
-const NEW_LINK: &str =
-    "app.2020-02-01-10 one\napp.2020-02-01-11 two\nlatest.log -> app.2020-02-01-11\n";
+// The name under which a link is made before it replaces the old one.
+const SPARE: &str = ".latest.log.new";
 
-// The targets of the link that another process makes just before the look of the call that makes it. Each is
-// replaced.
-static TARGETS: [&str; 2] = ["app.2020-02-01-11", "other"];
+const NEXT: &str = "app.2020-02-01-11";
 
-// Writes two lines to a log with a link, which another process makes at the boundary.
-fn write_with_link(rt: &impl AllocAndAbort, target: &'static str) -> Outcome {
-    let disk = Disk::new(rt.alloc());
-    // The calls of the opening are 1 to 4, the first line's is 5. At the boundary two open the file, one looks
-    // for a link, and the next makes one if nothing has the name.
-    disk.link_comes.set(Some((10, "latest.log", target)));
-    write_log(rt, &disk, 0, "latest.log", &TWO_LINES)
-}
+const OTHER: &[DiskStep] = &[File("other.txt", "kept")];
 
-#[test]
-fn a_link_that_another_process_made_is_replaced(rt: HostRuntime) {
-    for target in &TARGETS {
-        let outcome = write_with_link(&rt, *target);
-        let wanted = ("open\nnone ok 3\nopened ok 3\n", NEW_LINK, "failures 1\n");
-        expect_texts(&rt, &outcome, wanted, target);
-    }
-}
+const TWO_LINES: &[DiskStep] = &[Put(START, "one"), Put(ELEVEN, "two")];
 
-// Writes two lines to a log that exists, while a pipe replaces it between check and
-// opening, or no file may be read.
-fn write_standing(rt: &impl AllocAndAbort, pipe_comes: bool) -> Outcome {
-    let disk = disk_of(rt, &[(LOG, "x")]);
-    if pipe_comes {
-        disk.entry_comes.set(Some((2, LOG, Kind::Pipe)));
-    }
-    disk.hides_bytes.set(!pipe_comes);
-    let outcome = write_log(rt, &disk, 0, "", &TWO_LINES);
-    expect_eq(rt, disk.waits(), 0);
-    outcome
-}
+const OPENED: &str = "open\nnone ok 3\nopened ok 3\n";
 
-#[test]
-fn a_pipe_that_is_made_meanwhile_is_refused_and_not_waited_for(rt: HostRuntime) {
-    let wanted = (
-        "failed to create log file: not a plain file\n",
-        "app.2020-02-01-10|\n",
-        "failures 2\n",
-    );
-    expect_texts(&rt, &write_standing(&rt, true), wanted, &"a pipe");
-}
+const FAILED: &str = "open\nnone ok 3\nfailed ok 3\n";
 
-// What another process puts there between the look at a free name and the making of the file, the replies, the entries and
-// the failures of the folder.
+const TWO_FILES: &str = "app.2020-02-01-10 one\napp.2020-02-01-11 two\n";
+
+const LINK_REFUSED: &str = "failed to create symlink to latest log file: entity already exists\n";
+
+const IN_USE: &str =
+    "Couldn't create writer for logs: failed to create symlink to latest log file: \
+    the name for the new link is in use\nfailures 2\n";
+
+const NOT_PLAIN: &str = "failed to create log file: not a plain file\n";
+
+// There is no link to remove at first, which is a failure by itself.
 #[rattlefmt::skip]
-static COME_FIRST: [(Kind, (&str, &str, &str)); 2] = [
-    (Kind::File, ("open\nnone ok 3\n", "app.2020-02-01-10 xone\n", "failures 0\n")),
-    (Kind::Pipe, ("failed to create log file: not a plain file\n", "app.2020-02-01-10|\n", "failures 2\n")),
+const REPLACED: (&str, &str, &str) =
+    (OPENED, "app.2020-02-01-10 one\napp.2020-02-01-11 two\nlatest.log -> app.2020-02-01-11\n", "failures 1\n");
+
+// The calls of an opening with a link are 1 to 4, and the first line's is 5. At the boundary two calls open the file
+// (6, 7), and one looks for a link (8). Then that is made by one call if nothing has the name (9), else by a look (10), a
+// link under the spare name (11), and the renaming (12).
+#[rattlefmt::skip]
+static LINKS: [Row<'static>; 13] = [
+    (LINKED, &[], NOTHING, TWO_LINES, REPLACED),
+    // Another process made the link, to the same file or to another one.
+    (LINKED, &[], (Event::Comes(LATEST, Kind::Link, NEXT), &[10]), TWO_LINES, REPLACED),
+    (LINKED, &[], (Event::Comes(LATEST, Kind::Link, "other"), &[10]), TWO_LINES, REPLACED),
+    // It removes it.
+    (LINKED, &[], (Event::Goes(LATEST), &[9, 10, 11, 12]), TWO_LINES, REPLACED),
+    // It makes the link under the spare name, or removes that one, or was killed before it renamed it.
+    (LINKED, &[], (Event::Comes(SPARE, Kind::Link, NEXT), &[8, 9, 10, 11, 12]), TWO_LINES, REPLACED),
+    (LINKED, &[], (Event::Goes(SPARE), &[12]), TWO_LINES, REPLACED),
+    (LINKED, &[Link(SPARE, "app.2020-02-01-05")], NOTHING, TWO_LINES, REPLACED),
+    (LINKED, &[Link(SPARE, "app.2020-02-01-05")], (Event::Goes(SPARE), &[11, 12, 13]), TWO_LINES, REPLACED),
+    // A file or a folder has the spare name.
+    (LINKED, &[File(SPARE, "kept")], NOTHING, TWO_LINES, (FAILED,
+        ".latest.log.new kept\napp.2020-02-01-10 onetwo\napp.2020-02-01-11 \nlatest.log -> app.2020-02-01-10\n", IN_USE)),
+    (LINKED, &[Dir(SPARE)], NOTHING, TWO_LINES, (FAILED,
+        ".latest.log.new/\napp.2020-02-01-10 onetwo\napp.2020-02-01-11 \nlatest.log -> app.2020-02-01-10\n", IN_USE)),
+    // A log by name whose link is refused removes the file that it made, and none that was there or came just before.
+    (BY_NAME, &[File(LATEST, "q")], NOTHING, &[], (LINK_REFUSED, "latest.log q\n", "failures 2\n")),
+    (BY_NAME, &[File(LATEST, "q"), File(LOG, "")], NOTHING, &[],
+        (LINK_REFUSED, "app.2020-02-01-10 \nlatest.log q\n", "failures 2\n")),
+    (BY_NAME, &[File(LATEST, "q")], (Event::Comes(LOG, Kind::File, ""), &[2]), &[],
+        (LINK_REFUSED, "app.2020-02-01-10 \nlatest.log q\n", "failures 2\n")),
+];
+
+// The opening of a free name looks (1) and makes the file (2). That of a file looks (1), opens it (2), and looks at
+// both (3, 4).
+#[rattlefmt::skip]
+static FILES: [Row<'static>; 9] = [
+    // A link that is made meanwhile is not followed: before the look, and before the opening.
+    (PLAIN, OTHER, (Event::Comes(LOG, Kind::Link, "other.txt"), &[1, 2]), TWO_LINES,
+        (NOT_PLAIN, "app.2020-02-01-10 -> other.txt\nother.txt kept\n", "failures 2\n")),
+    (PLAIN, &[File("other.txt", "kept"), File(LOG, "x")], (Event::Comes(LOG, Kind::Link, "other.txt"), &[2, 4]),
+        TWO_LINES, (NOT_PLAIN, "app.2020-02-01-10 -> other.txt\nother.txt kept\n", "failures 2\n")),
+    // At a boundary the line is then written to the last file.
+    (PLAIN, OTHER, (Event::Comes(NEXT, Kind::Link, "other.txt"), &[5]), TWO_LINES,
+        (FAILED, "app.2020-02-01-10 onetwo\napp.2020-02-01-11 -> other.txt\nother.txt kept\n",
+        "Couldn't create writer for logs: failed to create log file: not a plain file\nfailures 2\n")),
+    // Once the file is open its name means nothing.
+    (PLAIN, OTHER, (Event::Comes(LOG, Kind::Link, "other.txt"), &[3]), TWO_LINES,
+        (OPENED, "app.2020-02-01-10 -> other.txt\napp.2020-02-01-11 two\nother.txt kept\n", "failures 0\n")),
+    // A pipe is refused, and not waited for.
+    (PLAIN, &[File(LOG, "x")], (Event::Comes(LOG, Kind::Pipe, ""), &[2]), TWO_LINES,
+        (NOT_PLAIN, "app.2020-02-01-10|\n", "failures 2\n")),
+    (PLAIN, &[], (Event::Comes(LOG, Kind::Pipe, ""), &[2]), TWO_LINES,
+        (NOT_PLAIN, "app.2020-02-01-10|\n", "failures 2\n")),
+    // A file that another process makes first is appended to.
+    (PLAIN, &[], (Event::Comes(LOG, Kind::File, "x"), &[2]), TWO_LINES,
+        (OPENED, "app.2020-02-01-10 xone\napp.2020-02-01-11 two\n", "failures 0\n")),
+    // A file that is removed meanwhile is made anew.
+    (PLAIN, &[File(LOG, "x")], (Event::Goes(LOG), &[2, 3, 4]), TWO_LINES, (OPENED, TWO_FILES, "failures 1\n")),
+    // A log that may not be read is written.
+    (PLAIN, &[File(LOG, "x"), HideBytes], NOTHING, TWO_LINES,
+        (OPENED, "app.2020-02-01-10 xone\napp.2020-02-01-11 two\n", "failures 0\n")),
 ];
 
 #[test]
-fn a_file_that_another_process_makes_first_is_appended_to(rt: HostRuntime) {
-    for (kind, wanted) in &COME_FIRST {
-        let disk = Disk::new(rt.alloc());
-        disk.entry_comes.set(Some((2, LOG, *kind)));
-        let outcome = write_log(&rt, &disk, 0, "", &TWO_LINES[..1]);
-        expect_texts(&rt, &outcome, *wanted, kind);
-    }
-}
-
-// Opens a file, and returns whether the folder made it.
-fn makes_file(rt: &impl AllocAndAbort, disk: &Disk) -> bool {
-    let mut folder = folder_of(rt, disk);
-    expect_eq(rt, folder.open(LOG).is_ok(), true);
-    folder.made_file()
-}
-
-#[test]
-fn a_file_that_another_process_makes_first_was_not_made(rt: HostRuntime) {
-    let disk = Disk::new(rt.alloc());
-    expect_eq(&rt, makes_file(&rt, &disk), true);
-    expect_eq(&rt, makes_file(&rt, &disk), false);
-    let shared = Disk::new(rt.alloc());
-    shared.entry_comes.set(Some((2, LOG, Kind::File)));
-    expect_eq(&rt, makes_file(&rt, &shared), false);
-}
-
-#[test]
-fn a_log_that_may_not_be_read_is_written(rt: HostRuntime) {
-    let wanted = (
-        "open\nnone ok 3\nopened ok 3\n",
-        "app.2020-02-01-10 xone\napp.2020-02-01-11 two\n",
-        "failures 0\n",
-    );
-    expect_texts(&rt, &write_standing(&rt, false), wanted, &"a file");
-}
-
-// Flushes a file of a folder, which syncs or doesn't, and returns the error's kind and how often the disk
-// synced.
-fn flush_once(
-    rt: &impl AllocAndAbort,
-    syncs: bool,
-    fails: Option<Call>,
-) -> (Option<ErrorKind>, usize) {
-    let disk = Disk::new(rt.alloc());
-    let folder = folder_of(rt, &disk);
-    let mut folder = if syncs { folder.synced() } else { folder };
-    let mut file = folder.open(LOG).expect(rt, "a file");
-    disk.fails_each.set(fails);
-    let flushed = folder.flush(&mut file);
-    expect_eq(rt, folder.failures(), flushed.is_err() as u64);
-    (flushed.err().map(|fault| fault.kind()), disk.syncs())
-}
-
-// Whether the folder syncs, and the call that fails; the error's kind, and how often the disk synced.
-#[rattlefmt::skip]
-static FLUSHES: [(bool, Option<Call>, Option<ErrorKind>, usize); 4] = [
-    (false, None, None, 0),
-    (true, None, None, 1),
-    (true, Some(Call::Sync), Some(ErrorKind::PermissionDenied), 0),
-    (true, Some(Call::Flush), Some(ErrorKind::PermissionDenied), 0),
-];
-
-#[test]
-fn a_flush_syncs_where_that_was_asked_for(rt: HostRuntime) {
-    for (syncs, fails, kind, count) in &FLUSHES {
-        let flushed = flush_once(&rt, *syncs, *fails);
-        expect_eq_of(&rt, (*syncs, *fails), flushed, (*kind, *count));
-    }
+fn other_processes_may_use_the_folder(rt: HostRuntime) {
+    check_runs(&rt, &LINKS);
+    check_runs(&rt, &FILES);
 }

@@ -27,12 +27,8 @@ pub(crate) fn expect_eq_of<P: Copy + Debug, T: Copy + PartialEq + Debug>(
 
 /// Ends the test if a value has no `Debug` text.
 pub(crate) fn expect_shown<T: Copy + Debug>(rt: &impl AllocAndAbort, value: T) {
-    expect_eq(rt, debug_text(rt, value).is_empty(), false);
-}
-
-/// Returns the `Debug` text of a value.
-pub(crate) fn debug_text<T: Copy + Debug>(rt: &impl AllocAndAbort, value: T) -> String {
-    format!(in rt.alloc(); "{value:?}").expect(rt, "memory")
+    let text = format!(in rt.alloc(); "{value:?}").expect(rt, "memory");
+    expect_eq(rt, text.is_empty(), false);
 }
 
 /// Returns a copy of a text.

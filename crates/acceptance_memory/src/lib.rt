@@ -1,23 +1,15 @@
-//! Tests over folders in memory: each part of a log by itself, by public calls (names, retention, the queue, the worker, the
-//! writing of a line), and rolling logs (limits of bytes, calls of the folder that fail, rollers and builders).
+//! Tests over folders in memory: each part of a log by itself, by public calls (names, retention, the queue, histories,
+//! waits, the writing of a line), and what scripts of `rollplay` do not print of a rolling log.
 #![tactic(auto)]
 
 #[cfg(test)]
-mod batches;
-#[cfg(test)]
 mod expect;
-#[cfg(test)]
-mod failed_ways;
-#[cfg(test)]
-mod faults;
 #[cfg(test)]
 mod folders;
 #[cfg(test)]
-mod limits;
+mod histories;
 #[cfg(test)]
 mod lines;
-#[cfg(test)]
-mod logs;
 #[cfg(test)]
 mod names;
 #[cfg(test)]
@@ -25,8 +17,12 @@ mod queues;
 #[cfg(test)]
 mod retention;
 #[cfg(test)]
-mod rollers;
+mod scripts;
 #[cfg(test)]
-mod script;
+mod states;
 #[cfg(test)]
-mod workers;
+mod waiting;
+#[cfg(test)]
+mod ways;
+#[cfg(test)]
+mod writer;

@@ -1,97 +1,182 @@
-// The writing of one line.
+// The writing of one line, and of lines that are written together.
 use crate::expect::{AllocAndAbort, bytes, expect_eq, expect_eq_of};
-use crate::script::{Act, Script};
-use appender_core::worker::run_line;
-use std::io::ErrorKind;
+use crate::writer::Act::{Accept, Fail};
+use crate::writer::{Act, FaultyWriter};
+use appender_core::worker::{BatchWriter, CountingWriter, LineCounts, run_line};
+use std::io;
+use std::io::ErrorKind::{Interrupted, Other, QuotaExceeded, StorageFull, WriteZero};
+use std::io::{ErrorKind, Write};
 use std::test::*;
 
-// A line, a writer, the text that it has at the end, and the fault.
-struct LineRun {
-    line: &'static str,
-    interruptions: u32,
-    acts: &'static [Act],
-    text: &'static str,
-    writes: u32,
-    fault: Option<(usize, ErrorKind)>,
-}
+// A line, the writer's acts, its text and its writes at the end, and the fault with how many bytes were taken before it.
+#[rattlefmt::skip]
+type LineRun = (&'static str, &'static [Act], &'static str, u32, Option<(usize, ErrorKind)>);
 
+#[rattlefmt::skip]
 static LINE_RUNS: [LineRun; 6] = [
-    LineRun {
-        line: "x",
-        interruptions: 100,
-        acts: &[],
-        text: "x",
-        writes: 101,
-        fault: None,
-    },
-    LineRun {
-        line: "x",
-        interruptions: 101,
-        acts: &[],
-        text: "",
-        writes: 101,
-        fault: Some((0, ErrorKind::Interrupted)),
-    },
-    LineRun {
-        line: "hello",
-        interruptions: 0,
-        acts: &[Act::Accept(2), Act::Fail(ErrorKind::Other)],
-        text: "he",
-        writes: 2,
-        fault: Some((2, ErrorKind::Other)),
-    },
-    LineRun {
-        line: "hello",
-        interruptions: 0,
-        acts: &[Act::Accept(3), Act::Accept(0)],
-        text: "hel",
-        writes: 2,
-        fault: Some((3, ErrorKind::WriteZero)),
-    },
-    LineRun {
-        line: "hello",
-        interruptions: 1,
-        acts: &[Act::Accept(1), Act::Fail(ErrorKind::Interrupted)],
-        text: "hello",
-        writes: 4,
-        fault: None,
-    },
-    LineRun {
-        line: "",
-        interruptions: 0,
-        acts: &[],
-        text: "",
-        writes: 0,
-        fault: None,
-    },
+    ("x", &[Fail(Interrupted); 100], "x", 101, None),
+    ("x", &[Fail(Interrupted); 101], "", 101, Some((0, Interrupted))),
+    ("hello", &[Accept(2), Fail(Other)], "he", 2, Some((2, Other))),
+    ("hello", &[Accept(3), Accept(0)], "hel", 2, Some((3, WriteZero))),
+    ("hello", &[Fail(Interrupted), Accept(1), Fail(Interrupted)], "hello", 4, None),
+    ("", &[], "", 0, None),
 ];
 
-// Writes the line of a run, and returns the fault.
-fn fault_of_line(writer: &mut Script, line: &str) -> Option<(usize, ErrorKind)> {
-    match run_line(writer, line.as_bytes()) {
+fn check_line(rt: &impl AllocAndAbort, row: usize, run: &LineRun) {
+    let (line, acts, text, writes, wanted) = run;
+    let mut writer = FaultyWriter::new(rt.alloc(), acts);
+    let fault = match run_line(&mut writer, line.as_bytes()) {
         Ok(()) => None,
         Err(fault) => Some((fault.taken, fault.error.kind())),
-    }
-}
-
-fn check_run(rt: &impl AllocAndAbort, row: usize, run: &LineRun) {
-    let mut writer = Script::new(rt.alloc(), run.interruptions, run.acts);
-    expect_eq_of(rt, row, fault_of_line(&mut writer, run.line), run.fault);
-    expect_eq_of(rt, row, writer.text.as_slice(), run.text.as_bytes());
-    expect_eq_of(rt, row, writer.writes, run.writes);
-    expect_eq_of(rt, row, writer.flushes, 0);
+    };
+    expect_eq_of(rt, row, fault, *wanted);
+    expect_eq_of(rt, row, writer.text.as_slice(), text.as_bytes());
+    expect_eq_of(rt, row, (writer.writes, writer.flushes), (*writes, 0));
 }
 
 #[test]
-fn lines_are_written_as_expected(rt: HostRuntime) {
+fn a_line_is_written(rt: HostRuntime) {
     for (row, run) in LINE_RUNS.iter().enumerate() {
-        check_run(&rt, row, run);
+        check_line(&rt, row, run);
     }
-}
-
-#[test]
-fn a_line_is_added_to_known_bytes(rt: HostRuntime) {
     let mut text = bytes(&rt, "one\n");
     expect_eq(&rt, run_line(&mut text, b"two\n").is_ok(), true);
     expect_eq(&rt, text.as_slice(), b"one\ntwo\n".as_slice());
+}
+
+// A capacity in bytes, lines, and the writer's acts. How many of the lines it took whole and not whole, its text and its
+// writes at the end, and the error of the flush after the lines.
+#[rattlefmt::skip]
+type BatchRun = (usize, &'static [&'static str], &'static [Act], (u64, u64), &'static str, u32, Option<ErrorKind>);
+
+#[rattlefmt::skip]
+static BATCH_RUNS: [BatchRun; 14] = [
+    (8, &["ab\n", "cd\n", "ef\n"], &[], (3, 0), "ab\ncd\nef\n", 2, None),
+    (6, &["ab\n", "cd\n"], &[], (2, 0), "ab\ncd\n", 1, None),
+    (4, &["ab\n", "longer\n", "cd\n"], &[], (3, 0), "ab\nlonger\ncd\n", 3, None),
+    (0, &["a", "", "b"], &[], (3, 0), "ab", 2, None),
+    (16, &["", "", ""], &[], (3, 0), "", 0, None),
+    // A line may have newlines in it, or none.
+    (8, &["a\nb\n", "c", "\n\n", "d\n"], &[Accept(4), Fail(Other)], (3, 1), "a\nb\n\n\nd\n", 4, Some(Other)),
+    (1, &["a", "\n", "b\n", "", "c"], &[], (5, 0), "a\nb\nc", 4, None),
+    // The second line is cut, and the third comes after its beginning.
+    (16, &["ab\n", "cd\n", "ef\n"], &[Accept(4), Fail(StorageFull)], (2, 1), "ab\ncef\n", 3, Some(StorageFull)),
+    // The fault is between two lines.
+    (16, &["ab\n", "", "cd\n", "ef\n"], &[Accept(3), Fail(Other)], (3, 1), "ab\nef\n", 3, Some(Other)),
+    // Each line has a fault, and the first one is reported.
+    (16, &["ab\n", "cd\n"], &[Accept(0), Fail(Other)], (0, 2), "", 2, Some(WriteZero)),
+    (16, &["ab\n", "cd\n"], &[Fail(Interrupted); 100], (2, 0), "ab\ncd\n", 101, None),
+    (16, &["ab\n", "cd\n"], &[Fail(Interrupted); 101], (1, 1), "cd\n", 102, Some(Other)),
+    // The flush reports a fault of lines that make room, and of a line by itself.
+    (4, &["ab\n", "cd\n"], &[Fail(StorageFull)], (1, 1), "cd\n", 2, Some(StorageFull)),
+    (2, &["a\n", "longer\n", "b\n"], &[Accept(2), Accept(3), Fail(StorageFull)], (2, 1), "a\nlonb\n", 4, Some(StorageFull)),
+];
+
+fn kind_of<T: Drop>(answer: io::Result<T>) -> Option<ErrorKind> {
+    answer.err().map(|error| error.kind())
+}
+
+fn counts_of(counts: &LineCounts) -> (u64, u64) {
+    (counts.taken(), counts.lost())
+}
+
+fn write_each(writer: &mut impl Write, lines: &[&str]) {
+    for line in lines {
+        let _ = writer.write(line.as_bytes()).is_ok();
+    }
+}
+
+fn check_batch(rt: &impl AllocAndAbort, row: usize, run: &BatchRun) {
+    let (capacity, lines, acts, wanted, text, writes, error) = run;
+    let mut writer = FaultyWriter::new(rt.alloc(), acts);
+    let made = BatchWriter::new(rt.alloc(), &mut writer, *capacity);
+    let (mut batch, counts) = made.expect(rt, "memory");
+    write_each(&mut batch, lines);
+    expect_eq_of(rt, row, kind_of(batch.flush()), *error);
+    expect_eq_of(rt, row, counts_of(&counts), *wanted);
+    // A second flush has nothing to report.
+    expect_eq_of(rt, row, kind_of(batch.flush()), None);
+    drop(batch);
+    expect_eq_of(rt, row, writer.text.as_slice(), text.as_bytes());
+    expect_eq_of(rt, row, (writer.writes, writer.flushes), (*writes, 2));
+}
+
+#[test]
+fn lines_are_written_together(rt: HostRuntime) {
+    for (row, run) in BATCH_RUNS.iter().enumerate() {
+        check_batch(&rt, row, run);
+    }
+}
+
+// The error of a line by itself is that of its write. The error of the writer's flush is reported too.
+#[test]
+fn errors_are_reported(rt: HostRuntime) {
+    let acts = &[Fail(QuotaExceeded)];
+    let mut writer = FaultyWriter::new(rt.alloc(), acts);
+    writer.flushes_fail = true;
+    let made = BatchWriter::new(rt.alloc(), &mut writer, 2);
+    let (mut batch, _counts) = made.expect(&rt, "memory");
+    let written = batch.write(b"longer\n");
+    expect_eq(&rt, kind_of(written), Some(QuotaExceeded));
+    expect_eq(&rt, kind_of(batch.flush()), Some(QuotaExceeded));
+    expect_eq(&rt, kind_of(batch.flush()), Some(StorageFull));
+}
+
+fn write_times(rt: &impl AllocAndAbort, writer: &mut impl Write, line: &[u8], count: u32) {
+    for _ in 0..count {
+        expect_eq(rt, writer.write(line).is_ok(), true);
+    }
+}
+
+// Only a flush, and a line without room, write. So does the end of a writer. 655 lines of 100 bytes fit into 64 KiB.
+#[test]
+fn lines_wait_for_a_flush(rt: HostRuntime) {
+    let mut writer = FaultyWriter::new(rt.alloc(), &[]);
+    let made = BatchWriter::new(rt.alloc(), &mut writer, 1 << 16);
+    let (mut batch, counts) = made.expect(&rt, "memory");
+    write_times(&rt, &mut batch, b"a\n", 1025);
+    expect_eq(&rt, counts_of(&counts), (1024, 0));
+    expect_eq(&rt, batch.flush().is_ok(), true);
+    expect_eq(&rt, counts_of(&counts), (1025, 0));
+    write_times(&rt, &mut batch, [b'x'; 100].as_slice(), 100_000);
+    // 152 times 655 lines.
+    expect_eq(&rt, counts_of(&counts), (100_585, 0));
+    drop(batch);
+    expect_eq(&rt, counts_of(&counts), (101_025, 0));
+    expect_eq(&rt, writer.text.len(), 10_002_050);
+    expect_eq(&rt, (writer.writes, writer.flushes), (155, 1));
+}
+
+// Lines of 16 bytes together.
+static LINES: [&str; 7] = ["a\n", "bc\n", "", "d\ne\n", "\n", "fgh\n", "ij"];
+
+// Compares what a log holds if a write fails after this many bytes, and the counts, with those of lines that are written
+// one by one.
+fn check_fault_at(rt: &impl AllocAndAbort, place: usize, capacity: usize) {
+    let mut alone = FaultyWriter::new(rt.alloc(), &[]);
+    alone.room = Some(place);
+    let made = CountingWriter::new(rt.alloc(), &mut alone);
+    let (mut counting, wanted) = made.expect(rt, "memory");
+    write_each(&mut counting, &LINES);
+    let _ = counting.flush().is_ok();
+    drop(counting);
+    let mut together = FaultyWriter::new(rt.alloc(), &[]);
+    together.room = Some(place);
+    let made = BatchWriter::new(rt.alloc(), &mut together, capacity);
+    let (mut batch, counts) = made.expect(rt, "memory");
+    write_each(&mut batch, &LINES);
+    let _ = batch.flush().is_ok();
+    drop(batch);
+    let row = (place, capacity);
+    expect_eq_of(rt, row, together.text.as_slice(), alone.text.as_slice());
+    expect_eq_of(rt, row, counts_of(&counts), counts_of(&wanted));
+}
+
+#[test]
+fn faults_leave_what_they_leave_of_single_lines(rt: HostRuntime) {
+    for capacity in [0usize, 1, 3, 6, 16, 64] {
+        for place in 0..17usize {
+            check_fault_at(&rt, place, capacity);
+        }
+    }
 }

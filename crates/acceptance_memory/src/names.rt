@@ -1,11 +1,12 @@
 // Periods, names and readings, with the cases of the Rust crate's own tests, and the texts of errors.
-
 use crate::expect::{AllocAndAbort, expect_eq, expect_eq_of};
 use appender_core::error::{InitError, NameFault};
 use appender_core::names::Names;
 use appender_core::rotation::{ParseRotationError, Rotation, in_range};
 use std::io;
+use std::io::ErrorKind;
 use std::process::Abort;
+use tracing_appender::rolling::Builder;
 
 const FIRST: i64 = -62_135_596_800;
 
@@ -14,27 +15,21 @@ const LAST: i64 = 253_370_764_799;
 // 2025-02-17 10:01:00, a Monday.
 const MONDAY: i64 = 1_739_786_460;
 
+// 2025-01-01 10:01:00.
+const NEW_YEAR: i64 = 1_735_725_660;
+
 // 2020-02-01 10:01:00.
-const WINTER: i64 = 1_580_551_260;
+const START: i64 = 1_580_551_260;
 
 // A rotation, a moment, the start of its period and the next boundary.
+#[rattlefmt::skip]
 static PERIODS: [(Rotation, i64, i64, i64); 12] = [
     (Rotation::MINUTELY, MONDAY, 1_739_786_460, 1_739_786_520),
     (Rotation::HOURLY, MONDAY, 1_739_786_400, 1_739_790_000),
     (Rotation::DAILY, MONDAY, 1_739_750_400, 1_739_836_800),
     (Rotation::WEEKLY, MONDAY, 1_739_664_000, 1_740_268_800),
-    (
-        Rotation::WEEKLY,
-        1_735_725_660,
-        1_735_430_400,
-        1_736_035_200,
-    ),
-    (
-        Rotation::WEEKLY,
-        1_739_664_000,
-        1_739_664_000,
-        1_740_268_800,
-    ),
+    (Rotation::WEEKLY, NEW_YEAR, 1_735_430_400, 1_736_035_200),
+    (Rotation::WEEKLY, 1_739_664_000, 1_739_664_000, 1_740_268_800),
     (Rotation::DAILY, -1, -86_400, 0),
     (Rotation::DAILY, 0, 0, 86_400),
     (Rotation::MINUTELY, -1, -60, 0),
@@ -43,430 +38,272 @@ static PERIODS: [(Rotation, i64, i64, i64); 12] = [
     (Rotation::WEEKLY, FIRST, -62_135_683_200, -62_135_078_400),
 ];
 
-fn expect_never(rt: &impl Abort) {
-    expect_eq(rt, Rotation::NEVER.next_date(MONDAY), None);
-    expect_eq(rt, Rotation::NEVER.is_never(), true);
-    expect_eq(rt, Rotation::WEEKLY.is_never(), false);
-}
-
-// Moments outside the range.
-static OUTSIDE: [i64; 4] = [FIRST - 1, LAST + 1, i64::MIN, i64::MAX];
-
 #[test]
 fn starts_of_periods(rt: HostRuntime) {
     for (rotation, moment, start, next) in &PERIODS {
         expect_eq_of(&rt, moment, in_range(*moment), true);
         expect_eq_of(&rt, moment, rotation.round_date(*moment), *start);
         expect_eq_of(&rt, moment, rotation.next_date(*moment), Some(*next));
+        expect_eq_of(&rt, moment, rotation.is_never(), false);
     }
-    for moment in &OUTSIDE {
-        expect_eq_of(&rt, moment, in_range(*moment), false);
+    for moment in [FIRST - 1, LAST + 1, i64::MIN, i64::MAX] {
+        expect_eq_of(&rt, moment, in_range(moment), false);
     }
-    expect_never(&rt);
+    expect_eq(&rt, Rotation::NEVER.next_date(MONDAY), None);
+    expect_eq(&rt, Rotation::NEVER.is_never(), true);
 }
 
-// A rotation, a prefix, a suffix, a moment and the name that it has.
-type Name = (Rotation, &'static str, &'static str, i64, &'static str);
+/// A rotation, a prefix, a suffix, and whether names have numbers.
+pub(crate) type Naming<'a> = (Rotation, &'a str, &'a str, bool);
 
-static NAMES: [Name; 30] = [
-    (
-        Rotation::WEEKLY,
-        "my_prefix",
-        "log",
-        MONDAY,
-        "my_prefix.2025-02-16.log",
-    ),
-    (
-        Rotation::DAILY,
-        "my_prefix",
-        "log",
-        MONDAY,
-        "my_prefix.2025-02-17.log",
-    ),
-    (
-        Rotation::HOURLY,
-        "my_prefix",
-        "log",
-        MONDAY,
-        "my_prefix.2025-02-17-10.log",
-    ),
-    (
-        Rotation::MINUTELY,
-        "my_prefix",
-        "log",
-        MONDAY,
-        "my_prefix.2025-02-17-10-01.log",
-    ),
-    (Rotation::NEVER, "my_prefix", "log", MONDAY, "my_prefix.log"),
-    (
-        Rotation::WEEKLY,
-        "my_prefix",
-        "log",
-        1_735_725_660,
-        "my_prefix.2024-12-29.log",
-    ),
-    (
-        Rotation::MINUTELY,
-        "app.log",
-        "",
-        WINTER,
-        "app.log.2020-02-01-10-01",
-    ),
-    (
-        Rotation::HOURLY,
-        "app.log",
-        "",
-        WINTER,
-        "app.log.2020-02-01-10",
-    ),
-    (Rotation::DAILY, "app.log", "", WINTER, "app.log.2020-02-01"),
-    (Rotation::NEVER, "app.log", "", WINTER, "app.log"),
-    (
-        Rotation::MINUTELY,
-        "app",
-        "log",
-        WINTER,
-        "app.2020-02-01-10-01.log",
-    ),
-    (
-        Rotation::HOURLY,
-        "app",
-        "log",
-        WINTER,
-        "app.2020-02-01-10.log",
-    ),
-    (Rotation::DAILY, "app", "log", WINTER, "app.2020-02-01.log"),
-    (Rotation::NEVER, "app", "log", WINTER, "app.log"),
-    (
-        Rotation::MINUTELY,
-        "",
-        "log",
-        WINTER,
-        "2020-02-01-10-01.log",
-    ),
-    (Rotation::HOURLY, "", "log", WINTER, "2020-02-01-10.log"),
-    (Rotation::DAILY, "", "log", WINTER, "2020-02-01.log"),
-    (Rotation::NEVER, "", "log", WINTER, "log"),
-    (Rotation::NEVER, "", "", WINTER, "2020-02-01"),
-    (Rotation::DAILY, "", "", -1, "1969-12-31"),
-    (Rotation::MINUTELY, "", "", -1, "1969-12-31-23-59"),
-    (Rotation::DAILY, "", "", 0, "1970-01-01"),
-    (Rotation::DAILY, "", "", -2_203_891_201, "1900-02-28"),
-    (Rotation::DAILY, "", "", -2_203_891_200, "1900-03-01"),
-    (Rotation::DAILY, "", "", 951_782_400, "2000-02-29"),
-    (Rotation::DAILY, "", "", 1_709_164_800, "2024-02-29"),
-    (Rotation::DAILY, "", "", 4_107_542_400, "2100-03-01"),
-    (Rotation::MINUTELY, "", "", FIRST, "0001-01-01-00-00"),
-    (Rotation::WEEKLY, "", "", FIRST, "0000-12-31"),
-    (Rotation::DAILY, "", "", LAST, "9998-12-31"),
+// A rotation, a prefix, a suffix, a moment, its number if names have one, and the name of both. Scripts of `rollplay`
+// open further names.
+#[rattlefmt::skip]
+type Name = (Rotation, &'static str, &'static str, i64, Option<u32>, &'static str);
+
+#[rattlefmt::skip]
+static NAMES: [Name; 26] = [
+    (Rotation::WEEKLY, "my_prefix", "log", NEW_YEAR, None, "my_prefix.2024-12-29.log"),
+    (Rotation::MINUTELY, "app.log", "", START, None, "app.log.2020-02-01-10-01"),
+    (Rotation::HOURLY, "app.log", "", START, None, "app.log.2020-02-01-10"),
+    (Rotation::DAILY, "app.log", "", START, None, "app.log.2020-02-01"),
+    (Rotation::NEVER, "app.log", "", START, None, "app.log"),
+    (Rotation::MINUTELY, "app", "log", START, None, "app.2020-02-01-10-01.log"),
+    (Rotation::HOURLY, "app", "log", START, None, "app.2020-02-01-10.log"),
+    (Rotation::DAILY, "app", "log", START, None, "app.2020-02-01.log"),
+    (Rotation::NEVER, "app", "log", START, None, "app.log"),
+    (Rotation::MINUTELY, "", "log", START, None, "2020-02-01-10-01.log"),
+    (Rotation::HOURLY, "", "log", START, None, "2020-02-01-10.log"),
+    (Rotation::DAILY, "", "log", START, None, "2020-02-01.log"),
+    (Rotation::NEVER, "", "log", START, None, "log"),
+    (Rotation::MINUTELY, "", "", -1, None, "1969-12-31-23-59"),
+    (Rotation::DAILY, "", "", -2_203_891_201, None, "1900-02-28"),
+    (Rotation::DAILY, "", "", -2_203_891_200, None, "1900-03-01"),
+    (Rotation::DAILY, "", "", 951_782_400, None, "2000-02-29"),
+    (Rotation::DAILY, "", "", 1_709_164_800, None, "2024-02-29"),
+    (Rotation::DAILY, "", "", 4_107_542_400, None, "2100-03-01"),
+    (Rotation::MINUTELY, "", "", FIRST, None, "0001-01-01-00-00"),
+    (Rotation::HOURLY, "app", "log", START, Some(0), "app.2020-02-01-10.000000.log"),
+    (Rotation::HOURLY, "app", "log", START, Some(7), "app.2020-02-01-10.000007.log"),
+    (Rotation::HOURLY, "app", "log", START, Some(999_999), "app.2020-02-01-10.999999.log"),
+    (Rotation::MINUTELY, "app.log", "", START, Some(123_456), "app.log.2020-02-01-10-01.123456"),
+    (Rotation::DAILY, "", "", START, Some(40_100), "2020-02-01.040100"),
+    (Rotation::WEEKLY, "", "log", MONDAY, Some(7), "2025-02-16.000007.log"),
 ];
 
-/// What a log's files are called.
-pub(crate) fn names_of(
-    rt: &impl AllocAndAbort,
-    rotation: Rotation,
-    prefix: &str,
-    suffix: &str,
-) -> Names {
-    Names::new(rt.alloc(), rotation, prefix, suffix).expect(rt, "names")
+// The names of a builder's log. They have numbers if it has a limit of bytes.
+fn built_names(rt: &impl AllocAndAbort, naming: Naming<'_>) -> Result<Names, InitError> {
+    let (rotation, prefix, suffix, numbered) = naming;
+    let builder = Builder::new().rotation(rotation);
+    let builder = builder.max_file_bytes(u64::from(numbered));
+    let builder = builder.filename_prefix(rt.alloc(), prefix);
+    let builder = builder.expect(rt, "memory");
+    let builder = builder.filename_suffix(rt.alloc(), suffix);
+    builder.expect(rt, "memory").names(rt.alloc())
 }
 
-// Checks the name of a moment.
-fn expect_name(
-    rt: &impl AllocAndAbort,
-    rotation: Rotation,
-    prefix: &str,
-    suffix: &str,
-    moment: i64,
-    wanted: &str,
-) {
+/// What a log's files are called.
+pub(crate) fn names_of(rt: &impl AllocAndAbort, naming: Naming<'_>) -> Result<Names, InitError> {
+    match naming {
+        (rotation, prefix, suffix, true) => Names::numbered(rt.alloc(), rotation, prefix, suffix),
+        (rotation, prefix, suffix, false) => Names::new(rt.alloc(), rotation, prefix, suffix),
+    }
+}
+
+// Checks the name of a moment. `renumber` writes a number in place of 0 into a name with spare room.
+fn expect_name(rt: &impl AllocAndAbort, names: &Names, of: (i64, Option<u32>), wanted: &str) {
+    let (moment, number) = of;
     assert!(rt; in_range(moment));
-    let names = names_of(rt, rotation, prefix, suffix);
-    let named = names.file_name(moment).expect(rt, "memory");
-    expect_eq(rt, named.as_str(), wanted);
+    let mut name = names.file_name(moment).expect(rt, "memory");
+    if let Some(number) = number {
+        assert!(rt; names.is_numbered());
+        assert!(rt; number <= 999_999);
+        let named = names.file_name_at(moment, number).expect(rt, "memory");
+        expect_eq(rt, named.as_str(), wanted);
+        name.reserve(16).expect(rt, "memory");
+        names.renumber(moment, &mut name, number);
+    }
+    expect_eq(rt, name.as_str(), wanted);
 }
 
 #[test]
 fn names_of_moments(rt: HostRuntime) {
-    for (rotation, prefix, suffix, moment, name) in &NAMES {
-        expect_name(&rt, *rotation, prefix, suffix, *moment, name);
+    for (rotation, prefix, suffix, moment, number, name) in &NAMES {
+        let names = built_names(&rt, (*rotation, prefix, suffix, number.is_some()));
+        let names = names.expect(&rt, "names");
+        expect_name(&rt, &names, (*moment, *number), name);
     }
 }
 
-// A rotation, a prefix, a suffix, a name and the second that it reads as.
-type Reading = (Rotation, &'static str, &'static str, &'static str, i64);
+// Texts, and the second and the number that each reads as, if it is a name. The number is 0 if names have none.
+type Readings = &'static [(&'static str, Option<(i64, u32)>)];
 
-static READINGS: [Reading; 15] = [
-    (
-        Rotation::DAILY,
-        "app",
-        "log",
-        "app.2020-02-01.log",
-        1_580_515_200,
-    ),
-    (
-        Rotation::HOURLY,
-        "app",
-        "log",
-        "app.2020-02-01-10.log",
-        1_580_551_200,
-    ),
-    (
-        Rotation::MINUTELY,
-        "app",
-        "log",
-        "app.2020-02-01-10-01.log",
-        WINTER,
-    ),
-    (Rotation::WEEKLY, "", "", "2020-02-01", 1_580_515_200),
-    (Rotation::NEVER, "", "", "2020-02-01", 1_580_515_200),
-    (Rotation::NEVER, "app", "", "app.2020-02-01", 1_580_515_200),
-    (Rotation::DAILY, "", "", "1970-01-01", 0),
-    (Rotation::DAILY, "", "", "1969-12-31", -86_400),
-    (Rotation::DAILY, "", "", "0000-01-01", -62_167_219_200),
-    (Rotation::DAILY, "", "", "0000-02-29", -62_162_121_600),
-    (Rotation::DAILY, "", "", "1900-03-01", -2_203_891_200),
-    (Rotation::DAILY, "", "", "2000-02-29", 951_782_400),
-    (Rotation::DAILY, "", "", "2024-02-29", 1_709_164_800),
-    (Rotation::DAILY, "", "", "2100-03-01", 4_107_542_400),
-    (
-        Rotation::MINUTELY,
-        "",
-        "",
-        "9999-12-31-23-59",
-        253_402_300_740,
-    ),
+#[rattlefmt::skip]
+static READINGS: [(Naming<'static>, Readings); 13] = [
+    ((Rotation::DAILY, "app", "log", false), &[("app.2020-02-01.log", Some((1_580_515_200, 0))), ("", None)]),
+    ((Rotation::HOURLY, "app", "log", false), &[
+        ("app.2020-02-01-10.log", Some((1_580_551_200, 0))), ("app.2020-02-01-10.000007.log", None),
+    ]),
+    ((Rotation::MINUTELY, "app", "log", false), &[
+        ("app.2020-02-01-10-01.log", Some((START, 0))), ("app.2020-02-30-10-01.log", None),
+        ("app.+020-02-01-10-01.log", None), ("app.2020-02-01-10-1.log", None), ("app.2020-02-01-24-00.log", None),
+        ("app.2020-02-01-10-60.log", None), ("app.2020-02-01-10.log", None), ("app2020-02-01-10-01.log", None),
+        ("app.2020-02-01-10-01log", None), ("app.2020-02-01-10-01", None), ("2020-02-01-10-01.log", None),
+    ]),
+    ((Rotation::WEEKLY, "", "", false), &[("2020-02-01", Some((1_580_515_200, 0)))]),
+    ((Rotation::NEVER, "", "", false), &[("2020-02-01", Some((1_580_515_200, 0)))]),
+    ((Rotation::NEVER, "app", "", false), &[("app.2020-02-01", Some((1_580_515_200, 0)))]),
+    ((Rotation::NEVER, "app", "log", false), &[("app.log", None)]),
+    ((Rotation::DAILY, "", "", false), &[
+        ("1970-01-01", Some((0, 0))), ("1969-12-31", Some((-86_400, 0))), ("0000-01-01", Some((-62_167_219_200, 0))),
+        ("0000-02-29", Some((-62_162_121_600, 0))), ("1900-03-01", Some((-2_203_891_200, 0))),
+        ("2000-02-29", Some((951_782_400, 0))), ("2024-02-29", Some((1_709_164_800, 0))),
+        ("2100-03-01", Some((4_107_542_400, 0))), ("1900-02-29", None), ("2023-02-29", None), ("2100-02-29", None),
+        ("2020-02-30", None), ("2020-04-31", None), ("2020-00-01", None), ("2020-13-01", None), ("2020-01-00", None),
+        ("-001-01-01", None), ("10000-01-01", None), ("2020/02/01", None), ("2020-02-01-00", None),
+    ]),
+    ((Rotation::MINUTELY, "", "", false), &[("9999-12-31-23-59", Some((253_402_300_740, 0)))]),
+    ((Rotation::HOURLY, "app", "log", true), &[
+        ("app.2020-02-01-10.000000.log", Some((1_580_551_200, 0))),
+        ("app.2020-02-01-10.000007.log", Some((1_580_551_200, 7))),
+        ("app.2020-02-01-10.999999.log", Some((1_580_551_200, 999_999))),
+        ("app.2020-02-01-10.00007.log", None), ("app.2020-02-01-10.0000007.log", None),
+        ("app.2020-02-01-10000007.log", None), ("app.2020-02-01-10-000007.log", None),
+        ("app.2020-02-01-10.+00007.log", None), ("app.2020-02-01-10.-00007.log", None),
+        ("app.2020-02-01-10.00000a.log", None), ("app.2020-02-01-10.abcdef.log", None),
+        ("app.2020-02-01-10.000007", None), ("app.2020-02-01-10.000007log", None),
+        ("app.2020-02-30-10.000007.log", None), ("app.2020-02-01.000007.log", None),
+        ("app.2020-02-01-10.log", None), ("", None),
+    ]),
+    ((Rotation::MINUTELY, "app.log", "", true), &[("app.log.2020-02-01-10-01.123456", Some((START, 123_456)))]),
+    ((Rotation::DAILY, "", "", true), &[("2020-02-01.040100", Some((1_580_515_200, 40_100)))]),
+    ((Rotation::WEEKLY, "", "log", true), &[("2025-02-16.000007.log", Some((1_739_664_000, 7)))]),
 ];
 
-// Checks what a name reads as.
-fn expect_read(
-    rt: &impl AllocAndAbort,
-    rotation: Rotation,
-    prefix: &str,
-    suffix: &str,
-    name: &str,
-    wanted: Option<i64>,
-) {
-    let names = names_of(rt, rotation, prefix, suffix);
-    expect_eq_of(rt, name, names.read(name), wanted);
+// Checks what texts read as.
+fn expect_readings(rt: &impl Abort, names: &Names, readings: Readings) {
+    for (text, wanted) in readings {
+        let second = wanted.map(|(second, _)| second);
+        let number = if names.is_numbered() { *wanted } else { None };
+        expect_eq_of(rt, *text, names.read(text), second);
+        expect_eq_of(rt, *text, names.read_numbered(text), number);
+    }
 }
 
 #[test]
 fn readings_of_names(rt: HostRuntime) {
-    for (rotation, prefix, suffix, name, second) in &READINGS {
-        expect_read(&rt, *rotation, prefix, suffix, name, Some(*second));
+    for (naming, readings) in &READINGS {
+        let names = names_of(&rt, *naming).expect(&rt, "names");
+        expect_eq_of(&rt, *naming, names.is_numbered(), naming.3);
+        expect_readings(&rt, &names, readings);
     }
 }
 
-// A rotation and a text that is no name of it with the prefix `app` and the suffix `log`.
-static NO_NAMES: [(Rotation, &'static str); 12] = [
-    (Rotation::MINUTELY, "app.2020-02-30-10-01.log"),
-    (Rotation::MINUTELY, "app.+020-02-01-10-01.log"),
-    (Rotation::MINUTELY, "app.2020-02-01-10-1.log"),
-    (Rotation::MINUTELY, "app.2020-02-01-24-00.log"),
-    (Rotation::MINUTELY, "app.2020-02-01-10-60.log"),
-    (Rotation::MINUTELY, "app.2020-02-01-10.log"),
-    (Rotation::MINUTELY, "app2020-02-01-10-01.log"),
-    (Rotation::MINUTELY, "app.2020-02-01-10-01log"),
-    (Rotation::MINUTELY, "app.2020-02-01-10-01"),
-    (Rotation::MINUTELY, "2020-02-01-10-01.log"),
-    (Rotation::NEVER, "app.log"),
-    (Rotation::DAILY, ""),
+// A rotation, a prefix and a suffix. Which of them names cannot have, and the code of the error that names with numbers
+// give: 0 is none.
+#[rattlefmt::skip]
+static PARTS: [(Rotation, &'static str, &'static str, Option<NameFault>, u8); 15] = [
+    (Rotation::DAILY, "app", "", None, 0),
+    (Rotation::DAILY, "a/b", "", Some(NameFault::Prefix), 5),
+    (Rotation::DAILY, "", "a/", Some(NameFault::Suffix), 5),
+    (Rotation::NEVER, "a/", "\0", Some(NameFault::Prefix), 5),
+    (Rotation::DAILY, "a\0", "", Some(NameFault::Prefix), 5),
+    (Rotation::NEVER, "a", "\0", Some(NameFault::Suffix), 5),
+    (Rotation::DAILY, "..", "", None, 0),
+    (Rotation::DAILY, "", ".", None, 0),
+    (Rotation::NEVER, ".", "", Some(NameFault::Prefix), 5),
+    (Rotation::NEVER, "..", "", Some(NameFault::Prefix), 5),
+    (Rotation::NEVER, "", ".", Some(NameFault::Suffix), 5),
+    (Rotation::NEVER, "", "..", Some(NameFault::Suffix), 5),
+    (Rotation::NEVER, "..", ".", None, 7),
+    (Rotation::NEVER, "...", "", None, 7),
+    (Rotation::NEVER, "", "", None, 7),
 ];
 
-// Texts that name no day.
-static NO_DAYS: [&str; 12] = [
-    "1900-02-29",
-    "2023-02-29",
-    "2100-02-29",
-    "2020-02-30",
-    "2020-04-31",
-    "2020-00-01",
-    "2020-13-01",
-    "2020-01-00",
-    "-001-01-01",
-    "10000-01-01",
-    "2020/02/01",
-    "2020-02-01-00",
-];
-
-#[test]
-fn texts_that_are_no_names(rt: HostRuntime) {
-    for (rotation, name) in &NO_NAMES {
-        expect_read(&rt, *rotation, "app", "log", name, None);
+// The code of the error, if there is one, else 0, and which name is not allowed.
+fn fault_of(made: &Result<Names, InitError>) -> (u8, Option<NameFault>) {
+    match made {
+        Ok(_) => (0, None),
+        Err(InitError::Name(fault)) => (5, Some(*fault)),
+        Err(error) => (error.code(), None),
     }
-}
-
-#[test]
-fn texts_that_are_no_days(rt: HostRuntime) {
-    for name in &NO_DAYS {
-        expect_read(&rt, Rotation::DAILY, "", "", name, None);
-    }
-}
-
-// A rotation, a prefix and a suffix, and which of them names cannot have.
-static PARTS: [(Rotation, &'static str, &'static str, Option<NameFault>); 14] = [
-    (Rotation::DAILY, "a/b", "", Some(NameFault::Prefix)),
-    (Rotation::DAILY, "", "a/", Some(NameFault::Suffix)),
-    (Rotation::NEVER, "a/", "\0", Some(NameFault::Prefix)),
-    (Rotation::DAILY, "a\0", "", Some(NameFault::Prefix)),
-    (Rotation::NEVER, "a", "\0", Some(NameFault::Suffix)),
-    (Rotation::DAILY, "..", "", None),
-    (Rotation::DAILY, "", ".", None),
-    (Rotation::NEVER, ".", "", Some(NameFault::Prefix)),
-    (Rotation::NEVER, "..", "", Some(NameFault::Prefix)),
-    (Rotation::NEVER, "", ".", Some(NameFault::Suffix)),
-    (Rotation::NEVER, "", "..", Some(NameFault::Suffix)),
-    (Rotation::NEVER, "..", ".", None),
-    (Rotation::NEVER, "...", "", None),
-    (Rotation::NEVER, "", "", None),
-];
-
-// Checks that names were made, or that they are refused for this fault.
-fn expect_made(
-    rt: &impl Abort,
-    prefix: &str,
-    made: Result<Names, InitError>,
-    wanted: Option<NameFault>,
-) {
-    let fault = match made {
-        Ok(_) => None,
-        Err(InitError::Name(fault)) => Some(fault),
-        Err(_) => rt.panic("another error"),
-    };
-    expect_eq_of(rt, prefix, fault, wanted);
 }
 
 #[test]
 fn parts_of_names(rt: HostRuntime) {
-    for (rotation, prefix, suffix, fault) in &PARTS {
+    for (rotation, prefix, suffix, fault, code) in &PARTS {
         let is_allowed = Names::is_allowed(*rotation, prefix, suffix);
-        expect_eq_of(&rt, *prefix, is_allowed, fault.is_none());
-        let made = Names::new(rt.alloc(), *rotation, prefix, suffix);
-        expect_made(&rt, prefix, made, *fault);
+        expect_eq_of(&rt, (*prefix, *suffix), is_allowed, fault.is_none());
+        let plain = if fault.is_some() { 5 } else { 0 };
+        for (numbered, code) in [(false, plain), (true, *code)] {
+            let naming = (*rotation, *prefix, *suffix, numbered);
+            let (made, built) = (names_of(&rt, naming), built_names(&rt, naming));
+            expect_eq_of(&rt, naming, fault_of(&made), (code, *fault));
+            expect_eq_of(&rt, naming, fault_of(&built), (code, *fault));
+        }
     }
 }
 
-// Words for rotations, and texts that are none.
-static WORDS: [(&str, Option<Rotation>); 8] = [
-    ("minutely", Some(Rotation::MINUTELY)),
-    ("hourly", Some(Rotation::HOURLY)),
-    ("daily", Some(Rotation::DAILY)),
-    ("weekly", Some(Rotation::WEEKLY)),
-    ("never", Some(Rotation::NEVER)),
-    ("Hourly", None),
-    ("hour", None),
-    ("", None),
+// An error's code, its source, and the kind of the error of input and output that it becomes.
+type Sorts = (u8, Option<ErrorKind>, ErrorKind);
+
+// Checks the text of an error too, and the words of the other.
+fn expect_error(rt: &impl AllocAndAbort, error: InitError, sorts: Sorts, text: &str, words: &str) {
+    let printed = error.to_string(rt.alloc()).expect(rt, "memory");
+    expect_eq(rt, printed.as_str(), text);
+    let (code, source) = (error.code(), error.source().map(|e| e.kind()));
+    let error = io::Error::from(error);
+    expect_eq_of(rt, words, (code, source, error.kind()), sorts);
+    let printed = error.to_string(rt.alloc()).expect(rt, "memory");
+    expect_eq(rt, printed.as_str(), words);
+}
+
+// Names that are not allowed, and the words of each error.
+#[rattlefmt::skip]
+static NAME_FAULTS: [(NameFault, &str); 4] = [
+    (NameFault::Prefix, "name not allowed: the prefix cannot be part of a file name"),
+    (NameFault::Suffix, "name not allowed: the suffix cannot be part of a file name"),
+    (NameFault::Link, "name not allowed: the link cannot be a file name"),
+    (NameFault::Clash, "name not allowed: the link has the name of a log file"),
 ];
 
 #[test]
-fn words_for_rotations(rt: HostRuntime) {
-    for (word, rotation) in &WORDS {
-        expect_eq_of(&rt, *word, word.parse::<Rotation>().ok(), *rotation);
-    }
+fn errors_without_a_fault(rt: HostRuntime) {
     let text = ParseRotationError.to_string(rt.alloc());
     expect_eq(&rt, text.expect(&rt, "memory").as_str(), "unknown rotation");
-}
-
-// Checks the number of an error and its text, of which a part may be another's.
-fn expect_text(rt: &impl AllocAndAbort, error: InitError, code: u8, begin: &str, rest: &str) {
-    expect_eq(rt, error.code(), code);
-    let text = error.to_string(rt.alloc()).expect(rt, "memory");
-    expect_eq(rt, text.strip_prefix(begin), Some(rest));
-}
-
-#[test]
-fn texts_of_errors(rt: HostRuntime) {
-    expect_text(&rt, InitError::Moment, 4, "moment out of range", "");
-    expect_text(
-        &rt,
-        InitError::Name(NameFault::Prefix),
-        5,
-        "name not allowed",
-        "",
-    );
-    expect_text(&rt, InitError::Memory, 6, "out of memory", "");
-}
-
-// The fault's own text follows that of its case.
-fn expect_texts_with(rt: &impl AllocAndAbort, fault: io::ErrorKind, rest: &str) {
-    let begin = "failed to create log directory: ";
-    expect_text(rt, InitError::Directory(fault.into()), 1, begin, rest);
-    let begin = "failed to create log file: ";
-    expect_text(rt, InitError::File(fault.into()), 2, begin, rest);
-    let begin = "failed to create symlink to latest log file: ";
-    expect_text(rt, InitError::Symlink(fault.into()), 3, begin, rest);
-}
-
-#[test]
-fn texts_of_errors_with_a_fault(rt: HostRuntime) {
-    let fault = io::ErrorKind::PermissionDenied;
-    let rest = io::Error::from(fault).to_string(rt.alloc());
-    expect_texts_with(&rt, fault, rest.expect(&rt, "memory").as_str());
-}
-
-// Checks the kind and the words of an error of input and output that an opening's error becomes, and its source.
-fn expect_io(
-    rt: &impl AllocAndAbort,
-    error: InitError,
-    source: Option<io::ErrorKind>,
-    kind: io::ErrorKind,
-    words: &str,
-) {
-    expect_eq_of(rt, words, error.source().map(|e| e.kind()), source);
-    let error = io::Error::from(error);
-    expect_eq_of(rt, words, error.kind(), kind);
-    let text = error.to_string(rt.alloc()).expect(rt, "memory");
-    expect_eq(rt, text.as_str(), words);
-}
-
-fn expect_invalid(rt: &impl AllocAndAbort, error: InitError, words: &str) {
-    expect_io(rt, error, None, io::ErrorKind::InvalidInput, words);
-}
-
-#[test]
-fn errors_of_input_and_output(rt: HostRuntime) {
-    expect_invalid(&rt, InitError::Moment, "moment out of range");
-    expect_invalid(&rt, InitError::Limit, "byte limit without a rotation");
-    let fault = InitError::Name(NameFault::Prefix);
-    expect_invalid(
-        &rt,
-        fault,
-        "name not allowed: the prefix cannot be part of a file name",
-    );
-    let fault = InitError::Name(NameFault::Suffix);
-    expect_invalid(
-        &rt,
-        fault,
-        "name not allowed: the suffix cannot be part of a file name",
-    );
-    let fault = InitError::Name(NameFault::Link);
-    expect_invalid(
-        &rt,
-        fault,
-        "name not allowed: the link cannot be a file name",
-    );
-    let fault = InitError::Name(NameFault::Clash);
-    expect_invalid(
-        &rt,
-        fault,
-        "name not allowed: the link has the name of a log file",
-    );
-    let kind = io::ErrorKind::OutOfMemory;
-    expect_io(&rt, InitError::Memory, None, kind, "out of memory");
+    expect_eq(&rt, "".parse::<Rotation>().is_err(), true);
+    let text = "moment out of range";
+    let sorts = (4, None, ErrorKind::InvalidInput);
+    expect_error(&rt, InitError::Moment, sorts, text, text);
+    for (fault, words) in &NAME_FAULTS {
+        let sorts = (5, None, ErrorKind::InvalidInput);
+        let (error, text) = (InitError::Name(*fault), "name not allowed");
+        expect_error(&rt, error, sorts, text, words);
+    }
+    let text = "out of memory";
+    let sorts = (6, None, ErrorKind::OutOfMemory);
+    expect_error(&rt, InitError::Memory, sorts, text, text);
+    let text = "byte limit without a rotation";
+    let sorts = (7, None, ErrorKind::InvalidInput);
+    expect_error(&rt, InitError::Limit, sorts, text, text);
 }
 
 // The words of an error that the file system gave are cut after 80 bytes.
 #[test]
 fn errors_of_the_file_system(rt: HostRuntime) {
-    let denied = io::Error::from_raw_os_error(13);
-    let kind = io::ErrorKind::PermissionDenied;
-    let words = "failed to create log directory: Permission denied (os error 13)";
-    expect_io(&rt, InitError::Directory(denied), Some(kind), kind, words);
-    let words = "failed to create log file: Permission denied (os error 13)";
-    expect_io(&rt, InitError::File(denied), Some(kind), kind, words);
-    let full = io::Error::from_raw_os_error(28);
-    let kind = io::ErrorKind::StorageFull;
+    let (denied, full) = (
+        io::Error::from_raw_os_error(13),
+        io::Error::from_raw_os_error(28),
+    );
+    let kind = ErrorKind::PermissionDenied;
+    let text = "failed to create log directory: Permission denied (os error 13)";
+    let sorts = (1, Some(kind), kind);
+    expect_error(&rt, InitError::Directory(denied), sorts, text, text);
+    let text = "failed to create log file: Permission denied (os error 13)";
+    let sorts = (2, Some(kind), kind);
+    expect_error(&rt, InitError::File(denied), sorts, text, text);
+    let sorts = (3, Some(ErrorKind::StorageFull), ErrorKind::StorageFull);
+    let text = "failed to create symlink to latest log file: No space left on device (os error 28)";
     let words = "failed to create symlink to latest log file: No space left on device (os erro...";
-    expect_io(&rt, InitError::Symlink(full), Some(kind), kind, words);
+    expect_error(&rt, InitError::Symlink(full), sorts, text, words);
 }

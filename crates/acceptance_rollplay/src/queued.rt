@@ -64,9 +64,13 @@ fn sums_of(output: &str) -> Sums {
 const THREE_LINES: &str =
     "rotation hourly\nprefix app\nlink latest\nqueue 2 lossy\nstart 1580551260\noffer 1 a\noffer 2 bc\nwork 1580551260\nwork 1580551260\nwork 1580551260\nwork 1580554800\nwork 0\nwork 0\noffer 1 def\nshut\nwork 0\nwork 1580554801\nwork 0\nwork 0\nwork 0\nwork 0\nwork 0\n";
 
-// Plays that script while a call of the folder fails, and returns the status and the output.
-fn play_failing(alloc: Global, call: usize) -> Result<(u8, Vec<u8>), Fail> {
-    let script = format!(in alloc; "absent\nfail {call}\n{THREE_LINES}")?;
+// Plays that script while these calls of the folder fail, and returns the status and the output.
+fn play_failing(alloc: Global, first: usize, last: usize) -> Result<(u8, Vec<u8>), Fail> {
+    let mut script = String::from_str(alloc, "absent\n")?;
+    for call in first..=last {
+        script.push_str(format!(in alloc; "fail {call}\n")?.as_str())?;
+    }
+    script.push_str(THREE_LINES)?;
     let mut input = script.as_bytes();
     let mut printed = Vec::new(alloc);
     let mut told = Vec::new(alloc);
@@ -74,33 +78,40 @@ fn play_failing(alloc: Global, call: usize) -> Result<(u8, Vec<u8>), Fail> {
     Ok((status, printed))
 }
 
-// Plays that script while a call fails, checks what is in files and how it ends, and returns whether
+// Plays that script while these calls fail, checks what is in files and how it ends, and returns whether
 // no log was opened.
-fn check_failing(rt: &(impl AllocGlobal + Abort), call: usize) -> Result<bool, Fail> {
-    let (status, printed) = play_failing(rt.alloc(), call)?;
+fn check_failing(rt: &(impl AllocGlobal + Abort), first: usize, last: usize) -> Result<bool, Fail> {
+    let (status, printed) = play_failing(rt.alloc(), first, last)?;
     let output = String::from_utf8(printed)?;
     let output = output.as_str();
     let sums = sums_of(output);
-    expect_eq_of(rt, call, sums.written, sums.stored);
+    let calls = (first, last);
+    expect_eq_of(rt, calls, sums.written, sums.stored);
     let refused = output.starts_with("init error ");
-    expect_eq_of(rt, call, status, u8::from(refused));
+    expect_eq_of(rt, calls, status, u8::from(refused));
     let ends = sums.ended && output.ends_with("\ncounts 3 3 0 0 0\n");
-    expect_eq_of(rt, call, ends, !refused);
+    expect_eq_of(rt, calls, ends, !refused);
     Ok(refused)
 }
 
+// No call has this number.
+const LAST: usize = 29;
+
+// Each call fails alone, and with all after it.
 #[test]
-fn loses_no_written_byte_where_a_call_fails(rt: HostRuntime) -> Result<(), Fail> {
-    let mut refused = 0usize;
-    for call in 1..30usize {
-        if check_failing(&rt, call)? {
-            refused = refused.saturating_add(1);
+fn loses_no_written_byte_where_calls_fail(rt: HostRuntime) -> Result<(), Fail> {
+    let mut refused = (0usize, 0usize);
+    for call in 1..=LAST {
+        if check_failing(&rt, call, call)? {
+            refused.0 = refused.0.saturating_add(1);
+        }
+        if check_failing(&rt, call, LAST)? {
+            refused.1 = refused.1.saturating_add(1);
         }
     }
-    // The folder could not be made, the file not opened, the link not made.
-    expect_eq(&rt, refused, 3);
-    // No call has the last of these numbers.
-    let (_, printed) = play_failing(rt.alloc(), 29)?;
+    // The folder is not made, the file not opened, the link not made. Without the removal of a link, none is made.
+    expect_eq(&rt, refused, (3, 5));
+    let (_, printed) = play_failing(rt.alloc(), LAST, LAST)?;
     expect_eq(
         &rt,
         sums_of(String::from_utf8(printed)?.as_str()).written,

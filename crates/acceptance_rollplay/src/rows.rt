@@ -17,7 +17,7 @@ pub fn first_row(text: &str) -> Option<(&str, &str, &str)> {
 
 /// Scripts without a queue whose log is opened, and their pages.
 pub static PLAYED: Table = Table {
-    rows: 111,
+    rows: 120,
     text: concat!(
         // Arrivals an hour apart; a clock that is set back keeps the file.
         "rotation hourly\nprefix app\nstart 1580551260\nput 1580554800 a\nput 1580554799 b\n|",
@@ -93,8 +93,17 @@ pub static PLAYED: Table = Table {
         "rotation hourly\nprefix app\nmax 1\nfile app.2020-02-01-10 x\nfail 6\nfail 8\nstart 1580551260\nput 1580554800 y\n|",
         "open app.2020-02-01-10\nfailed ok 1\n|",
         // A switch whose opening fails twice, and the one after it.
-        "rotation hourly\nprefix app\nfail 2\nfail 4\nstart 1580551260\nput 1580554800 a\nput 1580556600 b\nput 1580558400 c\n|",
-        "open app.2020-02-01-10\nfailed ok 1\nnone ok 1\nopened ok 1\nfile app.2020-02-01-10 2 ab\nfile app.2020-02-01-12 1 c\n|",
+        "rotation hourly\nprefix app\nfail 2\nfail 4\nfail 11\nstart 1580551260\nput 1580554800 a\nput 1580556600 b\nput 1580558399 c\nput 1580558400 d\nflush\n|",
+        "open app.2020-02-01-10\nfailed ok 1\nnone ok 1\nnone ok 1\nopened ok 1\nerr\nfile app.2020-02-01-10 3 abc\nfile app.2020-02-01-12 1 d\n|",
+        // If the folder can't be made, the opening is not tried a second time.
+        "rotation hourly\nprefix app\nfail 2\nfail 3\nfail 6\nstart 1580551260\nput 1580554800 a\nput 1580554801 b\nflush\n|",
+        "open app.2020-02-01-10\nfailed ok 1\nnone ok 1\nerr\nfile app.2020-02-01-10 2 ab\n|",
+        // The first write to the next file fails: the calls before are its opening and a flush of the last file.
+        "rotation hourly\nprefix app\nfail 4\nfail 6\nstart 1580551260\nput 1580554800 a\nput 1580554801 b\nflush\n|",
+        "open app.2020-02-01-10\nopened err\nnone ok 1\nerr\nfile app.2020-02-01-10 0\nfile app.2020-02-01-11 1 b\n|",
+        // Each write is one call, and each flush is one. What fails is not tried again.
+        "rotation hourly\nprefix app\nfail 2\nfail 5\nfail 8\nstart 1580551260\nput 1580551260 a\nput 1580551260 b\nput 1580551260 c\nflush\nput 1580551260 d\nflush\nflush\n|",
+        "open app.2020-02-01-10\nnone err\nnone ok 1\nnone ok 1\nerr\nnone ok 1\nok\nerr\nfile app.2020-02-01-10 3 bcd\n|",
         // An append that fails, a flush that fails, and an append that is cut short. The lesser of two counts applies.
         "prefix app\nfail 0002\nfail 3\nshort 4 3\nshort 4 2\nshort 5 0\nfail 6\nshort 6 1\nstart 0\nwrite a\nflush\nwrite hello\nwrite b\nwrite c\n|",
         "open app\nerr\nerr\nok 2\nok 0\nerr\nfile app 2 he\n|",
@@ -195,8 +204,8 @@ pub static PLAYED: Table = Table {
         "rotation hourly\nprefix app\nmax 2\nfail 3\nfail 5\nstart 1580551260\nput 1580551260 a\nput 1580551261 b\nput 1580551262 c\n|",
         "open app.2020-02-01-10\nnone err\nnone ok 1\nnone err\nfile app.2020-02-01-10 1 b\n|",
         // A fault of the replaced file is no fault of the switch.
-        "rotation hourly\nprefix app\nfail 3\nstart 1580551260\nput 1580554800 a\n|",
-        "open app.2020-02-01-10\nopened ok 1\nfile app.2020-02-01-10 0\nfile app.2020-02-01-11 1 a\n|",
+        "rotation hourly\nprefix app\nfail 3\nfail 5\nstart 1580551260\nput 1580554800 a\nflush\n|",
+        "open app.2020-02-01-10\nopened ok 1\nerr\nfile app.2020-02-01-10 0\nfile app.2020-02-01-11 1 a\n|",
         // With a limit of bytes a full file is followed by the next number, and a later period begins at 0 again.
         "rotation hourly\nprefix app\nbytes 4\nstart 1580551260\nput 1580551260 abc\nput 1580551260 d\nput 1580551260 e\nput 1580551260 longer\nput 1580551260 x\nput 1580554800 y\n|",
         "open app.2020-02-01-10.000000\nnone ok 3\nnone ok 1\nopened ok 1\nopened ok 6\nopened ok 1\nopened ok 1\nfile app.2020-02-01-10.000000 4 abcd\nfile app.2020-02-01-10.000001 1 e\nfile app.2020-02-01-10.000002 6 longer\nfile app.2020-02-01-10.000003 1 x\nfile app.2020-02-01-11.000000 1 y\n|",
@@ -206,6 +215,22 @@ pub static PLAYED: Table = Table {
         // A full file whose next one can't be opened takes the limit once more.
         "rotation hourly\nprefix app\nbytes 4\nfail 4\nfail 6\nstart 1580551260\nput 1580551260 abcd\nput 1580551260 e\nput 1580551260 fgh\nput 1580551260 i\n|",
         "open app.2020-02-01-10.000000\nnone ok 4\nfailed ok 1\nnone ok 3\nopened ok 1\nfile app.2020-02-01-10.000000 8 abcdefgh\nfile app.2020-02-01-10.000002 1 i\n|",
+        // The same, with a call after it to fail: the number that failed is left out, and a new hour begins at 0.
+        "rotation hourly\nprefix app\nbytes 2\nfail 5\nfail 7\nfail 16\nstart 1580551260\nput 1580551260 a\nput 1580551260 b\nput 1580551260 c\nput 1580551260 d\nput 1580551260 e\nput 1580554800 f\nflush\n|",
+        "open app.2020-02-01-10.000000\nnone ok 1\nnone ok 1\nfailed ok 1\nnone ok 1\nopened ok 1\nopened ok 1\nerr\nfile app.2020-02-01-10.000000 4 abcd\nfile app.2020-02-01-10.000002 1 e\nfile app.2020-02-01-11.000000 1 f\n|",
+        // A write that fails counts no bytes, and one that is short counts what it took.
+        "rotation hourly\nprefix app\nbytes 2\nfail 3\nfail 9\nstart 1580551260\nput 1580551260 a\nput 1580551260 b\nput 1580551260 c\nput 1580551260 d\nflush\n|",
+        "open app.2020-02-01-10.000000\nnone err\nnone ok 1\nnone ok 1\nopened ok 1\nerr\nfile app.2020-02-01-10.000000 2 bc\nfile app.2020-02-01-10.000001 1 d\n|",
+        "rotation hourly\nprefix app\nbytes 4\nshort 3 1\nfail 8\nstart 1580551260\nput 1580551260 abcd\nput 1580551260 xyz\nput 1580551260 q\nflush\n|",
+        "open app.2020-02-01-10.000000\nnone ok 1\nnone ok 3\nopened ok 1\nerr\nfile app.2020-02-01-10.000000 4 axyz\nfile app.2020-02-01-10.000001 1 q\n|",
+        // A piece that is longer than the limit is in the file that was opened for it. The limit moves no boundary.
+        "rotation hourly\nprefix app\nbytes 2\nfail 7\nstart 1580551260\nput 1580551260 abc\nput 1580551260 d\nflush\n|",
+        "open app.2020-02-01-10.000000\nnone ok 3\nopened ok 1\nerr\nfile app.2020-02-01-10.000000 3 abc\nfile app.2020-02-01-10.000001 1 d\n|",
+        "rotation hourly\nprefix app\nbytes 2\nfail 11\nstart 1580551260\nput 1580551260 ab\nput 0 c\nput 1580554799 d\nput 1580554800 e\nflush\n|",
+        "open app.2020-02-01-10.000000\nnone ok 2\nopened ok 1\nnone ok 1\nopened ok 1\nerr\nfile app.2020-02-01-10.000000 2 ab\nfile app.2020-02-01-10.000001 2 cd\nfile app.2020-02-01-11.000000 1 e\n|",
+        // A full file is left at moments out of range too, and once.
+        "rotation hourly\nprefix app\nbytes 3\nstart 1580551260\nwrite ab\nsee 0\nwrite c\nsee 9223372036854775807\nput 0 def\nsee -9223372036854775808\nsee 1580551260\nput 0 ghi\nsee 1580554800\n|",
+        "open app.2020-02-01-10.000000\nok 2\nnone\nok 1\nopened\nnone ok 3\nopened\nnone\nnone ok 3\nopened\nfile app.2020-02-01-10.000000 3 abc\nfile app.2020-02-01-10.000001 3 def\nfile app.2020-02-01-10.000002 3 ghi\nfile app.2020-02-01-11.000000 0\n|",
         // A start continues after the greatest number of its period, up to the last number, whose file takes all.
         "rotation hourly\nprefix app\nbytes 4\nfile app.2020-02-01-10.000007 q\nstart 1580551260\n|",
         "open app.2020-02-01-10.000008\nfile app.2020-02-01-10.000007 1 q\nfile app.2020-02-01-10.000008 0\n|",
@@ -317,7 +342,7 @@ pub static PLAYED: Table = Table {
 
 /// Scripts with a queue whose log is opened, and their pages.
 pub static QUEUED: Table = Table {
-    rows: 21,
+    rows: 27,
     text: concat!(
         // A full queue in lossy mode drops the line and counts it.
         "rotation hourly\nprefix app\nqueue 1 lossy\nstart 1580551260\noffer 1 a\noffer 1 b\nwork 1580551260\nwork 1580551260\nwork 1580551260\nwork 1580551260\n|",
@@ -338,6 +363,18 @@ pub static QUEUED: Table = Table {
         // Senders are added and dropped. Lines in the queue are taken after the last sender is dropped.
         "prefix app\nqueue 2 lossy\nstart 0\nadd\ndrop\ndrop\noffer 1 a\nwork 0\nwork 0\nwork 0\nwork 0\nwork 0\nwork 0\nwork 0\noffer 1 b\nshut\n|",
         "open app\nsenders 2\nsenders 1\nsenders 0\naccepted 1\ntook 1\nwrote none ok 1\ngone\nflushed\nflushed\nended\nended\nclosed\nclosed\nfile app 1 a\ncounts 1 1 0 0 1\n|",
+        // If senders have to wait, a line that finds the queue closed is not counted as dropped.
+        "prefix app\nqueue 4 waiting\nstart 0\noffer 1 a\ndrop\nwork 0\nwork 0\nwork 0\noffer 1 b\n|",
+        "open app\naccepted 1\nsenders 0\ntook 1\nwrote none ok 1\ngone\nclosed\nfile app 1 a\ncounts 1 1 0 0 0\n|",
+        // The queue is open as long as there is a sender.
+        "prefix app\nqueue 4 waiting\nstart 0\nadd\ndrop\nwork 0\ndrop\ndrop\nwork 0\noffer 1 a\n|",
+        "open app\nsenders 2\nsenders 1\nempty\nsenders 0\nsenders 0\ngone\nclosed\nfile app 0\ncounts 0 0 0 0 0\n|",
+        // Lines are taken in the order of their tickets, and each take leaves its place to a line.
+        "prefix app\nqueue 3 waiting\nstart 0\noffer 1 a\noffer 1\noffer 2 c\noffer 1 d\nwork 0\noffer 1 d\nwork 0\nwork 0\nwork 0\nwork 0\nwork 0\nwork 0\nwork 0\nwork 0\n|",
+        "open app\naccepted 1\naccepted 2\naccepted 3\nfull\ntook 1\naccepted 4\nwrote none ok 1\ntook 2\ntook 3\nwrote none ok 1\ntook 4\nwrote none ok 1\nempty\nflushed\nfile app 3 acd\ncounts 4 4 0 0 0\n|",
+        // Nothing is flushed between the last line and the shutdown.
+        "prefix app\nqueue 8 waiting\nstart 0\noffer 1 a\noffer 2 b\nshut\nwork 0\nwork 0\nwork 0\nwork 0\nwork 0\nwork 0\nwork 0\nwork 0\n|",
+        "open app\naccepted 1\naccepted 2\nsent\ntook 1\nwrote none ok 1\ntook 2\nwrote none ok 1\nshutdown\nflushed\nflushed\nended\nfile app 2 ab\ncounts 2 2 0 0 0\n|",
         // The number of senders is never below zero.
         "prefix app\nqueue 2 lossy\nstart 0\ndrop\ndrop\nadd\n|",
         "open app\nsenders 0\nsenders 0\nsenders 1\nfile app 0\ncounts 0 0 0 0 0\n|",
@@ -359,8 +396,8 @@ pub static QUEUED: Table = Table {
         "absent\nqueue 1 lossy\nprefix app\nstart 0\n|",
         "open app\nfile app 0\ncounts 0 0 0 0 0\n|",
         // The greatest label, and an empty line: nothing is written of it.
-        "prefix app\nqueue 2 lossy\nstart 0\noffer 18446744073709551615 \noffer 0\nwork 0\nwork 0\n|",
-        "open app\naccepted 1\naccepted 2\ntook 1\ntook 2\nfile app 0\ncounts 2 2 0 0 0\n|",
+        "prefix app\nqueue 2 lossy\nstart 0\noffer 18446744073709551615 \noffer 0\nwork 0\nwork 0\nwork 0\nwork 0\nwork 0\n|",
+        "open app\naccepted 1\naccepted 2\ntook 1\ntook 2\nempty\nflushed\nempty\nfile app 0\ncounts 2 2 0 0 0\n|",
         // Spaces and escapes of a line.
         "prefix app\nqueue 2 lossy\nstart 0\noffer 007  a\\n\\\\ \nwork 0\nwork 0\n|",
         "open app\naccepted 1\ntook 1\nwrote none ok 5\nfile app 5  a\\n\\\\ \ncounts 1 1 0 0 0\n|",
@@ -370,9 +407,15 @@ pub static QUEUED: Table = Table {
         // After a write that fails its line is dropped, and the next one is taken.
         "prefix app\nfail 2\nqueue 2 lossy\nstart 0\noffer 1 a\noffer 1 b\nwork 0\nwork 0\nwork 0\nwork 0\n|",
         "open app\naccepted 1\naccepted 2\ntook 1\nwrote none err\ntook 2\nwrote none ok 1\nfile app 1 b\ncounts 2 2 0 0 0\n|",
-        // So does a write that takes no byte.
-        "prefix app\nshort 2 0\nqueue 2 lossy\nstart 0\noffer 1 a\noffer 1 b\nwork 0\nwork 0\nwork 0\nwork 0\n|",
-        "open app\naccepted 1\naccepted 2\ntook 1\nwrote none ok 0\ntook 2\nwrote none ok 1\nfile app 1 b\ncounts 2 2 0 0 0\n|",
+        // The same after a write that takes no byte. A flush that fails is not tried again.
+        "prefix app\nshort 2 0\nfail 4\nqueue 2 lossy\nstart 0\noffer 1 a\noffer 1 b\nwork 0\nwork 0\nwork 0\nwork 0\nwork 0\nwork 0\nwork 0\n|",
+        "open app\naccepted 1\naccepted 2\ntook 1\nwrote none ok 0\ntook 2\nwrote none ok 1\nempty\nflush err\nempty\nfile app 1 b\ncounts 2 2 0 0 0\n|",
+        // The rest of a line fails: its beginning stays, and the next line is written after it.
+        "prefix app\nshort 2 2\nfail 3\nqueue 8 waiting\nstart 0\noffer 1 hello\noffer 1 x\nwork 0\nwork 0\nwork 0\nwork 0\nwork 0\nwork 0\nwork 0\nwork 0\n|",
+        "open app\naccepted 1\naccepted 2\ntook 1\nwrote none ok 2\nwrote none err\ntook 2\nwrote none ok 1\nempty\nflushed\nempty\nfile app 3 hex\ncounts 2 2 0 0 0\n|",
+        // Nothing is flushed after a line that was dropped.
+        "prefix app\nfail 2\nqueue 2 waiting\nstart 0\noffer 1 a\nwork 0\nwork 0\nwork 0\nwork 0\n|",
+        "open app\naccepted 1\ntook 1\nwrote none err\nempty\nempty\nfile app 0\ncounts 1 1 0 0 0\n|",
         // The two flushes before the end fail, and the run ends all the same.
         "prefix app\nfail 2\nfail 3\nqueue 1 lossy\nstart 0\nshut\nwork 0\nwork 0\nwork 0\nwork 0\n|",
         "open app\nsent\nshutdown\nflush err\nflush err\nended\nfile app 0\ncounts 0 0 0 0 0\n|",

@@ -1,15 +1,12 @@
-// Lines that are written together: what a fault leaves of them, and how soon they are in the file.
+// Lines that are written together: what a fault leaves of them.
 use crate::expect::expect_eq;
 use crate::logs::{TestLog, Text};
-use crate::run::{check_files, check_log, fresh};
+use crate::run::check_log;
 use std::alloc::{AllocError, Global};
-use std::io::Read;
+use std::io;
 use std::process::Abort;
-use std::rt::Files;
 use std::sync::Wait;
 use std::test::Fail;
-use std::time::{Clock, Duration, Instant};
-use std::{fs, io, thread};
 use tracing_appender::non_blocking::Host;
 
 // A log that takes this many bytes, fails once, and then takes everything. A line that is given up is marked.
@@ -98,68 +95,5 @@ fn a_fault_cuts_one_line(rt: HostRuntime) -> Result<(), Fail> {
             check_fault_at(rt, place, line, told)?;
         }
     }
-    Ok(())
-}
-
-// An input that gives its next line once the one before it is in the file, or after five seconds, and keeps how long the
-// quickest one took.
-#[derive(Drop)]
-struct Watching<'a, R: Clock> {
-    rt: R,
-    path: &'a str,
-    lines: u32,
-    given: u64,
-    least: Duration,
-}
-
-impl<'a, R: Clock + Files> Watching<'a, R> {
-    // Waits until the file has all the bytes that were given.
-    fn watch(&mut self) -> io::Result<()> {
-        let start = Instant::now(&self.rt)?;
-        for _ in 0..5000u32 {
-            if fs::metadata(&self.rt, self.path)?.len() >= self.given {
-                self.least = self.least.min(start.elapsed(&self.rt)?);
-                break;
-            }
-            thread::sleep(&self.rt, Duration::from_millis(1));
-        }
-        Ok(())
-    }
-}
-
-impl<'a, R: Clock + Files> Read for Watching<'a, R> {
-    fn read(&mut self, buf: &mut [u8]) -> io::Result<usize> {
-        if self.given > 0 {
-            self.watch()?;
-        }
-        if self.lines == 0 {
-            return Ok(0);
-        }
-        self.lines -= 1;
-        self.given = self.given.saturating_add(2);
-        let mut line = b"a\n".as_slice();
-        line.read(buf)
-    }
-}
-
-// A line of a slow input is in the file within a tenth of a second. Of ten lines one is enough, since the machine may be
-// busy.
-#[test]
-fn lines_of_a_slow_input_do_not_wait(rt: HostRuntime) -> Result<(), Fail> {
-    let directory = fresh(&rt, "slow")?;
-    let directory = directory.as_str();
-    let path = format!(in rt.alloc(); "{directory}/app")?;
-    let line = format!(in rt.alloc(); "never {directory} app")?;
-    let mut input = Watching {
-        rt,
-        path: path.as_str(),
-        lines: 10,
-        given: 0,
-        least: Duration::from_secs(5),
-    };
-    check_files(rt, &rt, line.as_str(), &mut input, (0, ""));
-    let is_soon = input.least < Duration::from_millis(100);
-    expect_eq(&rt, is_soon, true);
-    fs::remove_dir_all(&rt, directory)?;
     Ok(())
 }

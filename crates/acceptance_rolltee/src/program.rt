@@ -2,17 +2,15 @@
 use crate::expect::expect_eq;
 use crate::inputs::{Part, Parts, lines_of};
 use crate::logs::{OneLog, Taking, TestLog, Text};
-use crate::run::{check, check_files, check_log, expect_file, fresh, words_of};
-use program_io::options::Options;
+use crate::run::{check, check_log, words_of};
 use rolltee_core::losses::TeeLosses;
-use rolltee_core::tee::{Fault, Logs, tee};
+use rolltee_core::tee::{Logs, tee};
 use std::process::Abort;
 use std::sync::Wait;
 use std::test::Fail;
 use std::time::{Clock, Duration};
-use std::{fs, io, thread};
+use std::{io, thread};
 use tracing_appender::non_blocking::Host;
-use tracing_appender::rolling::{InitError, Rotation};
 
 // A log whose flush takes its time.
 #[derive(Drop)]
@@ -70,72 +68,6 @@ impl TestLog for Narrow {
     }
 }
 
-// Logs of only this rotation, in this folder and with this prefix.
-#[derive(Clone, Copy)]
-struct OnlyLogs {
-    rotation: Rotation,
-}
-
-impl Logs for OnlyLogs {
-    type Log = io::Sink;
-
-    fn open_log(
-        &self,
-        rotation: Rotation,
-        directory: &str,
-        prefix: &str,
-        _: &Options,
-    ) -> Result<io::Sink, Fault> {
-        if rotation == self.rotation && directory == "dir" && prefix == "app" {
-            return Ok(io::sink());
-        }
-        Err(Fault::Open(InitError::Memory))
-    }
-}
-
-// Returns how many bytes the files of a folder have.
-fn length_in(rt: &HostRuntime, directory: &str) -> io::Result<u64> {
-    let mut length = 0u64;
-    for entry in fs::read_dir(rt, directory)? {
-        let bytes = match entry {
-            Ok(entry) => entry.metadata()?.len(),
-            Err(fault) => return Err(fault),
-        };
-        length = length.saturating_add(bytes);
-    }
-    Ok(length)
-}
-
-#[test]
-fn writes_every_line_of_every_run(rt: HostRuntime) -> Result<(), Fail> {
-    let directory = fresh(&rt, "runs")?;
-    let directory = directory.as_str();
-    let line = format!(in rt.alloc(); "never {directory} app")?;
-    let path = format!(in rt.alloc(); "{directory}/app")?;
-    for text in ["a\nb", "a\nba\nb"] {
-        let mut input = b"a\nb".as_slice();
-        check_files(rt, &rt, line.as_str(), &mut input, (0, ""));
-        expect_file(&rt, path.as_str(), text.as_bytes());
-    }
-    fs::remove_dir_all(&rt, directory)?;
-    Ok(())
-}
-
-// More lines than may wait, to the log of each rotation.
-#[test]
-fn waits_for_the_log(rt: HostRuntime) -> Result<(), Fail> {
-    let lines = lines_of(rt.alloc(), 3000, 9)?;
-    for rotation in ["minutely", "hourly", "daily", "weekly", "never"] {
-        let directory = fresh(&rt, rotation)?;
-        let directory = directory.as_str();
-        let line = format!(in rt.alloc(); "{rotation} {directory} app")?;
-        check_files(rt, &rt, line.as_str(), &mut lines.as_slice(), (0, ""));
-        expect_eq(&rt, length_in(&rt, directory)?, lines.len() as u64);
-        fs::remove_dir_all(&rt, directory)?;
-    }
-    Ok(())
-}
-
 // Also while the log takes no line, and if its first write is interrupted.
 #[test]
 fn loses_no_line(rt: HostRuntime) -> Result<(), Fail> {
@@ -191,19 +123,6 @@ fn check_plain<R: Host + Abort, L: Logs>(rt: R, logs: &L, line: &str, told: (u8,
 }
 
 #[test]
-fn opens_a_log_of_each_rotation(rt: HostRuntime) {
-    for (line, rotation) in [
-        ("minutely dir app", Rotation::MINUTELY),
-        ("hourly dir app", Rotation::HOURLY),
-        ("daily dir app", Rotation::DAILY),
-        ("weekly dir app", Rotation::WEEKLY),
-        ("never dir app", Rotation::NEVER),
-    ] {
-        check_plain(rt, &OnlyLogs { rotation }, line, (0, ""));
-    }
-}
-
-#[test]
 fn prints_its_usage(rt: HostRuntime) {
     for line in [
         "",
@@ -213,9 +132,12 @@ fn prints_its_usage(rt: HostRuntime) {
         "yearly dir app",
         "Never dir app",
     ] {
-        let logs = OneLog::new(Taking::ALL);
-        check_plain(rt, &logs, line, (2, "usage: rolltee ROTATION DIR PREFIX\n"));
+        let usage = "usage: rolltee ROTATION DIR PREFIX\n";
+        check_plain(rt, &OneLog::new(Taking::ALL), line, (2, usage));
     }
+    let logs = OneLog::new(Taking::ALL);
+    check_plain(rt, &logs, "weekly dir app", (0, ""));
+    check_plain(rt, &logs, "never dir app", (1, "out of memory\n"));
 }
 
 // Lines that the log takes whole, and of which it takes nothing or a beginning.
@@ -326,34 +248,4 @@ fn reports_why_no_log_is_opened(rt: HostRuntime) {
             (1, "out of memory\n@no log was opened\n"),
         );
     }
-}
-
-#[test]
-fn reports_a_name_that_is_not_allowed(rt: HostRuntime) -> Result<(), Fail> {
-    let directory = fresh(&rt, "name")?;
-    let directory = directory.as_str();
-    let line = format!(in rt.alloc(); "hourly {directory} a/b")?;
-    let mut input = b"a\n".as_slice();
-    check_files(
-        rt,
-        &rt,
-        line.as_str(),
-        &mut input,
-        (1, "name not allowed\nrolltee: PREFIX 'a/b' has a '/'\n"),
-    );
-    expect_eq(&rt, fs::exists(&rt, directory)?, false);
-    Ok(())
-}
-
-#[test]
-fn reports_a_folder_that_is_none(rt: HostRuntime) -> Result<(), Fail> {
-    let path = fresh(&rt, "file")?;
-    let path = path.as_str();
-    fs::write(&rt, path, "here")?;
-    let line = format!(in rt.alloc(); "never {path} app")?;
-    let told = "failed to create log directory: File exists (os error 17)\n@no log was opened\n";
-    check_files(rt, &rt, line.as_str(), &mut b"a\n".as_slice(), (1, told));
-    expect_file(&rt, path, b"here");
-    fs::remove_file(&rt, path)?;
-    Ok(())
 }

@@ -1,13 +1,12 @@
-// Runs of the program, and files.
+// Runs of the program.
 use crate::expect::expect_eq;
 use crate::logs::{OneLog, TestLog};
 use program_io::options::{Options, Request, read};
 use rolltee_core::tee::{Logs, tee_with};
 use std::alloc::{AllocError, Global};
+use std::io;
 use std::io::{Read, Write};
 use std::process::Abort;
-use std::rt::Files;
-use std::{env, fs, io, process};
 use tracing_appender::non_blocking::Host;
 
 /// Returns the words of a command line that one space separates.
@@ -84,31 +83,4 @@ pub(crate) fn check_log<R: Host + Abort, L: TestLog + Send + Drop + 'static, I: 
     told: (u8, &str),
 ) {
     check(rt, &OneLog::new(log), line, input, io::sink(), told);
-}
-
-/// The same over logs of the file system. All tests open them here, since a function that does is dear to prove.
-pub(crate) fn check_files<R: Host + Abort, I: Read>(
-    rt: R,
-    files: &HostRuntime,
-    line: &str,
-    input: &mut I,
-    told: (u8, &str),
-) {
-    check(rt, files, line, input, io::sink(), told);
-}
-
-/// Returns the path of a folder of this test's own, which doesn't exist.
-pub(crate) fn fresh(rt: &HostRuntime, name: &str) -> io::Result<String> {
-    let parent = env::temp_dir(rt)?;
-    let parent = parent.as_str();
-    let id = process::id(rt.process());
-    let path = format!(in rt.alloc(); "{parent}/rolltee_{id}_{name}")?;
-    let _ = fs::remove_dir_all(rt, path.as_str());
-    Ok(path)
-}
-
-/// Ends the test if a file hasn't these bytes.
-pub(crate) fn expect_file<R: Files + AllocGlobal + Abort>(rt: &R, path: &str, bytes: &[u8]) {
-    let content = fs::read(rt, path).expect(rt, "a file");
-    expect_eq(rt, content.as_slice(), bytes);
 }

@@ -1,102 +1,17 @@
 // Runs with options.
 use crate::expect::expect_eq;
 use crate::inputs::add_lines;
-use crate::logs::{OneLog, Taking, Text};
-use crate::run::{check, check_files, check_log, expect_file, fresh};
+use crate::logs::{OneLog, Text};
+use crate::run::check;
 use program_io::options::Options;
 use rolltee_core::check::{DirCheck, FileCheck};
 use rolltee_core::feed::{Feed, FeedSink};
-use std::io::{Read, Write};
-use std::process::Abort;
-use std::rt::Files;
+use std::io::Write;
 use std::test::Fail;
-use std::time::{Clock, Duration};
-use std::{fs, io, thread};
+use std::{env, fs, io, process};
 use tracing_appender::folder::DirFolder;
-use tracing_appender::non_blocking::Host;
 use tracing_appender::rolling::Builder;
 use tracing_appender::store::{Folder, Notice};
-
-// Returns how many names of a folder end with this.
-fn count_names(rt: &HostRuntime, directory: &str, end: &str) -> io::Result<usize> {
-    let mut count = 0usize;
-    for entry in fs::read_dir(rt, directory)? {
-        match entry {
-            Ok(entry) if entry.file_name().ends_with(end) => count = count.saturating_add(1),
-            Ok(_) => {}
-            Err(fault) => return Err(fault),
-        }
-    }
-    Ok(count)
-}
-
-// Without a rotation there are no dates to go by and no numbers, and without a queue there is no limit of lines.
-#[test]
-fn some_options_need_others(rt: HostRuntime) {
-    for (line, told) in [
-        (
-            "never dir app --keep 1",
-            "@--keep: not with never, a log of one file; take weekly, whose files are the longest\n",
-        ),
-        (
-            "never dir app --max-bytes 1",
-            "@--max-bytes: not with never, a log of one file; take weekly, whose files are the longest\n",
-        ),
-        (
-            "hourly dir app --direct --queue 1",
-            "@--queue: not with --direct\n",
-        ),
-        (
-            "hourly dir app --direct --lossy",
-            "@--lossy: not with --direct\n",
-        ),
-    ] {
-        check_log(rt, Taking::ALL, line, &mut b"a\n".as_slice(), (2, told));
-    }
-}
-
-// The options of a log with all of its names.
-static NAMED: &str = "--keep 2 --suffix log --link latest --sync";
-
-// The suffix, the link, the limit of bytes and the number of files.
-#[test]
-fn options_reach_the_log(rt: HostRuntime) -> Result<(), Fail> {
-    let directory = fresh(&rt, "options")?;
-    let directory = directory.as_str();
-    let line = format!(in rt.alloc(); "weekly {directory} app {NAMED} --max-bytes 4")?;
-    let mut input = b"a\nb\nc\nd\nlonger\ne\n".as_slice();
-    check_files(rt, &rt, line.as_str(), &mut input, (0, ""));
-    expect_eq(&rt, count_names(&rt, directory, ".log")?, 2);
-    expect_eq(&rt, count_names(&rt, directory, ".000006.log")?, 0);
-    let path = format!(in rt.alloc(); "{directory}/latest")?;
-    expect_file(&rt, path.as_str(), b"e\n");
-    fs::remove_dir_all(&rt, directory)?;
-    Ok(())
-}
-
-// Only files of this log are counted and removed.
-#[test]
-fn keeps_the_files_of_others(rt: HostRuntime) -> Result<(), Fail> {
-    let directory = fresh(&rt, "others")?;
-    let directory = directory.as_str();
-    fs::create_dir_all(&rt, directory)?;
-    let line = format!(in rt.alloc(); "hourly {directory} app --keep 1")?;
-    for (name, stays) in [
-        ("app.2020-02-01-10", false),
-        ("app.2020-02-01", true),
-        ("app.conf", true),
-        ("app-access.2020-02-01-10", true),
-        ("apple", true),
-        ("app.2020-02-01-10.gz", true),
-    ] {
-        let path = format!(in rt.alloc(); "{directory}/{name}")?;
-        fs::write(&rt, path.as_str(), "here")?;
-        check_files(rt, &rt, line.as_str(), &mut b"a\n".as_slice(), (0, ""));
-        expect_eq(&rt, fs::exists(&rt, path.as_str())?, stays);
-    }
-    fs::remove_dir_all(&rt, directory)?;
-    Ok(())
-}
 
 // Returns what follows the time before a line, if that is a time in UTC with microseconds.
 fn after_time(line: &[u8]) -> Option<&[u8]> {
@@ -196,96 +111,14 @@ fn a_line_is_queued_before_it_is_echoed(rt: HostRuntime) {
     expect_eq(&rt, feed.unechoed(), 0);
 }
 
-// What happens to a log file between two lines.
-#[derive(Clone, Copy, PartialEq)]
-enum Mishap {
-    Removed,
-    Renamed,
-    Truncated,
-    FolderRemoved,
-}
-
-// An input that lets something happen to the log file once its first line is there.
-#[derive(Drop)]
-struct Disturbing<'a, R: Clock + Files> {
-    rt: R,
-    directory: &'a str,
-    path: &'a str,
-    mishap: Mishap,
-    reads: u32,
-}
-
-impl<'a, R: Clock + Files + AllocGlobal> Disturbing<'a, R> {
-    fn disturb(&mut self) -> io::Result<()> {
-        for _ in 0..5000u32 {
-            if fs::metadata(&self.rt, self.path)?.len() > 0 {
-                break;
-            }
-            thread::sleep(&self.rt, Duration::from_millis(1));
-        }
-        match self.mishap {
-            Mishap::Removed => fs::remove_file(&self.rt, self.path),
-            Mishap::Renamed => {
-                let other = format!(in self.rt.alloc(); "{}.1", self.path)?;
-                fs::rename(&self.rt, self.path, other.as_str())
-            }
-            Mishap::Truncated => fs::write(&self.rt, self.path, ""),
-            Mishap::FolderRemoved => fs::remove_dir_all(&self.rt, self.directory),
-        }
-    }
-}
-
-impl<'a, R: Clock + Files + AllocGlobal> Read for Disturbing<'a, R> {
-    fn read(&mut self, buf: &mut [u8]) -> io::Result<usize> {
-        self.reads = self.reads.saturating_add(1);
-        match self.reads {
-            1 => b"one\n".as_slice().read(buf),
-            2 => {
-                self.disturb()?;
-                b"two\n".as_slice().read(buf)
-            }
-            3 => b"three\n".as_slice().read(buf),
-            _ => Ok(0),
-        }
-    }
-}
-
-// Runs the program over a log to whose file this happens, and compares the file then.
-fn check_mishap<R: Host + Files + Abort>(
-    rt: R,
-    files: &HostRuntime,
-    directory: &str,
-    mishap: Mishap,
-) -> Result<(), Fail> {
-    let path = format!(in rt.alloc(); "{directory}/app")?;
-    let line = format!(in rt.alloc(); "never {directory} app")?;
-    let mut input = Disturbing {
-        rt,
-        directory,
-        path: path.as_str(),
-        mishap,
-        reads: 0,
-    };
-    let told = (1, "@log files not found again: 1\n");
-    check_files(rt, files, line.as_str(), &mut input, told);
-    expect_file(&rt, path.as_str(), b"two\nthree\n");
-    fs::remove_dir_all(files, directory)?;
-    Ok(())
-}
-
-// The lines after it are in a new file of the same name at once, and the run says that a file was not found again.
-#[test]
-fn a_file_that_is_gone_is_begun_anew(rt: HostRuntime) -> Result<(), Fail> {
-    let directory = fresh(&rt, "gone")?;
-    for mishap in [
-        Mishap::Removed,
-        Mishap::Renamed,
-        Mishap::Truncated,
-        Mishap::FolderRemoved,
-    ] {
-        check_mishap(rt, &rt, directory.as_str(), mishap)?;
-    }
-    Ok(())
+// Returns the path of a folder of this test's own, which doesn't exist.
+fn fresh(rt: &HostRuntime, name: &str) -> io::Result<String> {
+    let parent = env::temp_dir(rt)?;
+    let parent = parent.as_str();
+    let id = process::id(rt.process());
+    let path = format!(in rt.alloc(); "{parent}/rolltee_{id}_{name}")?;
+    let _ = fs::remove_dir_all(rt, path.as_str());
+    Ok(path)
 }
 
 // A file that ends with a newline; the folder where the check reads it, its name, and what is seen. What has no name can't be compared,
@@ -309,73 +142,6 @@ fn what_a_check_cannot_see_is_no_whole_file(rt: HostRuntime) -> Result<(), Fail>
         folder.note(Notice::Flush(&io::Error::other("refused")));
         expect_eq(&rt, check.unsynced(&folder), unsynced);
     }
-    fs::remove_dir_all(&rt, directory)?;
-    Ok(())
-}
-
-// A part of a line that is in the file already is ended if that is asked for, and only then.
-#[test]
-fn parts_of_other_runs_are_ended(rt: HostRuntime) -> Result<(), Fail> {
-    let directory = fresh(&rt, "parts")?;
-    let directory = directory.as_str();
-    fs::create_dir_all(&rt, directory)?;
-    let path = format!(in rt.alloc(); "{directory}/app")?;
-    for (option, before, after) in [
-        (" --whole-lines", "par", "par\na\nb"),
-        (" --whole-lines", "whole\n", "whole\na\nb"),
-        (" --whole-lines", "", "a\nb"),
-        ("", "par", "para\nb"),
-    ] {
-        fs::write(&rt, path.as_str(), before)?;
-        let line = format!(in rt.alloc(); "never {directory} app{option}")?;
-        check_files(rt, &rt, line.as_str(), &mut b"a\nb".as_slice(), (0, ""));
-        expect_file(&rt, path.as_str(), after.as_bytes());
-    }
-    fs::remove_dir_all(&rt, directory)?;
-    Ok(())
-}
-
-// What has the link's name, or that of a new one, stays, and the log goes on without the link, at any start.
-#[test]
-fn a_log_goes_on_without_its_link(rt: HostRuntime) -> Result<(), Fail> {
-    let directory = fresh(&rt, "blocked")?;
-    let directory = directory.as_str();
-    let line = format!(in rt.alloc(); "daily {directory} app {NAMED} --max-bytes 4")?;
-    for name in ["latest", ".latest.new"] {
-        fs::create_dir_all(&rt, directory)?;
-        let path = format!(in rt.alloc(); "{directory}/{name}")?;
-        fs::write(&rt, path.as_str(), "mine\n")?;
-        for files in [1, 1, 2, 2, 2u32] {
-            check_files(rt, &rt, line.as_str(), &mut b"a\n".as_slice(), (0, ""));
-            expect_file(&rt, path.as_str(), b"mine\n");
-            expect_eq(&rt, count_names(&rt, directory, ".log")?, files as usize);
-        }
-        fs::remove_dir_all(&rt, directory)?;
-    }
-    Ok(())
-}
-
-// A last file with a second link, as a copy of the folder by links leaves it, is left as it is. The next number is begun.
-#[test]
-fn a_file_with_a_second_link_is_left(rt: HostRuntime) -> Result<(), Fail> {
-    let directory = fresh(&rt, "linked")?;
-    let directory = directory.as_str();
-    let line = format!(in rt.alloc(); "daily {directory} app {NAMED} --max-bytes 100")?;
-    let copy = format!(in rt.alloc(); "{directory}/copy")?;
-    let newest = format!(in rt.alloc(); "{directory}/latest")?;
-    for (input, text) in [
-        ("one\n", "one\n"),
-        ("two\n", "two\n"),
-        ("three\n", "two\nthree\n"),
-    ] {
-        check_files(rt, &rt, line.as_str(), &mut input.as_bytes(), (0, ""));
-        expect_file(&rt, newest.as_str(), text.as_bytes());
-        if input == "one\n" {
-            let first = fs::canonicalize(&rt, newest.as_str())?;
-            fs::hard_link(&rt, first.as_str(), copy.as_str())?;
-        }
-    }
-    expect_file(&rt, copy.as_str(), b"one\n");
     fs::remove_dir_all(&rt, directory)?;
     Ok(())
 }

@@ -5,5 +5,3 @@
 pub mod books;
 pub mod pace;
 pub mod state;
-#[cfg(test)]
-mod tests;

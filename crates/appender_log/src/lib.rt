@@ -52,8 +52,6 @@ use times::{after_room, put_time};
 
 pub mod laws;
 mod one_line;
-#[cfg(test)]
-mod tests;
 mod times;
 
 /// The clock of a sink whose records have no times: nothing reads it. It is as a clock that can't be read.

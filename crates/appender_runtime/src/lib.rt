@@ -7,6 +7,4 @@ pub mod clock;
 pub mod host;
 pub mod make_writer;
 pub mod policy;
-#[cfg(test)]
-mod tests;
 pub mod waiting;

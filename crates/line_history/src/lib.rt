@@ -11,8 +11,6 @@ use std::marker::{Brand, Model, PhantomData};
 use std::snapshot::Snapshot;
 
 pub mod relay;
-#[cfg(test)]
-mod tests;
 
 /// Names a history for each place. A function is generic in it, and a call passes `Brand` and picks the names.
 pub trait Histories {

@@ -1,15 +1,18 @@
-// Each example, and what comes of it: the files in `logs`, or what a log was given.
+// Each example, and what comes of it: the files in `logs`, or what its log was given.
 use super::{
     builder, daily, line_queue, log_sink, make_writer, memory_folder, non_blocking,
     non_blocking_builder, rolling_file, rolling_file_appender, run_counted, run_lines,
     worker_guard,
 };
+use std::alloc::Global;
 use std::io::Write;
+use std::process::Abort;
+use std::sync::{Arc, Mutex, Wait};
 use std::test::Fail;
 use std::{fs, io};
 use tracing_appender::non_blocking::Closing;
 use tracing_appender::queue::Counts;
-use tracing_appender::rolling::{FileAppender, RollingFileAppender, Rotation, Switch};
+use tracing_appender::rolling::{RollingFileAppender, Rotation, Switch};
 
 const DONE: Closing = Closing::Done { left: 0 };
 
@@ -49,10 +52,46 @@ fn text_of(rt: &HostRuntime, prefix: &str) -> io::Result<String> {
     Ok(text)
 }
 
-// Opens a log of one file without what an earlier run left.
-fn open(rt: HostRuntime, name: &str) -> io::Result<FileAppender> {
-    clear(&rt, name)?;
-    Ok(RollingFileAppender::new(rt, Rotation::NEVER, "logs", name)?)
+fn expect_text(rt: &impl Abort, text: io::Result<String>, wanted: &str) {
+    let text = text.expect(rt, "a text");
+    assert_eq!(rt; text.as_str(), wanted);
+}
+
+// What a log of an example was given. The log and the test each have it.
+#[derive(Drop)]
+struct Page<R: Wait> {
+    rt: R,
+    text: Arc<Mutex<Vec<u8>>, Global>,
+}
+
+impl<R: Wait + AllocGlobal + Abort + Copy> Page<R> {
+    fn new(rt: R) -> Page<R> {
+        let text = Mutex::new(Vec::new(rt.alloc()));
+        let text = Arc::new(rt.alloc(), text).ok().expect(&rt, "memory");
+        Page { rt, text }
+    }
+
+    // Returns the same page as a log.
+    fn log(&self) -> Page<R> {
+        let text = Arc::try_clone(&self.text).expect(&self.rt, "memory");
+        Page { rt: self.rt, text }
+    }
+
+    fn expect(&self, wanted: &str) {
+        let text = self.text.lock(&self.rt);
+        assert_eq!(self.rt; text.as_slice(), wanted.as_bytes());
+    }
+}
+
+impl<R: Wait> Write for Page<R> {
+    fn write(&mut self, buf: &[u8]) -> io::Result<usize> {
+        self.text.lock(&self.rt).extend_from_slice(buf)?;
+        Ok(buf.len())
+    }
+
+    fn flush(&mut self) -> io::Result<()> {
+        Ok(())
+    }
 }
 
 #[test]
@@ -60,7 +99,7 @@ fn a_log_of_the_day(rt: HostRuntime) -> Result<(), Fail> {
     clear(&rt, "app.")?;
     daily::log_start(rt)?;
     daily::log_start(rt)?;
-    assert_eq!(rt; text_of(&rt, "app.")?.as_str(), "started\nstarted\n");
+    expect_text(&rt, text_of(&rt, "app."), "started\nstarted\n");
     Ok(())
 }
 
@@ -68,7 +107,7 @@ fn a_log_of_the_day(rt: HostRuntime) -> Result<(), Fail> {
 fn an_appender(rt: HostRuntime) -> Result<(), Fail> {
     clear(&rt, "web.")?;
     rolling_file_appender::log_request(rt)?;
-    assert_eq!(rt; text_of(&rt, "web.")?.as_str(), "GET / 200\n");
+    expect_text(&rt, text_of(&rt, "web."), "GET / 200\n");
     Ok(())
 }
 
@@ -89,25 +128,25 @@ fn a_builder(rt: HostRuntime) -> Result<(), Fail> {
 fn a_file_for_one_thread(rt: HostRuntime) -> Result<(), Fail> {
     clear(&rt, "20")?;
     assert_eq!(rt; rolling_file::log_two(rt)?, Switch::Opened);
-    assert_eq!(rt; text_of(&rt, "20")?.as_str(), "first\nsecond\n");
+    expect_text(&rt, text_of(&rt, "20"), "first\nsecond\n");
     Ok(())
 }
 
 #[test]
 fn a_queue(rt: HostRuntime) -> Result<(), Fail> {
-    let log = open(rt, "queue")?;
-    assert_eq!(rt; non_blocking::log_start(rt, log)?, DONE);
-    assert_eq!(rt; text_of(&rt, "queue")?.as_str(), "started\n");
+    let page = Page::new(rt);
+    assert_eq!(rt; non_blocking::log_start(rt, page.log())?, DONE);
+    page.expect("started\n");
     Ok(())
 }
 
 #[test]
 fn a_queue_with_settings(rt: HostRuntime) -> Result<(), Fail> {
-    let log = open(rt, "settings")?;
-    let (mut lines, guard) = non_blocking_builder::start(rt, log)?;
+    let page = Page::new(rt);
+    let (mut lines, guard) = non_blocking_builder::start(rt, page.log())?;
     lines.write_all(b"waited\n")?;
     assert_eq!(rt; guard.close(), DONE);
-    assert_eq!(rt; text_of(&rt, "settings")?.as_str(), "waited\n");
+    page.expect("waited\n");
     Ok(())
 }
 
@@ -127,36 +166,37 @@ impl Write for Full {
 
 #[test]
 fn a_guard(rt: HostRuntime) -> Result<(), Fail> {
-    let log = open(rt, "guard")?;
-    worker_guard::log_stop(rt, log)?;
-    assert_eq!(rt; text_of(&rt, "guard")?.as_str(), "stopped\n");
+    let page = Page::new(rt);
+    worker_guard::log_stop(rt, page.log())?;
+    page.expect("stopped\n");
     assert!(rt; worker_guard::log_stop(rt, Full).is_err());
     Ok(())
 }
 
 #[test]
 fn an_account(rt: HostRuntime) -> Result<(), Fail> {
-    let log = open(rt, "account")?;
-    let account = run_counted::greet(rt, log)?;
+    let page = Page::new(rt);
+    let account = run_counted::greet(rt, page.log())?;
     assert_eq!(rt; (account.accepted(), account.handed()), (2, 2));
-    assert_eq!(rt; text_of(&rt, "account")?.as_str(), "hello\nhello\n");
+    page.expect("hello\nhello\n");
     Ok(())
 }
 
 #[test]
 fn a_log_that_took_a_line(rt: HostRuntime) -> Result<(), Fail> {
-    let log = open(rt, "lines")?;
-    assert!(rt; run_lines::greet(rt, log)?);
-    assert_eq!(rt; text_of(&rt, "lines")?.as_str(), "hello\n");
+    let page = Page::new(rt);
+    assert!(rt; run_lines::greet(rt, page.log())?);
+    page.expect("hello\n");
     Ok(())
 }
 
 #[test]
 fn a_maker_of_writers(rt: HostRuntime) -> Result<(), Fail> {
-    let log = open(rt, "maker")?;
+    clear(&rt, "maker")?;
+    let log = RollingFileAppender::new(rt, Rotation::NEVER, "logs", "maker")?;
     make_writer::log_line(&log, b"a line\n")?;
     make_writer::log_line(&log, b"another\n")?;
-    assert_eq!(rt; text_of(&rt, "maker")?.as_str(), "a line\nanother\n");
+    expect_text(&rt, text_of(&rt, "maker"), "a line\nanother\n");
     Ok(())
 }
 
@@ -192,8 +232,8 @@ fn a_queue_of_two(rt: HostRuntime) -> Result<(), Fail> {
 
 #[test]
 fn a_sink(rt: HostRuntime) -> Result<(), Fail> {
-    let log = open(rt, "sink")?;
-    log_sink::log_read(rt, log)?;
-    assert_eq!(rt; text_of(&rt, "sink")?.as_str(), "[INFO  db] read rows=3\n");
+    let page = Page::new(rt);
+    log_sink::log_read(rt, page.log())?;
+    page.expect("[INFO  db] read rows=3\n");
     Ok(())
 }

@@ -1,0 +1,431 @@
+use appender_log::LogSink;
+use appender_runtime::clock::Clock;
+use appender_runtime::make_writer::MakeWriter;
+use log::{Level, Log, Logged, info, warn};
+use std::alloc::{AllocError, Global};
+use std::cell::{Cell, RefCell};
+use std::io::{ErrorKind, Write};
+use std::process::Abort;
+use std::sync::Wait;
+use std::sync::atomic::AtomicUsize;
+use std::sync::atomic::Ordering::SeqCst;
+use std::test::Fail;
+use std::{io, thread};
+
+mod times;
+
+// What writers do next.
+#[derive(Clone, Copy, Debug)]
+enum Next {
+    Takes,
+    // A write takes so many bytes at most.
+    TakesFirst(usize),
+    // So many writes are interrupted before one takes all.
+    IsInterrupted(u32),
+    // There is room for so many bytes, and then a write fails.
+    HasRoom(usize),
+    // There is room for so many bytes, and then so many writes are interrupted.
+    HasRoomBefore(usize, u32),
+    Fails,
+    CannotBeMade,
+}
+
+// Keeps what its writers get, with a bar after each write and a comma after each flush.
+#[derive(Drop)]
+struct Page {
+    text: RefCell<Vec<u8>>,
+    next: Cell<Next>,
+}
+
+#[derive(Drop)]
+struct PageWriter<'a>(&'a Page);
+
+impl Page {
+    fn new(alloc: Global) -> Page {
+        Page {
+            text: RefCell::new(Vec::new(alloc)),
+            next: Cell::new(Next::Takes),
+        }
+    }
+
+    fn add(&self, bytes: &[u8], end: &[u8]) -> io::Result<()> {
+        let Ok(mut text) = self.text.try_borrow_mut() else {
+            return Err(io::Error::from(ErrorKind::ResourceBusy));
+        };
+        text.extend_from_slice(bytes)?;
+        text.extend_from_slice(end)?;
+        Ok(())
+    }
+}
+
+impl<'a> MakeWriter<'a> for Page {
+    type Writer = PageWriter<'a>;
+
+    fn make_writer(&'a self) -> Result<PageWriter<'a>, AllocError> {
+        match self.next.get() {
+            Next::CannotBeMade => Err(AllocError),
+            _ => Ok(PageWriter(self)),
+        }
+    }
+}
+
+impl Page {
+    // How many of so many bytes a write takes.
+    fn take(&self, length: usize) -> io::Result<usize> {
+        match self.next.get() {
+            Next::Takes | Next::IsInterrupted(0) | Next::HasRoomBefore(0, 0) => Ok(length),
+            Next::TakesFirst(most) => Ok(most.min(length)),
+            Next::IsInterrupted(left) => self.interrupt(Next::IsInterrupted(left.saturating_sub(
+                1,
+            ))),
+            Next::HasRoomBefore(0, left) => {
+                self.interrupt(Next::HasRoomBefore(0, left.saturating_sub(1)))
+            }
+            Next::HasRoomBefore(room, left) => {
+                self.next
+                    .set(Next::HasRoomBefore(room.saturating_sub(length), left));
+                Ok(room.min(length))
+            }
+            Next::HasRoom(room) if room > 0 => {
+                self.next.set(Next::HasRoom(room.saturating_sub(length)));
+                Ok(room.min(length))
+            }
+            _ => Err(io::Error::from(ErrorKind::StorageFull)),
+        }
+    }
+
+    fn interrupt(&self, next: Next) -> io::Result<usize> {
+        self.next.set(next);
+        Err(io::Error::from(ErrorKind::Interrupted))
+    }
+}
+
+impl Write for PageWriter<'_> {
+    fn write(&mut self, buf: &[u8]) -> io::Result<usize> {
+        let taken = self.0.take(buf.len())?.min(buf.len());
+        self.0.add(&buf[..taken], b"|")?;
+        Ok(taken)
+    }
+
+    fn flush(&mut self) -> io::Result<()> {
+        self.0.add(b"", b",")
+    }
+}
+
+// Ends the test if the page has another text.
+fn expect_page(rt: &impl Abort, page: &Page, wanted: &str) {
+    let Ok(text) = page.text.try_borrow() else {
+        rt.panic("the text is borrowed");
+    };
+    let text = text.as_slice();
+    let wanted = wanted.as_bytes();
+    assert!(rt; text == wanted, "{text:?} instead of {wanted:?}");
+}
+
+#[test]
+fn a_record_is_one_write(rt: HostRuntime) {
+    let page = Page::new(rt.alloc());
+    let sink = LogSink::new(rt, &page);
+    let logger = Logged::new(rt, Level::Debug, &sink);
+    info!(logger; "");
+    let request = logger.span("request").with("id", 7);
+    info!(request; target: "", "started");
+    log::debug!(request; target: "db", rows = 3; "read {} bytes", 512);
+    warn!(logger; target: "db", by = "a", rows = 3; "two\nlines");
+    expect_page(
+        &rt,
+        &page,
+        "[INFO  acceptance_log::records] \n|\
+        [INFO ] request{id=7}: started\n|\
+        [DEBUG db] request{id=7}: read 512 bytes rows=3\n|\
+        [WARN  db] two\\nlines by=a rows=3\n|",
+    );
+}
+
+// A message and its form in a line.
+static ESCAPED: [(&str, &str); 9] = [
+    ("", ""),
+    ("plain ~ \u{80}\u{7ff}é𝄞", "plain ~ \u{80}\u{7ff}é𝄞"),
+    (
+        "in\n[INFO  auth] user root logged in",
+        "in\\n[INFO  auth] user root logged in",
+    ),
+    ("\r\n", "\\r\\n"),
+    ("\u{1b}[31mred", "\\x1b[31mred"),
+    ("\u{0}\t\u{1f}\u{7f}", "\\x00\\x09\\x1f\\x7f"),
+    ("a \\ and a \\n", "a \\ and a \\n"),
+    ("\n\n\n", "\\n\\n\\n"),
+    ("last\n", "last\\n"),
+];
+
+// Logs a message, and checks its line.
+fn expect_line<R: Host>(rt: R, message: &str, wanted: &str) {
+    let page = Page::new(rt.alloc());
+    let sink = LogSink::new(rt, &page);
+    let logger = Logged::new(rt, Level::Info, &sink);
+    info!(logger; target: "db", "{message}");
+    let line = format!(in rt.alloc(); "[INFO  db] {wanted}\n|").expect(&rt, "memory");
+    expect_page(&rt, &page, line.as_str());
+}
+
+fn expect_each_escaped<R: Host>(rt: R) {
+    for (message, wanted) in &ESCAPED {
+        expect_line(rt, *message, *wanted);
+    }
+}
+
+// A message of 5,000 bytes.
+fn expect_long<R: Host>(rt: R) {
+    let mut long = String::new(rt.alloc());
+    for _ in 0..5000u32 {
+        long.push('x').expect(&rt, "memory");
+    }
+    expect_line(rt, long.as_str(), long.as_str());
+}
+
+#[test]
+fn a_record_is_one_line_whatever_its_message(rt: HostRuntime) {
+    expect_each_escaped(rt);
+    expect_long(rt);
+}
+
+// What the tests ask of their runtime.
+trait Host: AllocGlobal + Wait + Abort + Copy + Drop {}
+
+impl<R: AllocGlobal + Wait + Abort + Copy + Drop> Host for R {}
+
+const LINE: &str = "[INFO  db] read rows=3\n";
+
+// Logs a record while writers do this, and checks how many records are lost then.
+fn expect_lost<R: Host, C: Clock>(
+    rt: R,
+    page: &Page,
+    sink: &LogSink<'_, Page, R, C>,
+    next: Next,
+    wanted: u64,
+) {
+    let logger = Logged::new(rt, Level::Info, sink);
+    page.next.set(next);
+    info!(logger; target: "db", rows = 3; "read");
+    let lost = sink.lost();
+    assert!(rt; lost == wanted, "{next:?}: {lost} instead of {wanted}");
+}
+
+// What writers do at two records, how many are lost then, and what is written.
+static LOST: [(Next, Next, u64, &str); 13] = [
+    (Next::Fails, Next::Takes, 1, "[INFO  db] read rows=3\n|"),
+    (
+        Next::CannotBeMade,
+        Next::Takes,
+        1,
+        "[INFO  db] read rows=3\n|",
+    ),
+    (
+        Next::TakesFirst(0),
+        Next::Takes,
+        1,
+        "|[INFO  db] read rows=3\n|",
+    ),
+    (
+        Next::TakesFirst(22),
+        Next::Takes,
+        0,
+        "[INFO  db] read rows=3|\n|[INFO  db] read rows=3\n|",
+    ),
+    (
+        Next::TakesFirst(23),
+        Next::Takes,
+        0,
+        "[INFO  db] read rows=3\n|[INFO  db] read rows=3\n|",
+    ),
+    // A record that was begun is ended before the next one.
+    (
+        Next::HasRoom(1),
+        Next::Takes,
+        1,
+        "[|\n|[INFO  db] read rows=3\n|",
+    ),
+    (
+        Next::HasRoom(22),
+        Next::Takes,
+        1,
+        "[INFO  db] read rows=3|\n|[INFO  db] read rows=3\n|",
+    ),
+    (
+        Next::HasRoom(23),
+        Next::Takes,
+        0,
+        "[INFO  db] read rows=3\n|[INFO  db] read rows=3\n|",
+    ),
+    (
+        Next::HasRoomBefore(5, 100),
+        Next::Takes,
+        0,
+        "[INFO|  db] read rows=3\n|[INFO  db] read rows=3\n|",
+    ),
+    (
+        Next::HasRoomBefore(5, 101),
+        Next::Takes,
+        1,
+        "[INFO|\n|[INFO  db] read rows=3\n|",
+    ),
+    (Next::HasRoom(5), Next::HasRoom(1), 2, "[INFO|\n|"),
+    (Next::HasRoom(5), Next::HasRoom(7), 2, "[INFO|\n|[INFO |"),
+    (Next::HasRoom(5), Next::Fails, 2, "[INFO|"),
+];
+
+// Logs two records on a page of their own.
+fn expect_two<R: Host>(rt: R, first: Next, second: Next, lost: u64, text: &str) {
+    let page = Page::new(rt.alloc());
+    let sink = LogSink::new(rt, &page);
+    expect_lost(rt, &page, &sink, first, lost.min(1));
+    expect_lost(rt, &page, &sink, second, lost);
+    expect_page(&rt, &page, text);
+}
+
+fn expect_each<R: Host>(rt: R) {
+    for (first, second, lost, text) in &LOST {
+        expect_two(rt, *first, *second, *lost, *text);
+    }
+}
+
+#[test]
+fn each_lost_record_is_counted_and_the_next_one_is_a_line(rt: HostRuntime) {
+    expect_each(rt);
+}
+
+// A third record is written after two that were cut short, with one newline for both.
+fn expect_ended_once<R: Host>(rt: R) {
+    let page = Page::new(rt.alloc());
+    let sink = LogSink::new(rt, &page);
+    expect_lost(rt, &page, &sink, Next::HasRoom(5), 1);
+    expect_lost(rt, &page, &sink, Next::Fails, 2);
+    expect_lost(rt, &page, &sink, Next::TakesFirst(0), 3);
+    expect_lost(rt, &page, &sink, Next::Takes, 3);
+    expect_lost(rt, &page, &sink, Next::Takes, 3);
+    expect_page(
+        &rt,
+        &page,
+        "[INFO||\n|[INFO  db] read rows=3\n|[INFO  db] read rows=3\n|",
+    );
+}
+
+#[test]
+fn a_record_that_was_cut_short_is_ended_once(rt: HostRuntime) {
+    expect_ended_once(rt);
+}
+
+// A line in pieces of so many bytes, with a bar after each.
+fn in_pieces<R: Host>(rt: R, most: usize) -> Vec<u8> {
+    let mut pieces = Vec::new(rt.alloc());
+    for piece in LINE.as_bytes().chunks(most.max(1)) {
+        pieces.extend_from_slice(piece).expect(&rt, "memory");
+        pieces.push(b'|').expect(&rt, "memory");
+    }
+    pieces
+}
+
+// Logs a record whose writes each take so many bytes at most.
+fn expect_in_pieces<R: Host>(rt: R, most: usize) {
+    let page = Page::new(rt.alloc());
+    let sink = LogSink::new(rt, &page);
+    expect_lost(rt, &page, &sink, Next::TakesFirst(most), 0);
+    let pieces = in_pieces(rt, most);
+    expect_page(&rt, &page, str::from_utf8(pieces.as_slice()).unwrap_or(""));
+}
+
+fn expect_in_pieces_of_each_length<R: Host>(rt: R) {
+    for most in 1..=LINE.len() {
+        expect_in_pieces(rt, most);
+    }
+}
+
+#[test]
+fn a_record_that_is_taken_in_pieces_is_whole(rt: HostRuntime) {
+    expect_in_pieces_of_each_length(rt);
+}
+
+// How often the write of a record is interrupted, how many records are lost, and what is written.
+static INTERRUPTED: [(u32, u64, &str); 3] = [
+    (1, 0, "[INFO  db] read rows=3\n|"),
+    (100, 0, "[INFO  db] read rows=3\n|"),
+    (101, 1, ""),
+];
+
+fn expect_interrupted<R: Host>(rt: R) {
+    for (times, lost, text) in &INTERRUPTED {
+        let page = Page::new(rt.alloc());
+        let sink = LogSink::new(rt, &page);
+        expect_lost(rt, &page, &sink, Next::IsInterrupted(*times), *lost);
+        expect_page(&rt, &page, *text);
+    }
+}
+
+#[test]
+fn an_interrupted_write_is_repeated_a_hundred_times(rt: HostRuntime) {
+    expect_interrupted(rt);
+}
+
+// A record of a level that the logger leaves out is not lost.
+#[test]
+fn the_logger_decides_by_level(rt: HostRuntime) {
+    let page = Page::new(rt.alloc());
+    let sink = LogSink::new(rt, &page);
+    let logger = Logged::new(rt, Level::Warn, &sink);
+    info!(logger; "left out");
+    assert!(rt; sink.lost() == 0);
+    expect_page(&rt, &page, "");
+}
+
+#[test]
+fn a_flush_reaches_a_writer(rt: HostRuntime) {
+    let page = Page::new(rt.alloc());
+    let sink = LogSink::new(rt, &page);
+    sink.flush();
+    page.next.set(Next::CannotBeMade);
+    sink.flush();
+    assert!(rt; sink.lost() == 0);
+    expect_page(&rt, &page, ",");
+}
+
+// Makes no writer. Of two threads that ask, the first waits for the other, for a bounded number of turns.
+#[derive(Drop)]
+struct NoWriters {
+    calls: AtomicUsize,
+}
+
+impl<'a> MakeWriter<'a> for NoWriters {
+    type Writer = PageWriter<'a>;
+
+    fn make_writer(&'a self) -> Result<PageWriter<'a>, AllocError> {
+        let call = self.calls.fetch_add(1, SeqCst);
+        for _ in 0..1000u32 {
+            if self.calls.load(SeqCst) > (call | 1) {
+                break;
+            }
+            thread::yield_now();
+        }
+        Err(AllocError)
+    }
+}
+
+// Logs a thousand records, all of which are lost.
+fn lose_records<R: AllocGlobal + Wait + Copy + Drop>(rt: R, sink: &LogSink<'_, NoWriters, R>) {
+    let logger = Logged::new(rt, Level::Info, sink);
+    for _ in 0..1000u32 {
+        info!(logger; "lost");
+    }
+}
+
+#[test]
+fn two_threads_share_a_sink(rt: HostRuntime) -> Result<(), Fail> {
+    let writers = NoWriters {
+        calls: AtomicUsize::new(0),
+    };
+    let sink = LogSink::new(rt, &writers);
+    thread::map_indices(&rt, rt.alloc(), 2, &|_| lose_records(rt, &sink))?;
+    assert!(rt; sink.lost() == 2000);
+    let shown = format!(in rt.alloc(); "{sink:?}")?;
+    assert!(rt; shown.as_str() == "LogSink { .. }");
+    Ok(())
+}
