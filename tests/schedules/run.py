@@ -32,20 +32,19 @@ import tempfile
 sys.dont_write_bytecode = True
 
 HERE = pathlib.Path(__file__).resolve().parent
-CRATES = ["acceptance_threads", "acceptance_folders", "acceptance_log"]
-# Tests of this module hold however slow threads are: time may pass also while a thread can go on.
-OF_SLOW_THREADS = "schedules::"
+CRATES = ["acceptance_schedules", "acceptance_threads", "acceptance_folders", "acceptance_log"]
+# Tests of this crate hold however slow threads are: time may pass also while a thread can go on.
+OF_SLOW_THREADS = "acceptance_schedules"
 # These write hundreds or thousands of lines, so that one schedule has tens of thousands of steps. Small tests of
-# that module have the same threads, with two lines each.
+# that crate have the same threads, with two lines each.
 TOO_LONG = {
     "acceptance_threads": [
-        "crowds::a_guard_that_waits_leaves_no_sender_asleep",
-        "crowds::a_guard_without_a_place_leaves_no_sender_asleep",
-        "crowds::crowds_get_through",
-        "plain_ends::a_queue_has_128000_places_by_default",
-        "plain_ends::the_worker_ends_after_the_last_clone",
-        "counted::tickets_are_returned_and_lines_are_in_order",
-        "counting::lines_of_many_senders_are_taken_or_lost",
+        "closing::a_guard_that_waits_leaves_no_sender_asleep",
+        "closing::a_guard_without_a_place_leaves_no_sender_asleep",
+        "stories::a_queue_has_128000_places_by_default",
+        "stories::crowds_of_clones_get_through",
+        "stories::crowds_of_counted_senders_get_through",
+        "stories::crowds_of_plain_senders_get_through",
     ],
     "acceptance_folders": [
         "crowds::no_line_of_full_files_is_lost",
@@ -123,7 +122,7 @@ def run_test(library, program, test, folder, **settings):
     env = {"LD_PRELOAD": str(library), "SCHED_LOCKED": str(program.locked), "TMPDIR": str(folder), "PATH": os.defpath}
     # Programs of `rt try` keep their locals on the stack, of which each fiber has its own.
     env["ASAN_OPTIONS"] = "detect_stack_use_after_return=0:detect_leaks=0"
-    env["SCHED_SLOW"] = str(int(test.startswith(OF_SLOW_THREADS)))
+    env["SCHED_SLOW"] = str(int(program.crate == OF_SLOW_THREADS))
     env.update({f"SCHED_{name}".rstrip("_"): str(value) for name, value in settings.items()})
     how = {"capture_output": True, "text": True, "errors": "replace", "timeout": LIMIT_SECONDS}
     return subprocess.run([program.path, test], env=env, cwd=folder, **how)

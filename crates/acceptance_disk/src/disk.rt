@@ -12,7 +12,7 @@ use std::time::Duration;
 pub const FOLDER: &str = "log/";
 
 /// The sorts of calls that can each be made to fail, named as std's traits name them.
-#[derive(Clone, Copy, Debug, PartialEq, Eq)]
+#[derive(Clone, Copy, PartialEq, Eq)]
 pub enum Call {
     OpenDir,
     OpenFile,
@@ -27,7 +27,7 @@ pub enum Call {
 }
 
 /// The result of a call that fails.
-#[derive(Clone, Copy, Debug)]
+#[derive(Clone, Copy)]
 pub enum DiskFault {
     /// An error of this kind.
     Kind(ErrorKind),
@@ -45,7 +45,7 @@ impl DiskFault {
 }
 
 /// What happens at a call.
-#[derive(Clone, Copy, Debug)]
+#[derive(Clone, Copy)]
 pub enum Event {
     /// It fails.
     Fails,
@@ -56,7 +56,7 @@ pub enum Event {
 }
 
 /// What an entry is.
-#[derive(Clone, Copy, Debug)]
+#[derive(Clone, Copy)]
 pub enum Kind {
     /// A plain file.
     File,

@@ -230,15 +230,19 @@ fn no_counted_byte_is_lost_whichever_call_fails(rt: HostRuntime) {
     rt.panic("more calls than there can be");
 }
 
-// An append that finds no room waits, and is no failure then.
-#[test]
-fn an_append_to_a_full_disk_waits(rt: HostRuntime) {
-    let disk = Disk::new(rt.alloc());
+// Appends to a file while the disk has no room at the first attempt, and checks that this is no failure.
+fn append_late<S: Folder>(rt: &impl Abort, disk: &Disk, mut folder: S) {
+    let mut file = folder.open(LOG).expect(rt, "a file");
     disk.fault.set(DiskFault::Kind(ErrorKind::StorageFull));
-    let mut folder = folder_of(&rt, &disk).waiting(rt, Faults::Temporary);
-    let mut file = folder.open(LOG).expect(&rt, "a file");
     disk.event
         .set((disk.calls().saturating_add(1), Event::Fails));
     let taken = folder.append(&mut file, b"one").ok();
-    expect_eq_of(&rt, LOG, (taken, folder.failures()), (Some(3), 0));
+    expect_eq_of(rt, LOG, (taken, folder.failures()), (Some(3), 0));
+}
+
+#[test]
+fn an_append_to_a_full_disk_waits(rt: HostRuntime) {
+    let disk = Disk::new(rt.alloc());
+    let folder = folder_of(&rt, &disk).waiting(rt, Faults::Temporary);
+    append_late(&rt, &disk, folder);
 }

@@ -50,7 +50,7 @@ pub(crate) const LINKED: Settings = Settings {
 pub(crate) const KEEPS_TWO: Settings = Settings { max: 2, ..PLAIN };
 
 /// A step of a run, or before its opening. A failure that a step sets lasts until another step changes it.
-#[derive(Clone, Copy, Debug)]
+#[derive(Clone, Copy)]
 pub(crate) enum DiskStep {
     /// A text is put at a moment, in seconds since 1970.
     Put(u64, &'static str),
@@ -183,7 +183,7 @@ fn do_step<S: Folder, C: Clock>(
             told.add_put(rt, text, log.put(text.as_bytes()));
         }
         DiskStep::Flush => told.add(rt, if log.flush().is_ok() { "ok\n" } else { "err\n" }),
-        DiskStep::Syncs(wanted) => expect_eq_of(rt, step, disk.syncs(), wanted),
+        DiskStep::Syncs(wanted) => expect_eq_of(rt, "syncs", disk.syncs(), wanted),
         _ => change(rt, disk, step),
     }
 }
@@ -298,21 +298,18 @@ pub(crate) fn disk_after(rt: &impl AllocAndAbort, steps: &[DiskStep]) -> Disk {
 
 // Checks a run in which the event is at the call of this number.
 fn check_run(rt: &impl AllocAndAbort, row: &Row<'_>, number: usize) {
-    let (settings, before, (event, _), steps, wanted) = row;
+    let (settings, before, (event, _), steps, (answers, files, printed)) = *row;
     let disk = disk_after(rt, before);
-    disk.event.set((number, *event));
-    let outcome = run_log(rt, &disk, settings, steps);
-    let texts = (
-        outcome.answers.as_str(),
-        outcome.files.as_str(),
-        outcome.printed.as_str(),
-    );
-    expect_eq_of(rt, (number, *steps), texts, *wanted);
+    disk.event.set((number, event));
+    let outcome = run_log(rt, &disk, &settings, steps);
+    expect_eq_of(rt, number, outcome.answers.as_str(), answers);
+    expect_eq_of(rt, number, outcome.files.as_str(), files);
+    expect_eq_of(rt, number, outcome.printed.as_str(), printed);
     // A file that comes holds bytes that no put counts.
     if !matches!(event, Event::Comes(_, Kind::File, _)) {
         expect_eq_of(
             rt,
-            (number, *steps),
+            answers,
             outcome.appended.as_str(),
             outcome.counted.as_str(),
         );

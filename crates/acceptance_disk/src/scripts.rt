@@ -13,11 +13,12 @@ use tracing_appender::store::{Folder, Kind as StoreKind, MemoryFolder};
 // Whether a disk can't do what a script says: fail at a call by its number among those of a folder,
 // or give a creation moment.
 fn needs_memory(script: &str) -> bool {
-    script.lines().any(is_of_memory)
-}
-
-fn is_of_memory(line: &str) -> bool {
-    line.starts_with("fail ") || line.starts_with("short ") || line.starts_with("created ")
+    for line in script.lines() {
+        if line.starts_with("fail ") || line.starts_with("short ") || line.starts_with("created ") {
+            return true;
+        }
+    }
+    false
 }
 
 // The replies to these steps, and the folder after them.

@@ -5,6 +5,7 @@ use crate::scene::{
     AllocAndAbort, ELEVEN, START, TestClock, WaitAndAbort, Way, expect_bytes, hourly_log,
     kind_of_error, open_appender,
 };
+use Act::{Direct, Flush, Short, Writer};
 use appender_rolling::rolling::{Builder, InitError, MakeWriter, RollingFileAppender, SystemClock};
 use appender_store::store::{Folder, MemoryFolder};
 use std::fmt::Debug;
@@ -12,17 +13,21 @@ use std::io::{ErrorKind, Write};
 use std::process::Abort;
 use std::time;
 
-// A step with an appender.
-#[derive(Clone, Copy, Debug)]
-enum Step {
-    // The clock shows this, and one call of `write` takes all of this text.
-    Write(i64, &'static str),
-    // The clock shows this, and a writer of its own writes all of this text and is flushed.
-    Writer(i64, &'static str),
-    // The clock shows this, and a writer of its own can't write all of this text.
-    Short(i64, &'static str),
+// What is done with an appender.
+#[derive(Clone, Copy)]
+enum Act {
+    // One call of its own `write` takes all of the text.
+    Direct,
+    // A writer of its own writes all of the text, and is flushed.
+    Writer,
+    // A writer of its own can't write all of the text.
+    Short,
+    // It is flushed.
     Flush,
 }
+
+// The same, at which moment, and with which text.
+type Step = (Act, i64, &'static str);
 
 type Appender<'a, R> = RollingFileAppender<MemoryFolder, &'a TestClock, R>;
 
@@ -33,40 +38,30 @@ fn write_all<R: WaitAndAbort>(rt: &R, appender: &Appender<'_, R>, text: &str) ->
     written.or(kind_of_error(writer.flush()))
 }
 
-// Takes a step, and returns how often the clock may have been read for it.
+// Takes a step, and returns how often the clock has to be read for it.
 fn take<R: WaitAndAbort>(
     rt: &R,
     appender: &mut Appender<'_, R>,
     clock: &TestClock,
-    step: Step,
+    (act, moment, text): Step,
 ) -> u64 {
-    match step {
-        Step::Write(moment, text) => {
-            clock.set(moment);
+    clock.set(moment);
+    match act {
+        Act::Direct => {
             let taken = appender.write(text.as_bytes()).expect(rt, "a write");
-            expect_eq_of(rt, step, taken, text.len());
-            1
+            expect_eq_of(rt, text, taken, text.len());
         }
-        Step::Writer(moment, text) => {
-            clock.set(moment);
-            expect_eq_of(rt, step, write_all(rt, appender, text), None);
-            1
+        Act::Writer => expect_eq_of(rt, text, write_all(rt, appender, text), None),
+        Act::Short => {
+            let fault = write_all(rt, appender, text);
+            expect_eq_of(rt, text, fault, Some(ErrorKind::WriteZero));
         }
-        Step::Short(moment, text) => {
-            clock.set(moment);
-            expect_eq_of(
-                rt,
-                step,
-                write_all(rt, appender, text),
-                Some(ErrorKind::WriteZero),
-            );
-            1
-        }
-        Step::Flush => {
+        Act::Flush => {
             appender.flush().expect(rt, "a flush");
-            0
+            return 0;
         }
     }
+    1
 }
 
 // Takes these steps, and checks after each how often the clock was read.
@@ -79,7 +74,7 @@ fn take_all<R: WaitAndAbort>(
     let mut reads = clock.reads();
     for step in steps {
         reads = reads.saturating_add(take(rt, appender, clock, *step));
-        expect_eq_of(rt, *step, clock.reads(), reads);
+        expect_eq_of(rt, step.2, clock.reads(), reads);
     }
 }
 
@@ -94,33 +89,33 @@ type Row = (
 #[rattlefmt::skip]
 static ROWS: [Row; 8] = [
     // A byte at 11:00 and one a second before.
-    (0, &[], &[Step::Write(ELEVEN, "a"), Step::Write(ELEVEN - 1, "b"), Step::Flush],
+    (0, &[], &[(Direct, ELEVEN, "a"), (Direct, ELEVEN - 1, "b"), (Flush, ELEVEN, "")],
         &[("app.2020-02-01-10", ""), ("app.2020-02-01-11", "ab")]),
     // After two bytes a file is full, and at eleven a period begins.
-    (2, &[], &[Step::Writer(START, "a"), Step::Writer(START, "b"), Step::Writer(START, "c"), Step::Writer(ELEVEN, "d"),
-        Step::Writer(START, "e")],
+    (2, &[], &[(Writer, START, "a"), (Writer, START, "b"), (Writer, START, "c"), (Writer, ELEVEN, "d"),
+        (Writer, START, "e")],
         &[("app.2020-02-01-10.000000", "ab"), ("app.2020-02-01-10.000001", "c"), ("app.2020-02-01-11.000000", "de")]),
     // Each file contains at most ten bytes, or one piece. An empty piece needs room for one byte.
-    (10, &[], &[Step::Write(START, "one"), Step::Write(START, "and six"), Step::Write(START, "x"),
-        Step::Write(START, ""), Step::Write(START, "more than ten"), Step::Write(START, ""), Step::Write(START, "more than ten more"),
-        Step::Write(START, "ab"), Step::Write(START, "cdefghi"), Step::Write(START, "jk"), Step::Write(START, "")],
+    (10, &[], &[(Direct, START, "one"), (Direct, START, "and six"), (Direct, START, "x"),
+        (Direct, START, ""), (Direct, START, "more than ten"), (Direct, START, ""), (Direct, START, "more than ten more"),
+        (Direct, START, "ab"), (Direct, START, "cdefghi"), (Direct, START, "jk"), (Direct, START, "")],
         &[("app.2020-02-01-10.000000", "oneand six"), ("app.2020-02-01-10.000001", "x"),
         ("app.2020-02-01-10.000002", "more than ten"), ("app.2020-02-01-10.000003", "more than ten more"),
         ("app.2020-02-01-10.000004", "abcdefghi"), ("app.2020-02-01-10.000005", "jk")]),
     // A byte of room is left, so no writer begins a file.
-    (10, &[], &[Step::Writer(START, "nine byte"), Step::Writer(START, "")],
+    (10, &[], &[(Writer, START, "nine byte"), (Writer, START, "")],
         &[("app.2020-02-01-10.000000", "nine byte")]),
     // A writer may write past the limit.
-    (10, &[], &[Step::Writer(START, "nine byte"), Step::Writer(START, "past it")],
+    (10, &[], &[(Writer, START, "nine byte"), (Writer, START, "past it")],
         &[("app.2020-02-01-10.000000", "nine bytepast it")]),
     // The file is full, so a writer begins the next one before it writes.
-    (10, &[], &[Step::Writer(START, "nine byte"), Step::Writer(START, "s"), Step::Writer(START, "")],
+    (10, &[], &[(Writer, START, "nine byte"), (Writer, START, "s"), (Writer, START, "")],
         &[("app.2020-02-01-10.000000", "nine bytes"), ("app.2020-02-01-10.000001", "")]),
-    (10, &[], &[Step::Writer(START, "nine byte"), Step::Writer(START, "past it"), Step::Writer(START, "a"),
-        Step::Writer(START, "b")],
+    (10, &[], &[(Writer, START, "nine byte"), (Writer, START, "past it"), (Writer, START, "a"),
+        (Writer, START, "b")],
         &[("app.2020-02-01-10.000000", "nine bytepast it"), ("app.2020-02-01-10.000001", "ab")]),
     // A line continues after a short append, until one takes nothing. Call 4 flushes the first writer.
-    (0, &[(2, 2), (5, 1), (6, 0)], &[Step::Writer(START, "hello "), Step::Short(START, "bye")],
+    (0, &[(2, 2), (5, 1), (6, 0)], &[(Writer, START, "hello "), (Short, START, "bye")],
         &[("app.2020-02-01-10", "hello b")]),
 ];
 

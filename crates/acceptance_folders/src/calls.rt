@@ -59,6 +59,12 @@ fn append_to<S: Folder>(rt: &impl Abort, folder: &mut S, name: &str, bytes: &[u8
     expect_eq_of(rt, name, taken, bytes.len());
 }
 
+// Checks how many entries a folder lists.
+fn expect_listed<S: Folder>(rt: &impl Abort, folder: &mut S, wanted: usize) {
+    let listed = folder.list().expect(rt, "a listing");
+    expect_eq(rt, listed.len(), wanted);
+}
+
 // Makes a link, and checks what it says and that the next one may replace it.
 fn link_to<S: Folder>(
     rt: &impl FilesAndAbort,
@@ -105,9 +111,10 @@ fn expect_entry(rt: &impl Abort, entry: &Listed, tells_creation: bool) {
     expect_eq_of(rt, name, entry.kind, wanted);
     expect_eq_of(rt, name, entry.created.is_some(), tells_creation);
     // Later than 2020-02-01 in nanoseconds, and not in seconds.
-    let is_late = entry
-        .created
-        .is_none_or(|moment| moment > 1_580_515_200_000_000_000);
+    let is_late = match entry.created {
+        Some(moment) => moment > 1_580_515_200_000_000_000,
+        None => true,
+    };
     expect_eq_of(rt, name, is_late, true);
 }
 
@@ -169,7 +176,7 @@ fn take<S: Folder>(rt: &impl FilesAndAbort, folder: &mut S, directory: &str, ste
         Step::Remove(name) => expect_eq(rt, kind_of_error(folder.remove(name)), None),
         Step::Link(name, target) => link_to(rt, folder, directory, name, target),
         Step::LongLink(character, count) => link_long(rt, folder, directory, character, count),
-        Step::Lists(wanted) => expect_eq(rt, folder.list().map_or(0, |all| all.len()), wanted),
+        Step::Lists(wanted) => expect_listed(rt, folder, wanted),
         Step::Kinds => expect_kinds(rt, folder, directory),
         Step::NoList(wanted) => expect_eq(rt, kind_of_error(folder.list()), Some(wanted)),
         Step::Failed(wanted) => expect_eq_of(rt, directory, folder.failures(), wanted),

@@ -16,9 +16,15 @@ use std::{fs, io};
 // Whether a script says what a directory can't do: fail at a call by its number among those of a folder, give a creation
 // moment, or choose old files by one.
 fn needs_memory(script: &str) -> bool {
-    let keeps_some = script.lines().any(|line| line.starts_with("max "));
-    let by_name = script.lines().any(|line| line == "by-name");
-    script.lines().any(is_of_memory) || keeps_some && !by_name
+    let (mut keeps_some, mut by_name) = (false, false);
+    for line in script.lines() {
+        if is_of_memory(line) {
+            return true;
+        }
+        keeps_some = keeps_some || line.starts_with("max ");
+        by_name = by_name || line == "by-name";
+    }
+    keeps_some && !by_name
 }
 
 fn is_of_memory(line: &str) -> bool {

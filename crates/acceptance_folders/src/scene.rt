@@ -38,7 +38,7 @@ pub(crate) trait WaitAndAbort: AllocGlobal + Wait + Abort + Copy + Drop {}
 impl<R: AllocGlobal + Wait + Abort + Copy + Drop> WaitAndAbort for R {}
 
 /// What a clock shows after it was read.
-#[derive(Clone, Copy, Debug)]
+#[derive(Clone, Copy)]
 pub(crate) enum Way {
     /// This number of seconds more.
     Steps(i64),
@@ -149,7 +149,7 @@ pub(crate) fn folder_at<R: FilesAndAbort>(rt: &R, path: &str) -> DirFolder<R> {
 }
 
 /// An entry of a directory: its name, and what a file reads as or a link says.
-#[derive(Clone, Copy, Debug)]
+#[derive(Clone, Copy)]
 pub(crate) enum Entry<'a> {
     File(&'a str, &'a str),
     Link(&'a str, &'a str),
@@ -159,13 +159,19 @@ pub(crate) enum Entry<'a> {
 /// Makes these entries.
 pub(crate) fn fill(rt: &impl FilesAndAbort, directory: &str, entries: &[Entry<'_>]) {
     for entry in entries {
-        let made = match *entry {
-            Entry::File(name, text) => fs::write(rt, at(rt, directory, name), text),
-            Entry::Link(name, target) => symlink(rt, target, at(rt, directory, name)),
-            Entry::Dir(name) => fs::create_dir(rt, at(rt, directory, name)),
-        };
-        made.expect(rt, "an entry");
+        let (Entry::File(name, _) | Entry::Link(name, _) | Entry::Dir(name)) = *entry;
+        make(rt, at(rt, directory, name).as_str(), *entry);
     }
+}
+
+// Makes an entry at a path.
+fn make(rt: &impl FilesAndAbort, path: &str, entry: Entry<'_>) {
+    let made = match entry {
+        Entry::File(_, text) => fs::write(rt, path, text),
+        Entry::Link(_, target) => symlink(rt, target, path),
+        Entry::Dir(_) => fs::create_dir(rt, path),
+    };
+    made.expect(rt, "an entry");
 }
 
 /// Checks that a directory has exactly these entries.
@@ -222,8 +228,8 @@ pub(crate) fn expect_bytes(
     folder: &MemoryFolder,
     wanted: &[(&str, &str)],
 ) {
-    let count = folder.names().map_or(0, |names| names.len());
-    expect_eq(rt, count, wanted.len());
+    let names = folder.names().expect(rt, "memory");
+    expect_eq(rt, names.len(), wanted.len());
     for (name, text) in wanted {
         expect_eq_of(rt, name, folder.bytes(name), Some(text.as_bytes()));
     }
@@ -259,5 +265,8 @@ pub(crate) fn in_memory<C: Clock, R: AllocGlobal + Abort + Copy + Drop>(
 
 /// The kind of the error, if there is one.
 pub(crate) fn kind_of_error<T: Drop>(answer: io::Result<T>) -> Option<ErrorKind> {
-    answer.err().map(|error| error.kind())
+    match answer {
+        Ok(_) => None,
+        Err(error) => Some(error.kind()),
+    }
 }

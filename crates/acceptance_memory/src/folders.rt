@@ -30,14 +30,18 @@ fn put(folder: &mut MemoryFolder, name: &str, kind: Kind) -> Result<(), PutError
     }
 }
 
+fn put_all(rt: &impl Abort, folder: &mut MemoryFolder, kind: Kind) {
+    for (name, wanted) in &PUTS {
+        expect_eq_of(rt, *name, put(folder, name, kind), *wanted);
+    }
+}
+
 // Only what names one entry is put, and the first put makes an absent folder.
 #[test]
 fn puts_names_of_one_entry(rt: HostRuntime) {
     for kind in [Kind::File, Kind::Folder, Kind::Link] {
         let mut folder = MemoryFolder::absent(rt.alloc());
-        for (name, wanted) in &PUTS {
-            expect_eq_of(&rt, *name, put(&mut folder, name, kind), *wanted);
-        }
+        put_all(&rt, &mut folder, kind);
         expect_names(&rt, &folder, &["...", ".a", "a", "a.2020-02-01"]);
         expect_eq(&rt, folder.kind("a"), Some(kind));
         expect_eq(&rt, folder.list().expect(&rt, "a listing").len(), 4);

@@ -1,6 +1,7 @@
 // Lines arrive, and each of many histories has a place.
 ghost use Rattle.std.specs.Prelude.{◌≡◌, ◌<◌, ℕ, map, slice_index, vec_len};
 
+use crate::expect::{bytes, expect_eq};
 use line_history::relay::relay;
 use line_history::{Blank, Histories, open_all, record};
 use std::alloc::{AllocError, Global};
@@ -9,21 +10,22 @@ use std::marker::Brand;
 use std::process::Abort;
 use std::test::*;
 
+static LINES: [&str; 3] = ["first\n", "secon\n", "third\n"];
+
 #[test]
-fn lines_arrive_in_their_order(rt: HostRuntime) -> Result<(), Fail> {
-    let alloc = rt.alloc();
-    let mut lines = VecDeque::new(alloc);
-    for line in [b"first\n", b"secon\n", b"third\n"] {
-        lines.push_back(line.to_vec(alloc)?)?;
+fn lines_arrive_in_their_order(rt: HostRuntime) {
+    let mut lines = VecDeque::new(rt.alloc());
+    for line in &LINES {
+        lines.push_back(bytes(&rt, line)).expect(&rt, "memory");
     }
-    let Some(log) = relay(&rt, alloc, lines) else {
+    let Some(log) = relay(&rt, rt.alloc(), lines) else {
         rt.panic("out of memory")
     };
-    assert_eq!(rt; log.len(), 3);
-    assert_eq!(rt; log[0].as_slice(), b"first\n".as_slice());
-    assert_eq!(rt; log[1].as_slice(), b"secon\n".as_slice());
-    assert_eq!(rt; log[2].as_slice(), b"third\n".as_slice());
-    Ok(())
+    expect_eq(&rt, log.len(), 3);
+    for (place, line) in LINES.iter().enumerate() {
+        let arrived = log.get(place).expect(&rt, "a line");
+        expect_eq(&rt, arrived.as_slice(), line.as_bytes());
+    }
 }
 
 // Records the line at the second place, and returns the number of places.

@@ -80,22 +80,36 @@ fn counts_of(counts: &LineCounts) -> (u64, u64) {
     (counts.taken(), counts.lost())
 }
 
-fn write_each(writer: &mut impl Write, lines: &[&str]) {
+// Writes each line, and returns the last error.
+fn write_each(writer: &mut impl Write, lines: &[&str]) -> Option<ErrorKind> {
+    let mut error = None;
     for line in lines {
-        let _ = writer.write(line.as_bytes()).is_ok();
+        if let Err(fault) = writer.write(line.as_bytes()) {
+            error = Some(fault.kind());
+        }
     }
+    error
 }
 
-fn check_batch(rt: &impl AllocAndAbort, row: usize, run: &BatchRun) {
+fn check_batch(rt: &impl AllocAndAbort, row: usize, run: &BatchRun, flushes_fail: bool) {
     let (capacity, lines, acts, wanted, text, writes, error) = run;
     let mut writer = FaultyWriter::new(rt.alloc(), acts);
+    writer.flushes_fail = flushes_fail;
     let made = BatchWriter::new(rt.alloc(), &mut writer, *capacity);
     let (mut batch, counts) = made.expect(rt, "memory");
-    write_each(&mut batch, lines);
-    expect_eq_of(rt, row, kind_of(batch.flush()), *error);
+    let written = write_each(&mut batch, lines);
+    // Only the write of a line by itself reports its error.
+    let is_alone = lines.iter().any(|line| line.len() > *capacity);
+    expect_eq_of(rt, row, written, if is_alone { *error } else { None });
+    // The error of a line is reported once, and before that of a flush.
+    let fault = if flushes_fail {
+        Some(QuotaExceeded)
+    } else {
+        None
+    };
+    expect_eq_of(rt, row, kind_of(batch.flush()), error.or(fault));
     expect_eq_of(rt, row, counts_of(&counts), *wanted);
-    // A second flush has nothing to report.
-    expect_eq_of(rt, row, kind_of(batch.flush()), None);
+    expect_eq_of(rt, row, kind_of(batch.flush()), fault);
     drop(batch);
     expect_eq_of(rt, row, writer.text.as_slice(), text.as_bytes());
     expect_eq_of(rt, row, (writer.writes, writer.flushes), (*writes, 2));
@@ -104,29 +118,18 @@ fn check_batch(rt: &impl AllocAndAbort, row: usize, run: &BatchRun) {
 #[test]
 fn lines_are_written_together(rt: HostRuntime) {
     for (row, run) in BATCH_RUNS.iter().enumerate() {
-        check_batch(&rt, row, run);
+        check_batch(&rt, row, run, false);
+        check_batch(&rt, row, run, true);
     }
 }
 
-// The error of a line by itself is that of its write. The error of the writer's flush is reported too.
-#[test]
-fn errors_are_reported(rt: HostRuntime) {
-    let acts = &[Fail(QuotaExceeded)];
-    let mut writer = FaultyWriter::new(rt.alloc(), acts);
-    writer.flushes_fail = true;
-    let made = BatchWriter::new(rt.alloc(), &mut writer, 2);
-    let (mut batch, _counts) = made.expect(&rt, "memory");
-    let written = batch.write(b"longer\n");
-    expect_eq(&rt, kind_of(written), Some(QuotaExceeded));
-    expect_eq(&rt, kind_of(batch.flush()), Some(QuotaExceeded));
-    expect_eq(&rt, kind_of(batch.flush()), Some(StorageFull));
-}
+static MANY: [&str; 1025] = ["a\n"; 1025];
 
-fn write_times(rt: &impl AllocAndAbort, writer: &mut impl Write, line: &[u8], count: u32) {
-    for _ in 0..count {
-        expect_eq(rt, writer.write(line).is_ok(), true);
-    }
-}
+// Lines of 100 bytes.
+#[rattlefmt::skip]
+static LONG: [&str; 1000] = [
+    "xxxxxxxxxxxxxxxxxxxxxxxxxxxxxxxxxxxxxxxxxxxxxxxxxxxxxxxxxxxxxxxxxxxxxxxxxxxxxxxxxxxxxxxxxxxxxxxxxxxx"; 1000
+];
 
 // Only a flush, and a line without room, write. So does the end of a writer. 655 lines of 100 bytes fit into 64 KiB.
 #[test]
@@ -134,11 +137,13 @@ fn lines_wait_for_a_flush(rt: HostRuntime) {
     let mut writer = FaultyWriter::new(rt.alloc(), &[]);
     let made = BatchWriter::new(rt.alloc(), &mut writer, 1 << 16);
     let (mut batch, counts) = made.expect(&rt, "memory");
-    write_times(&rt, &mut batch, b"a\n", 1025);
+    expect_eq(&rt, write_each(&mut batch, &MANY), None);
     expect_eq(&rt, counts_of(&counts), (1024, 0));
     expect_eq(&rt, batch.flush().is_ok(), true);
     expect_eq(&rt, counts_of(&counts), (1025, 0));
-    write_times(&rt, &mut batch, [b'x'; 100].as_slice(), 100_000);
+    for _ in 0..100 {
+        expect_eq(&rt, write_each(&mut batch, &LONG), None);
+    }
     // 152 times 655 lines.
     expect_eq(&rt, counts_of(&counts), (100_585, 0));
     drop(batch);
@@ -150,33 +155,41 @@ fn lines_wait_for_a_flush(rt: HostRuntime) {
 // Lines of 16 bytes together.
 static LINES: [&str; 7] = ["a\n", "bc\n", "", "d\ne\n", "\n", "fgh\n", "ij"];
 
-// Compares what a log holds if a write fails after this many bytes, and the counts, with those of lines that are written
-// one by one.
-fn check_fault_at(rt: &impl AllocAndAbort, place: usize, capacity: usize) {
-    let mut alone = FaultyWriter::new(rt.alloc(), &[]);
-    alone.room = Some(place);
-    let made = CountingWriter::new(rt.alloc(), &mut alone);
-    let (mut counting, wanted) = made.expect(rt, "memory");
-    write_each(&mut counting, &LINES);
+// What a log holds if a write fails after this many bytes, and the counts.
+type Written = (Vec<u8>, (u64, u64));
+
+fn write_alone(rt: &impl AllocAndAbort, place: usize) -> Written {
+    let mut writer = FaultyWriter::new(rt.alloc(), &[]);
+    writer.room = Some(place);
+    let made = CountingWriter::new(rt.alloc(), &mut writer);
+    let (mut counting, counts) = made.expect(rt, "memory");
+    let _ = write_each(&mut counting, &LINES);
     let _ = counting.flush().is_ok();
     drop(counting);
-    let mut together = FaultyWriter::new(rt.alloc(), &[]);
-    together.room = Some(place);
-    let made = BatchWriter::new(rt.alloc(), &mut together, capacity);
+    let FaultyWriter { text, .. } = writer;
+    (text, counts_of(&counts))
+}
+
+fn write_together(rt: &impl AllocAndAbort, place: usize, capacity: usize) -> Written {
+    let mut writer = FaultyWriter::new(rt.alloc(), &[]);
+    writer.room = Some(place);
+    let made = BatchWriter::new(rt.alloc(), &mut writer, capacity);
     let (mut batch, counts) = made.expect(rt, "memory");
-    write_each(&mut batch, &LINES);
+    let _ = write_each(&mut batch, &LINES);
     let _ = batch.flush().is_ok();
     drop(batch);
-    let row = (place, capacity);
-    expect_eq_of(rt, row, together.text.as_slice(), alone.text.as_slice());
-    expect_eq_of(rt, row, counts_of(&counts), counts_of(&wanted));
+    let FaultyWriter { text, .. } = writer;
+    (text, counts_of(&counts))
 }
 
 #[test]
 fn faults_leave_what_they_leave_of_single_lines(rt: HostRuntime) {
-    for capacity in [0usize, 1, 3, 6, 16, 64] {
-        for place in 0..17usize {
-            check_fault_at(&rt, place, capacity);
+    for place in 0..17usize {
+        let (wanted, lines) = write_alone(&rt, place);
+        for capacity in [0usize, 1, 3, 6, 16, 64] {
+            let (text, counts) = write_together(&rt, place, capacity);
+            expect_eq_of(&rt, (place, capacity), text.as_slice(), wanted.as_slice());
+            expect_eq_of(&rt, (place, capacity), counts, lines);
         }
     }
 }

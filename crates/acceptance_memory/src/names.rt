@@ -102,6 +102,14 @@ fn built_names(rt: &impl AllocAndAbort, naming: Naming<'_>) -> Result<Names, Ini
     builder.expect(rt, "memory").names(rt.alloc())
 }
 
+/// Names that were made.
+pub(crate) fn names_in(rt: &impl Abort, made: Result<Names, InitError>) -> Names {
+    match made {
+        Ok(names) => names,
+        Err(_) => rt.panic("no names"),
+    }
+}
+
 /// What a log's files are called.
 pub(crate) fn names_of(rt: &impl AllocAndAbort, naming: Naming<'_>) -> Result<Names, InitError> {
     match naming {
@@ -110,28 +118,34 @@ pub(crate) fn names_of(rt: &impl AllocAndAbort, naming: Naming<'_>) -> Result<Na
     }
 }
 
-// Checks the name of a moment. `renumber` writes a number in place of 0 into a name with spare room.
-fn expect_name(rt: &impl AllocAndAbort, names: &Names, of: (i64, Option<u32>), wanted: &str) {
-    let (moment, number) = of;
+fn expect_name(rt: &impl AllocAndAbort, names: &Names, moment: i64, wanted: &str) {
     assert!(rt; in_range(moment));
+    let name = names.file_name(moment).expect(rt, "memory");
+    expect_eq(rt, name.as_str(), wanted);
+}
+
+// The same with a number. `renumber` writes it in place of 0 into a name with spare room.
+fn expect_numbered(rt: &impl AllocAndAbort, names: &Names, moment: i64, number: u32, wanted: &str) {
+    assert!(rt; in_range(moment));
+    assert!(rt; names.is_numbered());
+    assert!(rt; number <= 999_999);
+    let named = names.file_name_at(moment, number).expect(rt, "memory");
+    expect_eq(rt, named.as_str(), wanted);
     let mut name = names.file_name(moment).expect(rt, "memory");
-    if let Some(number) = number {
-        assert!(rt; names.is_numbered());
-        assert!(rt; number <= 999_999);
-        let named = names.file_name_at(moment, number).expect(rt, "memory");
-        expect_eq(rt, named.as_str(), wanted);
-        name.reserve(16).expect(rt, "memory");
-        names.renumber(moment, &mut name, number);
-    }
+    name.reserve(16).expect(rt, "memory");
+    names.renumber(moment, &mut name, number);
     expect_eq(rt, name.as_str(), wanted);
 }
 
 #[test]
 fn names_of_moments(rt: HostRuntime) {
     for (rotation, prefix, suffix, moment, number, name) in &NAMES {
-        let names = built_names(&rt, (*rotation, prefix, suffix, number.is_some()));
-        let names = names.expect(&rt, "names");
-        expect_name(&rt, &names, (*moment, *number), name);
+        let made = built_names(&rt, (*rotation, prefix, suffix, number.is_some()));
+        let names = names_in(&rt, made);
+        match number {
+            Some(number) => expect_numbered(&rt, &names, *moment, *number, name),
+            None => expect_name(&rt, &names, *moment, name),
+        }
     }
 }
 
@@ -193,8 +207,8 @@ fn expect_readings(rt: &impl Abort, names: &Names, readings: Readings) {
 #[test]
 fn readings_of_names(rt: HostRuntime) {
     for (naming, readings) in &READINGS {
-        let names = names_of(&rt, *naming).expect(&rt, "names");
-        expect_eq_of(&rt, *naming, names.is_numbered(), naming.3);
+        let names = names_in(&rt, names_of(&rt, *naming));
+        expect_eq(&rt, names.is_numbered(), naming.3);
         expect_readings(&rt, &names, readings);
     }
 }
@@ -233,13 +247,13 @@ fn fault_of(made: &Result<Names, InitError>) -> (u8, Option<NameFault>) {
 fn parts_of_names(rt: HostRuntime) {
     for (rotation, prefix, suffix, fault, code) in &PARTS {
         let is_allowed = Names::is_allowed(*rotation, prefix, suffix);
-        expect_eq_of(&rt, (*prefix, *suffix), is_allowed, fault.is_none());
+        expect_eq_of(&rt, *prefix, is_allowed, fault.is_none());
         let plain = if fault.is_some() { 5 } else { 0 };
         for (numbered, code) in [(false, plain), (true, *code)] {
             let naming = (*rotation, *prefix, *suffix, numbered);
             let (made, built) = (names_of(&rt, naming), built_names(&rt, naming));
-            expect_eq_of(&rt, naming, fault_of(&made), (code, *fault));
-            expect_eq_of(&rt, naming, fault_of(&built), (code, *fault));
+            expect_eq_of(&rt, *prefix, fault_of(&made), (code, *fault));
+            expect_eq_of(&rt, *prefix, fault_of(&built), (code, *fault));
         }
     }
 }

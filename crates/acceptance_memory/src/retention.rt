@@ -1,6 +1,7 @@
 // Which log files go, over listings and over a folder in memory.
 use crate::expect::{AllocAndAbort, copy_of, expect_eq, expect_eq_of};
-use crate::names::{Naming, names_of};
+use crate::names::{Naming, names_in, names_of};
+use appender_core::names::Names;
 use appender_core::retain::{LogFiles, plan, plan_log_files, prune_old_logs};
 use appender_core::rotation::Rotation;
 use appender_core::store::{Kind, Listed, MemoryFolder, NoticeKind};
@@ -88,19 +89,29 @@ fn listed(rt: &impl AllocAndAbort, entries: &[Entry]) -> Vec<Listed> {
     listed
 }
 
+// Which entries go; by name if the file that is opened next is given.
+fn gone(
+    rt: &impl AllocAndAbort,
+    names: &Names,
+    max: usize,
+    opened: &str,
+    listed: &[Listed],
+) -> Vec<usize> {
+    let gone = if opened.is_empty() {
+        plan(rt.alloc(), names, max, listed)
+    } else {
+        let log = LogFiles::new(names, true, opened);
+        plan_log_files(rt.alloc(), &log, max, listed)
+    };
+    gone.expect(rt, "memory")
+}
+
 #[test]
 fn the_lowest_candidates_go_in_rank_order(rt: HostRuntime) {
     for ((naming, entries), max, opened, wanted) in &PLANS {
-        let names = names_of(&rt, *naming).expect(&rt, "names");
-        let listed = listed(&rt, entries);
-        let gone = if opened.is_empty() {
-            plan(rt.alloc(), &names, *max, &listed)
-        } else {
-            let log = LogFiles::new(&names, true, opened);
-            plan_log_files(rt.alloc(), &log, *max, &listed)
-        };
-        let gone = gone.expect(&rt, "memory");
-        expect_eq_of(&rt, (*naming, *max, *opened), gone.as_slice(), *wanted);
+        let names = names_in(&rt, names_of(&rt, *naming));
+        let gone = gone(&rt, &names, *max, opened, &listed(&rt, entries));
+        expect_eq_of(&rt, (*max, *opened), gone.as_slice(), *wanted);
     }
 }
 
@@ -112,8 +123,8 @@ static PRUNED: [(&str, &str, Option<&[u8]>); 3] = [
 
 #[test]
 fn old_logs_are_pruned_by_a_call_of_its_own(rt: HostRuntime) {
-    let names = names_of(&rt, (Rotation::DAILY, "app", "log", false));
-    let names = names.expect(&rt, "names");
+    let made = names_of(&rt, (Rotation::DAILY, "app", "log", false));
+    let names = names_in(&rt, made);
     let mut folder = MemoryFolder::new(rt.alloc());
     for (name, text, _) in &PRUNED {
         let put = folder.put_file(name, text.as_bytes());

@@ -2,7 +2,7 @@
 use crate::expect::AllocAndAbort;
 use rollplay_core::script::{LONGEST, Plan, Script};
 use tracing_appender::replay::{ReplayError, RollRun, RollStep, replay_rolling};
-use tracing_appender::rolling::Builder;
+use tracing_appender::rolling::{Builder, Roller};
 use tracing_appender::store::{MemoryFolder, NoticeKind};
 
 /// Reads a script.
@@ -43,24 +43,24 @@ pub(crate) fn run_in(
     }
 }
 
-/// Runs a script.
-pub(crate) fn run(
+/// Opens a log in a folder, takes these steps, and returns the roller.
+pub(crate) fn roll_in(
     rt: &impl AllocAndAbort,
-    text: &str,
-) -> Result<RollRun<MemoryFolder>, MemoryFolder> {
-    let (builder, folder, start, steps) = read(rt, text);
-    run_in(rt, &builder, folder, start, &steps)
-}
-
-/// Returns the folder of a run whose log was opened.
-pub(crate) fn folder_of(
-    rt: &impl AllocAndAbort,
-    run: Result<RollRun<MemoryFolder>, MemoryFolder>,
-) -> MemoryFolder {
-    match run {
-        Ok(run) => run.roller.into_folder(),
+    builder: &Builder,
+    folder: MemoryFolder,
+    start: i64,
+    steps: &[RollStep],
+) -> Roller<MemoryFolder> {
+    match run_in(rt, builder, folder, start, steps) {
+        Ok(run) => run.roller,
         Err(_) => rt.panic("a log that is not opened"),
     }
+}
+
+/// Carries out a script by a roller.
+pub(crate) fn roll(rt: &impl AllocAndAbort, text: &str) -> Roller<MemoryFolder> {
+    let (builder, folder, start, steps) = read(rt, text);
+    roll_in(rt, &builder, folder, start, &steps)
 }
 
 /// How many notices of listings, removals, openings and flushes were taken.

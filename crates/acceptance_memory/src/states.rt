@@ -1,11 +1,12 @@
 // What no page shows of a run: when the next file is due, notices, bodies without a name, and long runs.
 use crate::expect::{AllocAndAbort, copy_of, expect_eq, expect_eq_of};
 use crate::folders::expect_names;
-use crate::scripts::{folder_of, notices_in, read, read_script, run, run_in};
+use crate::scripts::{notices_in, read, read_script, roll, roll_in, run_in};
 use acceptance_rollplay::rows::AROUND_FAULTS;
+use rollplay_core::line::Queueing;
 use rollplay_core::script::{Plan, Script};
 use std::process::Abort;
-use tracing_appender::replay::{RollReply, RollRun, replay};
+use tracing_appender::replay::{RollReply, RollRun, Run, replay};
 use tracing_appender::rolling::Roller;
 use tracing_appender::store::{Folder, MemoryFolder};
 
@@ -67,17 +68,20 @@ fn expect_due(rt: &impl Abort, roller: &Roller<MemoryFolder>, boundary: i64, ful
     }
 }
 
+fn expect_state(rt: &impl AllocAndAbort, roller: &Roller<MemoryFolder>, state: &State) {
+    let (settings, steps, name, number, boundary, full, noted) = state;
+    let opened = (roller.open_name(), roller.number());
+    expect_eq_of(rt, *steps, opened, (*name, *number));
+    expect_due(rt, roller, *boundary, *full);
+    expect_eq_of(rt, *settings, notices_in(roller.folder()), *noted);
+}
+
 #[test]
 fn rollers_show_their_states(rt: HostRuntime) {
-    for (settings, steps, name, number, boundary, full, noted) in &STATES {
-        let script = format!(in rt.alloc(); "{settings}{steps}").expect(&rt, "memory");
-        let Ok(RollRun { roller, .. }) = run(&rt, script.as_str()) else {
-            rt.panic("a log that is not opened");
-        };
-        let opened = (roller.open_name(), roller.number());
-        expect_eq_of(&rt, *steps, opened, (*name, *number));
-        expect_due(&rt, &roller, *boundary, *full);
-        expect_eq_of(&rt, *settings, notices_in(roller.folder()), *noted);
+    for state in &STATES {
+        let script = format!(in rt.alloc(); "{}{}", state.0, state.1);
+        let script = script.expect(&rt, "memory");
+        expect_state(&rt, &roll(&rt, script.as_str()), state);
     }
 }
 
@@ -103,20 +107,22 @@ fn bytes_held(folder: &MemoryFolder) -> usize {
     count
 }
 
-// The run of `FAULTS` in `rows` while these calls fail: its folder, and how many bytes its replies count.
+// The run around `FAULTS` in `rows` while these calls fail: its folder, and how many bytes its replies count.
 fn run_failing(rt: &impl AllocAndAbort, first: u64, last: u64) -> (MemoryFolder, usize) {
     let (before, behind) = AROUND_FAULTS;
-    let mut script = copy_of(rt, before);
+    let script = format!(in rt.alloc(); "{before}{behind}").expect(rt, "memory");
+    let (builder, mut folder, start, steps) = read(rt, script.as_str());
     for call in first..=last {
-        let line = format!(in rt.alloc(); "fail {call}\n").expect(rt, "memory");
-        script.push_str(line.as_str()).expect(rt, "memory");
+        folder.fail_call(call).expect(rt, "memory");
     }
-    script.push_str(behind).expect(rt, "memory");
-    match run(rt, script.as_str()) {
-        Ok(run) => {
-            let told = bytes_told(&run.replies);
-            (run.roller.into_folder(), told)
-        }
+    match run_in(rt, &builder, folder, start, &steps) {
+        Ok(
+            RollRun {
+                replies,
+                roller,
+                ..
+            },
+        ) => (roller.into_folder(), bytes_told(&replies)),
         Err(folder) => (folder, 0),
     }
 }
@@ -152,7 +158,7 @@ const UNNAMED: &str =
 
 #[test]
 fn bodies_stay_without_a_name(rt: HostRuntime) {
-    let folder = folder_of(&rt, run(&rt, UNNAMED));
+    let folder = roll(&rt, UNNAMED).into_folder();
     expect_names(&rt, &folder, &[]);
     expect_eq(&rt, folder.body(0), Some(b"x".as_slice()));
     expect_eq(&rt, folder.body(1), Some(b"y".as_slice()));
@@ -168,14 +174,15 @@ const UNLINKED: &str =
 fn a_log_goes_on_without_an_optional_link_and_makes_it_again(rt: HostRuntime) {
     let (builder, folder, start, steps) = read(&rt, UNLINKED);
     let builder = builder.optional_symlink(true);
-    let run = run_in(&rt, &builder, folder, start, &steps);
-    let mut folder = folder_of(&rt, run);
+    let roller = roll_in(&rt, &builder, folder, start, &steps);
+    let mut folder = roller.into_folder();
     expect_eq(&rt, folder.bytes("latest"), Some(b"z".as_slice()));
     let names = ["app.2020-02-01-10", "app.2020-02-01-12", "latest"];
     expect_names(&rt, &folder, &names);
     folder.remove("latest").expect(&rt, "a file");
-    let folder = folder_of(&rt, run_in(&rt, &builder, folder, start, &[]));
-    expect_eq(&rt, folder.target("latest"), Some("app.2020-02-01-10"));
+    let roller = roll_in(&rt, &builder, folder, start, &[]);
+    let target = roller.folder().target("latest");
+    expect_eq(&rt, target, Some("app.2020-02-01-10"));
 }
 
 const RESTARTED: &str =
@@ -193,8 +200,8 @@ static KEPT: [&str; 5] = [
 fn a_restart_in_a_loop_keeps_what_fits(rt: HostRuntime) {
     let (builder, mut folder, start, steps) = read(&rt, RESTARTED);
     for _ in 0..100 {
-        let run = run_in(&rt, &builder, folder, start, &steps);
-        folder = folder_of(&rt, run);
+        let roller = roll_in(&rt, &builder, folder, start, &steps);
+        folder = roller.into_folder();
     }
     expect_names(&rt, &folder, &KEPT);
     for name in &KEPT {
@@ -202,30 +209,38 @@ fn a_restart_in_a_loop_keeps_what_fits(rt: HostRuntime) {
     }
 }
 
-#[test]
-fn ten_thousand_steps_are_played(rt: HostRuntime) {
-    let mut text = copy_of(&rt, "prefix app\nqueue 4 waiting\nstart 0\n");
-    for _ in 0..2500 {
-        let round = text.push_str("offer 1 a\nwork 0\nwork 0\nwork 0\n");
-        round.expect(&rt, "memory");
-    }
+// Runs a script with a queue.
+fn run_queued(rt: &impl AllocAndAbort, text: &str) -> Run<MemoryFolder> {
     let Script {
         builder,
         folder,
+        start,
         plan,
-        ..
-    } = read_script(&rt, text.as_str());
-    let Plan::Queued(queueing, steps) = plan else {
+    } = read_script(rt, text);
+    let Plan::Queued(Queueing { limit, lossy }, steps) = plan else {
         rt.panic("a script without a queue");
     };
-    let (limit, lossy) = (queueing.limit, queueing.lossy);
-    match replay(rt.alloc(), &builder, limit, lossy, folder, 0, &steps) {
-        Ok(run) => {
-            let done = (run.replies.len(), run.queue.counts().handed);
-            expect_eq(&rt, done, (10_000, 2500));
-            let held = run.roller.folder().bytes("app").map(|bytes| bytes.len());
-            expect_eq(&rt, held, Some(2500));
-        }
+    match replay(rt.alloc(), &builder, limit, lossy, folder, start, &steps) {
+        Ok(run) => run,
         Err(_) => rt.panic("a log that is not opened"),
     }
+}
+
+// 2,500 rounds of four steps: a line is offered, taken and written, and the worker has nothing more.
+fn long_script(rt: &impl AllocAndAbort) -> String {
+    let mut text = copy_of(rt, "prefix app\nqueue 4 waiting\nstart 0\n");
+    for _ in 0..2500 {
+        let round = text.push_str("offer 1 a\nwork 0\nwork 0\nwork 0\n");
+        round.expect(rt, "memory");
+    }
+    text
+}
+
+#[test]
+fn ten_thousand_steps_are_played(rt: HostRuntime) {
+    let run = run_queued(&rt, long_script(&rt).as_str());
+    expect_eq(&rt, run.replies.len(), 10_000);
+    expect_eq(&rt, run.queue.counts().handed, 2500);
+    let held = run.roller.folder().body(0);
+    expect_eq(&rt, held.expect(&rt, "a body").len(), 2500);
 }

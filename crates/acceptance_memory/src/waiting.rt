@@ -144,7 +144,7 @@ fn waits_only_for_bytes(rt: HostRuntime) {
     let mut writer = WaitingWriter::new(&recorder, &mut disk);
     expect_eq(&rt, writer.write(b"").is_ok(), true);
     let flushed = writer.flush().map_err(|error| error.kind());
-    expect_eq(&rt, flushed, Err(ErrorKind::StorageFull));
+    expect_eq(&rt, flushed, Err(ErrorKind::QuotaExceeded));
     expect_eq(&rt, writer.write_all(b"a").is_err(), true);
     expect_eq(&rt, writer.write_all(b"ab").is_ok(), true);
     drop(writer);

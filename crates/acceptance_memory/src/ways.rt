@@ -1,14 +1,15 @@
 // Scripts of `rollplay`, carried out by an appender in each way to write and by a roller, and how often a log reads its
 // clock.
 use crate::expect::{AllocAndAbort, expect_eq, expect_eq_of};
-use crate::scripts::{notices_in, read, run_in};
+use crate::scripts::{notices_in, read, roll_in};
 use acceptance_rollplay::rows::{PLAYED, first_row};
 use std::cell::Cell;
+use std::io;
 use std::io::Write;
 use std::process::Abort;
 use std::sync::Wait;
-use tracing_appender::replay::{RollRun, RollStep};
-use tracing_appender::rolling::{Clock, MakeWriter, Roller, RollingFile, Switch};
+use tracing_appender::replay::RollStep;
+use tracing_appender::rolling::{Builder, Clock, MakeWriter, Roller, RollingFile, Switch};
 use tracing_appender::store::{Folder, MemoryFolder};
 
 // A clock that returns the moment that was set last, and counts its readings.
@@ -51,9 +52,18 @@ fn open_file<'a>(
 ) -> RollingFile<MemoryFolder, &'a TestClock> {
     let (builder, folder, start, _) = read(rt, text);
     clock.moment.set(start);
+    open_in(rt, &builder, folder, clock)
+}
+
+fn open_in<'a>(
+    rt: &impl AllocAndAbort,
+    builder: &Builder,
+    folder: MemoryFolder,
+    clock: &'a TestClock,
+) -> RollingFile<MemoryFolder, &'a TestClock> {
     match builder.open_in(rt.alloc(), folder, clock) {
         Ok(file) => file,
-        Err((error, _folder, _clock)) => rt.panic(error),
+        Err(_) => rt.panic("a log that is not opened"),
     }
 }
 
@@ -73,14 +83,22 @@ static WAYS: [Way; 4] = [
 // For each step how many bytes were taken, or nothing after an error, and the folder at the end.
 type Written = (Vec<Option<usize>>, MemoryFolder);
 
+// This number, or nothing after an error.
+fn counted(answer: &io::Result<()>, count: usize) -> Option<usize> {
+    match answer {
+        Ok(()) => Some(count),
+        Err(_) => None,
+    }
+}
+
 // Takes a step, but no check of the clock.
 fn take(writer: &mut impl Write, step: &RollStep, whole: bool) -> Option<usize> {
     match step {
         RollStep::See(_) => Some(0),
-        RollStep::Flush => writer.flush().ok().map(|()| 0),
+        RollStep::Flush => counted(&writer.flush(), 0),
         RollStep::Put(_, bytes) | RollStep::Write(bytes) => {
             if whole {
-                writer.write_all(bytes).ok().map(|()| bytes.len())
+                counted(&writer.write_all(bytes), bytes.len())
             } else {
                 writer.write(bytes).ok()
             }
@@ -111,7 +129,7 @@ fn write_out<R: AllocAndAbort + Wait + Copy + Drop>(rt: R, text: &str, way: Way)
 }
 
 // Takes a step with a roller, as an appender is to take it. `write_all` makes no write of no bytes.
-fn roll(
+fn roll_step(
     roller: &mut Roller<MemoryFolder>,
     step: &RollStep,
     moment: i64,
@@ -122,7 +140,7 @@ fn roll(
     }
     match step {
         RollStep::See(_) => Some(0),
-        RollStep::Flush => roller.flush().ok().map(|()| 0),
+        RollStep::Flush => counted(&roller.flush(), 0),
         RollStep::Put(_, bytes) | RollStep::Write(bytes) => {
             if way.whole && bytes.is_empty() {
                 Some(0)
@@ -138,15 +156,13 @@ fn roll(
 // Carries out a script by a roller.
 fn roll_out(rt: &impl AllocAndAbort, text: &str, way: Way) -> Written {
     let (builder, folder, start, steps) = read(rt, text);
-    let Ok(RollRun { mut roller, .. }) = run_in(rt, &builder, folder, start, &[]) else {
-        rt.panic("a log that is not opened");
-    };
+    let mut roller = roll_in(rt, &builder, folder, start, &[]);
     let clock = TestClock::new();
     clock.moment.set(start);
     let mut told = Vec::new(rt.alloc());
     for step in &steps {
         clock.follow(step);
-        let taken = roll(&mut roller, step, clock.moment.get(), way);
+        let taken = roll_step(&mut roller, step, clock.moment.get(), way);
         told.push(taken).expect(rt, "memory");
     }
     (told, roller.into_folder())

@@ -74,7 +74,7 @@ impl Write for FaultyWriter {
     fn flush(&mut self) -> io::Result<()> {
         self.flushes = self.flushes.saturating_add(1);
         if self.flushes_fail {
-            return Err(io::Error::from(ErrorKind::StorageFull));
+            return Err(io::Error::from(ErrorKind::QuotaExceeded));
         }
         Ok(())
     }

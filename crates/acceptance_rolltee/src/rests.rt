@@ -43,7 +43,7 @@ impl Scene {
     }
 
     fn of_hours() -> Scene {
-        Scene::new(["app.2020-02-01-10", "app.2020-02-01-11"])
+        Scene::new(["2020-02-01-10", "2020-02-01-11"])
     }
 }
 
@@ -138,10 +138,10 @@ fn length_of(folder: &MemoryFolder, name: &str) -> usize {
 type SceneLog<'a> = FileLog<MemoryFolder, &'a Scene, SceneCheck<'a>, SceneOpener<'a>>;
 
 // The settings of an hourly log with a limit of bytes.
-fn settings_of(alloc: Global, limit: u64) -> Result<Builder, Fail> {
-    let settings = Builder::new().rotation(Rotation::HOURLY);
-    let settings = settings.filename_prefix(alloc, "app")?;
-    Ok(settings.max_file_bytes(limit))
+fn settings_of(limit: u64) -> Builder {
+    Builder::new()
+        .rotation(Rotation::HOURLY)
+        .max_file_bytes(limit)
 }
 
 // A log of this scene, opened by this.
@@ -165,7 +165,7 @@ fn log_of(
     failing: u64,
     short: (u64, usize),
 ) -> Result<SceneLog<'_>, Fail> {
-    let settings = settings_of(alloc, limit)?;
+    let settings = settings_of(limit);
     let opener = SceneOpener {
         alloc,
         settings,
@@ -228,7 +228,7 @@ fn a_part_of_a_line_is_ended_within_the_limit(rt: HostRuntime) -> Result<(), Fai
         (b"bcd\n".as_slice(), (2, 5)),
         (b"bcde\n".as_slice(), (2, 6)),
     ] {
-        let scene = Scene::new(["app.2020-02-01-10.000000", "app.2020-02-01-10.000001"]);
+        let scene = Scene::new(["2020-02-01-10.000000", "2020-02-01-10.000001"]);
         let mut log = log_of(rt.alloc(), &scene, 6, true, 0, (4, 1))?;
         expect_eq(&rt, log.put(b"abc\n")?, 1);
         log.give_up();

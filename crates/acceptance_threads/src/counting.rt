@@ -1,197 +1,77 @@
 // Lines that a counting writer counts, by itself and in a worker's thread.
-use crate::expect::{expect_eq, expect_eq_of};
-use appender_non_blocking::non_blocking::{Closing, Host, NonBlocking, NonBlockingBuilder};
+use crate::expect::expect_eq;
+use crate::gate::{Gate, new_gate};
+use crate::plain;
+use crate::stage::Queue;
+use appender_non_blocking::non_blocking::{Closing, Host};
 use appender_worker::worker::{CountingWriter, LineCounts};
 use std::alloc::AllocError;
+use std::io;
 use std::io::{ErrorKind, Write};
 use std::process::Abort;
-use std::thread::JoinHandle;
-use std::{io, thread};
 
-// Takes the bytes that it is given, as their first one says.
-#[derive(Drop)]
-struct Picky {
-    text: Vec<u8>,
-    writes: u32,
-    flushes: u32,
-}
-
-impl Picky {
-    fn new(rt: &impl AllocGlobal) -> Picky {
-        Picky {
-            text: Vec::new(rt.alloc()),
-            writes: 0,
-            flushes: 0,
-        }
-    }
-}
-
-impl Write for Picky {
-    fn write(&mut self, buf: &[u8]) -> io::Result<usize> {
-        self.writes = self.writes.saturating_add(1);
-        let length = match buf.first() {
-            Some(b'i') => return Err(io::Error::from(ErrorKind::Interrupted)),
-            // Interrupted once.
-            Some(b'o') if self.writes == 1 => return Err(io::Error::from(ErrorKind::Interrupted)),
-            Some(b'r') => return Err(io::Error::from(ErrorKind::PermissionDenied)),
-            Some(b'z') => 0,
-            // The rest of the line begins with the letter after it.
-            Some(b'b') => 1,
-            _ => buf.len(),
-        };
-        self.text.extend_from_slice(&buf[..length.min(buf.len())])?;
-        Ok(length.min(buf.len()))
-    }
-
-    fn flush(&mut self) -> io::Result<()> {
-        self.flushes = self.flushes.saturating_add(1);
-        // Only a flush before any write fails.
-        if self.writes == 0 {
-            return Err(io::Error::from(ErrorKind::BrokenPipe));
-        }
-        Ok(())
-    }
-}
-
-// A line, the result of its write, how often its writer was called, and the text that it got.
-struct Row {
-    line: &'static str,
-    answer: Result<usize, ErrorKind>,
-    writes: u32,
-    text: &'static str,
-}
-
-static ROWS: [Row; 8] = [
-    Row {
-        line: "a line",
-        answer: Ok(6),
-        writes: 1,
-        text: "a line",
-    },
-    Row {
-        line: "",
-        answer: Ok(0),
-        writes: 0,
-        text: "",
-    },
-    Row {
-        line: "bits",
-        answer: Err(ErrorKind::Other),
-        writes: 102,
-        text: "b",
-    },
-    Row {
-        line: "bbbx",
-        answer: Ok(4),
-        writes: 4,
-        text: "bbbx",
-    },
-    Row {
-        line: "once",
-        answer: Ok(4),
-        writes: 2,
-        text: "once",
-    },
-    Row {
-        line: "interrupted",
-        answer: Err(ErrorKind::Other),
-        writes: 101,
-        text: "",
-    },
-    Row {
-        line: "br",
-        answer: Err(ErrorKind::PermissionDenied),
-        writes: 2,
-        text: "b",
-    },
-    Row {
-        line: "zero",
-        answer: Err(ErrorKind::WriteZero),
-        writes: 1,
-        text: "",
-    },
+// A line for a gate, the result of its write, how often the gate was called, and what it got.
+#[rattlefmt::skip]
+static ROWS: [(&str, Result<usize, ErrorKind>, usize, &str); 8] = [
+    ("a line", Ok(6), 1, "a line|"),
+    ("", Ok(0), 0, ""),
+    ("pi", Err(ErrorKind::Other), 102, "p|"),
+    ("pppx", Ok(4), 4, "p|p|p|x|"),
+    ("often", Ok(5), 101, "often|"),
+    ("interrupted", Err(ErrorKind::Other), 101, ""),
+    ("pr", Err(ErrorKind::PermissionDenied), 2, "p|"),
+    ("zero", Err(ErrorKind::WriteZero), 1, ""),
 ];
 
-// Writes one line by a counting writer of its own, and compares the result.
-fn check_row<R: AllocGlobal + Abort>(rt: &R, row: &Row) -> Result<(), AllocError> {
-    let mut picky = Picky::new(rt);
-    let (mut writer, counts) = CountingWriter::new(rt.alloc(), &mut picky)?;
-    let answer = writer.write(row.line.as_bytes()).map_err(|e| e.kind());
-    drop(writer);
-    expect_eq_of(rt, row.line, answer, row.answer);
-    expect_eq_of(rt, row.line, picky.writes, row.writes);
-    expect_eq_of(rt, row.line, picky.text.as_slice(), row.text.as_bytes());
-    let counted = (counts.taken(), counts.lost());
-    let wanted = if row.answer.is_ok() { (1, 0) } else { (0, 1) };
-    expect_eq_of(rt, row.line, counted, wanted);
-    Ok(())
+// Ends the test if other lines were counted: those that were taken, and those that were lost.
+fn expect_counts<R: Host + Abort>(rt: R, line: &str, counts: &LineCounts, taken: u64, lost: u64) {
+    expect_eq(&rt, line, counts.taken(), taken);
+    expect_eq(&rt, line, counts.lost(), lost);
+}
+
+// Writes a line by a counting writer of its own. Returns the result.
+fn write<R: Host + Abort>(rt: R, line: &str, gate: Gate<R>, is_ok: bool) -> io::Result<usize> {
+    let (mut writer, counts) = CountingWriter::new(rt.alloc(), gate)?;
+    let result = writer.write(line.as_bytes());
+    expect_counts(rt, line, &counts, u64::from(is_ok), u64::from(!is_ok));
+    result
 }
 
 #[test]
 fn each_line_is_taken_or_lost(rt: HostRuntime) -> Result<(), AllocError> {
-    for row in &ROWS {
-        check_row(&rt, row)?;
+    for (line, wanted, calls, text) in &ROWS {
+        let (gate, seen) = new_gate(rt, None)?;
+        let result = write(rt, *line, gate, wanted.is_ok()).map_err(|fault| fault.kind());
+        expect_eq(&rt, *line, result, *wanted);
+        expect_eq(&rt, *line, seen.calls(), *calls);
+        seen.expect_text(rt, *line, text.as_bytes());
     }
     Ok(())
 }
 
 #[test]
-fn a_flush_counts_nothing(rt: HostRuntime) -> Result<(), AllocError> {
-    let mut picky = Picky::new(&rt);
-    let (mut writer, counts) = CountingWriter::new(rt.alloc(), &mut picky)?;
-    let flushed = writer.flush().map_err(|e| e.kind());
-    drop(writer);
-    expect_eq(&rt, flushed, Err(ErrorKind::BrokenPipe));
-    expect_eq(&rt, picky.flushes, 1);
-    expect_eq(&rt, (counts.taken(), counts.lost()), (0, 0));
+fn a_flush_counts_nothing(rt: HostRuntime) -> io::Result<()> {
+    let (gate, seen) = new_gate(rt, None)?;
+    let (mut writer, counts) = CountingWriter::new(rt.alloc(), gate)?;
+    writer.write_all(b"f")?;
+    let flushed = writer.flush().map_err(|fault| fault.kind());
+    expect_eq(&rt, "a flush", flushed, Err(ErrorKind::StorageFull));
+    expect_eq(&rt, "a flush", seen.last_flushes(), 1);
+    expect_counts(rt, "a flush", &counts, 1, 0);
     Ok(())
-}
-
-// Each third of these is not taken, and each other third is empty.
-fn send<R: Host + Drop>(mut sender: NonBlocking<R>) -> u32 {
-    let mut sent = 0u32;
-    for turn in 0..600u32 {
-        let line = match turn % 3 {
-            0 => b"a line".as_slice(),
-            1 => b"",
-            _ => b"refused",
-        };
-        if sender.write(line).is_ok() {
-            sent = sent.saturating_add(1);
-        }
-    }
-    sent
-}
-
-fn start<R: Host>(rt: R, sender: &NonBlocking<R>) -> io::Result<JoinHandle<u32>> {
-    let mine = sender.clone()?;
-    Ok(thread::spawn(&rt, move || send(mine))?)
-}
-
-// Four threads send their lines through one worker.
-fn send_all<R: Host + Abort>(rt: R) -> io::Result<(u32, Closing, LineCounts)> {
-    let (writer, counts) = CountingWriter::new(rt.alloc(), Picky::new(&rt))?;
-    let builder = NonBlockingBuilder::default()
-        .lossy(false)
-        .buffered_lines_limit(16);
-    let (sender, guard) = builder.finish(rt, rt.alloc(), writer)?;
-    let mut running = Vec::new(rt.alloc());
-    for _ in 0..4u32 {
-        let thread = start(rt, &sender).expect(&rt, "a thread");
-        running.push(thread).map_err(AllocError::from)?;
-    }
-    let mut sent = 0u32;
-    for thread in running {
-        sent = sent.saturating_add(thread.join(&rt));
-    }
-    Ok((sent, guard.close(), counts))
 }
 
 // A worker writes no empty line, so it is not counted.
 #[test]
-fn lines_of_many_senders_are_taken_or_lost(rt: HostRuntime) {
-    let (sent, closing, counts) = send_all(rt).expect(&rt, "a worker");
-    expect_eq(&rt, sent, 2400);
-    expect_eq(&rt, closing, Closing::Done { left: 0 });
-    expect_eq(&rt, (counts.taken(), counts.lost()), (800, 800));
+fn lines_of_a_worker_are_taken_or_lost(rt: HostRuntime) -> io::Result<()> {
+    let (gate, seen) = new_gate(rt, None)?;
+    let (writer, counts) = CountingWriter::new(rt.alloc(), gate)?;
+    let (mut sender, guard) = plain::start(rt, Queue::Waiting(16), writer)?;
+    for (line, _, _, _) in &ROWS {
+        sender.write_all(line.as_bytes())?;
+    }
+    expect_eq(&rt, "a guard", guard.close(), Closing::Done { left: 0 });
+    expect_counts(rt, "a worker", &counts, 3, 4);
+    seen.expect_text(rt, "a worker", b"a line|p|p|p|p|x|often|p|");
+    Ok(())
 }

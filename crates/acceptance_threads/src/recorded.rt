@@ -1,47 +1,25 @@
 // A work whose sender records its lines, and the writer that comes back.
 use crate::expect::expect_eq;
 use crate::gate::{Seen, new_gate};
-use appender_non_blocking::non_blocking::{
-    Host, NonBlockingBuilder, RecordedSender, RecordedWork, Sent,
-};
+use crate::stage::Queue;
+use appender_non_blocking::non_blocking::{Host, RecordedSender, RecordedWork, Sent};
 use std::alloc::Global;
 use std::io;
-use std::io::{ErrorKind, Write};
+use std::process::Abort;
 use std::sync::Arc;
-use std::test::Fail;
 use std::time::Duration;
 
-// A writer that refuses one line, and counts the lines that it takes, and the flushes after the last one.
+// Sends lines, the second one once the gate holds the first one or was called for it.
 #[derive(Drop)]
-struct Picky {
-    taken: u64,
-    flushes: u64,
-}
-
-impl Write for Picky {
-    fn write(&mut self, line: &[u8]) -> io::Result<usize> {
-        self.flushes = 0;
-        if line == b"no".as_slice() {
-            return Err(io::Error::from(ErrorKind::Other));
-        }
-        self.taken = self.taken.saturating_add(1);
-        Ok(line.len())
-    }
-
-    fn flush(&mut self) -> io::Result<()> {
-        self.flushes = self.flushes.saturating_add(1);
-        Ok(())
-    }
-}
-
-// Sends lines, and counts those that are queued.
-#[derive(Drop)]
-struct Sends {
+struct Sends<R: Host> {
+    rt: R,
+    seen: Arc<Seen, Global>,
     lines: [&'static [u8]; 4],
-    queued: u64,
+    queued: usize,
+    dropped: usize,
 }
 
-impl RecordedWork for Sends {
+impl<R: Host> RecordedWork for Sends<R> {
     ghost does = { λ _ _ _ _. Unit {0} };
 
     fn run<S: RecordedSender + Drop>(&mut self, mut sender: S) -> S
@@ -51,72 +29,65 @@ impl RecordedWork for Sends {
             if let Ok(Sent::Queued(_)) = sender.write_line(line) {
                 self.queued = self.queued.saturating_add(1);
             }
-        }
-        sender
-    }
-}
-
-#[test]
-fn a_writer_comes_back_after_its_last_flush(rt: HostRuntime) -> Result<(), Fail> {
-    let (taken, flushes) = (0, 0);
-    let lines = [b"a".as_slice(), b"no", b"", b"b"];
-    let ran = NonBlockingBuilder::default()
-        .lossy(false)
-        .buffered_lines_limit(2)
-        .run_lines(
-            rt,
-            rt.alloc(),
-            Picky { taken, flushes },
-            Sends { lines, queued: 0 },
-            None,
-        )?;
-    expect_eq(&rt, ran.work.queued, 4);
-    let written = ran.written.map(|written| {
-        let Picky { taken, flushes } = written.writer;
-        (taken, written.given_up, flushes > 0)
-    });
-    // An empty line makes no write.
-    expect_eq(&rt, written, Some((2, 1, true)));
-    Ok(())
-}
-
-// Sends a line that the writer holds, and once it does, three more.
-#[derive(Drop)]
-struct Fills<R: Host> {
-    rt: R,
-    seen: Arc<Seen, Global>,
-    dropped: usize,
-}
-
-impl<R: Host> RecordedWork for Fills<R> {
-    ghost does = { λ _ _ _ _. Unit {0} };
-
-    fn run<S: RecordedSender + Drop>(&mut self, mut sender: S) -> S
-        ensures { Unit {0} }
-    {
-        for line in [b"held".as_slice(), b"a", b"b", b"c"] {
-            let _ = sender.write_line(line).is_ok();
-            let _ = self.seen.is_held(self.rt);
+            let _ = self.seen.come(self.rt, 1);
         }
         self.dropped = sender.dropped();
         sender
     }
 }
 
-#[test]
-fn a_worker_that_does_not_end_keeps_its_writer(rt: HostRuntime) -> Result<(), Fail> {
-    let (gate, seen) = new_gate(rt, b"held")?;
-    let work = Fills {
+struct Row {
+    queue: Queue,
+    lines: [&'static [u8]; 4],
+    // How many milliseconds the worker has for its end.
+    most: Option<u64>,
+    queued: usize,
+    dropped: usize,
+    // How many lines were given up, if the writer comes back.
+    given_up: Option<u64>,
+    text: &'static [u8],
+}
+
+// An empty line makes no write. A worker that does not end in time keeps its writer.
+#[rattlefmt::skip]
+static ROWS: [Row; 2] = [
+    Row { queue: Queue::Waiting(2), lines: [b"a", b"refused", b"", b"b"], most: None,
+        queued: 4, dropped: 0, given_up: Some(1), text: b"a|b|" },
+    Row { queue: Queue::Lossy(1), lines: [b"held", b"a", b"b", b"c"], most: Some(20),
+        queued: 2, dropped: 2, given_up: None, text: b"held|a|" },
+];
+
+fn check<R: Host + Abort>(rt: R, row: &Row) -> io::Result<()> {
+    let (gate, seen) = new_gate(rt, None)?;
+    let work = Sends {
         rt,
-        seen: seen.clone()?,
+        seen: Arc::try_clone(&seen)?,
+        lines: row.lines,
+        queued: 0,
         dropped: 0,
     };
-    let ran = NonBlockingBuilder::default()
-        .buffered_lines_limit(1)
-        .run_lines(rt, rt.alloc(), gate, work, Some(Duration::from_millis(20)))?;
-    expect_eq(&rt, ran.written.is_none(), true);
-    expect_eq(&rt, ran.work.dropped, 2);
+    let most = row.most.map(Duration::from_millis);
+    let ran = row
+        .queue
+        .builder(rt.alloc())?
+        .run_lines(rt, rt.alloc(), gate, work, most)?;
+    expect_eq(&rt, "queued", ran.work.queued, row.queued);
+    expect_eq(&rt, "dropped", ran.work.dropped, row.dropped);
+    // The writer was flushed, and is dropped only now.
+    let is_back = ran.written.is_some() && seen.last_flushes() > 0 && !seen.is_ended();
+    expect_eq(&rt, "the writer", is_back, row.given_up.is_some());
+    let given_up = ran.written.as_ref().map(|written| written.given_up);
+    expect_eq(&rt, "given up", given_up, row.given_up);
     seen.opens();
-    assert!(rt; seen.come(rt, 2));
+    expect_eq(&rt, "lines", seen.come(rt, 2), true);
+    seen.expect_text(rt, "lines", row.text);
+    Ok(())
+}
+
+#[test]
+fn a_writer_comes_back_if_its_worker_ends(rt: HostRuntime) -> io::Result<()> {
+    for row in &ROWS {
+        check(rt, row)?;
+    }
     Ok(())
 }

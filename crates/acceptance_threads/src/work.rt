@@ -1,12 +1,11 @@
 // Work with counted senders, and its account.
-use crate::expect::{Totals, expect_eq, expect_eq_of, expect_shown, put};
+use crate::expect::{expect_account, expect_eq, expect_shown, put};
 use crate::gate::new_gate;
-use appender_non_blocking::non_blocking::{CountedWork, LineSender, NonBlockingBuilder, Sent};
-use std::alloc::Global;
+use crate::stage::Queue;
+use appender_non_blocking::non_blocking::{CountedWork, Host, LineSender, Sent};
 use std::io;
 use std::io::ErrorKind;
 use std::process::Abort;
-use std::test::Fail;
 
 // Writes this number of lines, and counts its runs and the lines that were queued.
 #[derive(Clone, Copy, PartialEq, Eq, Debug)]
@@ -31,87 +30,70 @@ impl CountedWork for Writes {
     }
 }
 
-// This number of works. Each has one line more than the one before it.
-fn works<R: Abort>(rt: &R, alloc: Global, count: u64) -> Vec<Writes> {
-    let mut works = Vec::new(alloc);
+// This number of works, before or after their run. Each has one line more than the one before it.
+fn works<R: Host + Abort>(rt: R, count: u64, have_run: bool) -> Vec<Writes> {
+    let mut works = Vec::new(rt.alloc());
     for lines in 0..count {
-        let (runs, queued) = (0, 0);
-        put(
-            rt,
-            &mut works,
-            Writes {
-                lines,
-                runs,
-                queued,
-            },
-        );
+        let work = Writes {
+            lines,
+            runs: u64::from(have_run),
+            queued: if have_run { lines } else { 0 },
+        };
+        put(&rt, &mut works, work);
     }
     works
 }
 
-// The number of works and the number of their lines.
-static WORKS: [(u64, u64); 3] = [(0, 0), (1, 0), (5, 10)];
-
-#[test]
-fn work_of_threads_has_an_account(rt: HostRuntime) -> Result<(), Fail> {
-    for (count, lines) in &WORKS {
-        let (gate, seen) = new_gate(rt, b"")?;
-        let (done, account) = NonBlockingBuilder::default()
-            .lossy(false)
-            .buffered_lines_limit(4)
-            .run_counted(rt, rt.alloc(), gate, works(&rt, rt.alloc(), *count))
-            .map_err(io::Error::from)?;
-        expect_eq_of(&rt, *count, Totals::of(account), all_handed(*lines));
-        expect_eq_of(&rt, *count, seen.count() as u64, *lines);
-        // Each work was run once, and they are returned in their order.
-        expect_eq(&rt, done.len() as u64, *count);
-        for (place, work) in done.iter().enumerate() {
-            let (lines, runs) = (place as u64, 1);
-            let queued = lines;
-            expect_eq_of(
-                &rt,
-                *count,
-                *work,
-                Writes {
-                    lines,
-                    runs,
-                    queued,
-                },
-            );
-        }
-    }
+// Runs this number of works. They have this number of lines. Each is run once, and they are returned in their order.
+fn run<R: Host + Abort>(rt: R, count: u64, lines: u64) -> io::Result<()> {
+    let (gate, seen) = new_gate(rt, None)?;
+    let (done, account) = Queue::Waiting(4)
+        .builder(rt.alloc())?
+        .run_counted(rt, rt.alloc(), gate, works(rt, count, false))
+        .map_err(|unstarted| unstarted.error)?;
+    expect_account(&rt, count, account, lines, 0, 0);
+    expect_eq(&rt, count, seen.count() as u64, lines);
+    expect_eq(
+        &rt,
+        count,
+        done.as_slice(),
+        works(rt, count, true).as_slice(),
+    );
     Ok(())
 }
 
-// The account of lines that were all handed.
-fn all_handed(lines: u64) -> Totals {
-    Totals {
-        accepted: lines,
-        handed: lines,
-        left: 0,
-        dropped: 0,
-    }
+#[test]
+fn work_of_threads_has_an_account(rt: HostRuntime) -> io::Result<()> {
+    run(rt, 0, 0)?;
+    run(rt, 1, 0)?;
+    run(rt, 5, 10)
 }
 
-#[test]
-fn without_an_account_no_work_is_run(rt: HostRuntime) -> Result<(), Fail> {
-    let (gate, seen) = new_gate(rt, b"")?;
-    // There is no memory for such a queue.
-    let unstarted = NonBlockingBuilder::default()
-        .buffered_lines_limit(usize::MAX)
-        .run_counted(rt, rt.alloc(), gate, works(&rt, rt.alloc(), 3))
+// There is no memory for such a queue.
+fn run_nothing<R: Host + Abort>(rt: R) -> io::Result<()> {
+    let (gate, seen) = new_gate(rt, None)?;
+    let unstarted = Queue::Waiting(usize::MAX)
+        .builder(rt.alloc())?
+        .run_counted(rt, rt.alloc(), gate, works(rt, 3, false))
         .expect_err(&rt, "no account");
-    expect_eq(&rt, seen.count(), 0);
+    expect_eq(&rt, "lines", seen.count(), 0);
     expect_eq(
         &rt,
+        "works",
         unstarted.works.as_slice(),
-        works(&rt, rt.alloc(), 3).as_slice(),
+        works(rt, 3, false).as_slice(),
     );
     expect_shown(&rt, &unstarted, "Unstarted { .. }");
     expect_eq(
         &rt,
+        "the error",
         io::Error::from(unstarted).kind(),
         ErrorKind::OutOfMemory,
     );
     Ok(())
+}
+
+#[test]
+fn without_an_account_no_work_is_run(rt: HostRuntime) -> io::Result<()> {
+    run_nothing(rt)
 }

@@ -1,8 +1,7 @@
 // Two threads at a boundary of an hourly log in memory.
-use crate::expect::expect_eq;
-use crate::schedules::names::{Name, count_of, expect_lines};
+use crate::expect::{Host, expect_eq};
+use crate::lines::{LINES, Lines, count_lines};
 use appender_log::LogSink;
-use appender_non_blocking::non_blocking::Host;
 use appender_rolling::rolling::{
     Builder, Clock, MakeWriter, RollingFileAppender, RollingWriter, Rotation,
 };
@@ -10,7 +9,6 @@ use appender_store::store::MemoryFolder;
 use log::{Level, Logged, info};
 use std::alloc::AllocError;
 use std::io::Write;
-use std::process::Abort;
 use std::sync::Wait;
 use std::sync::atomic::AtomicU64;
 use std::sync::atomic::Ordering::SeqCst;
@@ -49,22 +47,19 @@ impl Clock for Turning {
 type Appender<R> = RollingFileAppender<MemoryFolder, Turning, R>;
 
 // Opens an hourly log in memory, whose clock shows 10:01 for so many readings.
-fn open<R: Host + Abort>(rt: R, early: u64) -> Appender<R> {
+fn open<R: Host>(rt: R, early: u64) -> Appender<R> {
     let builder = Builder::new()
         .rotation(Rotation::HOURLY)
         .filename_prefix(rt.alloc(), "app")
         .expect(&rt, "memory");
-    let clock = Turning {
-        reads: AtomicU64::new(0),
-        early,
-    };
-    match builder.build_in(rt, rt.alloc(), MemoryFolder::new(rt.alloc()), clock) {
+    let reads = AtomicU64::new(0);
+    match builder.build_in(rt, rt.alloc(), MemoryFolder::new(rt.alloc()), Turning { reads, early }) {
         Ok(appender) => appender,
         Err((error, _folder, _clock)) => rt.panic(error),
     }
 }
 
-// Writes a line with a bar by a writer of its own, and returns whether it was taken.
+// Writes a line by a writer of its own, and returns whether it was taken.
 fn write_one<R: Wait + Drop>(appender: &Appender<R>, line: &[u8]) -> bool {
     match appender.make_writer() {
         Ok(writer) => takes(writer, line),
@@ -76,50 +71,33 @@ fn takes(mut writer: impl Write + Drop, line: &[u8]) -> bool {
     writer.write_all(line).is_ok()
 }
 
-// The lines of two threads, as in a record of a worker's writer, where a bar follows each.
-static ROWS: [[&[u8]; 2]; 2] = [[b"a1|", b"a2|"], [b"b1|", b"b2|"]];
-
 // Writes the lines of a thread, and returns whether all were taken.
-fn write_rows<R: Wait + Drop>(appender: &Appender<R>, thread: usize) -> bool {
-    let Some(rows) = ROWS.get(thread) else {
+fn write_lines<R: Wait + Drop>(appender: &Appender<R>, thread: usize) -> bool {
+    let Some([first, second]) = LINES.get(thread) else {
         return false;
     };
-    let mut taken = true;
-    for row in rows {
-        taken = write_one(appender, row) && taken;
-    }
-    taken
+    write_one(appender, first) && write_one(appender, second)
 }
 
-// Returns what the files from 11:00 on hold, the older one first. If the first look was at 12:00, none begins at 11:00.
-fn late_text<R: Host + Abort>(rt: R, folder: &MemoryFolder) -> Vec<u8> {
+// Checks the file of 10:00, and how many lines of each thread the later ones have, in its order and once. If the first look was
+// at 12:00, no file begins at 11:00.
+fn expect_files<R: Host>(rt: R, folder: &MemoryFolder, early: &[u8], lines: &[Lines; 2], count: usize) {
+    expect_eq(&rt, folder.bytes("app.2020-02-01-10"), Some(early));
     let mut text = Vec::new(rt.alloc());
     for name in ["app.2020-02-01-11", "app.2020-02-01-12"] {
         let bytes = folder.bytes(name).unwrap_or(b"");
         text.extend_from_slice(bytes).expect(&rt, "memory");
     }
-    text
-}
-
-// Checks the file of 10:00, and that the later ones hold so many lines of each thread, in its order and once.
-fn expect_files<R: Host + Abort>(rt: R, folder: &MemoryFolder, early: &str, count: usize) {
-    expect_eq(
-        &rt,
-        folder.bytes("app.2020-02-01-10"),
-        Some(early.as_bytes()),
-    );
-    let text = late_text(rt, folder);
-    expect_eq(&rt, count_of(&rt, text.as_slice(), Name::A, false), count);
-    expect_eq(&rt, count_of(&rt, text.as_slice(), Name::B, false), count);
-    expect_lines(&rt, text.as_slice(), count.saturating_mul(2));
+    let counts = count_lines(&rt, text.as_slice(), lines, false);
+    expect_eq(&rt, counts, (count, count));
 }
 
 #[test]
 fn two_threads_write_at_a_boundary(rt: HostRuntime) -> Result<(), Fail> {
     let appender = open(rt, 1);
-    let taken = thread::map_indices(&rt, rt.alloc(), 2, &|thread| write_rows(&appender, thread))?;
+    let taken = thread::map_indices(&rt, rt.alloc(), 2, &|thread| write_lines(&appender, thread))?;
     assert!(rt; !taken.contains(&false));
-    expect_files(rt, &appender.into_parts().0, "", 2);
+    expect_files(rt, &appender.into_parts().0, b"", &LINES, 2);
     Ok(())
 }
 
@@ -154,10 +132,12 @@ fn write_held<R: Host>(rt: &R, appender: &Appender<R>) -> bool {
 fn a_writer_is_held_across_a_boundary(rt: HostRuntime) {
     let appender = open(rt, 2);
     assert!(rt; write_held(&rt, &appender));
-    expect_files(rt, &appender.into_parts().0, "m1|", 1);
+    expect_files(rt, &appender.into_parts().0, b"m1|", &LINES, 1);
 }
 
-// Logs a record with this number.
+// The records of two threads.
+static RECORDS: [Lines; 2] = [[b"[INFO  db] 0\n", b""], [b"[INFO  db] 1\n", b""]];
+
 fn log_one<R: Host>(rt: R, sink: &LogSink<'_, Appender<R>, R>, number: usize) {
     let logger = Logged::new(rt, Level::Info, sink);
     info!(logger; target: "db", "{number}");
@@ -170,18 +150,10 @@ fn log_by_two<R: Host>(rt: R, appender: &Appender<R>) -> Result<u64, AllocError>
     Ok(sink.lost())
 }
 
-// How often a text has this record, in a text of records as long.
-fn count_in(text: &[u8], record: &[u8]) -> usize {
-    text.chunks(13).filter(|row| *row == record).count()
-}
-
 #[test]
 fn two_threads_log_at_a_boundary(rt: HostRuntime) -> Result<(), Fail> {
     let appender = open(rt, 1);
     expect_eq(&rt, log_by_two(rt, &appender)?, 0);
-    let text = late_text(rt, &appender.into_parts().0);
-    expect_eq(&rt, text.len(), 26);
-    expect_eq(&rt, count_in(text.as_slice(), b"[INFO  db] 0\n"), 1);
-    expect_eq(&rt, count_in(text.as_slice(), b"[INFO  db] 1\n"), 1);
+    expect_files(rt, &appender.into_parts().0, b"", &RECORDS, 1);
     Ok(())
 }

@@ -1,4 +1,4 @@
-use Rattle.acceptance_threads.proofs.schedules.counted.run.Given as goal
+use Rattle.acceptance_schedules.proofs.counted.run.Given as goal
 
 abbrev pub ghosts-play-A-Ledger : goal.ghosts-play-A-Ledger
 ghosts-play-A-Ledger g a = record { name = a.blanks.accepted.name; parts = a.blanks.accepted.parts }
