@@ -53,7 +53,12 @@ fn open<R: Host>(rt: R, early: u64) -> Appender<R> {
         .filename_prefix(rt.alloc(), "app")
         .expect(&rt, "memory");
     let reads = AtomicU64::new(0);
-    match builder.build_in(rt, rt.alloc(), MemoryFolder::new(rt.alloc()), Turning { reads, early }) {
+    match builder.build_in(
+        rt,
+        rt.alloc(),
+        MemoryFolder::new(rt.alloc()),
+        Turning { reads, early },
+    ) {
         Ok(appender) => appender,
         Err((error, _folder, _clock)) => rt.panic(error),
     }
@@ -81,7 +86,13 @@ fn write_lines<R: Wait + Drop>(appender: &Appender<R>, thread: usize) -> bool {
 
 // Checks the file of 10:00, and how many lines of each thread the later ones have, in its order and once. If the first look was
 // at 12:00, no file begins at 11:00.
-fn expect_files<R: Host>(rt: R, folder: &MemoryFolder, early: &[u8], lines: &[Lines; 2], count: usize) {
+fn expect_files<R: Host>(
+    rt: R,
+    folder: &MemoryFolder,
+    early: &[u8],
+    lines: &[Lines; 2],
+    count: usize,
+) {
     expect_eq(&rt, folder.bytes("app.2020-02-01-10"), Some(early));
     let mut text = Vec::new(rt.alloc());
     for name in ["app.2020-02-01-11", "app.2020-02-01-12"] {

@@ -175,7 +175,11 @@ fn expect_all<R: Host>(
 }
 
 fn run<R: Host>(rt: R, mode: Mode, limit: usize, end: GuardEnd) {
-    let way = if mode == Mode::Fails { Way::Fails } else { Way::Takes };
+    let way = if mode == Mode::Fails {
+        Way::Fails
+    } else {
+        Way::Takes
+    };
     let (recorder, record) = new_recorder(rt, way).expect(&rt, "memory");
     let outcome = play(rt, mode, limit, end, recorder, &*record);
     assert!(rt; record.has_ended(rt));

@@ -110,7 +110,12 @@ impl Record {
     }
 
     /// Returns how many lines of two threads were written, each once and in its order.
-    pub(crate) fn count<R: Host>(&self, rt: R, lines: &[Lines; 2], has_gaps: bool) -> (usize, usize) {
+    pub(crate) fn count<R: Host>(
+        &self,
+        rt: R,
+        lines: &[Lines; 2],
+        has_gaps: bool,
+    ) -> (usize, usize) {
         count_lines(&rt, self.text.lock(&rt).as_slice(), lines, has_gaps)
     }
 }
