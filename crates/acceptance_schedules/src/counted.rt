@@ -35,7 +35,8 @@ fn write_lines<L: LineSender>(sender: &mut L, lines: &Lines) -> usize {
 
 // A counted sender without the names of its ledgers, which makes proofs shorter.
 trait Sends: Send + Drop + 'static {
-    fn sends(&mut self, lines: &Lines) -> usize;
+    // Writes the lines of this thread.
+    fn sends(&mut self, thread: usize) -> usize;
 }
 
 impl<
@@ -45,8 +46,8 @@ impl<
     C: Ledger + Send + Sync + 'static,
     R: Host,
 > Sends for CountedSender<A, H, S, C, R> {
-    fn sends(&mut self, lines: &Lines) -> usize {
-        write_lines(self, lines)
+    fn sends(&mut self, thread: usize) -> usize {
+        write_lines(self, &LINES[thread % 2])
     }
 }
 
@@ -55,11 +56,11 @@ type Running<T> = JoinHandle<(T, usize)>;
 fn start_sender<T: Sends, R: Host>(
     rt: R,
     senders: &mut Vec<T>,
-    lines: &'static Lines,
+    thread: usize,
 ) -> io::Result<Running<T>> {
     let mut sender = senders.pop().expect(&rt, "a sender");
     Ok(thread::spawn(&rt, move || {
-        let queued = sender.sends(lines);
+        let queued = sender.sends(thread);
         (sender, queued)
     })?)
 }
@@ -107,8 +108,8 @@ fn play<
     let (mut senders, mut guard) = builder(if shuts { 2 } else { 1 })
         .finish_counted::<A, H, S, C, _, R>(rt, rt.alloc(), recorder, 2, blanks)
         .expect(&rt, "a worker");
-    let a = start_sender(rt, &mut senders, &LINES[0]).expect(&rt, "a thread");
-    let b = start_sender(rt, &mut senders, &LINES[1]).expect(&rt, "a thread");
+    let a = start_sender(rt, &mut senders, 0).expect(&rt, "a thread");
+    let b = start_sender(rt, &mut senders, 1).expect(&rt, "a thread");
     let is_shut = shuts && guard.shut() == Shut::Sent;
     let queued = (join(rt, a, &mut senders), join(rt, b, &mut senders));
     Settled {

@@ -74,9 +74,9 @@ fn write_lines<R: Wait + Drop>(mut sender: NonBlocking<R>, lines: &Lines) -> usi
 fn start_sender<R: Host>(
     rt: R,
     sender: NonBlocking<R>,
-    lines: &'static Lines,
+    thread: usize,
 ) -> io::Result<JoinHandle<usize>> {
-    Ok(thread::spawn(&rt, move || write_lines(sender, lines))?)
+    Ok(thread::spawn(&rt, move || { write_lines(sender, &LINES[thread % 2]) })?)
 }
 
 // Starts a thread for each of the two senders.
@@ -85,10 +85,7 @@ fn start_senders<R: Host>(
     sender: NonBlocking<R>,
 ) -> io::Result<(JoinHandle<usize>, JoinHandle<usize>)> {
     let other = sender.clone()?;
-    Ok((
-        start_sender(rt, sender, &LINES[0])?,
-        start_sender(rt, other, &LINES[1])?,
-    ))
+    Ok((start_sender(rt, sender, 0)?, start_sender(rt, other, 1)?))
 }
 
 fn close<R: Host>(rt: R, guard: WorkerGuard<R>, record: &Record) -> Closed {
