@@ -1,7 +1,7 @@
 // A log in memory: the rest of a line, parts of lines that are ended by a newline, and a file that is gone.
 ghost use Rattle.std.specs.Prelude.{◌≡◌, [], true, IfSome};
 
-use crate::expect::expect_eq;
+use crate::expect::{AllocAndAbort, expect_eq};
 use appender_store::store::{MemoryFile, MemoryFolder, NoticeKind};
 use rolltee_core::check::FileCheck;
 use rolltee_core::file_log::{FileLog, Opens};
@@ -9,7 +9,7 @@ use rolltee_core::tee::TeeLog;
 use std::alloc::Global;
 use std::cell::Cell;
 use std::io::ErrorKind;
-use std::test::Fail;
+use std::process::Abort;
 use tracing_appender::rolling::{Builder, Clock, InitError, RollingFile, Rotation};
 use tracing_appender::waiting::Faults;
 
@@ -146,199 +146,248 @@ fn settings_of(limit: u64) -> Builder {
 
 // A log of this scene, opened by this.
 fn opened_by<'a>(
+    rt: &impl Abort,
     opener: SceneOpener<'a>,
     scene: &'a Scene,
     whole_lines: bool,
-) -> Result<SceneLog<'a>, Fail> {
+) -> SceneLog<'a> {
     match FileLog::new(opener, SceneCheck { scene }, whole_lines) {
-        Ok(log) => Ok(log),
-        Err(error) => Err(Fail::from(error)),
+        Ok(log) => log,
+        Err(_) => rt.panic("no log"),
     }
 }
 
 // A log of this scene, by the calls that are not as usual.
-fn log_of(
-    alloc: Global,
-    scene: &Scene,
+fn log_of<'a>(
+    rt: &impl AllocAndAbort,
+    scene: &'a Scene,
     limit: u64,
     whole_lines: bool,
     failing: u64,
     short: (u64, usize),
-) -> Result<SceneLog<'_>, Fail> {
+) -> SceneLog<'a> {
     let settings = settings_of(limit);
     let opener = SceneOpener {
-        alloc,
+        alloc: rt.alloc(),
         settings,
         failing,
         short,
         scene,
     };
-    opened_by(opener, scene, whole_lines)
+    opened_by(rt, opener, scene, whole_lines)
 }
 
-// The first three bytes, then the others in the next hour, and a line. If the line is given up, or ends there, the others are a line of
-// their own.
-#[test]
-fn the_rest_of_a_line_is_in_its_file(rt: HostRuntime) -> Result<(), Fail> {
-    for (text, gives_up, wanted) in [
-        (b"abcdef\n", false, (7, 3)),
-        (b"abcdef\n", true, (3, 7)),
-        (b"ab\ndef\n", false, (3, 7)),
-    ] {
-        let scene = Scene::of_hours();
-        let mut log = log_of(rt.alloc(), &scene, 0, false, 0, (2, 3))?;
-        expect_eq(&rt, log.put(text)?, 3);
-        if gives_up {
-            log.give_up();
-        }
-        scene.moment.set(NEXT);
-        expect_eq(&rt, log.put(b"def\n")?, 4);
-        expect_eq(&rt, log.put(b"gh\n")?, 3);
-        log.flush_all()?;
-        expect_eq(&rt, scene.lengths.get(), wanted);
+// Writes, and compares how many bytes were taken.
+fn put(rt: &impl Abort, log: &mut SceneLog<'_>, text: &[u8], taken: usize) {
+    expect_eq(rt, log.put(text).ok(), Some(taken));
+}
+
+// Flushes, and compares how many bytes the two files have.
+fn flush(rt: &impl Abort, log: &mut SceneLog<'_>, scene: &Scene, lengths: (usize, usize)) {
+    expect_eq(rt, log.flush_all().is_ok(), true);
+    expect_eq(rt, scene.lengths.get(), lengths);
+}
+
+// A text of which three bytes are taken, whether it is then given up, and the lengths of both files after the others in the next hour,
+// and a line. If the text is given up, or a line ends there, the others are a line of their own.
+static RESTS: [(&[u8], bool, (usize, usize)); 3] = [
+    (b"abcdef\n", false, (7, 3)),
+    (b"abcdef\n", true, (3, 7)),
+    (b"ab\ndef\n", false, (3, 7)),
+];
+
+fn check_rest(rt: &impl AllocAndAbort, text: &[u8], gives_up: bool, wanted: (usize, usize)) {
+    let scene = Scene::of_hours();
+    let mut log = log_of(rt, &scene, 0, false, 0, (2, 3));
+    put(rt, &mut log, text, 3);
+    if gives_up {
+        log.give_up();
     }
-    Ok(())
+    scene.moment.set(NEXT);
+    put(rt, &mut log, b"def\n", 4);
+    put(rt, &mut log, b"gh\n", 3);
+    flush(rt, &mut log, &scene, wanted);
+}
+
+#[test]
+fn the_rest_of_a_line_is_in_its_file(rt: HostRuntime) {
+    for (text, gives_up, wanted) in &RESTS {
+        check_rest(&rt, *text, *gives_up, *wanted);
+    }
 }
 
 // Three bytes of a line, and then the file is gone. The rest is refused, by a fault that is not waited for, and the next line begins
 // the new file.
 #[test]
-fn the_rest_of_a_line_is_in_no_other_file(rt: HostRuntime) -> Result<(), Fail> {
+fn the_rest_of_a_line_is_in_no_other_file(rt: HostRuntime) {
     let scene = Scene::of_hours();
-    let mut log = log_of(rt.alloc(), &scene, 0, false, 0, (2, 3))?;
-    expect_eq(&rt, log.put(b"abcdef\n")?, 3);
+    let mut log = log_of(&rt, &scene, 0, false, 0, (2, 3));
+    put(&rt, &mut log, b"abcdef\n", 3);
     scene.lost.set(true);
     let fault = log.put(b"def\n").err();
     let refused = fault.is_some_and(|fault| !Faults::Any.contain(&fault));
     expect_eq(&rt, refused, true);
     log.give_up();
-    expect_eq(&rt, log.put(b"gh\n")?, 3);
-    log.flush_all()?;
+    put(&rt, &mut log, b"gh\n", 3);
+    flush(&rt, &mut log, &scene, (3, 0));
     expect_eq(&rt, scene.openings.get(), 2);
-    expect_eq(&rt, scene.lengths.get(), (3, 0));
-    Ok(())
 }
 
 // One byte of a line is written, that is given up, and another line is written, all within a limit of six bytes a file. Each file
 // begins with a newline, since its end is not seen. The newline that ends a part is counted too: no file is above the limit.
+static LIMITED: [(&[u8], (usize, usize)); 3] = [
+    (b"bc\n", (6, 0)),
+    (b"bcd\n", (2, 5)),
+    (b"bcde\n", (2, 6)),
+];
+
+fn check_limited(rt: &impl AllocAndAbort, line: &[u8], wanted: (usize, usize)) {
+    let scene = Scene::new(["2020-02-01-10.000000", "2020-02-01-10.000001"]);
+    let mut log = log_of(rt, &scene, 6, true, 0, (4, 1));
+    put(rt, &mut log, b"abc\n", 1);
+    log.give_up();
+    put(rt, &mut log, line, line.len());
+    flush(rt, &mut log, &scene, wanted);
+}
+
 #[test]
-fn a_part_of_a_line_is_ended_within_the_limit(rt: HostRuntime) -> Result<(), Fail> {
-    for (line, wanted) in [
-        (b"bc\n".as_slice(), (6, 0)),
-        (b"bcd\n".as_slice(), (2, 5)),
-        (b"bcde\n".as_slice(), (2, 6)),
-    ] {
-        let scene = Scene::new(["2020-02-01-10.000000", "2020-02-01-10.000001"]);
-        let mut log = log_of(rt.alloc(), &scene, 6, true, 0, (4, 1))?;
-        expect_eq(&rt, log.put(b"abc\n")?, 1);
-        log.give_up();
-        expect_eq(&rt, log.put(line)?, line.len());
-        log.flush_all()?;
-        expect_eq(&rt, scene.lengths.get(), wanted);
+fn a_part_of_a_line_is_ended_within_the_limit(rt: HostRuntime) {
+    for (line, wanted) in &LIMITED {
+        check_limited(&rt, *line, *wanted);
     }
-    Ok(())
+}
+
+fn check_parts(rt: &impl AllocAndAbort, whole_lines: bool, wanted: (usize, usize)) {
+    let scene = Scene::of_hours();
+    let mut log = log_of(rt, &scene, 0, whole_lines, 0, (0, 0));
+    for moment in [FIRST, NEXT] {
+        scene.moment.set(moment);
+        put(rt, &mut log, b"a\n", 2);
+        put(rt, &mut log, b"b\n", 2);
+    }
+    flush(rt, &mut log, &scene, wanted);
 }
 
 // The part at the opening is ended once, and so is that of the next file.
 #[test]
-fn each_part_is_ended_once(rt: HostRuntime) -> Result<(), Fail> {
-    for (whole_lines, wanted) in [(true, (5, 5)), (false, (4, 4))] {
-        let scene = Scene::of_hours();
-        let mut log = log_of(rt.alloc(), &scene, 0, whole_lines, 0, (0, 0))?;
-        for moment in [FIRST, NEXT] {
-            scene.moment.set(moment);
-            expect_eq(&rt, log.put(b"a\n")?, 2);
-            expect_eq(&rt, log.put(b"b\n")?, 2);
-        }
-        log.flush_all()?;
-        expect_eq(&rt, scene.lengths.get(), wanted);
-    }
-    Ok(())
+fn each_part_is_ended_once(rt: HostRuntime) {
+    check_parts(&rt, true, (5, 5));
+    check_parts(&rt, false, (4, 4));
 }
 
 // A line of which three bytes were taken, and which is given up: its part is ended if that is asked for, also if the first newline
 // is refused, and only in its own file: not in that of the next hour, nor in a new one that is whole. The newline at the opening is
 // the second call.
-#[test]
-fn a_line_that_is_given_up_is_ended(rt: HostRuntime) -> Result<(), Fail> {
-    for (whole_lines, failing, moment, lost, wanted) in [
-        (false, 0, FIRST, false, (6, 0)),
-        (true, 0, FIRST, false, (8, 0)),
-        (true, 4, FIRST, false, (8, 0)),
-        (true, 0, NEXT, false, (4, 4)),
-        (true, 0, FIRST, true, (3, 0)),
-    ] {
-        let scene = Scene::of_hours();
-        let line = if whole_lines { 3 } else { 2 };
-        let mut log = log_of(rt.alloc(), &scene, 0, whole_lines, failing, (line, 3))?;
-        expect_eq(&rt, log.put(b"abcdef\n")?, 3);
+static GIVEN_UP: [(bool, u64, i64, bool, (usize, usize)); 5] = [
+    (false, 0, FIRST, false, (6, 0)),
+    (true, 0, FIRST, false, (8, 0)),
+    (true, 4, FIRST, false, (8, 0)),
+    (true, 0, NEXT, false, (4, 4)),
+    (true, 0, FIRST, true, (3, 0)),
+];
+
+// A line that is refused once, if so, is written by the next try.
+fn put_again(rt: &impl Abort, log: &mut SceneLog<'_>, line: &[u8]) {
+    if log.put(line).is_err() {
         log.give_up();
-        scene.moment.set(moment);
-        scene.lost.set(lost);
-        scene.whole.set(lost);
-        if log.put(b"gh\n").is_err() {
-            log.give_up();
-            expect_eq(&rt, log.put(b"gh\n")?, 3);
-        }
-        log.flush_all()?;
-        expect_eq(&rt, scene.lengths.get(), wanted);
+        put(rt, log, line, line.len());
     }
-    Ok(())
+}
+
+fn check_given_up(
+    rt: &impl AllocAndAbort,
+    whole_lines: bool,
+    failing: u64,
+    moment: i64,
+    lost: bool,
+    wanted: (usize, usize),
+) {
+    let scene = Scene::of_hours();
+    let line = if whole_lines { 3 } else { 2 };
+    let mut log = log_of(rt, &scene, 0, whole_lines, failing, (line, 3));
+    put(rt, &mut log, b"abcdef\n", 3);
+    log.give_up();
+    scene.moment.set(moment);
+    scene.lost.set(lost);
+    scene.whole.set(lost);
+    put_again(rt, &mut log, b"gh\n");
+    flush(rt, &mut log, &scene, wanted);
+}
+
+#[test]
+fn a_line_that_is_given_up_is_ended(rt: HostRuntime) {
+    for (whole_lines, failing, moment, lost, wanted) in &GIVEN_UP {
+        check_given_up(&rt, *whole_lines, *failing, *moment, *lost, *wanted);
+    }
+}
+
+// Loses the file, writes three lines, and loses it again before a flush, and before a write at a moment that can't be read.
+fn check_openings(rt: &impl AllocAndAbort, whole_lines: bool, wanted: (usize, usize)) {
+    let scene = Scene::of_hours();
+    let mut log = log_of(rt, &scene, 0, whole_lines, 0, (0, 0));
+    put(rt, &mut log, b"a\n", 2);
+    scene.lost.set(true);
+    for _ in 0..3u32 {
+        put(rt, &mut log, b"b\n", 2);
+    }
+    flush(rt, &mut log, &scene, wanted);
+    expect_eq(rt, scene.openings.get(), 2);
+    scene.lost.set(true);
+    expect_eq(rt, log.flush_all().is_ok(), true);
+    expect_eq(rt, scene.lost.get(), false);
+    scene.moment.set(i64::MIN);
+    let fault = log.put(b"c\n").err();
+    expect_eq(rt, fault.map(|fault| fault.kind()), Some(ErrorKind::Other));
+    scene.moment.set(FIRST);
+    put(rt, &mut log, b"c\n", 2);
+    expect_eq(rt, scene.openings.get(), 4);
 }
 
 // A file that is gone is begun anew by the next write, and no later write opens the log again. A flush looks for it too. A log
 // that can't be opened, since the clock can't be read, has a fault that is waited for, and the next write tries again.
 #[test]
-fn a_log_is_opened_again_once(rt: HostRuntime) -> Result<(), Fail> {
-    for (whole_lines, wanted) in [(false, (6, 0)), (true, (7, 0))] {
-        let scene = Scene::of_hours();
-        let mut log = log_of(rt.alloc(), &scene, 0, whole_lines, 0, (0, 0))?;
-        expect_eq(&rt, log.put(b"a\n")?, 2);
-        scene.lost.set(true);
-        for _ in 0..3u32 {
-            expect_eq(&rt, log.put(b"b\n")?, 2);
-        }
-        log.flush_all()?;
-        expect_eq(&rt, scene.openings.get(), 2);
-        expect_eq(&rt, scene.lengths.get(), wanted);
-        scene.lost.set(true);
-        log.flush_all()?;
-        expect_eq(&rt, scene.lost.get(), false);
-        scene.moment.set(i64::MIN);
-        let fault = log.put(b"c\n").err();
-        expect_eq(&rt, fault.map(|fault| fault.kind()), Some(ErrorKind::Other));
-        scene.moment.set(FIRST);
-        expect_eq(&rt, log.put(b"c\n")?, 2);
-        expect_eq(&rt, scene.openings.get(), 4);
-    }
-    Ok(())
+fn a_log_is_opened_again_once(rt: HostRuntime) {
+    check_openings(&rt, false, (6, 0));
+    check_openings(&rt, true, (7, 0));
 }
 
 // A file that was lost and a flush that failed are counted, also one at a switch. So is the flush that is missing if the last call
 // was none that succeeded. The flush is the third call, and the one at a switch the fourth.
-#[test]
-fn a_log_counts_what_it_lost(rt: HostRuntime) -> Result<(), Fail> {
-    for (failing, lost, moment, flushes, wanted) in [
-        (0, false, FIRST, 0, (0, 1)),
-        (0, false, FIRST, 1, (0, 0)),
-        (0, true, FIRST, 1, (1, 0)),
-        (3, false, FIRST, 1, (0, 1)),
-        (3, false, FIRST, 2, (0, 1)),
-        (4, false, NEXT, 1, (0, 1)),
-    ] {
-        let scene = Scene::of_hours();
-        let mut log = log_of(rt.alloc(), &scene, 0, false, failing, (0, 0))?;
-        expect_eq(&rt, log.put(b"a\n")?, 2);
-        scene.lost.set(lost);
-        scene.moment.set(moment);
-        if lost || moment == NEXT {
-            expect_eq(&rt, log.put(b"b\n")?, 2);
-        }
-        for _ in 0..flushes {
-            let _ = log.flush_all();
-        }
-        let losses = log.losses();
-        expect_eq(&rt, (losses.gone, losses.unsynced), wanted);
+static LOSSES: [(u64, bool, i64, u32, (u64, u64)); 6] = [
+    (0, false, FIRST, 0, (0, 1)),
+    (0, false, FIRST, 1, (0, 0)),
+    (0, true, FIRST, 1, (1, 0)),
+    (3, false, FIRST, 1, (0, 1)),
+    (3, false, FIRST, 2, (0, 1)),
+    (4, false, NEXT, 1, (0, 1)),
+];
+
+fn check_losses(
+    rt: &impl AllocAndAbort,
+    failing: u64,
+    lost: bool,
+    moment: i64,
+    flushes: u32,
+    wanted: (u64, u64),
+) {
+    let scene = Scene::of_hours();
+    let mut log = log_of(rt, &scene, 0, false, failing, (0, 0));
+    put(rt, &mut log, b"a\n", 2);
+    scene.lost.set(lost);
+    scene.moment.set(moment);
+    if lost || moment == NEXT {
+        put(rt, &mut log, b"b\n", 2);
     }
-    Ok(())
+    for _ in 0..flushes {
+        let _ = log.flush_all();
+    }
+    let losses = log.losses();
+    expect_eq(rt, (losses.gone, losses.unsynced), wanted);
+}
+
+#[test]
+fn a_log_counts_what_it_lost(rt: HostRuntime) {
+    for (failing, lost, moment, flushes, wanted) in &LOSSES {
+        check_losses(&rt, *failing, *lost, *moment, *flushes, *wanted);
+    }
 }
