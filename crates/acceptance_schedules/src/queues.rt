@@ -1,4 +1,5 @@
-// Two senders, each in a thread, over a queue of at most two lines.
+// Two senders, each in a thread, over a queue of at most two lines, or of so many that the worker takes several in one hold of the
+// lock: two from a queue of 64, three from one of 96.
 use crate::expect::{Host, expect_eq};
 use crate::lines::{LINES, Lines};
 use crate::recorder::{Record, Recorder, Way, new_recorder};
@@ -11,6 +12,7 @@ use std::process::Abort;
 use std::sync::Wait;
 use std::test::Fail;
 use std::thread::JoinHandle;
+use std::time::Duration;
 use std::{io, thread};
 
 // What a queue or its writer does beside that of a waiting queue.
@@ -60,7 +62,7 @@ fn start<R: Host>(
 }
 
 // Writes lines until one is refused, and returns how many were taken.
-fn write_lines<R: Wait + Drop>(mut sender: NonBlocking<R>, lines: &Lines) -> usize {
+fn write_lines<R: Wait + Drop>(mut sender: NonBlocking<R>, lines: &[&[u8]]) -> usize {
     let mut taken = 0usize;
     for line in lines {
         if sender.write_all(line).is_err() {
@@ -75,17 +77,24 @@ fn start_sender<R: Host>(
     rt: R,
     sender: NonBlocking<R>,
     thread: usize,
+    written: usize,
 ) -> io::Result<JoinHandle<usize>> {
-    Ok(thread::spawn(&rt, move || { write_lines(sender, &LINES[thread % 2]) })?)
+    Ok(thread::spawn(&rt, move || {
+        write_lines(sender, &LINES[thread % 2][written.min(2)..])
+    })?)
 }
 
-// Starts a thread for each of the two senders.
+// Starts a thread for each of the two senders. The first one has written this number of its lines.
 fn start_senders<R: Host>(
     rt: R,
     sender: NonBlocking<R>,
+    written: usize,
 ) -> io::Result<(JoinHandle<usize>, JoinHandle<usize>)> {
     let other = sender.clone()?;
-    Ok((start_sender(rt, sender, 0)?, start_sender(rt, other, 1)?))
+    Ok((
+        start_sender(rt, sender, 0, written)?,
+        start_sender(rt, other, 1, 0)?,
+    ))
 }
 
 fn close<R: Host>(rt: R, guard: WorkerGuard<R>, record: &Record) -> Closed {
@@ -119,7 +128,7 @@ fn play<R: Host>(
 ) -> Outcome {
     let (sender, guard) = start(rt, mode, limit, recorder).expect(&rt, "a worker");
     let counter = sender.error_counter().expect(&rt, "memory");
-    let (a, b) = start_senders(rt, sender).expect(&rt, "threads");
+    let (a, b) = start_senders(rt, sender, 0).expect(&rt, "threads");
     let (guard, early) = end_early(rt, guard, end, record);
     let taken = (a.join(&rt), b.join(&rt));
     let late = guard.map(|guard| close(rt, guard, record));
@@ -201,6 +210,11 @@ fn senders_of_a_queue_of_two_lines_get_through(rt: HostRuntime) {
 }
 
 #[test]
+fn lines_of_a_hold_are_written_in_order(rt: HostRuntime) {
+    run(rt, Mode::Waits, 96, GuardEnd::Last);
+}
+
+#[test]
 fn dropped_lines_are_counted_exactly(rt: HostRuntime) {
     run(rt, Mode::Drops, 1, GuardEnd::Last);
 }
@@ -214,6 +228,11 @@ fn a_guard_is_closed_while_senders_wait(rt: HostRuntime) {
 #[test]
 fn a_guard_counts_the_lines_that_it_leaves(rt: HostRuntime) {
     run(rt, Mode::Waits, 2, GuardEnd::Closed);
+}
+
+#[test]
+fn a_guard_is_closed_amid_a_hold(rt: HostRuntime) {
+    run(rt, Mode::Waits, 96, GuardEnd::Closed);
 }
 
 #[test]
@@ -240,6 +259,35 @@ fn close_full<R: Host>(rt: R, recorder: Recorder<R>, record: &Record) -> NonBloc
     expect_eq(&rt, guard.close(), Closing::Full);
     record.opens();
     sender
+}
+
+// Writes a line that the worker holds, and fills a queue of 64 with lines of which nothing is written.
+fn fill_held<R: Host>(
+    rt: R,
+    recorder: Recorder<R>,
+    record: &Record,
+) -> (NonBlocking<R>, WorkerGuard<R>) {
+    let (mut sender, guard) = start(rt, Mode::Waits, 64, recorder).expect(&rt, "a worker");
+    assert!(rt; sender.write_all(LINES[0][0]).is_ok());
+    assert!(rt; record.is_held(rt));
+    for _ in 0..64u32 {
+        assert!(rt; sender.write(b"").is_ok());
+    }
+    (sender, guard)
+}
+
+// Both senders sleep before the worker goes on. It wakes one of them for a hold of two lines, and that one the other.
+#[test]
+fn a_hold_wakes_senders_that_wait(rt: HostRuntime) {
+    let (recorder, record) = new_recorder(rt, Way::Holds).expect(&rt, "memory");
+    let (sender, guard) = fill_held(rt, recorder, &*record);
+    let (a, b) = start_senders(rt, sender, 1).expect(&rt, "threads");
+    thread::sleep(&rt, Duration::from_millis(5));
+    record.opens();
+    expect_eq(&rt, (a.join(&rt), b.join(&rt)), (1, 2));
+    drop(guard);
+    assert!(rt; record.has_ended(rt));
+    expect_eq(&rt, record.count(rt, &LINES, false), (2, 2));
 }
 
 // Drops two clones of a sender, one in a thread.

@@ -25,17 +25,18 @@ pub(crate) struct Seen {
     interruptions: AtomicUsize,
     // After the last line.
     flushes: AtomicUsize,
-    // 1 once the writer holds a line, once it may go on, once its flushes fail, and once it was dropped.
+    // How many lines the writer has held, and of how many of them it may let go.
     holds: AtomicUsize,
-    open: AtomicUsize,
+    opened: AtomicUsize,
+    // 1 once its flushes fail, and once it was dropped.
     fails: AtomicUsize,
     ended: AtomicUsize,
 }
 
 /// Records lines and flushes. A line that begins with one of these letters is not just taken:
 ///
-/// - `h`: it is held. The write returns when the gate is open. If that takes longer than ten seconds, `late` is recorded too, and
-///   the write fails.
+/// - `h`: it is held. The write returns when the gate is opened once for each such line so far. If that takes longer than ten
+///   seconds, `late` is recorded too, and the write fails.
 /// - `s`: its write takes 200 microseconds.
 /// - `n`: the name of the thread is recorded in its place, if the gate has files.
 /// - `p`: its first byte is taken, and what follows is as a line of its own.
@@ -60,7 +61,7 @@ pub(crate) fn new_gate<R: Host>(
         interruptions: AtomicUsize::new(0),
         flushes: AtomicUsize::new(0),
         holds: AtomicUsize::new(0),
-        open: AtomicUsize::new(0),
+        opened: AtomicUsize::new(0),
         fails: AtomicUsize::new(0),
         ended: AtomicUsize::new(0),
     };
@@ -156,8 +157,8 @@ impl Seen {
 
     fn hold<R: Wait + AllocGlobal + Clock + Copy>(&self, rt: R, line: &[u8]) -> io::Result<()> {
         self.take(&rt, line)?;
-        self.holds.store(1, SeqCst);
-        if reaches(rt, &self.open, 1) {
+        let held = self.holds.fetch_add(1, SeqCst).saturating_add(1);
+        if reaches(rt, &self.opened, held) {
             return Ok(());
         }
         self.take(&rt, b"late")?;
@@ -174,12 +175,12 @@ impl Seen {
 
     /// Waits until the writer holds a line, and returns whether it does.
     pub(crate) fn is_held<R: Clock + Copy>(&self, rt: R) -> bool {
-        reaches(rt, &self.holds, 1)
+        reaches(rt, &self.holds, self.opened.load(SeqCst).saturating_add(1))
     }
 
-    /// Lets the writer go on.
+    /// Lets the writer go on to the next line that it holds.
     pub(crate) fn opens(&self) {
-        self.open.store(1, SeqCst);
+        self.opened.fetch_add(1, SeqCst);
     }
 
     /// Waits until the writer was dropped, which its worker's end does, and returns whether it was.

@@ -128,6 +128,38 @@ fn guards_of_counted_senders_end_first(rt: HostRuntime) {
     play(rt, rt, Senders::Counted, &ENDS);
 }
 
+// A worker takes up to 16 lines in one hold of the lock, one for each 32 places of the queue. So while its writer stands still at
+// the first of them there is room for as many lines more.
+#[rattlefmt::skip]
+static HOLDS: [Story; 7] = [
+    Story { title: "63 places, one line in a hold", queue: Lossy(63), senders: 1,
+        steps: &[IsQueued(b"held"), IsHeld, IsQueued(b"h2"), Fills(62), IsDropped(b"c"), Opens, IsHeld, Fills(1), IsDropped(b"d")],
+        guard: Stays, later: &[Opens], came: Count(65) },
+    Story { title: "64 places, two lines in a hold", queue: Lossy(64), senders: 1,
+        steps: &[IsQueued(b"held"), IsHeld, IsQueued(b"h2"), Fills(63), IsDropped(b"c"), Opens, IsHeld, Fills(2), IsDropped(b"d")],
+        guard: Stays, later: &[Opens], came: Count(67) },
+    Story { title: "96 places, three lines in a hold", queue: Lossy(96), senders: 2,
+        steps: &[IsQueued(b"held"), IsHeld, IsQueued(b"h2"), Fills(95), IsDropped(b"c"), Opens, IsHeld, Fills(3), IsDropped(b"d")],
+        guard: Stays, later: &[Opens], came: Count(100) },
+    Story { title: "1024 places, 16 lines in a hold", queue: Lossy(1024), senders: 1,
+        steps: &[IsQueued(b"held"), IsHeld, IsQueued(b"h2"), Fills(1023), IsDropped(b"c"), Opens, IsHeld, Fills(16), IsDropped(b"d")],
+        guard: Stays, later: &[Opens], came: Count(1041) },
+    Story { title: "a hold keeps the order", queue: Waiting(512), senders: 1,
+        steps: &[IsQueued(b"held"), IsHeld, IsQueued(b"h2"), IsQueued(b"a"), IsQueued(b""), IsQueued(b"b"), IsQueued(b"r"), IsQueued(b"c")],
+        guard: Stays, later: &[Opens, IsHeld, IsQueued(b"d"), Opens], came: Lines(b"held|h2|a|b|c|d|") },
+    Story { title: "a shutdown amid a hold", queue: Lossy(512), senders: 1,
+        steps: &[IsQueued(b"held"), IsHeld, IsQueued(b"h2"), IsQueued(b"a")], guard: Closes(Pending),
+        later: &[IsQueued(b"left"), Opens, IsHeld, IsDropped(b"late"), Opens, HasEnded], came: Lines(b"held|h2|a|") },
+    Story { title: "the end of the last sender amid a hold", queue: Waiting(95), senders: 1,
+        steps: &[IsQueued(b"held"), IsHeld, IsQueued(b"h2"), Fills(94)], guard: Drops(Full),
+        later: &[DropsSender, Opens, IsHeld, Opens, HasEnded], came: Count(96) },
+];
+
+#[test]
+fn holds_of_several_lines(rt: HostRuntime) {
+    play_by_all(rt, rt, &HOLDS);
+}
+
 // Buffers of up to 512 bytes are used again: the one before has room, or is too short.
 #[rattlefmt::skip]
 static LONG: [Story; 1] = [

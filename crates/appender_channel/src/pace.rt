@@ -23,9 +23,6 @@ const MOST_FULL_TURNS: u32 = 8192;
 // A run of this number of lines is long enough, or in a queue of few lines one of a quarter of its limit.
 const LONG_RUN: usize = 128;
 
-// How long a sender yields if the worker is far behind.
-const BEHIND_TURNS: u32 = 2048;
-
 /// How many buffers of written lines are kept for other lines. A line of a sender that lives on then needs no allocation,
 /// and no free in another thread.
 pub const MOST_SPARES: usize = 4096;
@@ -36,12 +33,6 @@ pub const MOST_BYTES: usize = 512;
 // While more lines than this wait, the sender of each line whose ticket has none of these bits yields,
 // so that the lines between sender and worker stay in the processor's cache.
 const BEHIND: u64 = 511;
-
-// While more lines than this wait, the sender of each line whose ticket has none of the bits of
-// `OFTEN` backs off, so that the kept buffers are enough for all senders.
-const FAR_BEHIND: u64 = 1024;
-
-const OFTEN: u64 = 15;
 
 /// How long a sender backs off at a full queue. If it looks again soon, it finds room for a line or two,
 /// and it and the worker take the queue from each other's cache for each line. So it backs off longer as
@@ -101,21 +92,13 @@ pub enum Pace {
     GoOn,
     /// It yields to other threads.
     Yield,
-    /// It backs off.
-    BackOff,
 }
 
 impl Pace {
     /// Returns the pace of the sender of the line with this ticket.
     #[inline(always)]
     pub fn after(ticket: u64, queue: &LineQueue) -> Pace {
-        if ticket & OFTEN != 0 {
-            return Pace::GoOn;
-        }
-        let queued = queue.counts().queued;
-        if queued > FAR_BEHIND {
-            Pace::BackOff
-        } else if ticket & BEHIND == 0 && queued > BEHIND {
+        if ticket & BEHIND == 0 && queue.counts().queued > BEHIND {
             Pace::Yield
         } else {
             Pace::GoOn
@@ -124,11 +107,10 @@ impl Pace {
 
     /// Lets other threads run, if the worker is behind.
     #[inline(always)]
-    pub fn keep(self, alone: bool) {
+    pub fn keep(self) {
         match self {
             Pace::GoOn => {}
             Pace::Yield => thread::yield_now(),
-            Pace::BackOff => yield_for(BEHIND_TURNS, alone),
         }
     }
 }

@@ -1,4 +1,5 @@
 pub mod Histories
+pub mod Holding
 pub mod Jobs
 pub mod Refused
 pub mod Serving

@@ -1,3 +1,4 @@
 -- Definitions for bodies only. No clause of a public function cites them.
+pub mod Hand
 pub mod Jobs
 pub mod Served

@@ -2,7 +2,7 @@
 use Rattle.std.specs.Prelude.{true, false}
 use Rattle.appender_non_blocking.specs.declared.non_blocking.losses.Losses.{Losses}
 use Rattle.appender_non_blocking.specs.declared.non_blocking.guard.Closing.{Closing}
-use Rattle.appender_non_blocking.specs.declared.non_blocking.guard.Closing.TheVariants.{Done, Pending, Full, Ended}
+use Rattle.appender_non_blocking.specs.declared.non_blocking.guard.Closing.TheVariants.{Done, Ended}
 
 -- nothing
 abbrev pub no_losses : Losses

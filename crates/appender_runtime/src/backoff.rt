@@ -33,7 +33,7 @@ pub struct Backoff {
 impl Backoff {
     const LEAST: u32 = 8;
 
-    const MOST: u32 = 512;
+    const MOST: u32 = 128;
 
     /// The initial back-off.
     pub const NEW: Backoff = Backoff {

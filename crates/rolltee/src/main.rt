@@ -50,7 +50,7 @@ static HELP: &str = concat!(
     "a line lost, a sync failed, or a log file removed or truncated (the next line\n",
     "begins another); 2 if the words are wrong; 3 if memory was refused. It says what\n",
     "was lost. While the disk refuses lines, as when it is full, it waits. It catches\n",
-    "no signal: INT or TERM ends it at once, and up to 2,048 lines that wait are\n",
+    "no signal: INT or TERM ends it at once, and up to 2,064 lines that wait are\n",
     "lost. See rolltee(1).\n",
 );
 

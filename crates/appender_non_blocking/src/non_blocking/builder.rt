@@ -7,7 +7,7 @@ use super::counted::{CountedSender, make_senders};
 use super::guard::WorkerGuard;
 use super::sender::{NonBlocking, SenderState};
 use super::shared::Shared;
-use super::worker::serve;
+use super::worker::{Hand, serve};
 use appender_channel::books::{Done, FourBooks, NoBooks, Pass};
 use appender_runtime::host::Host;
 use std::alloc::{AllocError, Global};
@@ -74,7 +74,8 @@ impl Default for NonBlockingBuilder {
 }
 
 impl NonBlockingBuilder {
-    /// Sets how many lines may be queued. With 0, a line is accepted only while the worker waits.
+    /// Sets how many lines may be queued. With 0, a line is accepted only while the worker waits. From 64 on, the worker has one
+    /// line for each 32 of these beside them, and 16 at most.
     #[must_use]
     pub fn buffered_lines_limit(mut self, limit: usize) -> NonBlockingBuilder
         ensures { result ≡ record self { limit = limit } }
@@ -119,13 +120,14 @@ impl NonBlockingBuilder {
     {
         let NonBlockingBuilder { limit, lossy, name } = self;
         let name = name_or_default(alloc, name)?;
+        let hand = Hand::new(alloc, limit)?;
         let shared = Shared::new(&rt, alloc, limit, lossy, 0, NoBooks)?;
         let guarded = Arc::try_clone(&shared)?;
         let served = Arc::try_clone(&shared)?;
         // A worker that finds no sender ends. A refusal of memory leaves no thread.
         let local = SenderState::new(alloc, limit, lossy, shared.alone);
         let sender = NonBlocking::first(rt, alloc, shared, local)?;
-        start(rt, name, served, writer)?;
+        start(rt, name, served, writer, hand)?;
         Ok((sender, WorkerGuard::new(rt, guarded)))
     }
 
@@ -171,6 +173,7 @@ impl NonBlockingBuilder {
             shutdowns,
             closings,
         };
+        let hand = Hand::new(alloc, limit)?;
         let shared = Shared::new(&rt, alloc, limit, lossy, senders, books)?;
         let served = Arc::try_clone(&shared)?;
         let local = SenderState::new(alloc, limit, lossy, shared.alone);
@@ -182,7 +185,7 @@ impl NonBlockingBuilder {
         };
         // The guard is a sender that offers no lines and has no place. A worker that finds no sender ends.
         let counted = shared.add_sender(&rt);
-        match start_counted(rt, name, served, writer, pass) {
+        match start_counted(rt, name, served, writer, hand, pass) {
             Ok(worker) => {
                 let guard = CountedGuard {
                     rt,
@@ -210,11 +213,12 @@ fn start<W: Write + Send + Drop + 'static, R: Threads + Wait + Eprint + Copy + S
     name: String,
     shared: Arc<Shared<NoBooks>, Global>,
     writer: W,
+    hand: Hand,
 ) -> io::Result<()> {
     let mut writer = writer;
     let _worker = thread::Builder::new()
         .name(name)
-        .spawn(&rt, move || serve(&rt, &*shared, &mut writer, ()))?;
+        .spawn(&rt, move || serve(&rt, &*shared, &mut writer, hand, ()))?;
     Ok(())
 }
 
@@ -231,6 +235,7 @@ fn start_counted<
     name: String,
     shared: Arc<Shared<FourBooks<A, H, S, C>>, Global>,
     writer: W,
+    hand: Hand,
     pass: Pass<H, C>,
 ) -> io::Result<JoinHandle<Done<H, C>>>
     requires { (pass.handed.parts ≡ 1) × (H.parts ≡ 1) × (pass.closings.parts ≡ 1) × (C.parts ≡ 1)
@@ -241,7 +246,7 @@ fn start_counted<
         requires { (pass.handed.parts ≡ 1) × (H.parts ≡ 1) × (pass.closings.parts ≡ 1) × (C.parts ≡ 1)
             × (pass.closings.amount ≡ 0) }
     {
-        let (done, _) = serve(&rt, &*shared, &mut writer, pass);
+        let (done, _) = serve(&rt, &*shared, &mut writer, hand, pass);
         done
     };
     thread::Builder::new().name(name).spawn(&rt, job)

@@ -11,7 +11,7 @@ use super::account::Blanks;
 use super::builder::{NonBlockingBuilder, name_or_default};
 use super::sender::{SenderState, Sent, copy_of, send};
 use super::shared::Shared;
-use super::worker::serve;
+use super::worker::{Hand, serve};
 use appender_channel::books::{Books, Done, FourBooks, LineBooks, LineShare, Pass, SenderShare};
 use appender_channel::state::Counted;
 use appender_runtime::backoff::Backoff;
@@ -373,6 +373,7 @@ fn start_by<
         closings,
     };
     let books = LineBooks { books, sent, taken };
+    let hand = Hand::new(alloc, limit)?;
     let shared = Shared::new(&rt, alloc, limit, lossy, 1, books)?;
     let served = Arc::try_clone(&shared)?;
     let local = SenderState::new(alloc, limit, lossy, shared.alone);
@@ -399,7 +400,7 @@ fn start_by<
         share,
         history: got,
     };
-    let worker = start_worker(rt, name, served, writer, pass)?;
+    let worker = start_worker(rt, name, served, writer, hand, pass)?;
     Ok((sender, worker))
 }
 
@@ -417,6 +418,7 @@ fn start_worker<
     name: String,
     shared: Arc<Shared<LineBooks<FourBooks<A, H, S, C>, L>>, Global>,
     writer: W,
+    hand: Hand,
     pass: LineShare<Pass<H, C>, L>,
 ) -> io::Result<JoinHandle<Ended<Done<H, C>, W, L>>>
     requires shares { (pass.share.handed.parts ≡ 1) × (H.parts ≡ 1) × (pass.share.closings.parts ≡ 1) × (C.parts ≡ 1)
@@ -428,7 +430,7 @@ fn start_worker<
         requires { ((pass.share.handed.parts ≡ 1) × (H.parts ≡ 1) × (pass.share.closings.parts ≡ 1) × (C.parts ≡ 1)
             × (pass.share.closings.amount ≡ 0)) × ((pass.history.place ≡ 1) × (pass.history.lines ≡ []))
             × (L.first ≡ W.contents writer) }
-    { serve_all(&rt, &*shared, writer, pass) };
+    { serve_all(&rt, &*shared, writer, hand, pass) };
     thread::Builder::new().name(name).spawn(&rt, job)
 }
 
@@ -445,6 +447,7 @@ fn serve_all<
     rt: &R,
     shared: &Shared<LineBooks<FourBooks<A, H, S, C>, L>>,
     writer: W,
+    hand: Hand,
     pass: LineShare<Pass<H, C>, L>,
 ) -> Ended<Done<H, C>, W, L>
     requires shares { (pass.share.handed.parts ≡ 1) × (H.parts ≡ 1) × (pass.share.closings.parts ≡ 1) × (C.parts ≡ 1)
@@ -453,7 +456,7 @@ fn serve_all<
     requires first { L.first ≡ W.contents writer }
 {
     let mut writer = writer;
-    let (done, given_up) = serve(rt, shared, &mut writer, pass);
+    let (done, given_up) = serve(rt, shared, &mut writer, hand, pass);
     Ended {
         done,
         writer,

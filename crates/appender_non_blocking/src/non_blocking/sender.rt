@@ -327,7 +327,7 @@ fn offer<B: Books, R: Wait>(
             drop(state);
             shared.wake(wakeups);
             local.full_backoff.line();
-            pace.keep(shared.alone);
+            pace.keep();
             Some(Sent::Queued(ticket))
         }
         Err(refused) if local.lossy => {

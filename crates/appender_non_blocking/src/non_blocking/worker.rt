@@ -1,7 +1,7 @@
 // What the worker's thread does.
-ghost use Rattle.std.specs.Prelude.{◌≡◌, true, if◌then◌else◌};
+ghost use Rattle.std.specs.Prelude.{◌≡◌, [], true, IfOk, if◌then◌else◌};
 ghost use Rattle.std.specs.Io.KnownBytes.{Keeps};
-ghost use Rattle.appender_channel.specs.TakeCases.{IfLine, IfEnd, IfEmpty};
+ghost use Rattle.appender_non_blocking.specs.Inside.Hand.{Ahead, TakesAhead};
 ghost use Rattle.appender_non_blocking.specs.Inside.Served.{Serves};
 ghost use Rattle.appender_queue.specs.Queue.{saturating_next};
 ghost use Rattle.appender_worker.specs.Core.{after_flushed, is_flushing, is_writing};
@@ -10,32 +10,83 @@ ghost use Rattle.appender_worker.specs.Runs.{WritesOnce, is_waiting};
 use super::shared::Shared;
 use appender_channel::books::Books;
 use appender_channel::pace::{EMPTY_TURNS, LOOKS};
-use appender_channel::state::TakeRequest;
+use appender_channel::state::{State, TakeRequest, Wakeups};
 use appender_queue::queue::Taken;
 use appender_runtime::backoff::{Backoff, yield_for};
 use appender_worker::worker::{LineSink, Want, WorkerCore};
+use circular_buffer::HeapCircularBuffer;
+use std::alloc::{AllocError, Global};
 use std::io;
 use std::io::Write;
 use std::sync::Wait;
 
-// Makes one take under the lock. If there is nothing to take and the request says so, sleeps until it is
-// woken.
+// How many lines a worker takes in one hold of the lock, and of how many places of the queue it takes one then. So a queue of
+// few places has its lines taken one by one.
+const AT_ONCE: usize = 16;
+
+const SHARE: usize = 32;
+
+/// What the worker took and has not passed on to its core, and the buffers of written lines that it has not given back.
+#[derive(Drop)]
+pub(super) struct Hand {
+    // Lines, and last maybe the end.
+    taken: HeapCircularBuffer<Taken>,
+    spent: Vec<Vec<u8>>,
+}
+
+impl Hand {
+    /// Returns an empty hand of the worker of a queue with this limit of lines.
+    pub(super) fn new(alloc: Global, limit: usize) -> Result<Hand, AllocError>
+        ensures { IfOk result (λ hand. hand.taken.items ≡ []) }
+    {
+        let lines = AT_ONCE.min(limit / SHARE).max(1);
+        Ok(Hand {
+            taken: HeapCircularBuffer::with_capacity(alloc, lines - 1)?,
+            spent: Vec::with_capacity(alloc, lines)?,
+        })
+    }
+
+    // Keeps the buffer of a written line, if there is room for it.
+    #[inline(always)]
+    fn keep(&mut self, spent: Option<Vec<u8>>)
+        ensures { self.new.taken ≡ self.old.taken }
+    {
+        if let Some(buffer) = spent
+            && self.spent.len() < self.spent.capacity()
+        {
+            self.spent.push_reserved(buffer);
+        }
+    }
+}
+
+// Returns the first of what is in hand. If there is none, makes one take under the lock, and if that finds a line more of them in the
+// same hold of the lock, for the hand. If there is nothing to take and the request says so, sleeps until it is woken.
+#[tactic(auto, using(crate::proofs::Holding::popped, crate::proofs::Holding::none_in_hand, crate::proofs::Holding::none_left, crate::proofs::Holding::takes_line_more, crate::proofs::Holding::takes_shutdown, crate::proofs::Holding::takes_gone, crate::proofs::Holding::takes_none))]
 #[inline]
 fn take<B: Books, R: Wait>(
     rt: &R,
     shared: &Shared<B>,
     backoff: &mut Backoff,
     request: TakeRequest,
+    hand: &mut Hand,
     pass: &mut B::Pass,
 ) -> Taken
-    requires { B.may_take pass.old }
-    ensures line { IfLine result (λ line. B.may_take pass.new × B.counts_take pass.old line pass.new) }
-    ensures ended { IfEnd result (B.has_ended pass.new × B.counts_closing pass.old pass.new) }
-    ensures empty { IfEmpty result (B.may_take pass.new × (pass.new ≡ pass.old)) }
+    requires { hand.old.taken.items ≡ [] → B.may_take pass.old }
+    ensures { (passed : _) → Ahead B.counts_take B.counts_closing B.may_take B.has_ended hand.old.taken.items passed pass.old
+        → TakesAhead B.counts_take B.counts_closing B.may_take B.has_ended result hand.new.taken.items passed pass.new }
 {
     let sleeps = request.sleeps;
+    if let Some(taken) = hand.taken.pop_front() {
+        hand.keep(request.spent);
+        return taken;
+    }
     let mut state = shared.lock(rt, backoff);
     let (taken, surplus, wakeups) = state.take(request, pass);
+    let wakeups = if let Taken::Line(..) = &taken {
+        take_more(&mut *state, wakeups, hand, pass)
+    } else {
+        wakeups
+    };
     if sleeps && matches!(&taken, Taken::Empty) {
         // With a limit of 0 there is room only now.
         shared.wake(wakeups);
@@ -47,6 +98,52 @@ fn take<B: Books, R: Wait>(
     }
     drop(surplus);
     taken
+}
+
+// Takes for the hand until it is full, or the queue has nothing more, or has ended. Returns whom to wake after all of these takes.
+#[tactic(auto, using(crate::proofs::Holding::ahead_none, crate::proofs::Holding::lines_none, crate::proofs::Holding::ahead_line, crate::proofs::Holding::lines_more, crate::proofs::Holding::ahead_shutdown, crate::proofs::Holding::ahead_gone))]
+#[inline(always)]
+fn take_more<B: Books>(
+    state: &mut State<B>,
+    wakeups: Wakeups,
+    hand: &mut Hand,
+    pass: &mut B::Pass,
+) -> Wakeups
+    requires may { B.may_take pass.old }
+    requires none { hand.old.taken.items ≡ [] }
+    ensures { Ahead B.counts_take B.counts_closing B.may_take B.has_ended hand.new.taken.items pass.old pass.new }
+{
+    let Wakeups { worker, sender } = wakeups;
+    let mut sender = sender;
+    for _ in 1..AT_ONCE {
+        if hand.taken.len() >= hand.taken.capacity() {
+            break;
+        }
+        let request = TakeRequest {
+            waits: false,
+            sleeps: false,
+            spent: hand.spent.pop(),
+        };
+        let (taken, surplus, wakeups) = state.take(request, pass);
+        let Wakeups {
+            worker: _,
+            sender: more,
+        } = wakeups;
+        sender = sender || more;
+        // Nothing is freed under the lock.
+        hand.keep(surplus);
+        if let Taken::Empty = &taken {
+            break;
+        }
+        let is_line = matches!(&taken, Taken::Line(..));
+        let Ok(()) = hand.taken.try_push_back(taken) else {
+            unreachable!()
+        };
+        if !is_line {
+            break;
+        }
+    }
+    Wakeups { worker, sender }
 }
 
 // Flushes the writer. A fault of the last flush is reported on standard error, since no line follows it.
@@ -80,17 +177,21 @@ fn write<W: LineSink>(core: &mut WorkerCore, writer: &mut W, given_up: &mut u64)
 
 /// Does what the worker's core wants until it has ended, and then wakes the guard. Beside the result of the shares
 /// it returns how many lines were given up, at most `u64::MAX`.
-#[tactic(auto, using(crate::proofs::Serving::may_take_now, crate::proofs::Serving::serving_starts, crate::proofs::Serving::serving_took, crate::proofs::Serving::serving_wrote, crate::proofs::Serving::serving_flushed, crate::proofs::Serving::serving_ends))]
+#[tactic(auto, using(crate::proofs::Holding::holding_starts, crate::proofs::Holding::may_take_more, crate::proofs::Holding::holding_flushed, crate::proofs::Holding::holding_ends))]
 pub(super) fn serve<B: Books, W: Write, R: Wait + Eprint>(
     rt: &R,
     shared: &Shared<B>,
     writer: &mut W,
+    hand: Hand,
     pass: B::Pass,
 ) -> (B::Done, u64)
     requires { B.may_take pass }
     ensures { Serves B.counts_take B.counts_closing B.has_ended B.same_lines pass result.0
         (W.contents writer.old) (W.contents writer.new) result.1 }
 {
+    let mut hand = hand;
+    // It is empty, which no contract says across the thread.
+    hand.taken.clear();
     let mut pass = pass;
     let mut backoff = Backoff::new(shared.alone);
     let mut core = WorkerCore::new();
@@ -106,7 +207,7 @@ pub(super) fn serve<B: Books, W: Write, R: Wait + Eprint>(
                     sleeps: waits && looks >= LOOKS,
                     spent: core.take_spent(),
                 };
-                let taken = take(rt, shared, &mut backoff, request, &mut pass);
+                let taken = take(rt, shared, &mut backoff, request, &mut hand, &mut pass);
                 if !matches!(&taken, Taken::Empty) || looks >= LOOKS {
                     looks = 0;
                 } else if waits {

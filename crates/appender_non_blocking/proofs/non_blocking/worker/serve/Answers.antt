@@ -1,19 +1,19 @@
 use Rattle.std.proofs.Common.{rules, ◌≡◌, true}
 use Rattle.appender_worker.specs.Core.{is_taking, is_writing}
-use Rattle.appender_non_blocking.proofs.Serving.{serving_took, serving_wrote}
+use Rattle.appender_non_blocking.proofs.Holding.{holding_next, holding_wrote}
 use Rattle.appender_non_blocking.proofs.non_blocking.worker.serve.Goals as goal
 
 pub loop-preserved-in-Take : goal.loop-preserved-in-Take
 loop-preserved-in-Take g c =
     let books = g.B.Books in
     let is : is_taking c.loop.core ≡ true = search rules in
-    let took = serving_took books.counts_take books.counts_closing books.may_take books.has_ended c.args.pass _ c.loop.pass c.take-taken.new.pass _ c.loop.core c.loop.given_up c.take-taken.result is
-    c.take-taken.ensures.line c.take-taken.ensures.ended c.take-taken.ensures.empty c.loop.invariant in
+    let took = holding_next books.counts_take books.counts_closing books.may_take books.has_ended c.args.pass _ c.loop.pass c.take-taken.new.pass _ c.loop.core c.loop.given_up _ c.take-taken.new.hand.taken.items c.take-taken.result is
+    c.take-taken.ensures c.loop.invariant in
     rw c.took.ensures (rw c.take_spent.ensures took)
 
 pub loop-preserved-in-Write : goal.loop-preserved-in-Write
 loop-preserved-in-Write g c =
     let books = g.B.Books in
     let is : is_writing c.loop.core ≡ true = search rules in
-    serving_wrote books.counts_take books.counts_closing books.may_take books.has_ended c.args.pass _ g.W.Write.contents _ _ _ c.loop.core c.write.new.core c.loop.pass c.loop.given_up c.write.new.given_up is
+    holding_wrote books.counts_take books.counts_closing books.may_take books.has_ended c.args.pass _ g.W.Write.contents _ _ _ c.loop.core c.write.new.core c.loop.pass c.loop.given_up c.write.new.given_up _ is
     c.write.ensures.wrote c.write.ensures.counted c.loop.invariant
