@@ -45,6 +45,7 @@ TOO_LONG = {
         "stories::crowds_of_clones_get_through",
         "stories::crowds_of_counted_senders_get_through",
         "stories::crowds_of_plain_senders_get_through",
+        "stories::holds_of_several_lines",
     ],
     "acceptance_folders": [
         "crowds::no_line_of_full_files_is_lost",
