@@ -129,7 +129,9 @@ fn expect_shut<A: Ledger, H: Ledger, S: Ledger, C: Ledger, R: Host + Abort>(
     stage.expect(guard.sent(), false);
     stage.expect(guard.shut(), first);
     stage.expect(guard.sent(), !is_full);
-    stage.expect(guard.shut(), second);
+    // The worker may have taken the shutdown by then.
+    let again = guard.shut();
+    stage.expect(again == second || !is_full && again == Shut::Closed, true);
 }
 
 // After the worker's end the queue is closed.
