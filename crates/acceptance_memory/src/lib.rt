@@ -1,4 +1,4 @@
-//! Tests over folders in memory: each part of a log by itself, by public calls (names, retention, the queue, histories,
+//! Tests over folders in memory: each part of a log by itself, by public calls (names, retention, the queue,
 //! waits, the writing of a line), and what scripts of `rollplay` do not print of a rolling log.
 #![tactic(auto)]
 
@@ -6,8 +6,6 @@
 mod expect;
 #[cfg(test)]
 mod folders;
-#[cfg(test)]
-mod histories;
 #[cfg(test)]
 mod lines;
 #[cfg(test)]

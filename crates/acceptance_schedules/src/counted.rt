@@ -182,12 +182,16 @@ fn work_of(lines: &'static Lines) -> Work {
 fn two_works_have_an_account(rt: HostRuntime) -> Result<(), Fail> {
     let (recorder, record) = new_recorder(rt, Way::Takes)?;
     let works = vec![in rt.alloc(); work_of(&LINES[0]), work_of(&LINES[1])]?;
-    let (works, account) = builder(1)
+    let ran = builder(1)
         .run_counted(rt, rt.alloc(), recorder, works)
         .map_err(io::Error::from)?;
-    for work in works.as_slice() {
+    for work in ran.works.as_slice() {
         expect_eq(&rt, work.queued, 2);
     }
+    let account = ran.account;
+    // The writer comes back.
+    assert!(rt; !record.has_ended(rt));
+    drop(ran.written);
     assert!(rt; record.has_ended(rt));
     expect_eq(&rt, (account.accepted(), account.handed()), (4, 4));
     expect_eq(&rt, (account.left(), account.dropped()), (0, 0));

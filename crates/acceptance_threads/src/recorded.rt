@@ -2,7 +2,7 @@
 use crate::expect::expect_eq;
 use crate::gate::{Seen, new_gate};
 use crate::stage::Queue;
-use appender_non_blocking::non_blocking::{Host, RecordedSender, RecordedWork, Sent};
+use appender_non_blocking::non_blocking::{Host, LineSender, RecordedWork, Sent};
 use std::alloc::Global;
 use std::io;
 use std::process::Abort;
@@ -22,7 +22,7 @@ struct Sends<R: Host> {
 impl<R: Host> RecordedWork for Sends<R> {
     ghost does = { λ _ _ _ _. Unit {0} };
 
-    fn run<S: RecordedSender + Drop>(&mut self, mut sender: S) -> S
+    fn run<S: LineSender + Drop>(&mut self, mut sender: S) -> S
         ensures { Unit {0} }
     {
         for line in self.lines {

@@ -47,16 +47,17 @@ fn works<R: Host + Abort>(rt: R, count: u64, have_run: bool) -> Vec<Writes> {
 // Runs this number of works. They have this number of lines. Each is run once, and they are returned in their order.
 fn run<R: Host + Abort>(rt: R, count: u64, lines: u64) -> io::Result<()> {
     let (gate, seen) = new_gate(rt, None)?;
-    let (done, account) = Queue::Waiting(4)
+    let ran = Queue::Waiting(4)
         .builder(rt.alloc())?
         .run_counted(rt, rt.alloc(), gate, works(rt, count, false))
         .map_err(|unstarted| unstarted.error)?;
-    expect_account(&rt, count, account, lines, 0, 0);
+    expect_account(&rt, count, ran.account, lines, 0, 0);
     expect_eq(&rt, count, seen.count() as u64, lines);
+    expect_eq(&rt, count, ran.written.given_up, 0);
     expect_eq(
         &rt,
         count,
-        done.as_slice(),
+        ran.works.as_slice(),
         works(rt, count, true).as_slice(),
     );
     Ok(())

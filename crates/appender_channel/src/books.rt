@@ -1,6 +1,7 @@
 //! Counts of a queue in ledgers, and its lines in histories. By them proofs tie what senders, guard and worker counted to the
 //! counts and lines of the queue.
 ghost use Rattle.std.specs.Prelude.{◌≡◌, ℕ, ◌+◌, ◌^◌, ◌<◌, ◌++◌, ◌∷◌, [], List, length, Option, Some, None, IfSome};
+ghost use Rattle.line_history.specs.Interleaving.{IsInterleaving};
 ghost use Rattle.appender_channel.specs.Tally.{
   Tally,
   with_line,
@@ -9,14 +10,14 @@ ghost use Rattle.appender_channel.specs.Tally.{
   with_closing,
 };
 
-use line_history::{Histories, Kept, Mine, record};
+use line_history::halves::{QueueHalves, QueueHistories, SenderHistory, TakerHistory};
 use std::snapshot::Snapshot;
 use std::sync::ledger::{Book, Ledger, Share};
 
 /// The books of a queue: one for each of its counts, under the queue's lock. A sender, the guard or the worker counts
 /// by a share of a book, which it passes to the call.
 ///
-/// `FourBooks` counts. `LineBooks` adds the lines themselves, in proofs only. `NoBooks` is for senders that are not
+/// `FourBooks` counts lines. `LineBooks` has the lines themselves, in proofs only. `NoBooks` is for senders that are not
 /// counted: its types take no bytes, and its calls do nothing.
 pub trait Books: Drop {
     /// A sender's share.
@@ -252,88 +253,119 @@ impl<A: Ledger, H: Ledger, S: Ledger, C: Ledger> Books for FourBooks<A, H, S, C>
     }
 }
 
-/// Books of a queue with one sender, beside the histories of the lines that it sent and of those that the worker took.
+/// Books of a queue that know its lines: the histories of its senders and of the worker, and the book of closings. Nobody sends
+/// a shutdown.
 #[derive(Drop)]
-pub struct LineBooks<B: Books, L: Histories> {
-    pub books: B,
-    pub sent: Kept<L>,
-    pub taken: Kept<L>,
-    ghost places: { (sent.place ≡ 0) × (taken.place ≡ 1) },
+pub struct LineBooks<C: Ledger, L: QueueHistories> {
+    pub closings: Book<C>,
+    pub halves: QueueHalves<L>,
 }
 
-/// A share of the books, beside the history of the thread that has it.
+/// A worker's history, and all of the ledger of closings.
 #[derive(Drop)]
-pub struct LineShare<M: Drop, L: Histories> {
-    pub share: M,
-    pub history: Mine<L>,
+pub struct LinePass<C: Ledger, L: QueueHistories> {
+    pub taker: TakerHistory<L>,
+    /// Its amount is 1 once the worker has closed the queue, and 0 before.
+    pub closings: Share<C>,
 }
 
-impl<B: Books, L: Histories> Books for LineBooks<B, L> {
-    type Mine = LineShare<B::Mine, L>;
+/// What a worker returns after it has closed the queue.
+#[derive(Drop)]
+pub struct LineDone<C: Ledger, L: QueueHistories> {
+    pub taker: TakerHistory<L>,
+    pub closings: Share<C>,
+    ghost closings_whole: { closings.parts ≡ 1 },
+    ghost closed: { closings.amount ≡ 1 },
+}
 
-    type Shutdowns = B::Shutdowns;
+impl<C: Ledger, L: QueueHistories> Books for LineBooks<C, L> {
+    type Mine = SenderHistory<L>;
 
-    type Pass = LineShare<B::Pass, L>;
+    type Shutdowns = ();
 
-    type Done = LineShare<B::Done, L>;
+    type Pass = LinePass<C, L>;
 
-    ghost agree = { λ b t. B.agree b.books t
-        × ((rest : List (List ℕ)) × (b.sent.lines ≡ b.taken.lines ++ rest) × (t.accepted ≡ t.handed + length rest)
-        × (t.closings ≡ 0 → rest ≡ t.lines)) };
+    type Done = LineDone<C, L>;
 
-    ghost may_accept = { λ m. B.may_accept m.share × (m.history.place ≡ 0) };
+    ghost agree = { λ b t. (b.closings.total ≡ t.closings) × (t.shutdowns ≡ 0) × (t.places ≡ L.senders)
+        × (length b.halves.taken ≡ t.handed)
+        × ((rest : List (List ℕ)) × IsInterleaving b.halves.sent (b.halves.taken ++ rest)
+        × (t.accepted ≡ t.handed + length rest) × (t.closings ≡ 0 → rest ≡ t.lines)) };
 
-    ghost may_shut = { λ m. B.may_shut m };
+    ghost may_accept = { λ m. Unit {0} };
 
-    ghost may_take = { λ p. B.may_take p.share × (p.history.place ≡ 1) };
+    ghost may_shut = { λ m. ⊥ };
 
-    ghost place_of = { λ m. B.place_of m.share };
+    ghost may_take = { λ p. (p.closings.parts ≡ 1) × (C.parts ≡ 1) × (p.closings.amount ≡ 0) };
 
-    ghost counts_line = { λ m line n. B.counts_line m.share line n.share
-        × (n.history.lines ≡ m.history.lines ++ line ∷ []) × (n.history.place ≡ m.history.place) };
+    ghost place_of = { λ m. Some m.place };
 
-    ghost counts_shutdown = { λ m n. B.counts_shutdown m n };
+    ghost counts_line = { λ m line n. (n.place ≡ m.place) × (n.lines ≡ m.lines ++ line ∷ [])
+        × (length n.lines < 2 ^ 64) };
 
-    ghost counts_take = { λ p line q. B.counts_take p.share line q.share
-        × (q.history.lines ≡ p.history.lines ++ line ∷ []) };
+    ghost counts_shutdown = { λ m n. ⊥ };
 
-    ghost counts_closing = { λ p q. B.counts_closing p.share q.share × (q.history.lines ≡ p.history.lines) };
+    ghost counts_take = { λ p line q. q.taker ≡ p.taker ++ line ∷ [] };
 
-    ghost has_ended = { λ p. B.has_ended p.share × (p.history.place ≡ 1) };
+    ghost counts_closing = { λ p q. q.taker ≡ p.taker };
 
-    ghost same_lines = { λ p d. B.same_lines p.share d.share × (d.history.lines ≡ p.history.lines)
-        × (d.history.place ≡ p.history.place) };
+    ghost has_ended = { λ p. (p.closings.parts ≡ 1) × (p.closings.amount ≡ 1) };
+
+    ghost same_lines = { λ p d. d.taker ≡ p.taker };
 
     #[inline(always)]
-    fn place(&self, mine: &LineShare<B::Mine, L>) -> Option<usize> {
-        self.books.place(&mine.share)
-    }
-
-    #[inline(always)]
-    fn accept(&mut self, mine: &mut LineShare<B::Mine, L>, line: &Snapshot<Vec<u8>>) {
-        self.books.accept(&mut mine.share, line);
-        record(&mut self.sent, &mut mine.history, line);
-    }
-
-    fn shut(&mut self, mine: &mut B::Shutdowns) {
-        self.books.shut(mine);
+    fn place(&self, mine: &SenderHistory<L>) -> Option<usize> {
+        Some(mine.place())
     }
 
     #[inline(always)]
-    fn hand(&mut self, pass: &mut LineShare<B::Pass, L>, line: &Vec<u8>) {
-        self.books.hand(&mut pass.share, line);
-        record(&mut self.taken, &mut pass.history, line);
+    fn accept(&mut self, mine: &mut SenderHistory<L>, line: &Snapshot<Vec<u8>>) {
+        self.halves.send(mine, line);
     }
 
-    fn close(&mut self, pass: &mut LineShare<B::Pass, L>) {
-        self.books.close(&mut pass.share);
+    fn shut(&mut self, _mine: &mut ()) {}
+
+    #[inline(always)]
+    fn hand(&mut self, pass: &mut LinePass<C, L>, line: &Vec<u8>) {
+        self.halves.take(&mut pass.taker, line);
     }
 
-    fn done(pass: LineShare<B::Pass, L>) -> LineShare<B::Done, L> {
-        let LineShare { share, history } = pass;
-        LineShare {
-            share: B::done(share),
-            history,
-        }
+    fn close(&mut self, pass: &mut LinePass<C, L>) {
+        let closings = &mut pass.closings;
+        self.closings.audit(closings);
+        self.closings.add(closings, 1);
     }
+
+    fn done(pass: LinePass<C, L>) -> LineDone<C, L> {
+        let LinePass { taker, closings } = pass;
+        LineDone { taker, closings }
+    }
+}
+
+/// Books that know how many lines each sender has sent, or which.
+pub trait SenderBooks: Books {
+    /// Whether a sender with this share has this place, and has sent as many lines as these, or exactly these.
+    ghost has_sent: { Self.Mine → ℕ → List (List ℕ) → Type 0 };
+
+    /// What an accepted line changes. The call does nothing.
+    fn one_line_more()
+        ensures may { (m : Self.Mine) (place : ℕ) (lines : List (List ℕ)) → has_sent m place lines → Self.may_accept m }
+        ensures more { (m n : Self.Mine) (place : ℕ) (lines : List (List ℕ)) (line : List ℕ) → has_sent m place lines
+            → Self.counts_line m line n → has_sent n place (lines ++ line ∷ []) }
+        ensures few { (m : Self.Mine) (place : ℕ) (lines : List (List ℕ)) → has_sent m place lines → length lines < 2 ^ 64 };
+}
+
+impl<A: Ledger, H: Ledger, S: Ledger, C: Ledger> SenderBooks for FourBooks<A, H, S, C> {
+    ghost has_sent = { λ m place lines. (m.place ≡ place) × (m.place + 1 < A.parts) × (m.share.parts ≡ 1)
+        × (m.share.amount ≡ length lines) × (length lines < 2 ^ 64) };
+
+    #[inline(always)]
+    fn one_line_more() {}
+}
+
+impl<C: Ledger, L: QueueHistories> SenderBooks for LineBooks<C, L> {
+    ghost has_sent = { λ m place lines. (m.place ≡ place) × (m.lines ≡ lines) × (length lines < 2 ^ 64) };
+
+    #[inline(always)]
+    fn one_line_more() {}
 }

@@ -25,14 +25,14 @@ ghost use Rattle.appender_channel.specs.Offers.{after_offer_at};
 ghost use Rattle.appender_channel.specs.TakeCases.{IfLine, IfEnd, IfEmpty};
 ghost use Rattle.appender_channel.specs.Tally.{tally_of};
 
-use crate::books::{Books, Done, FourBooks, LineBooks, LineShare, SenderShare};
+use crate::books::{Books, Done, FourBooks, LineBooks, LineDone};
 use crate::pace::{MOST_BYTES, MOST_SPARES, Pace};
 use appender_queue::laws::{
     offers_change_little, offers_from_change_little, other_calls_leave_last_tickets,
     shutdowns_change_little, takes_change_little,
 };
 use appender_queue::queue::{Counts, LineQueue, Refused, Shut, Taken};
-use line_history::{Histories, compare};
+use line_history::halves::{QueueHistories, SenderHistory};
 use std::alloc::{AllocError, Global};
 use std::marker::Model;
 use std::snapshot::Snapshot;
@@ -455,77 +455,48 @@ impl<A: Ledger, H: Ledger, S: Ledger, C: Ledger> State<FourBooks<A, H, S, C>> {
         ensures none_left { shutdowns.amount ≡ 0 → result.0.left ≡ 0 }
         ensures same { self.new ≡ self.old }
     {
+        let Done {
+            mut handed,
+            mut closings,
+        } = done;
+        let (mut accepted, mut shutdowns) = (accepted, shutdowns);
         let State { queue, books, .. } = self;
-        let handed = audit(books, accepted, shutdowns, done);
+        books.accepted.audit(&mut accepted);
+        books.handed.audit(&mut handed);
+        books.shutdowns.audit(&mut shutdowns);
+        books.closings.audit(&mut closings);
         (queue.counts(), handed)
     }
 }
 
-impl<A: Ledger, H: Ledger, S: Ledger, C: Ledger, L: Histories> State<
-    LineBooks<FourBooks<A, H, S, C>, L>,
-> {
-    ghost use Rattle.std.specs.Prelude.{◌+◌, ◌++◌, List};
+impl<C: Ledger, L: QueueHistories> State<LineBooks<C, L>> {
+    ghost use Rattle.std.specs.Prelude.{map, vec_len};
+    ghost use Rattle.line_history.specs.Interleaving.{IsInterleaving};
 
-    /// Returns the counts of a queue with one sender, which the worker has closed. The worker took the first of the lines
-    /// that the sender sent, in their order, and the others are left. Without a shutdown none is left.
-    pub fn final_lines(
-        &mut self,
-        sender: LineShare<SenderShare<A>, L>,
-        shutdowns: Share<S>,
-        done: LineShare<Done<H, C>, L>,
-    ) -> Counts
-        requires parts { (sender.share.share.parts ≡ A.parts) × (H.parts ≡ 1) × (shutdowns.parts ≡ S.parts) × (C.parts ≡ 1) }
-        requires places { (sender.history.place ≡ 0) × (done.history.place ≡ 1) }
-        ensures accepted { result.accepted ≡ sender.share.share.amount }
-        ensures handed { result.handed ≡ done.share.handed.amount }
-        ensures lines { (left : List (List ℕ)) × (sender.history.lines ≡ done.history.lines ++ left) × (length left ≡ result.left) }
-        ensures all { shutdowns.amount ≡ 0 → done.history.lines ≡ sender.history.lines }
+    /// Returns the counts of the queue, which the worker has closed. The worker took all lines that its senders sent, in an
+    /// interleaving.
+    pub fn final_lines(&mut self, senders: Vec<SenderHistory<L>>, done: LineDone<C, L>) -> Counts
+        requires { (vec_len senders ≡ L.senders) × (C.parts ≡ 1) }
+        ensures whole { IsInterleaving (map (λ s. s.lines) senders.items) done.taker }
+        ensures accepted { result.accepted ≡ length done.taker }
+        ensures handed { result.handed ≡ length done.taker }
+        ensures none_left { result.left ≡ 0 }
         ensures same { self.new ≡ self.old }
     {
-        let LineShare { share, history } = sender;
-        let SenderShare {
-            share: accepted,
-            place: _,
-        } = share;
-        let LineShare {
-            share: ended,
-            history: taken,
+        let LineDone {
+            mut taker,
+            mut closings,
         } = done;
         let State { queue, books, .. } = self;
-        audit(&mut books.books, accepted, shutdowns, ended);
-        let mut history = history;
-        let mut taken = taken;
-        compare(&mut books.sent, &mut history);
-        compare(&mut books.taken, &mut taken);
+        let LineBooks {
+            closings: book,
+            halves,
+        } = books;
+        book.audit(&mut closings);
+        halves.compare_taker(&mut taker);
+        halves.compare_all(senders);
         queue.counts()
     }
-}
-
-// Checks the totals of the books against shares that have all their parts, and returns the worker's share of the
-// book of handed lines.
-fn audit<A: Ledger, H: Ledger, S: Ledger, C: Ledger>(
-    books: &mut FourBooks<A, H, S, C>,
-    accepted: Share<A>,
-    shutdowns: Share<S>,
-    done: Done<H, C>,
-) -> Share<H>
-    requires { (accepted.parts ≡ A.parts) × (H.parts ≡ 1) × (shutdowns.parts ≡ S.parts) × (C.parts ≡ 1) }
-    ensures totals { (books.old.accepted.total ≡ accepted.amount) × (books.old.handed.total ≡ done.handed.amount)
-        × (books.old.shutdowns.total ≡ shutdowns.amount) × (books.old.closings.total ≡ 1) }
-    ensures same { (books.new.accepted.total ≡ books.old.accepted.total) × (books.new.handed.total ≡ books.old.handed.total)
-        × (books.new.shutdowns.total ≡ books.old.shutdowns.total) × (books.new.closings.total ≡ books.old.closings.total) }
-    ensures share { (result.parts ≡ H.parts) × (result.amount ≡ done.handed.amount) }
-{
-    let Done { handed, closings } = done;
-    let mut accepted = accepted;
-    let mut handed = handed;
-    let mut shutdowns = shutdowns;
-    let mut closings = closings;
-    books.accepted.audit(&mut accepted);
-    books.handed.audit(&mut handed);
-    books.shutdowns.audit(&mut shutdowns);
-    books.closings.audit(&mut closings);
-    handed
 }
 
 // Keeps a buffer for a sender, or returns it if enough are kept.

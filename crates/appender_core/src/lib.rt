@@ -6,4 +6,4 @@ pub use appender_names::{error, laws as name_laws, names, rotation};
 pub use appender_queue::{laws as queue_laws, queue};
 pub use appender_retain::{laws as retain_laws, retain};
 pub use appender_store::{laws as store_laws, store};
-pub use appender_worker::worker;
+pub use appender_worker::{laws as worker_laws, worker};

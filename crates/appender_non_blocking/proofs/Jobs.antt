@@ -1,7 +1,7 @@
 -- Jobs, the last ones first.
 use Rattle.std.proofs.Common.{◌≡◌, ◌-◌, ◌<◌, ◌++◌, ◌∷◌, [], ℕ, List, map, length, reverse, slice_index_or, refl, sym, subst, arith}
 use Rattle.std.proofs.lemmas.List.{map-append, reverse-append, get_or-reverse, get_or-map, length-map, length-reverse}
-use Rattle.appender_non_blocking.specs.Account.{Sums}
+use Rattle.appender_non_blocking.specs.SentLines.{SentLines}
 use Rattle.appender_non_blocking.specs.declared.non_blocking.work.Job.{Job}
 use Rattle.appender_non_blocking.specs.Inside.Jobs.{senders_of, works_of, RunsJobs, RunsWorksWith}
 
@@ -23,8 +23,8 @@ at f xs i d e h =
     let two : slice_index_or (map f xs) (length xs - 1 - i) e ≡ f (slice_index_or xs (length xs - 1 - i) d) = get_or-map f xs (length xs - 1 - i) d e (omega (arith, h)) in
     rw (one, long) two
 
-pub all_did : {L K : Type 0} (does : K → Sums → K → Sums → Type 0) (sums : L → Sums) (old new : List (Job L K)) (senders senders' : List L) (works works' : List K) → reverse (senders_of old) ≡ senders → reverse (works_of old) ≡ works → senders' ≡ reverse (senders_of new) → works' ≡ reverse (works_of new) → length new ≡ length old → RunsJobs does sums old new → RunsWorksWith does sums senders works senders' works'
-all_did {L} {K} does sums old new senders senders' works works' s w s' w' long all i d e h =
+pub all_did : {L K : Type 0} (does : K → SentLines → K → SentLines → Type 0) (sent : L → SentLines) (old new : List (Job L K)) (senders senders' : List L) (works works' : List K) → reverse (senders_of old) ≡ senders → reverse (works_of old) ≡ works → senders' ≡ reverse (senders_of new) → works' ≡ reverse (works_of new) → length new ≡ length old → RunsJobs does sent old new → RunsWorksWith does sent senders works senders' works'
+all_did {L} {K} does sent old new senders senders' works works' s w s' w' long all i d e h =
     let p : Job L K = record { sender = d; work = e } in
     let long_map : length (works_of old) ≡ length old = length-map old (λ q. q.work) in
     let long_reverse : length (reverse (works_of old)) ≡ length (works_of old) = length-reverse (works_of old) in

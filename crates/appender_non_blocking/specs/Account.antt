@@ -1,9 +1,11 @@
--- What counted senders, their guard and their account show.
-use Rattle.std.specs.Prelude.{◌≡◌, ℕ, ◌+◌, ◌-◌, ◌^◌, Bool, false, min, List, map, sum_by}
-use Rattle.std.specs.List.{range_with_len}
+-- What the guard of counted senders and their account show.
+use Rattle.std.specs.Prelude.{◌≡◌, ℕ, ◌+◌, ◌-◌, ◌^◌, Bool, true, false, ◌||◌, min, List, length, sum_by}
 use Rattle.std.specs.declared.sync.ledger.Blank.{Blank}
 use Rattle.std.specs.declared.sync.ledger.Ledger.{Ghosts}
+use Rattle.appender_non_blocking.specs.SentLines.{SentLines}
 use Rattle.appender_non_blocking.specs.declared.non_blocking.account.Blanks.{Blanks}
+use Rattle.appender_queue.specs.declared.queue.Shut.{Shut}
+use Rattle.appender_queue.specs.declared.queue.Shut.TheVariants.{Sent as ShutSent, Already, Full, Closed}
 
 -- a blank of a ledger, with all its parts, of which there are this many
 abbrev pub IsBlankOf : {L : Type 0} → Ghosts L → ℕ → Blank → Type 0
@@ -16,19 +18,6 @@ AreBlanksOf accepted handed shutdowns closings senders blanks =
     × IsBlankOf handed 1 blanks.handed
     × IsBlankOf shutdowns 1 blanks.shutdowns
     × IsBlankOf closings 1 blanks.closings
-
--- what a counted sender shows
-pub record Sums : Type 0 where
-  -- how many of its lines were queued
-  pub queued : ℕ
-  -- how many of its lines were dropped
-  pub dropped : ℕ
-  -- the ticket of the last one that was queued, 0 before the first
-  pub last_ticket : ℕ
-  -- the place of the queue from which it offers
-  pub place : ℕ
-  -- whether its queue is lossy
-  pub lossy : Bool
 
 -- what an account shows
 pub record Totals : Type 0 where
@@ -46,25 +35,28 @@ pub record Guard : Type 0 where
   pub made : ℕ
   pub sent : Bool
 
-abbrev pub new_sender : Bool → ℕ → Sums
-new_sender lossy place = record { queued = 0; dropped = 0; last_ticket = 0; place = place; lossy = lossy }
-
--- this number of senders, each with a place of its own: 0, 1, 2, ..
-abbrev pub new_senders : Bool → ℕ → List Sums
-new_senders lossy count = map (new_sender lossy) (range_with_len 0 count)
-
 abbrev pub new_guard : ℕ → Guard
 new_guard made = record { made = made; sent = false }
 
--- over all senders
-abbrev pub total_queued : List Sums → ℕ
-total_queued senders = sum_by (λ s. s.queued) senders
+abbrev pub is_sent_reply : Shut → Bool
+is_sent_reply ShutSent = true
+is_sent_reply Already = false
+is_sent_reply Full = false
+is_sent_reply Closed = false
 
-abbrev pub total_dropped : List Sums → ℕ
+-- the guard after it tried to send the shutdown: once one was sent, that stays
+abbrev pub guard_after_try : Guard → Shut → Guard
+guard_after_try g reply = record g { sent = g.sent || is_sent_reply reply }
+
+-- over all senders
+abbrev pub total_queued : List SentLines → ℕ
+total_queued senders = sum_by (λ s. length s.lines) senders
+
+abbrev pub total_dropped : List SentLines → ℕ
 total_dropped senders = sum_by (λ s. s.dropped) senders
 
 -- the account of a guard and all its senders
-pub record IsAccount (accepted handed left dropped : ℕ) (guard : Guard) (senders : List Sums) : Type 0 where
+pub record IsAccount (accepted handed left dropped : ℕ) (guard : Guard) (senders : List SentLines) : Type 0 where
   -- the accepted lines are those that a sender queued
   pub accepted_is : accepted ≡ total_queued senders
   pub dropped_is : dropped ≡ min (total_dropped senders) (2 ^ 64 - 1)

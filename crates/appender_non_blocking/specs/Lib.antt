@@ -1,9 +1,7 @@
 pub mod Account
-pub mod Counted
 pub mod Inside
 pub mod Losses
 pub mod Mode
 pub mod Refusal
-pub mod RunLines
 pub mod SentLines
 pub mod Work

@@ -20,10 +20,11 @@ pub fn audit<R: Host, W: Write + Send + Drop + 'static>(
     let (log, counts) = CountingWriter::new(rt.alloc(), log)?;
     let count = lines.len() as u64;
     let works = vec![in rt.alloc(); Lines { lines }]?;
-    let (_, account) = NonBlockingBuilder::default()
+    let ran = NonBlockingBuilder::default()
         .lossy(false)
         .run_counted(rt, rt.alloc(), log, works)
         .map_err(|unstarted| unstarted.error)?;
+    let account = ran.account;
     if account.accepted() != count || account.dropped() != 0 || counts.lost() > 0 {
         return Err(io::Error::other("lines were not written whole"));
     }

@@ -1,17 +1,16 @@
--- Lists of lines: as ghost values, of new histories, and of what a thread sends.
-use Rattle.std.specs.Prelude.{ℕ, List, [], map}
-use Rattle.std.specs.List.{range_with_len}
-use Rattle.std.specs.declared.vec.Vec.{Vec}
+-- Lists of lines: as ghost values, and of new histories.
+use Rattle.std.specs.Prelude.{◌≡◌, ℕ, ◌+◌, List, [], ◌∷◌}
 use base.Stored.{Gv, coded_list, coded_ℕ}
 
 -- the ghost value of a list of lines
 abbrev pub coded : List (List ℕ) → Gv
 coded lines = (coded_list (coded_list coded_ℕ)).code lines
 
--- the places and the lines of this many histories that were opened
-abbrev pub new_histories : ℕ → List (ℕ × List (List ℕ))
-new_histories n = map (λ place. (place, [])) (range_with_len 0 n)
+-- each of these at its place, of which the first is given
+abbrev pub AllFrom : {T : Type 0} → (T → ℕ → Type 0) → ℕ → List T → Type 0
+AllFrom P place [] = Unit {0}
+AllFrom P place (x ∷ xs) = P x place × AllFrom P (place + 1) xs
 
--- the bytes of each line
-abbrev pub texts : {A : Type 0} → List (Vec ℕ A) → List (List ℕ)
-texts lines = map (λ line. line.items) lines
+-- new histories, with these places and lines, which follow one another
+abbrev pub AreNew : {T : Type 0} → (T → ℕ) → (T → List (List ℕ)) → ℕ → List T → Type 0
+AreNew at lines place xs = AllFrom (λ x n. (at x ≡ n) × (lines x ≡ [])) place xs

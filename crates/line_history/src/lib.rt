@@ -2,15 +2,14 @@
 //! They exist in proofs only. Their tokens take no bytes, and their calls do nothing at run time.
 #![tactic(auto)]
 
-ghost use Rattle.std.specs.Prelude.{◌≡◌, ◌<◌, ℕ, List, [], ◌∷◌, ◌++◌, map, slice_index, vec_len, IfOk};
+ghost use Rattle.std.specs.Prelude.{◌≡◌, ℕ, List, [], ◌∷◌, ◌++◌};
 ghost use base.Fml.{fsep, fobs, fauth, ftrue};
-ghost use Rattle.line_history.specs.Lines.{coded, new_histories};
+ghost use Rattle.line_history.specs.Lines.{coded};
 
-use std::alloc::{AllocError, Global};
 use std::marker::{Brand, Model, PhantomData};
 use std::snapshot::Snapshot;
 
-pub mod relay;
+pub mod halves;
 
 /// Names a history for each place. A function is generic in it, and a call passes `Brand` and picks the names.
 pub trait Histories {
@@ -97,25 +96,6 @@ impl Blank {
             },
         )
     }
-}
-
-/// Returns the halves of histories whose names were picked for the places 0, 1, 2, .. `AllocError` if memory ran out.
-pub fn open_all<H: Histories>(
-    alloc: Global,
-    blanks: Vec<Blank>,
-) -> Result<(Vec<Kept<H>>, Vec<Mine<H>>), AllocError>
-    requires { (i : ℕ) → i < vec_len blanks → slice_index (map (λ b. b.name) blanks.items) i ≡ H.name i }
-    ensures kept { IfOk result (λ halves. map (λ k. (k.place, k.lines)) halves.0.items ≡ new_histories (vec_len blanks)) }
-    ensures mine { IfOk result (λ halves. map (λ m. (m.place, m.lines)) halves.1.items ≡ new_histories (vec_len blanks)) }
-{
-    let mut all_kept = Vec::with_capacity(alloc, blanks.len())?;
-    let mut all_mine = Vec::with_capacity(alloc, blanks.len())?;
-    for blank in blanks {
-        let (kept, mine) = blank.open::<H>(all_kept.len());
-        all_kept.push_reserved(kept);
-        all_mine.push_reserved(mine);
-    }
-    Ok((all_kept, all_mine))
 }
 
 /// Adds the lines of a value to a history. Its halves had the same lines before.

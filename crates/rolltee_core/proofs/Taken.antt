@@ -14,7 +14,7 @@ use Rattle.appender_worker.specs.Batch.{Batch, saturating_sum, WritesParts, Gath
 use Rattle.appender_worker.specs.Parts.{Part, part, line_of, written_of, is_cut}
 use Rattle.appender_worker.specs.Served.{ServesLines}
 use Rattle.appender_worker.proofs.Served.{whole_lines, served_whole}
-use Rattle.appender_non_blocking.specs.SentLines.{SentLines, no_lines}
+use Rattle.appender_non_blocking.specs.SentLines.{SentLines, new_sender}
 use Rattle.appender_names.specs.declared.rotation.Rotation.{Rotation}
 use Rattle.program_io.specs.declared.options.Options.{Options}
 use Rattle.rolltee_core.specs.Taken.{AskedFor, IsCopied, WasOpened, PassesLine, TakesPieces, TookText}
@@ -119,7 +119,7 @@ all_taken {W} {is_opened} {takes} {is_kept} {given} {log} {waiting} all none too
 
 -- a log took the whole input
 pub all_logged : {W : Type 0} {is_opened : W → Type 0} {takes : W → List ℕ → W → Type 0} {is_kept : W → Type 0} {remaining : Option (List ℕ)} {timestamps lossy : Bool} {ended : SentLines} {dropped given_up : ℕ} {given : List ℕ}
-    → IsCopied remaining timestamps (no_lines lossy) ended dropped → ServesLines (Some []) (Some given) ended.lines given_up → TookText is_opened takes is_kept given
+    → IsCopied remaining timestamps (new_sender lossy 0) ended dropped → ServesLines (Some []) (Some given) ended.lines given_up → TookText is_opened takes is_kept given
     → dropped ≡ 0 → given_up ≡ 0 → timestamps ≡ false → (text : List ℕ) → remaining ≡ Some text → TookText is_opened takes is_kept text
 all_logged {W} {is_opened} {takes} {is_kept} {remaining} {timestamps} {lossy} {ended} {dropped} {given_up} {given} copied served took none whole plain text is =
     let given_is : given ≡ text =

@@ -19,7 +19,7 @@ use std::marker::Model;
 use std::sync::Wait;
 use std::time::{Clock, Duration};
 use std::{io, mem, thread};
-use tracing_appender::non_blocking::RecordedSender;
+use tracing_appender::non_blocking::LineSender;
 use tracing_appender::worker::LineCounts;
 
 /// What a feed sends lines to: a queue, or a log.
@@ -51,7 +51,7 @@ const LONGEST_MILLIS: u64 = 50;
 
 /// The queue of a recorded sender.
 #[derive(Drop)]
-pub struct SenderQueue<'a, R, S: RecordedSender + Drop> {
+pub struct SenderQueue<'a, R, S: LineSender + Drop> {
     rt: R,
     sender: S,
     // The lines that it was offered.
@@ -69,7 +69,7 @@ pub struct SenderQueue<'a, R, S: RecordedSender + Drop> {
     reported: bool,
 }
 
-impl<'a, R, S: RecordedSender + Drop> Model for SenderQueue<'a, R, S> {
+impl<'a, R, S: LineSender + Drop> Model for SenderQueue<'a, R, S> {
     ghost use Rattle.std.specs.Prelude.{◌≡◌};
     ghost use Rattle.rolltee_core.specs.Feed.{Offering};
 
@@ -130,11 +130,11 @@ struct Before<'a, S> {
     sender: &'a S,
 }
 
-impl<'a, S: RecordedSender> Recorded for Before<'a, S> {
+impl<'a, S: LineSender> Recorded for Before<'a, S> {
     ghost lines = { λ b. (S.sent b.sender.now).lines };
 }
 
-impl<'a, R: Drop, S: RecordedSender + Drop> SenderQueue<'a, R, S> {
+impl<'a, R: Drop, S: LineSender + Drop> SenderQueue<'a, R, S> {
     /// Returns the queue of this sender, which may be lossy. The counts are those of its worker's log.
     pub fn new(rt: R, sender: S, counts: &'a LineCounts, lossy: bool) -> SenderQueue<'a, R, S>
         ensures { result ≡ record { sent = S.sent sender; offered = (S.sent sender).lines; dropped = 0 } }
@@ -175,7 +175,7 @@ impl<'a, R: Drop, S: RecordedSender + Drop> SenderQueue<'a, R, S> {
     }
 }
 
-impl<'a, R: Wait + Clock + Eprint + Drop, S: RecordedSender + Drop> SenderQueue<'a, R, S> {
+impl<'a, R: Wait + Clock + Eprint + Drop, S: LineSender + Drop> SenderQueue<'a, R, S> {
     /// Waits until the log took or lost each line that was queued, as long as that takes.
     pub fn settle(&mut self)
         ensures { self.new ≡ self.old }
@@ -234,8 +234,7 @@ impl<'a, R: Wait + Clock + Eprint + Drop, S: RecordedSender + Drop> SenderQueue<
     }
 }
 
-impl<'a, R: Wait + Clock + Eprint + Drop, S: RecordedSender + Drop> FeedSink
-    for SenderQueue<'a, R, S> {
+impl<'a, R: Wait + Clock + Eprint + Drop, S: LineSender + Drop> FeedSink for SenderQueue<'a, R, S> {
     ghost sent = { λ q. Some (concat q.offered) };
 
     /// Queues a line. If 16 MiB wait, a lossy queue drops it, and another waits before until they are written.
@@ -252,7 +251,7 @@ impl<'a, R: Wait + Clock + Eprint + Drop, S: RecordedSender + Drop> FeedSink
 }
 
 // Returns how many of the lines that were queued the log neither took nor lost until now.
-fn left<S: RecordedSender>(sender: &S, counts: &LineCounts, sent: u64) -> u64 {
+fn left<S: LineSender>(sender: &S, counts: &LineCounts, sent: u64) -> u64 {
     let done = counts.taken().saturating_add(counts.lost());
     sent.saturating_sub(sender.dropped() as u64)
         .saturating_sub(done)

@@ -28,7 +28,7 @@ use std::marker::{Brand, Model, PhantomData};
 use std::time::Duration;
 use thiserror::Error;
 use tracing_appender::non_blocking::{
-    Host, NonBlockingBuilder, Ran, RecordedSender, RecordedWork, Written,
+    Host, LineSender, NonBlockingBuilder, Ran, RecordedWork, Written,
 };
 use tracing_appender::rolling::{InitError, Rotation};
 use tracing_appender::worker::LineCounts;
@@ -492,7 +492,7 @@ impl<'a, R: Host, L: Logs, I: BufRead + Ready, O: Write, N: Asked> RecordedWork
     // The log is opened last, so a start that fails for want of memory or of a thread makes no file. The lines that were
     // read are waited for also after a fault, and only then counted: the worker's end is waited for a second only, which
     // loses the lines of a slow disk.
-    fn run<S: RecordedSender + Drop>(&mut self, sender: S) -> S {
+    fn run<S: LineSender + Drop>(&mut self, sender: S) -> S {
         let TeeWork {
             titled,
             opening,

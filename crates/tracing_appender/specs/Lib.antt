@@ -32,8 +32,9 @@ pub use Rattle.appender_non_blocking.specs.Account
 pub use Rattle.appender_non_blocking.specs.Losses
 pub use Rattle.appender_non_blocking.specs.Mode
 pub use Rattle.appender_non_blocking.specs.Refusal
-pub use Rattle.appender_non_blocking.specs.Counted
+pub use Rattle.appender_non_blocking.specs.SentLines
 pub use Rattle.appender_non_blocking.specs.Work
+pub use Rattle.line_history.specs.Interleaving
 pub use Rattle.appender_replay.specs.Start
 pub use Rattle.appender_replay.specs.Run
 pub use Rattle.appender_replay.specs.Replay

@@ -3,7 +3,7 @@
 
 pub use appender_core::{
     error, name_laws, names, queue, queue_laws, retain, retain_laws, rotation, store, store_laws,
-    worker,
+    worker, worker_laws,
 };
 pub use appender_folder::folder;
 pub use appender_non_blocking::non_blocking;

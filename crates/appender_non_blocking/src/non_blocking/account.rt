@@ -17,8 +17,8 @@ ghost use Rattle.appender_non_blocking.specs.Account.{
   IsAccount,
   total_queued,
   total_dropped,
+  guard_after_try,
 };
-ghost use Rattle.appender_non_blocking.specs.Counted.{guard_after_try};
 
 use super::counted::CountedSender;
 use super::guard::end;
@@ -67,13 +67,13 @@ impl Blanks {
     }
 }
 
-/// What became of all lines of a guard's senders. Only a guard makes one, when it settles.
+/// What became of all lines of a guard's senders. Only a guard makes one, when it settles, or `run_counted`.
 #[derive(Clone, Copy, PartialEq, Eq, Debug)]
 pub struct Account {
-    accepted: u64,
-    handed: u64,
-    left: u64,
-    dropped: usize,
+    pub(super) accepted: u64,
+    pub(super) handed: u64,
+    pub(super) left: u64,
+    pub(super) dropped: usize,
 }
 
 impl Model for Account {
@@ -278,8 +278,8 @@ fn end_all<A: Ledger, H: Ledger, S: Ledger, C: Ledger, R: Wait + Drop>(
     let mut dropped = 0usize;
     let mut senders = senders;
     while let Some(sender) = senders.pop() {
-        let (share, count) = sender.end();
-        all.merge(share);
+        let (mine, count) = sender.end();
+        all.merge(mine.share);
         dropped = dropped.saturating_add(count);
     }
     // A merge shows that there are no more parts than were made.

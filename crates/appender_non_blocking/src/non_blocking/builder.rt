@@ -1,9 +1,10 @@
 // How a worker and its first sender are made.
 ghost use Rattle.std.specs.Prelude.{◌≡◌, ◌+◌, IfOk, Some, None, true};
-ghost use Rattle.appender_non_blocking.specs.Account.{AreBlanksOf, new_senders, new_guard};
+ghost use Rattle.appender_non_blocking.specs.Account.{AreBlanksOf, new_guard};
+ghost use Rattle.appender_non_blocking.specs.SentLines.{new_senders};
 
 use super::account::{Blanks, CountedGuard};
-use super::counted::{CountedSender, make_senders};
+use super::counted::{CountedSender, make_senders, split_shares};
 use super::guard::WorkerGuard;
 use super::sender::{NonBlocking, SenderState};
 use super::shared::Shared;
@@ -178,7 +179,8 @@ impl NonBlockingBuilder {
         let served = Arc::try_clone(&shared)?;
         let local = SenderState::new(alloc, limit, lossy, shared.alone);
         // A refusal of memory leaves no thread, since the senders are made before it.
-        let (made, part) = make_senders(rt, alloc, &shared, &local, share, senders)?;
+        let (shares, part) = split_shares(alloc, share, senders)?;
+        let made = make_senders(rt, alloc, &shared, &local, shares)?;
         let pass = Pass {
             handed: lines,
             closings: closed,

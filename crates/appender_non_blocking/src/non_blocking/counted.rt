@@ -1,14 +1,15 @@
-// Senders that count their lines.
-ghost use Rattle.std.specs.Prelude.{◌≡◌, ◌≢◌, ◌+◌, ◌<◌, Ok, IfOk, IfErr, false};
+// Senders that know what they sent.
+ghost use Rattle.std.specs.Prelude.{◌≡◌, ◌≢◌, ◌+◌, ◌≤◌, [], length, vec_len, Ok, IfOk, IfErr, false};
 ghost use Rattle.std.specs.IoError.{error_kind};
-ghost use Rattle.appender_non_blocking.specs.Account.{Sums, new_sender, new_senders};
+ghost use Rattle.line_history.specs.Lines.{AllFrom};
 ghost use Rattle.appender_non_blocking.specs.Refusal.{IsRefusal};
-ghost use Rattle.appender_non_blocking.specs.Counted.{sums_after_line};
+ghost use Rattle.appender_non_blocking.specs.SentLines.{new_sender, new_senders, sent_after_line};
 
 use super::sender::{SenderState, Sent, copy_of, send};
 use super::shared::Shared;
-use appender_channel::books::{FourBooks, SenderShare};
+use appender_channel::books::{FourBooks, SenderBooks, SenderShare};
 use appender_channel::state::Counted;
+use line_history::Tape;
 use std::alloc::{AllocError, Global};
 use std::fmt::{Debug, Formatter};
 use std::io::ErrorKind;
@@ -19,59 +20,64 @@ use std::{fmt, io};
 
 /// A sender that counts the lines that it queued, and those that were dropped. There is
 /// one for each thread: it has no clone, and its guard settles the account of all of them.
-pub struct CountedSender<A: Ledger, H: Ledger, S: Ledger, C: Ledger, R: Wait + Drop> {
+pub type CountedSender<A, H, S, C, R> = BookSender<FourBooks<A, H, S, C>, R>;
+
+/// A sender that counts the lines that it queued, and those that were dropped, by these books.
+pub struct BookSender<B: SenderBooks, R: Wait + Drop> {
     rt: R,
     alloc: Global,
-    shared: Arc<Shared<FourBooks<A, H, S, C>>, Global>,
+    shared: Arc<Shared<B>, Global>,
     counted: Counted,
     local: SenderState,
-    mine: SenderShare<A>,
+    mine: B::Mine,
+    place: usize,
+    // The lines that it queued, in proofs only, and their number.
+    lines: Tape,
     queued: u64,
     dropped: usize,
     last_ticket: u64,
 }
 
-impl<A: Ledger, H: Ledger, S: Ledger, C: Ledger, R: Wait + Drop> Model
-    for CountedSender<A, H, S, C, R> {
-    ghost use Rattle.std.specs.Prelude.{◌≡◌, ◌+◌, ◌<◌};
-    ghost use Rattle.appender_non_blocking.specs.Account.{Sums};
+impl<B: SenderBooks, R: Wait + Drop> Model for BookSender<B, R> {
+    ghost use Rattle.std.specs.Prelude.{◌≡◌, length};
+    ghost use Rattle.appender_non_blocking.specs.SentLines.{SentLines};
 
-    ghost Value = { Sums };
+    ghost Value = { SentLines };
 
     ghost view = { λ s. record {
-      queued = s.queued;
+      lines = s.lines.lines;
       dropped = s.dropped;
       last_ticket = s.last_ticket;
-      place = s.mine.place;
+      place = s.place;
       lossy = s.local.lossy;
     } };
 
-    // The queue has the sender's place: the guard has the one part that is left.
-    ghost invariant = { λ s. (s.mine.share.parts ≡ 1) × (s.mine.share.amount ≡ s.queued)
-        × (s.mine.place + 1 < A.parts) };
+    ghost invariant = { λ s. B.has_sent s.mine s.place s.lines.lines × (s.queued ≡ length s.lines.lines) };
 }
 
-impl<A: Ledger, H: Ledger, S: Ledger, C: Ledger, R: Wait + Drop> CountedSender<A, H, S, C, R> {
+impl<B: SenderBooks, R: Wait + Drop> BookSender<B, R> {
     // Returns one more sender, with this share and this place in the queue.
     fn new(
         rt: R,
         alloc: Global,
-        shared: Arc<Shared<FourBooks<A, H, S, C>>, Global>,
+        shared: Arc<Shared<B>, Global>,
         local: SenderState,
-        mine: SenderShare<A>,
-    ) -> CountedSender<A, H, S, C, R>
-        requires share { (mine.share.parts ≡ 1) × (mine.share.amount ≡ 0) }
-        requires place { mine.place + 1 < A.parts }
-        ensures { result ≡ new_sender local.lossy mine.place }
+        mine: B::Mine,
+        place: usize,
+    ) -> BookSender<B, R>
+        requires { B.has_sent mine place [] }
+        ensures { result ≡ new_sender local.lossy place }
     {
         let counted = shared.add_sender(&rt);
-        CountedSender {
+        BookSender {
             rt,
             alloc,
             shared,
             counted,
             local,
             mine,
+            place,
+            lines: Tape::of(&()),
             queued: 0,
             dropped: 0,
             last_ticket: 0,
@@ -83,16 +89,18 @@ impl<A: Ledger, H: Ledger, S: Ledger, C: Ledger, R: Wait + Drop> CountedSender<A
     /// room, and returns an error of the kind `Other` if the queue is closed. `OutOfMemory` if there is no
     /// memory for the copy. After an error nothing was queued or counted.
     pub fn write_line(&mut self, line: &[u8]) -> io::Result<Sent>
-        ensures sums { self.new ≡ sums_after_line self.old result }
+        ensures sent { self.new ≡ sent_after_line self.old line.now result }
         ensures waiting { self.old.lossy ≡ false → result ≢ Ok Sent.Dropped }
         ensures kind { IfErr result (λ e. IsRefusal self.old.lossy (error_kind e)) }
     {
-        let CountedSender {
+        B::one_line_more();
+        let BookSender {
             rt,
             alloc,
             shared,
             local,
             mine,
+            lines,
             queued,
             dropped,
             last_ticket,
@@ -104,6 +112,7 @@ impl<A: Ledger, H: Ledger, S: Ledger, C: Ledger, R: Wait + Drop> CountedSender<A
         };
         match send(rt, &**shared, local, copy, mine) {
             Some(Sent::Queued(ticket)) => {
+                lines.note(line);
                 *queued += 1;
                 *last_ticket = ticket;
                 Ok(Sent::Queued(ticket))
@@ -118,7 +127,7 @@ impl<A: Ledger, H: Ledger, S: Ledger, C: Ledger, R: Wait + Drop> CountedSender<A
 
     /// Returns the number of lines that this sender queued.
     pub fn queued(&self) -> u64
-        ensures { result ≡ self.now.queued }
+        ensures { result ≡ length self.now.lines }
     {
         self.queued
     }
@@ -138,37 +147,39 @@ impl<A: Ledger, H: Ledger, S: Ledger, C: Ledger, R: Wait + Drop> CountedSender<A
     }
 
     /// One sender less. Its share and its count of dropped lines are kept.
-    pub(super) fn end(self) -> (Share<A>, usize)
-        ensures share { (result.0.parts ≡ 1) × (result.0.amount ≡ self.queued) }
+    pub(super) fn end(self) -> (B::Mine, usize)
+        ensures share { B.has_sent result.0 self.place self.lines }
         ensures dropped { result.1 ≡ self.dropped }
     {
-        let CountedSender {
+        let BookSender {
             rt,
             alloc: _,
             shared,
             counted,
             local: _,
             mine,
+            place: _,
+            lines: _,
             queued: _,
             dropped,
             last_ticket: _,
         } = self;
         shared.drop_sender(&rt, counted);
-        let SenderShare { share, place: _ } = mine;
-        (share, dropped)
+        (mine, dropped)
     }
 }
 
-impl<A: Ledger, H: Ledger, S: Ledger, C: Ledger, R: Wait + Drop> Drop
-    for CountedSender<A, H, S, C, R> {
+impl<B: SenderBooks, R: Wait + Drop> Drop for BookSender<B, R> {
     fn drop(self) {
-        let CountedSender {
+        let BookSender {
             rt,
             alloc: _,
             shared,
             counted,
             local: _,
             mine: _,
+            place: _,
+            lines: _,
             queued: _,
             dropped: _,
             last_ticket: _,
@@ -177,34 +188,49 @@ impl<A: Ledger, H: Ledger, S: Ledger, C: Ledger, R: Wait + Drop> Drop
     }
 }
 
-impl<A: Ledger, H: Ledger, S: Ledger, C: Ledger, R: Wait + Drop> Debug
-    for CountedSender<A, H, S, C, R> {
+impl<B: SenderBooks, R: Wait + Drop> Debug for BookSender<B, R> {
     fn fmt<W: fmt::Write>(&self, f: &mut Formatter<W>) -> fmt::Result {
         f.pad("CountedSender { .. }")
     }
 }
 
-/// Returns this number of senders, each with one part of the book of accepted lines and a place of its
-/// own in the queue, and the rest of the book.
-pub(super) fn make_senders<A: Ledger, H: Ledger, S: Ledger, C: Ledger, R: Wait + Drop + Copy>(
-    rt: R,
+/// Returns this number of shares, each with one part of the book of accepted lines, and the rest of the book.
+pub(super) fn split_shares<A: Ledger>(
     alloc: Global,
-    shared: &Arc<Shared<FourBooks<A, H, S, C>>, Global>,
-    local: &SenderState,
     share: Share<A>,
     senders: usize,
-) -> Result<(Vec<CountedSender<A, H, S, C, R>>, Share<A>), AllocError>
+) -> Result<(Vec<SenderShare<A>>, Share<A>), AllocError>
     requires { (A.parts ≡ senders + 1) × (share.parts ≡ senders + 1) × (share.amount ≡ 0) }
-    ensures senders { IfOk result (λ made. made.0.items ≡ new_senders local.now.lossy senders) }
+    ensures count { IfOk result (λ made. vec_len made.0 ≡ senders) }
+    ensures senders { IfOk result (λ made. AllFrom (λ s n. (s.place ≡ n) × (s.place + 1 ≤ senders) × (s.share.parts ≡ 1) × (s.share.amount ≡ 0)) 0 made.0.items) }
     ensures share { IfOk result (λ made. (made.1.parts ≡ 1) × (made.1.amount ≡ 0)) }
 {
     let mut share = share;
     let mut made = Vec::with_capacity(alloc, senders)?;
     for place in 0..senders {
         let share = share.split_off(1, 0);
-        let shared = Arc::try_clone(shared)?;
-        let mine = SenderShare { share, place };
-        made.push(CountedSender::new(rt, alloc, shared, local.another(alloc), mine))?;
+        made.push_reserved(SenderShare { share, place });
     }
     Ok((made, share))
+}
+
+/// Returns a sender for each of these shares, which have the places 0, 1, 2, ..
+pub(super) fn make_senders<B: SenderBooks, R: Wait + Drop + Copy>(
+    rt: R,
+    alloc: Global,
+    shared: &Arc<Shared<B>, Global>,
+    local: &SenderState,
+    shares: Vec<B::Mine>,
+) -> Result<Vec<BookSender<B, R>>, AllocError>
+    requires { AllFrom (λ m place. B.has_sent m place []) 0 shares.items }
+    ensures { IfOk result (λ made. made.items ≡ new_senders local.now.lossy (vec_len shares)) }
+{
+    let mut made = Vec::with_capacity(alloc, shares.len())?;
+    for mine in shares {
+        let shared = Arc::try_clone(shared)?;
+        let place = made.len();
+        let sender = BookSender::new(rt, alloc, shared, local.another(alloc), mine, place);
+        made.push_reserved(sender);
+    }
+    Ok(made)
 }

@@ -1,23 +1,19 @@
 // Works of threads, each with a counted sender of its own, and the account of their lines.
-ghost use Rattle.std.specs.Prelude.{◌≡◌, ◌≢◌, ◌≤◌, Ok, IfOk, IfErr, List, [], length, reverse, vec_len, false};
+ghost use Rattle.std.specs.Prelude.{◌≡◌, ◌≢◌, ◌+◌, ◌<◌, ◌≤◌, ℕ, Ok, IfOk, IfErr, [], length, map, reverse, slice_index, vec_len, false};
 ghost use Rattle.std.specs.Vec.{vec_capacity};
 ghost use Rattle.std.specs.IoError.{error_kind};
-ghost use Rattle.appender_non_blocking.specs.Account.{
-  IsAccount,
-  AreBlanksOf,
-  Sums,
-  new_guard,
-  new_senders,
-};
+ghost use Rattle.appender_non_blocking.specs.Account.{IsBlankOf};
 ghost use Rattle.appender_non_blocking.specs.Refusal.{IsRefusal};
-ghost use Rattle.appender_non_blocking.specs.Counted.{sums_after_line};
-ghost use Rattle.appender_non_blocking.specs.Work.{RunsEachWork};
+ghost use Rattle.appender_non_blocking.specs.SentLines.{SentLines, sent_after_line};
+ghost use Rattle.appender_non_blocking.specs.Work.{RunsWorks};
 ghost use Rattle.appender_non_blocking.specs.Inside.Jobs.{senders_of, works_of, RunsJobs, RunsWorksWith};
 
-use super::account::{Account, Blanks};
+use super::account::Account;
 use super::builder::NonBlockingBuilder;
-use super::counted::CountedSender;
+use super::counted::BookSender;
+use super::run::{Run, RunBlanks, RunNames, Written};
 use super::sender::Sent;
+use appender_channel::books::SenderBooks;
 use appender_runtime::host::Host;
 use std::alloc::Global;
 use std::fmt::{Debug, Formatter};
@@ -30,57 +26,67 @@ use std::{fmt, io, thread};
 
 /// A sender that counts, as `CountedSender` does, without the names of its ledgers.
 pub trait LineSender {
-    /// What it has counted.
-    ghost sums: { Self → Sums };
+    /// What it has sent.
+    ghost sent: { Self → SentLines };
 
     /// Queues a copy of the bytes as one line, as `CountedSender::write_line` does, with the same errors. It adds no newline.
     fn write_line(&mut self, line: &[u8]) -> io::Result<Sent>
-        ensures sums { sums self.new ≡ sums_after_line (sums self.old) result }
-        ensures waiting { (sums self.old).lossy ≡ false → result ≢ Ok Sent.Dropped }
-        ensures kind { IfErr result (λ e. IsRefusal (sums self.old).lossy (error_kind e)) };
+        ensures sent { sent self.new ≡ sent_after_line (sent self.old) line.now result }
+        ensures waiting { (sent self.old).lossy ≡ false → result ≢ Ok Sent.Dropped }
+        ensures kind { IfErr result (λ e. IsRefusal (sent self.old).lossy (error_kind e)) };
 
     /// Returns the number of lines of this sender that were queued.
     fn queued(&self) -> u64
-        ensures { result ≡ (sums self.now).queued };
+        ensures { result ≡ length (sent self.now).lines };
 
     /// Returns the number of lines of this sender that were dropped, at most `usize::MAX`.
     fn dropped(&self) -> usize
-        ensures { result ≡ (sums self.now).dropped };
+        ensures { result ≡ (sent self.now).dropped };
 
     /// Returns the ticket of the last line that this sender queued, or 0 before the first one.
     fn last_ticket(&self) -> u64
-        ensures { result ≡ (sums self.now).last_ticket };
+        ensures { result ≡ (sent self.now).last_ticket };
 }
 
-impl<A: Ledger, H: Ledger, S: Ledger, C: Ledger, R: Wait + Drop> LineSender
-    for CountedSender<A, H, S, C, R> {
-    ghost sums = { λ s. s };
+impl<B: SenderBooks, R: Wait + Drop> LineSender for BookSender<B, R> {
+    ghost sent = { λ s. s };
 
     fn write_line(&mut self, line: &[u8]) -> io::Result<Sent> {
-        CountedSender::write_line(self, line)
+        BookSender::write_line(self, line)
     }
 
     fn queued(&self) -> u64 {
-        CountedSender::queued(self)
+        BookSender::queued(self)
     }
 
     fn dropped(&self) -> usize {
-        CountedSender::dropped(self)
+        BookSender::dropped(self)
     }
 
     fn last_ticket(&self) -> u64 {
-        CountedSender::last_ticket(self)
+        BookSender::last_ticket(self)
     }
 }
 
 /// What a thread does with a counted sender. Each work has a thread and a sender of its own.
 pub trait CountedWork {
-    /// What the work may do: it and its sender's sums before, and both after.
-    ghost does: { Self → Sums → Self → Sums → Type 0 };
+    /// What the work may do: it and what its sender has sent before, and both after.
+    ghost does: { Self → SentLines → Self → SentLines → Type 0 };
 
     /// Sends the lines of this work.
     fn run<L: LineSender>(&mut self, sender: &mut L)
-        ensures { does self.old (L.sums sender.old) self.new (L.sums sender.new) };
+        ensures { does self.old (L.sent sender.old) self.new (L.sent sender.new) };
+}
+
+/// Works that were run.
+#[derive(Drop)]
+pub struct RanAll<K: Drop, W: Drop> {
+    /// The works, in their order.
+    pub works: Vec<K>,
+    /// The account of their lines.
+    pub account: Account,
+    /// What became of these lines.
+    pub written: Written<W>,
 }
 
 /// No work was run. All works are returned as they were.
@@ -94,8 +100,8 @@ pub struct Unstarted<K: Drop> {
 
 impl NonBlockingBuilder {
     /// Starts the worker, runs each work once with a counted sender of its own, and waits for all of them and
-    /// for the worker's end. Returns the works, in their order, and the account of all lines. Each work has a
-    /// thread; if one can't be made, another thread runs its work. Errors are those of `finish`.
+    /// for the worker's end. Returns the works, the account of all lines, and the writer, which took exactly the lines that were
+    /// queued. Each work has a thread; if one can't be made, another thread runs its work. Errors are those of `finish`.
     ///
     /// ```
     /// use std::io;
@@ -117,11 +123,11 @@ impl NonBlockingBuilder {
     ///
     /// pub fn greet<R: Host, W: Write + Send + Drop + 'static>(rt: R, log: W) -> io::Result<Account> {
     ///     let works = vec![in rt.alloc(); Hello, Hello]?;
-    ///     let (_, account) = NonBlockingBuilder::default()
+    ///     let ran = NonBlockingBuilder::default()
     ///         .run_counted(rt, rt.alloc(), log, works)
     ///         .map_err(|unstarted| unstarted.error)?;
     ///     // Two threads sent a line each: 2 lines were accepted, and 2 were handed to the worker.
-    ///     Ok(account)
+    ///     Ok(ran.account)
     /// }
     /// ```
     pub fn run_counted<K: CountedWork + Send + Drop, W: Write + Send + Drop + 'static, R: Host>(
@@ -130,23 +136,24 @@ impl NonBlockingBuilder {
         alloc: Global,
         writer: W,
         works: Vec<K>,
-    ) -> Result<(Vec<K>, Account), Unstarted<K>>
-        ensures account { IfOk result (λ ran. (ended : List Sums)
-            × RunsEachWork K.CountedWork.does self.lossy works.items ran.0.items ended
-            × IsAccount ran.1.accepted ran.1.handed ran.1.left ran.1.dropped (new_guard (vec_len works)) ended) }
+    ) -> Result<RanAll<K, W>, Unstarted<K>>
+        ensures ran { IfOk result (λ ran. RunsWorks K.CountedWork.does W.contents self.lossy works.items writer ran) }
         ensures not_run { IfErr result (λ unstarted. unstarted.works ≡ works) }
     {
-        let blanks = Blanks::new(works.len());
-        run_by::<Brand, Brand, Brand, Brand, K, W, R>(self, rt, alloc, writer, works, blanks)
+        match RunBlanks::new(alloc, works.len()) {
+            Ok(blanks) => run_by::<Brand, Brand, K, W, R>(self, rt, alloc, writer, works, blanks),
+            Err(error) => Err(Unstarted {
+                works,
+                error: io::Error::from(error),
+            }),
+        }
     }
 }
 
-// The same by these books: of accepted lines, of handed ones, of shutdowns and of closings.
+// The same by these books and histories.
 fn run_by<
-    A: Ledger + Send + Sync + 'static,
-    H: Ledger + Send + Sync + 'static,
-    S: Ledger + Send + Sync + 'static,
     C: Ledger + Send + Sync + 'static,
+    L: RunNames + Send + Sync + 'static,
     K: CountedWork + Send + Drop,
     W: Write + Send + Drop + 'static,
     R: Host,
@@ -156,12 +163,13 @@ fn run_by<
     alloc: Global,
     writer: W,
     works: Vec<K>,
-    blanks: Blanks,
-) -> Result<(Vec<K>, Account), Unstarted<K>>
-    requires { AreBlanksOf A.Ledger H.Ledger S.Ledger C.Ledger (vec_len works) blanks }
-    ensures account { IfOk result (λ ran. (ended : List Sums)
-        × RunsEachWork K.CountedWork.does builder.lossy works.items ran.0.items ended
-        × IsAccount ran.1.accepted ran.1.handed ran.1.left ran.1.dropped (new_guard (vec_len works)) ended) }
+    blanks: RunBlanks,
+) -> Result<RanAll<K, W>, Unstarted<K>>
+    requires closings { IsBlankOf C.Ledger 1 blanks.closings }
+    requires names { (i : ℕ) → i < vec_len blanks.histories → slice_index (map (λ b. b.name) blanks.histories.items) i ≡ L.name i }
+    requires count { (vec_len blanks.histories ≡ L.senders + 1) × (L.senders ≡ vec_len works) }
+    requires first { L.first ≡ W.contents writer }
+    ensures ran { IfOk result (λ ran. RunsWorks K.CountedWork.does W.contents builder.lossy works.items writer ran) }
     ensures not_run { IfErr result (λ unstarted. unstarted.works ≡ works) }
 {
     // All memory is allocated before the worker starts.
@@ -172,21 +180,18 @@ fn run_by<
             error: io::Error::from(error),
         }),
     };
-    let started = builder.finish_counted::<A, H, S, C, W, R>(
-        rt,
-        alloc,
-        writer,
-        works.len(),
-        blanks,
-    );
-    let (senders, guard) = match started {
+    let (senders, run) = match Run::<C, L, W>::start(builder, rt, alloc, writer, blanks) {
         Ok(started) => started,
         Err(error) => return Err(Unstarted { works, error }),
     };
     let (senders, works) = run_all(&rt, senders, works, jobs);
-    match guard.settle(senders) {
-        Ok(account) => Ok((works, account)),
-        Err(_) => unreachable!(),
+    match run.end(&rt, senders, None) {
+        Some((written, account)) => Ok(RanAll {
+            works,
+            account,
+            written,
+        }),
+        None => unreachable!(),
     }
 }
 
@@ -209,7 +214,7 @@ fn run_all<L: LineSender + Send + Drop, K: CountedWork + Send + Drop, R: Threads
     requires empty { jobs.items ≡ [] }
     ensures senders { length result.0.items ≡ length senders.items }
     ensures works { length result.1.items ≡ length works.items }
-    ensures each { RunsWorksWith K.CountedWork.does L.sums senders.items works.items result.0.items result.1.items }
+    ensures each { RunsWorksWith K.CountedWork.does L.sent senders.items works.items result.0.items result.1.items }
 {
     let (senders, works, jobs) = pair(senders, works, jobs);
     let jobs = run_jobs(rt, jobs);
@@ -249,7 +254,7 @@ fn run_jobs<L: LineSender + Send + Drop, K: CountedWork + Send + Drop, R: Thread
     jobs: Vec<Job<L, K>>,
 ) -> Vec<Job<L, K>>
     ensures long { vec_len result ≡ vec_len jobs }
-    ensures each { RunsJobs K.CountedWork.does L.sums jobs.items result.items }
+    ensures each { RunsJobs K.CountedWork.does L.sent jobs.items result.items }
 {
     let mut jobs = jobs;
     run_each(rt, jobs.as_mut_slice());
@@ -261,7 +266,7 @@ fn run_each<L: LineSender + Send + Drop, K: CountedWork + Send + Drop, R: Thread
     jobs: &mut [Job<L, K>],
 )
     ensures long { length jobs.new ≡ length jobs.old }
-    ensures each { RunsJobs K.CountedWork.does L.sums jobs.old jobs.new }
+    ensures each { RunsJobs K.CountedWork.does L.sent jobs.old jobs.new }
 {
     let threads = jobs.len().max(1);
     thread::for_each_mut(
@@ -298,6 +303,12 @@ impl<K: Drop> From<Unstarted<K>> for io::Error {
     {
         let Unstarted { works: _, error } = unstarted;
         error
+    }
+}
+
+impl<K: Drop, W: Drop> Debug for RanAll<K, W> {
+    fn fmt<F: fmt::Write>(&self, f: &mut Formatter<F>) -> fmt::Result {
+        f.pad("RanAll { .. }")
     }
 }
 

@@ -19,9 +19,9 @@ impl CountedWork for Hello {
 
 pub fn greet<R: Host, W: Write + Send + Drop + 'static>(rt: R, log: W) -> io::Result<Account> {
     let works = vec![in rt.alloc(); Hello, Hello]?;
-    let (_, account) = NonBlockingBuilder::default()
+    let ran = NonBlockingBuilder::default()
         .run_counted(rt, rt.alloc(), log, works)
         .map_err(|unstarted| unstarted.error)?;
     // Two threads sent a line each: 2 lines were accepted, and 2 were handed to the worker.
-    Ok(account)
+    Ok(ran.account)
 }

@@ -2,9 +2,7 @@
 
 use std::io;
 use std::io::Write;
-use tracing_appender::non_blocking::{
-    Host, NonBlockingBuilder, RecordedSender, RecordedWork, Sent,
-};
+use tracing_appender::non_blocking::{Host, LineSender, NonBlockingBuilder, RecordedWork, Sent};
 
 #[derive(Drop)]
 pub struct Hello {
@@ -14,7 +12,7 @@ pub struct Hello {
 impl RecordedWork for Hello {
     ghost does = { λ _ _ _ _. Unit {0} };
 
-    fn run<S: RecordedSender + Drop>(&mut self, mut sender: S) -> S
+    fn run<S: LineSender + Drop>(&mut self, mut sender: S) -> S
         ensures { Unit {0} }
     {
         self.queued = matches!(sender.write_line(b"hello\n"), Ok(Sent::Queued(_)));
