@@ -253,10 +253,11 @@ impl<A: Ledger, H: Ledger, S: Ledger, C: Ledger> Books for FourBooks<A, H, S, C>
     }
 }
 
-/// Books of a queue that know its lines: the histories of its senders and of the worker, and the book of closings. Nobody sends
-/// a shutdown.
+/// Books of a queue that know its lines: the histories of its senders and of the worker, and the books of shutdowns sent and of
+/// closings.
 #[derive(Drop)]
-pub struct LineBooks<C: Ledger, L: QueueHistories> {
+pub struct LineBooks<S: Ledger, C: Ledger, L: QueueHistories> {
+    pub shutdowns: Book<S>,
     pub closings: Book<C>,
     pub halves: QueueHalves<L>,
 }
@@ -278,23 +279,23 @@ pub struct LineDone<C: Ledger, L: QueueHistories> {
     ghost closed: { closings.amount ≡ 1 },
 }
 
-impl<C: Ledger, L: QueueHistories> Books for LineBooks<C, L> {
+impl<S: Ledger, C: Ledger, L: QueueHistories> Books for LineBooks<S, C, L> {
     type Mine = SenderHistory<L>;
 
-    type Shutdowns = ();
+    type Shutdowns = Share<S>;
 
     type Pass = LinePass<C, L>;
 
     type Done = LineDone<C, L>;
 
-    ghost agree = { λ b t. (b.closings.total ≡ t.closings) × (t.shutdowns ≡ 0) × (t.places ≡ L.senders)
+    ghost agree = { λ b t. (b.shutdowns.total ≡ t.shutdowns) × (b.closings.total ≡ t.closings) × (t.places ≡ L.senders)
         × (length b.halves.taken ≡ t.handed)
         × ((rest : List (List ℕ)) × IsInterleaving b.halves.sent (b.halves.taken ++ rest)
         × (t.accepted ≡ t.handed + length rest) × (t.closings ≡ 0 → rest ≡ t.lines)) };
 
     ghost may_accept = { λ m. Unit {0} };
 
-    ghost may_shut = { λ m. ⊥ };
+    ghost may_shut = { λ m. 0 < m.parts };
 
     ghost may_take = { λ p. (p.closings.parts ≡ 1) × (C.parts ≡ 1) × (p.closings.amount ≡ 0) };
 
@@ -303,7 +304,7 @@ impl<C: Ledger, L: QueueHistories> Books for LineBooks<C, L> {
     ghost counts_line = { λ m line n. (n.place ≡ m.place) × (n.lines ≡ m.lines ++ line ∷ [])
         × (length n.lines < 2 ^ 64) };
 
-    ghost counts_shutdown = { λ m n. ⊥ };
+    ghost counts_shutdown = { λ m n. (n.parts ≡ m.parts) × (m.amount ≡ 0) × (n.amount ≡ 1) };
 
     ghost counts_take = { λ p line q. q.taker ≡ p.taker ++ line ∷ [] };
 
@@ -323,7 +324,10 @@ impl<C: Ledger, L: QueueHistories> Books for LineBooks<C, L> {
         self.halves.send(mine, line);
     }
 
-    fn shut(&mut self, _mine: &mut ()) {}
+    fn shut(&mut self, mine: &mut Share<S>) {
+        self.shutdowns.audit(mine);
+        self.shutdowns.add(mine, 1);
+    }
 
     #[inline(always)]
     fn hand(&mut self, pass: &mut LinePass<C, L>, line: &Vec<u8>) {
@@ -363,7 +367,7 @@ impl<A: Ledger, H: Ledger, S: Ledger, C: Ledger> SenderBooks for FourBooks<A, H,
     fn one_line_more() {}
 }
 
-impl<C: Ledger, L: QueueHistories> SenderBooks for LineBooks<C, L> {
+impl<S: Ledger, C: Ledger, L: QueueHistories> SenderBooks for LineBooks<S, C, L> {
     ghost has_sent = { λ m place lines. (m.place ≡ place) × (m.lines ≡ lines) × (length lines < 2 ^ 64) };
 
     #[inline(always)]

@@ -469,14 +469,21 @@ impl<A: Ledger, H: Ledger, S: Ledger, C: Ledger> State<FourBooks<A, H, S, C>> {
     }
 }
 
-impl<C: Ledger, L: QueueHistories> State<LineBooks<C, L>> {
+impl<S: Ledger, C: Ledger, L: QueueHistories> State<LineBooks<S, C, L>> {
     ghost use Rattle.std.specs.Prelude.{map, vec_len};
     ghost use Rattle.line_history.specs.Interleaving.{IsInterleaving};
 
-    /// Returns the counts of the queue, which the worker has closed. The worker took all lines that its senders sent, in an
-    /// interleaving.
-    pub fn final_lines(&mut self, senders: Vec<SenderHistory<L>>, done: LineDone<C, L>) -> Counts
-        requires { (vec_len senders ≡ L.senders) × (C.parts ≡ 1) }
+    /// Returns the counts of the queue, which the worker has closed, and to which no shutdown was sent. The worker took all
+    /// lines that its senders sent, in an interleaving.
+    pub fn final_lines(
+        &mut self,
+        senders: Vec<SenderHistory<L>>,
+        shutdowns: Share<S>,
+        done: LineDone<C, L>,
+    ) -> Counts
+        requires senders { vec_len senders ≡ L.senders }
+        requires parts { (shutdowns.parts ≡ S.parts) × (C.parts ≡ 1) }
+        requires none_sent { shutdowns.amount ≡ 0 }
         ensures whole { IsInterleaving (map (λ s. s.lines) senders.items) done.taker }
         ensures accepted { result.accepted ≡ length done.taker }
         ensures handed { result.handed ≡ length done.taker }
@@ -488,11 +495,10 @@ impl<C: Ledger, L: QueueHistories> State<LineBooks<C, L>> {
             mut closings,
         } = done;
         let State { queue, books, .. } = self;
-        let LineBooks {
-            closings: book,
-            halves,
-        } = books;
-        book.audit(&mut closings);
+        let mut shutdowns = shutdowns;
+        books.shutdowns.audit(&mut shutdowns);
+        books.closings.audit(&mut closings);
+        let halves = &mut books.halves;
         halves.compare_taker(&mut taker);
         halves.compare_all(senders);
         queue.counts()

@@ -80,12 +80,13 @@ impl NonBlockingBuilder {
         ensures always { most ≡ None → IfOk result (λ ran. IsSome ran.written) }
     {
         let blanks = RunBlanks::new(alloc, 1)?;
-        run_by::<Brand, Brand, K, W, R>(self, rt, alloc, writer, work, most, blanks)
+        run_by::<Brand, Brand, Brand, K, W, R>(self, rt, alloc, writer, work, most, blanks)
     }
 }
 
 // The same by these books and histories.
 fn run_by<
+    S: Ledger + Send + Sync + 'static,
     C: Ledger + Send + Sync + 'static,
     L: RunNames + Send + Sync + 'static,
     K: RecordedWork + Drop,
@@ -100,14 +101,14 @@ fn run_by<
     most: Option<Duration>,
     blanks: RunBlanks,
 ) -> io::Result<Ran<K, W>>
-    requires closings { IsBlankOf C.Ledger 1 blanks.closings }
+    requires ledgers { IsBlankOf S.Ledger 1 blanks.shutdowns × IsBlankOf C.Ledger 1 blanks.closings }
     requires names { (i : ℕ) → i < vec_len blanks.histories → slice_index (map (λ b. b.name) blanks.histories.items) i ≡ L.name i }
     requires count { (vec_len blanks.histories ≡ L.senders + 1) × (L.senders ≡ 1) }
     requires first { L.first ≡ W.contents writer }
     ensures ran { IfOk result (λ ran. RunsLines K.does W.contents builder.lossy work writer ran) }
     ensures always { most ≡ None → IfOk result (λ ran. IsSome ran.written) }
 {
-    let (mut senders, run) = Run::<C, L, W>::start(builder, rt, alloc, writer, blanks)?;
+    let (mut senders, run) = Run::<S, C, L, W>::start(builder, rt, alloc, writer, blanks)?;
     let Some(sender) = senders.pop() else {
         unreachable!()
     };

@@ -20,7 +20,7 @@ use line_history::halves::{QueueHalves, QueueHistories, SenderHistory};
 use std::alloc::{AllocError, Global};
 use std::io::Write;
 use std::marker::{Brand, Model};
-use std::sync::ledger::Ledger;
+use std::sync::ledger::{Ledger, Share};
 use std::sync::{Arc, Wait, ledger};
 use std::thread::{JoinHandle, Threads};
 use std::time::{Clock, Duration};
@@ -44,9 +44,10 @@ impl RunNames for Brand {
     ghost first = { None };
 }
 
-/// What the books of a run are opened with: the ledger of closings, and a history for each sender and for the worker.
+/// What the books of a run are opened with: the ledgers of shutdowns and of closings, and a history for each sender and for the worker.
 #[derive(Drop)]
 pub(super) struct RunBlanks {
+    pub(super) shutdowns: ledger::Blank,
     pub(super) closings: ledger::Blank,
     pub(super) histories: Vec<Blank>,
 }
@@ -54,7 +55,7 @@ pub(super) struct RunBlanks {
 impl RunBlanks {
     /// Returns new ones. `AllocError` if memory ran out.
     pub(super) fn new(alloc: Global, senders: usize) -> Result<RunBlanks, AllocError>
-        ensures closings { IfOk result (λ blanks. blanks.closings.parts ≡ 1) }
+        ensures ledgers { IfOk result (λ blanks. (blanks.shutdowns.parts ≡ 1) × (blanks.closings.parts ≡ 1)) }
         ensures histories { IfOk result (λ blanks. vec_len blanks.histories ≡ senders + 1) }
     {
         let mut histories = Vec::with_capacity(alloc, senders)?;
@@ -62,9 +63,9 @@ impl RunBlanks {
             histories.push_reserved(Blank::new());
         }
         histories.push(Blank::new())?;
-        let closings = ledger::Blank::new(1);
         Ok(RunBlanks {
-            closings,
+            shutdowns: ledger::Blank::new(1),
+            closings: ledger::Blank::new(1),
             histories,
         })
     }
@@ -92,20 +93,23 @@ impl<C: Ledger, L: RunNames, W: Write + Drop> Model for Ended<C, L, W> {
 
 /// A queue whose worker has started.
 #[derive(Drop)]
-pub(super) struct Run<C: Ledger, L: RunNames, W: Write + Drop> {
-    shared: Arc<Shared<LineBooks<C, L>>, Global>,
+pub(super) struct Run<S: Ledger, C: Ledger, L: RunNames, W: Write + Drop> {
+    shared: Arc<Shared<LineBooks<S, C, L>>, Global>,
     worker: JoinHandle<Ended<C, L, W>>,
+    shutdowns: Share<S>,
     // Memory for what the senders return.
     histories: Vec<SenderHistory<L>>,
+    ghost none_sent: { (shutdowns.parts ≡ 1) × (shutdowns.amount ≡ 0) },
     ghost empty: { histories.items ≡ [] },
     ghost room: { L.senders ≤ vec_capacity histories },
 }
 
 impl<
+    S: Ledger + Send + Sync + 'static,
     C: Ledger + Send + Sync + 'static,
     L: RunNames + Send + Sync + 'static,
     W: Write + Send + Drop + 'static,
-> Run<C, L, W> {
+> Run<S, C, L, W> {
     /// Starts the worker's thread, and makes the senders of its queue. A refusal leaves no thread.
     pub(super) fn start<R: Host>(
         builder: NonBlockingBuilder,
@@ -113,8 +117,8 @@ impl<
         alloc: Global,
         writer: W,
         blanks: RunBlanks,
-    ) -> io::Result<(Vec<BookSender<LineBooks<C, L>, R>>, Run<C, L, W>)>
-        requires closings { IsBlankOf C.Ledger 1 blanks.closings }
+    ) -> io::Result<(Vec<BookSender<LineBooks<S, C, L>, R>>, Run<S, C, L, W>)>
+        requires ledgers { IsBlankOf S.Ledger 1 blanks.shutdowns × IsBlankOf C.Ledger 1 blanks.closings }
         requires names { (i : ℕ) → i < vec_len blanks.histories → slice_index (map (λ b. b.name) blanks.histories.items) i ≡ L.name i }
         requires count { vec_len blanks.histories ≡ L.senders + 1 }
         requires first { L.first ≡ W.contents writer }
@@ -122,16 +126,19 @@ impl<
     {
         let NonBlockingBuilder { limit, lossy, name } = builder;
         let RunBlanks {
+            shutdowns,
             closings,
             histories,
         } = blanks;
         let name = name_or_default(alloc, name)?;
+        let (shutdowns, share) = shutdowns.open::<S>();
         let (book, closings) = closings.open::<C>();
         let (halves, shares, taker) = QueueHalves::<L>::open(alloc, histories)?;
         let senders = shares.len();
         let histories = Vec::with_capacity(alloc, senders)?;
         let hand = Hand::new(alloc, limit)?;
         let books = LineBooks {
+            shutdowns,
             closings: book,
             halves,
         };
@@ -144,6 +151,7 @@ impl<
         let run = Run {
             shared,
             worker,
+            shutdowns: share,
             histories,
         };
         Ok((made, run))
@@ -154,10 +162,10 @@ impl<
     pub(super) fn end<R: Threads + Wait + Clock + Drop>(
         self,
         rt: &R,
-        senders: Vec<BookSender<LineBooks<C, L>, R>>,
+        senders: Vec<BookSender<LineBooks<S, C, L>, R>>,
         most: Option<Duration>,
     ) -> Option<(Written<W>, Account)>
-        requires { (vec_len senders ≡ L.senders) × (C.parts ≡ 1) }
+        requires { (vec_len senders ≡ L.senders) × (S.parts ≡ 1) × (C.parts ≡ 1) }
         ensures wrote { IfSome result (λ ended. (taken : List (List ℕ)) × IsInterleaving (map (λ s. s.lines) senders.items) taken
             × (ended.1.handed ≡ length taken) × ServesLines L.first (W.contents ended.0.writer) taken ended.0.given_up) }
         ensures account { IfSome result (λ ended. IsAccount ended.1.accepted ended.1.handed ended.1.left ended.1.dropped
@@ -167,6 +175,7 @@ impl<
         let Run {
             shared,
             worker,
+            shutdowns,
             histories,
         } = self;
         let (histories, dropped) = end_all(senders, histories);
@@ -182,7 +191,7 @@ impl<
         } = worker.join(rt);
         let counts = shared
             .lock(rt, &mut Backoff::NEW)
-            .final_lines(histories, done);
+            .final_lines(histories, shutdowns, done);
         let account = Account {
             accepted: counts.accepted,
             handed: counts.handed,
@@ -194,8 +203,8 @@ impl<
 }
 
 // Ends the senders. Returns their histories, in their order, and how many lines they dropped.
-fn end_all<C: Ledger, L: RunNames, R: Wait + Drop>(
-    senders: Vec<BookSender<LineBooks<C, L>, R>>,
+fn end_all<S: Ledger, C: Ledger, L: RunNames, R: Wait + Drop>(
+    senders: Vec<BookSender<LineBooks<S, C, L>, R>>,
     histories: Vec<SenderHistory<L>>,
 ) -> (Vec<SenderHistory<L>>, usize)
     requires empty { histories.items ≡ [] }
@@ -215,6 +224,7 @@ fn end_all<C: Ledger, L: RunNames, R: Wait + Drop>(
 
 // Starts the worker's thread, which returns its shares and the writer in the end.
 fn start_worker<
+    S: Ledger + Send + Sync + 'static,
     C: Ledger + Send + Sync + 'static,
     L: RunNames + Send + Sync + 'static,
     W: Write + Send + Drop + 'static,
@@ -222,7 +232,7 @@ fn start_worker<
 >(
     rt: R,
     name: String,
-    shared: Arc<Shared<LineBooks<C, L>>, Global>,
+    shared: Arc<Shared<LineBooks<S, C, L>>, Global>,
     writer: W,
     hand: Hand,
     pass: LinePass<C, L>,
@@ -239,9 +249,9 @@ fn start_worker<
 }
 
 // Serves the writer until the worker has ended.
-fn serve_all<C: Ledger, L: RunNames, W: Write + Drop, R: Wait + Eprint>(
+fn serve_all<S: Ledger, C: Ledger, L: RunNames, W: Write + Drop, R: Wait + Eprint>(
     rt: &R,
-    shared: &Shared<LineBooks<C, L>>,
+    shared: &Shared<LineBooks<S, C, L>>,
     writer: W,
     hand: Hand,
     pass: LinePass<C, L>,

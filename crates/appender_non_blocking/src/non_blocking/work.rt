@@ -141,7 +141,9 @@ impl NonBlockingBuilder {
         ensures not_run { IfErr result (λ unstarted. unstarted.works ≡ works) }
     {
         match RunBlanks::new(alloc, works.len()) {
-            Ok(blanks) => run_by::<Brand, Brand, K, W, R>(self, rt, alloc, writer, works, blanks),
+            Ok(blanks) => run_by::<Brand, Brand, Brand, K, W, R>(
+                self, rt, alloc, writer, works, blanks,
+            ),
             Err(error) => Err(Unstarted {
                 works,
                 error: io::Error::from(error),
@@ -152,6 +154,7 @@ impl NonBlockingBuilder {
 
 // The same by these books and histories.
 fn run_by<
+    S: Ledger + Send + Sync + 'static,
     C: Ledger + Send + Sync + 'static,
     L: RunNames + Send + Sync + 'static,
     K: CountedWork + Send + Drop,
@@ -165,7 +168,7 @@ fn run_by<
     works: Vec<K>,
     blanks: RunBlanks,
 ) -> Result<RanAll<K, W>, Unstarted<K>>
-    requires closings { IsBlankOf C.Ledger 1 blanks.closings }
+    requires ledgers { IsBlankOf S.Ledger 1 blanks.shutdowns × IsBlankOf C.Ledger 1 blanks.closings }
     requires names { (i : ℕ) → i < vec_len blanks.histories → slice_index (map (λ b. b.name) blanks.histories.items) i ≡ L.name i }
     requires count { (vec_len blanks.histories ≡ L.senders + 1) × (L.senders ≡ vec_len works) }
     requires first { L.first ≡ W.contents writer }
@@ -180,7 +183,7 @@ fn run_by<
             error: io::Error::from(error),
         }),
     };
-    let (senders, run) = match Run::<C, L, W>::start(builder, rt, alloc, writer, blanks) {
+    let (senders, run) = match Run::<S, C, L, W>::start(builder, rt, alloc, writer, blanks) {
         Ok(started) => started,
         Err(error) => return Err(Unstarted { works, error }),
     };

@@ -20,7 +20,7 @@ pub end-requires-after_bounds : goal.end-requires-after_bounds
 end-requires-after_bounds g c κs within =
     let count = made _ _ _ c.in-Ok-start.ensures in
     let long = c.run_all-senders.ensures.senders in
-    (search (rules, arith, count, long), search rules)
+    (search (rules, arith, count, long), search rules, search rules)
 
 pub returns-clause-ran : goal.returns-clause-ran
 returns-clause-ran g c =

@@ -1,6 +1,9 @@
 use Rattle.std.proofs.Common.{map, slice_index}
 use Rattle.appender_non_blocking.proofs.non_blocking.builder.NonBlockingBuilder.run_lines.Given as goal
 
+abbrev pub ghosts-run_by-S-Ledger : goal.ghosts-run_by-S-Ledger
+ghosts-run_by-S-Ledger g a = record { name = a.blanks.shutdowns.name; parts = a.blanks.shutdowns.parts }
+
 abbrev pub ghosts-run_by-C-Ledger : goal.ghosts-run_by-C-Ledger
 ghosts-run_by-C-Ledger g a = record { name = a.blanks.closings.name; parts = a.blanks.closings.parts }
 
