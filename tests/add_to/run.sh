@@ -30,6 +30,13 @@ add() {
   echo "$?|$(cat "$work/out")|$(cat "$work/err")"
 }
 
+# said NUMBER VERSION FOLDER: what add-to prints after it has copied this number of crates.
+said() {
+  echo "$1 crates of version $2 are in $3/crates, and their lines in $3/crates.txt.
+There list those that your crate names, as in  my_service: appender_log appender_names log tracing_appender
+Its first rt check proves them too, once: about ten minutes on four cores. rt try proves nothing."
+}
+
 # The files below a folder with their contents, but for the commit.
 all_of() {
   (cd "$1" && find . -type f | sort | while IFS= read -r file; do
@@ -78,10 +85,10 @@ check 'a file' "2||usage: $library/add-to REPOSITORY" "$(add "$library/LICENSE")
 check 'itself' "2||$library/add-to: $library is the library itself" "$(add "$library/crates/..")"
 
 app="$work/an app/below"
-check 'a folder that is not there' '0||' "$(add "$app")"
+check 'a folder that is not there' "0|$(said 4 1.0.0 "$app")|" "$(add "$app")"
 check 'a folder that is not there: all is copied' "$first" "$(all_of "$app")"
 check 'nothing else is in crates' 'appender_log dated lower tracing_appender' "$(ls -A "$app/crates" | paste -sd ' ')"
-check 'again' '0||' "$(add "$app")"
+check 'again' "0|$(said 4 1.0.0 "$app")|" "$(add "$app")"
 check 'again: all is the same' "$first" "$(all_of "$app")"
 check 'no checkout' unknown "$(version commit "$app")"
 
@@ -92,7 +99,7 @@ mkdir -p "$own/crates/service/src" "$own/crates/dates/src"
 echo mine > "$own/crates/service/src/lib.rt"
 echo mine > "$own/crates/dates/src/lib.rt"
 printf 'service: dates dated tracing_appender\nlower: an older line\ndates: jiff' > "$own/crates.txt"
-check 'own crates' '0||' "$(add "$own")"
+check 'own crates' "0|$(said 4 1.0.0 "$own")|" "$(add "$own")"
 check 'own crates: lines are replaced where they are, others stay' \
   'service: dates dated tracing_appender|lower: jiff|dates: jiff|dated:|tracing_appender: lower dated|appender_log: lower log' \
   "$(paste -sd '|' "$own/crates.txt")"
@@ -113,10 +120,10 @@ second="./HANDLES: Handles allowed: Threads, Wait.
 ./crates/tracing_appender/VERSION: version: 1.1.0|crates: added lower tracing_appender appender_log
 ./crates/tracing_appender/src/lib.rt: tracing_appender 1"
 
-check 'an update' '0||' "$(add "$app")"
+check 'an update' "0|$(said 4 1.1.0 "$app")|" "$(add "$app")"
 check 'an update: what is gone goes, what is new comes' "$second" "$(all_of "$app")"
 check 'an update beside own crates' \
-  "0||$library/add-to: the library no longer has dated, which crates.txt lists for: service" "$(add "$own")"
+  "0|$(said 4 1.1.0 "$own")|$library/add-to: the library no longer has dated, which crates.txt lists for: service" "$(add "$own")"
 check 'an update: own lines stay' \
   'service: dates dated tracing_appender|lower: added|dates: jiff|tracing_appender: lower|appender_log: lower log|added:' \
   "$(paste -sd '|' "$own/crates.txt")"
@@ -124,7 +131,7 @@ check 'an update: own crates stay' 'mine mine' "$(cat "$own"/crates/{service,dat
 
 rm "$app/crates/tracing_appender/VERSION"
 echo changed > "$app/crates/lower/src/lib.rt"
-check 'a copy without a VERSION' '0||' "$(add "$app")"
+check 'a copy without a VERSION' "0|$(said 4 1.1.0 "$app")|" "$(add "$app")"
 check 'a copy without a VERSION: all is as in a new one' "$second" "$(all_of "$app")"
 
 taken=$work/taken
@@ -146,7 +153,7 @@ handles() {
   for word in "$@"; do
     wanted=$wanted${wanted:+$'\n'}"$library/add-to: $target/HANDLES does not allow $word, which a queue needs"
   done
-  check "HANDLES '$line'" "0||$wanted" "$(add "$target")"
+  check "HANDLES '$line'" "0|$(said 4 1.1.0 "$target")|$wanted" "$(add "$target")"
   check "HANDLES '$line': it stays" "$line" "$(cat "$target/HANDLES")"
 }
 
@@ -186,7 +193,7 @@ fi
 
 library=$top
 whole=$work/whole
-check 'this library' '0||' "$(add "$whole")"
+check 'this library' "0|$(said "$(ls "$top/crates" | grep -cE '^(appender_|line_history$|tracing_appender$)')" "$(sed -n 's/^## \([0-9.]*\).*/\1/p' "$top/CHANGELOG.md" | head -n 1)" "$whole")|" "$(add "$whole")"
 check 'this library: each crate has a line' "$(ls -A "$whole/crates")" "$(cut -d: -f1 "$whole/crates.txt" | sort)"
 check 'this library: its version is a number' 1 "$(version version "$whole" | grep -cE '^[0-9]+\.[0-9]+\.[0-9]+$')"
 for name in $(ls "$whole/crates"); do
@@ -241,6 +248,39 @@ fn main(rt: HostRuntime) -> io::Result<()> {
 }
 END
 check 'the mode of a new file' 100640 "$(cd "$whole/crates/mode" && rt try 2> "$work/err" | grep -o '^100[0-7]*')"
+
+# ---- a log that is dropped
+
+mkdir -p "$whole/crates/dropped/src"
+echo 'dropped: appender_log log' >> "$whole/crates.txt"
+cat > "$whole/crates/dropped/src/main.rt" <<'END'
+#![tactic(auto)]
+use appender_log::start;
+use log::{Log, info};
+use std::io;
+use std::io::Write;
+
+#[derive(Drop)]
+struct Full;
+
+impl Write for Full {
+    fn write(&mut self, _buf: &[u8]) -> io::Result<usize> {
+        Err(io::Error::other("full"))
+    }
+
+    fn flush(&mut self) -> io::Result<()> {
+        Ok(())
+    }
+}
+
+fn main(rt: HostRuntime) -> io::Result<()> {
+    let log = start(rt, Full)?;
+    info!(log; "lost");
+    Ok(())
+}
+END
+check 'a log that is dropped says what was lost' 'appender_log: lines not written whole: 1' \
+  "$(cd "$whole/crates/dropped" && rt try 2>&1 | grep '^appender_log: ')"
 
 echo "$passed passed, $failed failed"
 [ "$failed" = 0 ]

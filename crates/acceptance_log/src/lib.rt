@@ -1,7 +1,10 @@
-//! Tests of a sink of the crate `log`: its lines, their times, what it counts as lost, and records in a log that threads share.
+//! Tests of logs of the crate `log`: their lines, the times of these, what they count as lost, with and without a queue, and records in a
+//! log that threads share.
 #![tactic(auto)]
 
 #[cfg(test)]
 mod files;
+#[cfg(test)]
+mod queued;
 #[cfg(test)]
 mod records;

@@ -12,7 +12,7 @@ use std::sync::atomic::Ordering::SeqCst;
 use std::test::Fail;
 use std::{io, thread};
 
-mod times;
+pub(crate) mod times;
 
 // What writers do next.
 #[derive(Clone, Copy, Debug)]

@@ -33,7 +33,6 @@ ghost use Rattle.appender_log.specs.Written.{
   ending,
 };
 
-use appender_runtime::backoff::{Backoff, lock};
 use appender_runtime::clock::Clock;
 use appender_runtime::make_writer::MakeWriter;
 use appender_worker::worker::{LineFault, run_line};
@@ -41,17 +40,19 @@ use log::kv::Source;
 use log::span::Spans;
 use log::{Line, Log, Metadata, Record};
 use one_line::escape;
+pub use queued::{QueuedLog, start, start_with};
+use record_writer::{RecordWriter, flush};
 use std::alloc::{AllocError, Global};
 use std::fmt::{Debug, Display, Formatter};
 use std::io::{ErrorKind, Write};
-use std::sync::atomic::AtomicU64;
-use std::sync::atomic::Ordering::SeqCst;
-use std::sync::{Mutex, Wait};
+use std::sync::Wait;
 use std::{fmt, io};
 use times::{after_room, put_time};
 
 pub mod laws;
 mod one_line;
+mod queued;
+mod record_writer;
 mod times;
 
 /// The clock of a sink whose records have no times: nothing reads it. It is as a clock that can't be read.
@@ -70,49 +71,35 @@ impl Clock for NoClock {
 /// this sink is between its pieces. After a record that was cut short the next one begins with a
 /// newline. Records have times if the sink is given a clock by `timestamps`. It logs every record that it is
 /// given: the logger decides by level. Threads can share it, and a logger can borrow it. A writer must not log by
-/// it: it would wait for itself.
+/// it: it would wait for itself. For a log with a queue of its own there is `start`.
 ///
 /// ```
 /// use appender_log::LogSink;
 /// use log::{Level, Log, Logged, info};
-/// use std::io;
-/// use std::io::Write;
-/// use tracing_appender::non_blocking::{Host, Losses, non_blocking};
+/// use tracing_appender::non_blocking::Host;
+/// use tracing_appender::rolling::MakeWriter;
 ///
-/// pub fn log_read<R: Host, W: Write + Send + Drop + 'static>(rt: R, log: W) -> io::Result<()> {
-///     let (lines, guard) = non_blocking(rt, rt.alloc(), log)?;
-///     let drops = lines.error_counter()?;
-///     let sink = LogSink::new(rt, &lines);
+/// // Returns whether the record was written whole. `logs` may be an appender, or a sender of a queue.
+/// pub fn log_read<'a, R: Host, M: MakeWriter<'a>>(rt: R, logs: &'a M) -> bool {
+///     let sink = LogSink::new(rt, logs);
 ///     let logger = Logged::new(rt, Level::Info, &sink);
-///     // Queues the line `[INFO  db] read rows=3`.
+///     // Writes the line `[INFO  db] read rows=3`.
 ///     info!(logger; target: "db", rows = 3; "read");
-///     Losses::from(guard.close())
-///         .and_records(sink.lost())
-///         .and_dropped(drops.dropped_lines())
-///         .check()
+///     sink.lost() == 0
 /// }
 /// ```
 #[derive(Drop)]
 pub struct LogSink<'a, M, R: Drop = HostRuntime, C: Clock = NoClock> {
-    rt: R,
     writers: &'a M,
-    // What the times of records are read from, if they have any.
-    clock: Option<C>,
-    // Whether the last record was cut short. A thread that writes a record holds it, since a writer of an
-    // appender lets other writers write between two writes of its own.
-    cut: Mutex<bool>,
-    lost: AtomicU64,
+    records: RecordWriter<R, C>,
 }
 
 impl<'a, M, R: Drop> LogSink<'a, M, R> {
     /// Returns a sink over what makes the writers. The runtime waits for the sink's lock.
     pub fn new(rt: R, writers: &'a M) -> LogSink<'a, M, R> {
         LogSink {
-            rt,
             writers,
-            clock: None,
-            cut: Mutex::new(false),
-            lost: AtomicU64::new(0),
+            records: RecordWriter::new(rt),
         }
     }
 }
@@ -129,18 +116,15 @@ impl<'a, M, R: Drop, C: Clock> LogSink<'a, M, R, C> {
     /// before its time. A clock must not log by this sink: it would wait for itself.
     pub fn timestamps<D: Clock>(self, clock: D) -> LogSink<'a, M, R, D> {
         LogSink {
-            rt: self.rt,
             writers: self.writers,
-            clock: Some(clock),
-            cut: self.cut,
-            lost: self.lost,
+            records: self.records.with_clock(clock),
         }
     }
 
     /// The number of records that were not written whole: there was no writer or no memory, or a write failed or
     /// took nothing. A line that a lossy queue drops later is not among them.
     pub fn lost(&self) -> u64 {
-        self.lost.load(SeqCst)
+        self.records.lost()
     }
 }
 
@@ -276,39 +260,6 @@ fn error_of(fault: LineFault) -> io::Error
     }
 }
 
-impl<'a, M: MakeWriter<'a>, R: AllocGlobal + Wait + Drop, C: Clock> LogSink<'a, M, R, C> {
-    // Writes a record by a writer of its own.
-    fn write<D: Display, K: Source, S: Spans>(
-        &self,
-        record: &Record<'_, D, K, S>,
-    ) -> io::Result<()> {
-        let line = line_of(self.rt.alloc(), record)?;
-        match &self.clock {
-            None => self.write_now(line.as_slice()),
-            Some(clock) => self.write_at(clock, line.as_slice()),
-        }
-    }
-
-    fn write_now(&self, line: &[u8]) -> io::Result<()> {
-        let mut writer = self.writers.make_writer()?;
-        let mut cut = lock(&self.rt, &self.cut, &mut Backoff::NEW);
-        write_line(&mut writer, &mut cut, line)
-    }
-
-    // Reads the clock under the lock, so that times rise in the log as they do on the clock.
-    fn write_at(&self, clock: &C, line: &[u8]) -> io::Result<()> {
-        let mut line = after_room(self.rt.alloc(), line)?;
-        let mut writer = self.writers.make_writer()?;
-        let mut cut = lock(&self.rt, &self.cut, &mut Backoff::NEW);
-        write_line_at(
-            &mut writer,
-            &mut cut,
-            clock.now_nanos(),
-            line.as_mut_slice(),
-        )
-    }
-}
-
 impl<'a, M: MakeWriter<'a>, R: AllocGlobal + Wait + Drop, C: Clock> Log for LogSink<'a, M, R, C> {
     ghost use Rattle.std.specs.Prelude.{true, Some, []};
 
@@ -322,16 +273,12 @@ impl<'a, M: MakeWriter<'a>, R: AllocGlobal + Wait + Drop, C: Clock> Log for LogS
 
     /// Writes the record, or counts it in `lost`.
     fn log<D: Display, K: Source, S: Spans>(&self, record: &Record<'_, D, K, S>) {
-        if self.write(record).is_err() {
-            self.lost.fetch_add(1, SeqCst);
-        }
+        self.records.log(self.writers, record);
     }
 
     /// Flushes a writer of its own. An error is not reported.
     fn flush(&self) {
-        if let Ok(mut writer) = self.writers.make_writer() {
-            let _ = writer.flush();
-        }
+        flush(self.writers);
     }
 
     fn target(&self) -> &str {

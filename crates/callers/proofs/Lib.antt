@@ -1,2 +1,3 @@
 mod Copies
 mod Lines
+mod Sources

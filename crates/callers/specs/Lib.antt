@@ -1,2 +1,3 @@
 pub mod AccessLog
+pub mod Sources
 pub mod Supervisor

@@ -1,10 +1,11 @@
-//! Four callers of the log writers: a structured logger, an access log, a supervisor of a child's output, and an audit
-//! sink. `examples` has the examples of the library's doc comments.
+//! Callers of the log writers: a structured logger, handlers that share a log, an access log, a supervisor of a child's output, and
+//! an audit sink. `examples` has the examples of the library's doc comments.
 #![tactic(auto)]
 
 pub mod access_log;
 pub mod audit_sink;
 pub mod examples;
+pub mod handlers;
 pub mod logger;
 pub mod supervisor;
 #[cfg(test)]

@@ -1,18 +1,20 @@
 // Each caller over a log in a folder of the disk, and over one that takes no line of two or more bytes.
 use crate::access_log::AccessLog;
-use crate::audit_sink::audit;
-use crate::logger::{LoggerError, log_reads, open_log};
+use crate::audit_sink::{Source, audit};
+use crate::handlers::{handle, log_request};
+use crate::logger::{log_reads, open_log};
 use crate::supervisor::{Captured, Copied, capture, copy};
+use appender_log::start;
 use bytes::{BufMut, Bytes};
 use http::Request;
 use http_server::{Config, Connection, Response, Service, serve};
-use std::alloc::AllocError;
+use std::alloc::{AllocError, Global};
 use std::fs::Files;
 use std::hash::RandomState;
 use std::io::Write;
 use std::process::Abort;
 use std::test::Fail;
-use std::{fs, io};
+use std::{fs, io, thread};
 use tracing_appender::non_blocking::{Closing, Losses, NonBlockingBuilder};
 use tracing_appender::rolling::{FileAppender, never};
 
@@ -79,21 +81,38 @@ fn text_in(rt: &HostRuntime, directory: &str) -> io::Result<String> {
 #[test]
 fn the_logger_writes_each_record(rt: HostRuntime) -> Result<(), Fail> {
     let _ = fs::remove_dir_all(&rt, "service");
-    let log = open_log(rt, "service")?;
-    let Ok(losses) = log_reads(rt, log, &[3, 512]) else {
-        return Err(Fail::from(io::Error::other("records were lost")));
-    };
-    assert_eq!(rt; losses, Losses::NONE);
+    log_reads(rt, open_log(rt, "service")?, &[3, 512])?;
     let text = text_in(&rt, "service")?;
     assert_eq!(rt;
         text.as_str(),
         "[INFO  db] read rows=3\n[INFO  db] read rows=512\n"
     );
-    let losses = match log_reads(rt, Full::new(), &[3, 512]) {
-        Err(LoggerError::Lost(losses)) => losses,
-        _ => return Err(Fail::from(io::Error::other("no record was lost"))),
+    let Err(error) = log_reads(rt, Full::new(), &[3, 512]) else {
+        return Err(Fail::from(io::Error::other("no record was lost")));
     };
-    assert_eq!(rt; losses, Losses::NONE.and_unwritten(2));
+    let text = format!(in rt.alloc(); "{error}")?;
+    assert_eq!(rt; text.as_str(), "lines not written whole: 2");
+    Ok(())
+}
+
+#[test]
+fn handlers_share_a_log(rt: HostRuntime) -> Result<(), Fail> {
+    let log = open(rt, "handlers")?;
+    let shared = &log;
+    thread::scope(thread::scope_env(), &rt, |scope| {
+        for id in 0..4u32 {
+            let _ = scope.spawn(move || handle(rt, shared, id));
+        }
+    });
+    let text = fs::read_to_string(&rt, "logs/handlers")?;
+    for id in 0..4u32 {
+        let line = format!(in rt.alloc(); "GET /item/{id} 200")?;
+        assert_eq!(rt; text.lines().filter(|it| *it == line.as_str()).count(), 1);
+    }
+    assert_eq!(rt; text.lines().count(), 4);
+    let log = start(rt, Full::new())?;
+    log_request(&log, 7);
+    assert_eq!(rt; log.close(), Losses::NONE.and_unwritten(1));
     Ok(())
 }
 
@@ -168,18 +187,35 @@ fn the_supervisor_reports_what_was_lost(rt: HostRuntime) -> Result<(), Fail> {
     Ok(())
 }
 
+fn source(alloc: Global, line: &[u8]) -> Result<Source, AllocError> {
+    let mut lines = Vec::new(alloc);
+    lines.push(line.to_vec(alloc)?)?;
+    Ok(Source {
+        lines,
+        is_queued: false,
+    })
+}
+
+// One with two lines, and one with none.
+fn sources(alloc: Global) -> Result<Vec<Source>, AllocError> {
+    let mut first = source(alloc, b"a\n")?;
+    first.lines.push(b"bc\n".to_vec(alloc)?)?;
+    let mut second = source(alloc, b"")?;
+    second.lines.clear();
+    let mut all = Vec::new(alloc);
+    all.push(first)?;
+    all.push(second)?;
+    Ok(all)
+}
+
 #[test]
-fn the_audit_has_an_account(rt: HostRuntime) -> Result<(), Fail> {
-    let account = audit(rt, open(rt, "audit")?, &[b"a\n", b"bc\n"])?;
-    let counts = (
-        account.accepted(),
-        account.handed(),
-        account.left(),
-        account.dropped(),
-    );
-    assert_eq!(rt; counts, (2, 2, 0, 0));
+fn the_audit_has_each_line_once(rt: HostRuntime) -> Result<(), Fail> {
+    let log = audit(rt, open(rt, "audit")?, sources(rt.alloc())?)?;
+    drop(log);
     expect_log(&rt, "audit", "a\nbc\n");
-    assert!(rt; audit(rt, Full::new(), &[b"a\n", b"bc\n"]).is_err());
-    assert!(rt; audit(rt, Full::new(), &[b"a", b"b"]).is_ok());
+    assert!(rt; audit(rt, Full::new(), sources(rt.alloc())?).is_err());
+    let mut one = Vec::new(rt.alloc());
+    one.push(source(rt.alloc(), b"a")?)?;
+    assert!(rt; audit(rt, Full::new(), one).is_ok());
     Ok(())
 }

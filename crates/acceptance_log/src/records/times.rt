@@ -16,7 +16,7 @@ use std::{io, thread, time};
 
 // A clock that stands still.
 #[derive(Clone, Copy, Debug)]
-struct At(i128);
+pub(crate) struct At(pub(crate) i128);
 
 impl Clock for At {
     ghost now_gives = { λ clock m. Unit {0} };

@@ -2,19 +2,14 @@
 
 use appender_log::LogSink;
 use log::{Level, Log, Logged, info};
-use std::io;
-use std::io::Write;
-use tracing_appender::non_blocking::{Host, Losses, non_blocking};
+use tracing_appender::non_blocking::Host;
+use tracing_appender::rolling::MakeWriter;
 
-pub fn log_read<R: Host, W: Write + Send + Drop + 'static>(rt: R, log: W) -> io::Result<()> {
-    let (lines, guard) = non_blocking(rt, rt.alloc(), log)?;
-    let drops = lines.error_counter()?;
-    let sink = LogSink::new(rt, &lines);
+// Returns whether the record was written whole. `logs` may be an appender, or a sender of a queue.
+pub fn log_read<'a, R: Host, M: MakeWriter<'a>>(rt: R, logs: &'a M) -> bool {
+    let sink = LogSink::new(rt, logs);
     let logger = Logged::new(rt, Level::Info, &sink);
-    // Queues the line `[INFO  db] read rows=3`.
+    // Writes the line `[INFO  db] read rows=3`.
     info!(logger; target: "db", rows = 3; "read");
-    Losses::from(guard.close())
-        .and_records(sink.lost())
-        .and_dropped(drops.dropped_lines())
-        .check()
+    sink.lost() == 0
 }

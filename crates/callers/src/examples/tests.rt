@@ -1,7 +1,7 @@
 // Each example, and what comes of it: the files in `logs`, or what its log was given.
 use super::{
     builder, daily, line_queue, log_sink, make_writer, memory_folder, non_blocking,
-    non_blocking_builder, rolling_file, rolling_file_appender, run_counted, run_lines,
+    non_blocking_builder, rolling_file, rolling_file_appender, run_counted, run_lines, start,
     worker_guard,
 };
 use std::alloc::Global;
@@ -232,8 +232,18 @@ fn a_queue_of_two(rt: HostRuntime) -> Result<(), Fail> {
 
 #[test]
 fn a_sink(rt: HostRuntime) -> Result<(), Fail> {
+    clear(&rt, "sink")?;
+    let log = RollingFileAppender::new(rt, Rotation::NEVER, "logs", "sink")?;
+    assert!(rt; log_sink::log_read(rt, &log));
+    expect_text(&rt, text_of(&rt, "sink"), "[INFO  db] read rows=3\n");
+    Ok(())
+}
+
+#[test]
+fn a_queued_log(rt: HostRuntime) -> Result<(), Fail> {
     let page = Page::new(rt);
-    log_sink::log_read(rt, page.log())?;
+    start::log_read(rt, page.log())?;
     page.expect("[INFO  db] read rows=3\n");
+    assert!(rt; start::log_read(rt, Full).is_err());
     Ok(())
 }
