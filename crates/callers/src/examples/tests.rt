@@ -1,8 +1,7 @@
 // Each example, and what comes of it: the files in `logs`, or what its log was given.
 use super::{
-    builder, daily, line_queue, log_sink, make_writer, memory_folder, non_blocking,
-    non_blocking_builder, rolling_file, rolling_file_appender, run_counted, run_lines, start,
-    worker_guard,
+    builder, daily, line_queue, make_writer, memory_folder, non_blocking, non_blocking_builder,
+    rolling_file, rolling_file_appender, run_counted, run_lines, start, worker_guard,
 };
 use std::alloc::Global;
 use std::io::Write;
@@ -227,15 +226,6 @@ fn a_queue_of_two(rt: HostRuntime) -> Result<(), Fail> {
         dropped: 1,
     };
     assert_eq!(rt; counts, wanted);
-    Ok(())
-}
-
-#[test]
-fn a_sink(rt: HostRuntime) -> Result<(), Fail> {
-    clear(&rt, "sink")?;
-    let log = RollingFileAppender::new(rt, Rotation::NEVER, "logs", "sink")?;
-    assert!(rt; log_sink::log_read(rt, &log));
-    expect_text(&rt, text_of(&rt, "sink"), "[INFO  db] read rows=3\n");
     Ok(())
 }
 
