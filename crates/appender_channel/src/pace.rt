@@ -34,6 +34,11 @@ pub const MOST_BYTES: usize = 512;
 // so that the lines between sender and worker stay in the processor's cache.
 const BEHIND: u64 = 511;
 
+// The same of a worker that is far behind: senders yield more often then, so that the kept buffers are enough for all of them.
+const FAR_BEHIND: u64 = 1024;
+
+const OFTEN: u64 = 15;
+
 /// How long a sender backs off at a full queue. If it looks again soon, it finds room for a line or two,
 /// and it and the worker take the queue from each other's cache for each line. So it backs off longer as
 /// long as that makes its runs of lines longer.
@@ -98,7 +103,11 @@ impl Pace {
     /// Returns the pace of the sender of the line with this ticket.
     #[inline(always)]
     pub fn after(ticket: u64, queue: &LineQueue) -> Pace {
-        if ticket & BEHIND == 0 && queue.counts().queued > BEHIND {
+        if ticket & OFTEN != 0 {
+            return Pace::GoOn;
+        }
+        let queued = queue.counts().queued;
+        if queued > FAR_BEHIND || ticket & BEHIND == 0 && queued > BEHIND {
             Pace::Yield
         } else {
             Pace::GoOn

@@ -33,7 +33,7 @@ pub struct Backoff {
 impl Backoff {
     const LEAST: u32 = 8;
 
-    const MOST: u32 = 128;
+    const MOST: u32 = 256;
 
     /// The initial back-off.
     pub const NEW: Backoff = Backoff {
