@@ -8,6 +8,7 @@ use std::io;
 use std::io::{ErrorKind, Write};
 use std::sync::{Arc, Mutex, Wait};
 use std::test::Fail;
+use std::time::Duration;
 
 type Text = Arc<Mutex<Vec<u8>>, Global>;
 
@@ -72,6 +73,29 @@ fn lines_that_find_no_room_are_told(rt: HostRuntime) -> Result<(), Fail> {
     };
     let error = format!(in rt.alloc(); "{error}")?;
     assert_eq!(rt; error.as_str(), "lines not written whole: 2");
+    Ok(())
+}
+
+// The page has no room for the last record, which is no fault of a flush.
+#[test]
+fn a_flush_waits_for_the_records_before(rt: HostRuntime) -> Result<(), Fail> {
+    let (page, text) = Page::new(rt, 2)?;
+    let log = start(rt, page)?;
+    info!(log.logger(); target: "db", "a");
+    log.flush();
+    assert_eq!(rt; text.lock(&rt).as_slice(), b"[INFO  db] a\n".as_slice());
+    let held = text.lock(&rt);
+    info!(log.logger(); target: "db", "b");
+    let late = log.flush_queued(Duration::from_millis(20));
+    drop(held);
+    assert_eq!(rt;
+        late.err().map(|error| error.kind()),
+        Some(ErrorKind::TimedOut)
+    );
+    info!(log.logger(); target: "db", "c");
+    log.flush_queued(Duration::from_secs(10))?;
+    assert_eq!(rt; text.lock(&rt).len(), 26);
+    assert_eq!(rt; log.close(), Losses::NONE.and_unwritten(1));
     Ok(())
 }
 

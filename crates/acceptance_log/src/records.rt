@@ -12,6 +12,7 @@ use std::sync::atomic::Ordering::SeqCst;
 use std::test::Fail;
 use std::{io, thread};
 
+mod json;
 pub(crate) mod times;
 
 // What writers do next.

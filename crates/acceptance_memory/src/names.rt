@@ -297,7 +297,7 @@ fn errors_without_a_fault(rt: HostRuntime) {
     let text = "out of memory";
     let sorts = (6, None, ErrorKind::OutOfMemory);
     expect_error(&rt, InitError::Memory, sorts, text, text);
-    let text = "byte limit without a rotation";
+    let text = "byte limit without a rotation: take WEEKLY";
     let sorts = (7, None, ErrorKind::InvalidInput);
     expect_error(&rt, InitError::Limit, sorts, text, text);
 }

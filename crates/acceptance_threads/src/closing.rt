@@ -1,11 +1,11 @@
-// How long a guard waits, what it leaves, and what it does to senders that wait.
+// How long a guard waits, what it leaves, and what it does to senders that wait; and flushes that a sender waits for.
 use crate::expect::expect_eq;
 use crate::gate::{Seen, new_gate};
 use crate::stage::{AnySender, Queue};
 use crate::{plain, threads};
 use appender_non_blocking::non_blocking::{Closing, Host, NonBlocking, WorkerGuard};
 use std::alloc::Global;
-use std::io::Write;
+use std::io::{ErrorKind, Write};
 use std::process::Abort;
 use std::sync::Arc;
 use std::test::Fail;
@@ -154,4 +154,102 @@ fn a_guard_that_waits_leaves_no_sender_asleep(rt: HostRuntime) {
 #[test]
 fn a_guard_without_a_place_leaves_no_sender_asleep(rt: HostRuntime) {
     close_often(rt, 0);
+}
+
+// The lines of a queue, and what becomes of a flush that is waited for.
+#[rattlefmt::skip]
+static FLUSHES: [(&[&[u8]], Option<ErrorKind>); 5] = [
+    (&[], None),
+    (&[b"a", b"b"], None),
+    (&[b"a", b"refused"], None),
+    (&[b"a", b"fails"], Some(ErrorKind::StorageFull)),
+    (&[b"held", b"a"], Some(ErrorKind::TimedOut)),
+];
+
+fn flush<R: Host>(rt: R, sender: &NonBlocking<R>, millis: u64) -> Option<ErrorKind> {
+    match sender.flush_queued(Duration::from_millis(millis)) {
+        Ok(()) => None,
+        Err(fault) => Some(fault.kind()),
+    }
+}
+
+// Waits for a flush of these lines while the worker is there, and after its end.
+fn flush_lines<R: Host + Abort>(
+    rt: R,
+    lines: &[&'static [u8]],
+    wanted: Option<ErrorKind>,
+) -> io::Result<()> {
+    let (gate, seen) = new_gate(rt, None)?;
+    let (mut sender, guard) = plain::start(rt, Queue::Waiting(8), gate)?;
+    for line in lines {
+        sender.write_all(line)?;
+    }
+    if wanted == Some(ErrorKind::TimedOut) {
+        expect_eq(&rt, "a held line", flush(rt, &sender, 20), wanted);
+    } else {
+        expect_eq(&rt, "a flush", flush(rt, &sender, 10_000), wanted);
+        expect_eq(&rt, "writes", seen.calls(), lines.len());
+        assert!(rt; seen.last_flushes() > 0);
+    }
+    seen.opens();
+    expect_eq(&rt, "an end", guard.close(), Closing::Done { left: 0 });
+    let later = wanted.filter(|kind| *kind != ErrorKind::TimedOut);
+    expect_eq(&rt, "after the end", flush(rt, &sender, 10_000), later);
+    Ok(())
+}
+
+#[test]
+fn a_flush_comes_after_the_lines_before_it(rt: HostRuntime) -> Result<(), Fail> {
+    for (lines, wanted) in &FLUSHES {
+        flush_lines(rt, *lines, *wanted)?;
+    }
+    Ok(())
+}
+
+fn write_and_flush<R: Host + Abort>(rt: R, sender: NonBlocking<R>) -> Option<ErrorKind> {
+    let mut sender = sender;
+    assert!(rt; sender.write_all(b"a").is_ok());
+    flush(rt, &sender, 10_000)
+}
+
+#[test]
+fn two_senders_wait_for_a_flush(rt: HostRuntime) -> Result<(), Fail> {
+    let (gate, seen) = new_gate(rt, None)?;
+    let (sender, guard) = plain::start(rt, Queue::Waiting(8), gate)?;
+    let other = sender.clone()?;
+    let thread = thread::spawn(&rt, move || write_and_flush(rt, other))?;
+    expect_eq(&rt, "one", write_and_flush(rt, sender), None);
+    expect_eq(&rt, "the other", thread.join(&rt), None);
+    expect_eq(&rt, "an end", guard.close(), Closing::Done { left: 0 });
+    expect_eq(&rt, "lines", seen.count(), 2);
+    Ok(())
+}
+
+// Waits for a flush while another thread keeps the queue full. Returns how many of its lines were written then.
+fn flush_amid<R: Host + Abort>(rt: R, count: usize) -> io::Result<usize> {
+    let (gate, seen) = new_gate(rt, None)?;
+    let (mut sender, guard) = plain::start(rt, Queue::Waiting(8), gate)?;
+    let mut other = sender.clone()?;
+    sender.write_all(b"begin")?;
+    let thread = thread::spawn(&rt, move || {
+        for _ in 0..count {
+            let _ = other.write_all(b"slow").is_ok();
+        }
+    })?;
+    expect_eq(&rt, "lines of the thread", seen.come(rt, 2), true);
+    expect_eq(&rt, "a flush", flush(rt, &sender, 10_000), None);
+    let written = seen.count();
+    thread.join(&rt);
+    let _ = guard.close();
+    Ok(written)
+}
+
+#[test]
+fn a_flush_waits_for_no_later_line(rt: HostRuntime) -> Result<(), Fail> {
+    for _ in 0..10u32 {
+        if flush_amid(rt, 1_000)? < 1_000 {
+            return Ok(());
+        }
+    }
+    rt.panic("each flush waits for the other thread")
 }

@@ -294,6 +294,13 @@ impl<B: Books> State<B> {
         self.queue.counts().dropped
     }
 
+    /// The number of accepted lines, which is the last of their tickets.
+    pub fn accepted(&self) -> u64
+        ensures { result ≡ self.now.queue.accepted }
+    {
+        self.queue.counts().accepted
+    }
+
     /// The number of accepted lines that were not taken before the queue was closed.
     pub fn left(&self) -> u64
         ensures { result ≡ left_of self.now.queue }

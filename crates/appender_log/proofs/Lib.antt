@@ -1,3 +1,5 @@
+mod JsonKept
+mod JsonNewlines
 mod OneLines
 mod TimeLines
 mod TimeTexts

@@ -8,14 +8,13 @@ use Rattle.appender_log.specs.Time.{time_text}
 abbrev pub IsRecordLine : Option (List ℕ) → List ℕ → Type 0
 IsRecordLine known line = (text : List ℕ) × IfSome known (λ t. text ≡ t) × (line ≡ one_line text ++ codes "\n")
 
--- known bytes grow by the whole line
-abbrev pub AppendsLine : Option (List ℕ) → Option (List ℕ) → Option (List ℕ) → Type 0
-AppendsLine known old new = (line : List ℕ) × IsRecordLine known line × Appends old new line
+-- known bytes grow by a whole line that is so
+abbrev pub AppendsLine : (List ℕ → Type 0) → Option (List ℕ) → Option (List ℕ) → Type 0
+AppendsLine Is old new = (line : List ℕ) × Is line × Appends old new line
 
--- known bytes grow by less than the line: its first bytes, or nothing
-abbrev pub AppendsLess : Option (List ℕ) → Option (List ℕ) → Option (List ℕ) → Type 0
-AppendsLess known old new =
-    (line : List ℕ) × IsRecordLine known line × (n : ℕ) × (n < length line) × Appends old new (take n line)
+-- known bytes stay as they were, or grow by the beginning of such a line
+abbrev pub AppendsLess : (List ℕ → Type 0) → Option (List ℕ) → Option (List ℕ) → Type 0
+AppendsLess Is old new = Keeps old new ⊎ ((line : List ℕ) × Is line × (n : ℕ) × (n < length line) × Appends old new (take n line))
 
 -- a line after its time, in nanoseconds since the epoch
 abbrev pub line_at : ℤ → List ℕ → List ℕ
@@ -24,13 +23,6 @@ line_at nanos line = time_text nanos ++ codes " " ++ line
 -- the same with the time before the line
 abbrev pub IsLineAt : ℤ → Option (List ℕ) → List ℕ → Type 0
 IsLineAt nanos known line = (rest : List ℕ) × IsRecordLine known rest × (line ≡ line_at nanos rest)
-
-abbrev pub AppendsLineAt : ℤ → Option (List ℕ) → Option (List ℕ) → Option (List ℕ) → Type 0
-AppendsLineAt nanos known old new = (line : List ℕ) × IsLineAt nanos known line × Appends old new line
-
-abbrev pub AppendsLessAt : ℤ → Option (List ℕ) → Option (List ℕ) → Option (List ℕ) → Type 0
-AppendsLessAt nanos known old new =
-    (line : List ℕ) × IsLineAt nanos known line × (n : ℕ) × (n < length line) × Appends old new (take n line)
 
 -- what ends a line that was cut short: nothing if none was
 abbrev pub ending : Bool → List ℕ

@@ -19,14 +19,12 @@ ghost use Rattle.std.specs.Prelude.{
 ghost use Rattle.std.specs.IoError.{error_kind};
 ghost use Rattle.std.specs.Io.KnownBytes.{Appends, Keeps};
 ghost use Rattle.log.specs.Line.{record_line};
-ghost use Rattle.appender_log.specs.Time.{time_text};
+ghost use Rattle.appender_log.specs.Json.{IsRecordJson};
 ghost use Rattle.appender_log.specs.Written.{
   IsRecordLine,
   IsLineAt,
   AppendsLine,
   AppendsLess,
-  AppendsLineAt,
-  AppendsLessAt,
   line_at,
   room,
   WritesPart,
@@ -36,6 +34,7 @@ ghost use Rattle.appender_log.specs.Written.{
 use appender_runtime::clock::Clock;
 use appender_runtime::make_writer::MakeWriter;
 use appender_worker::worker::{LineFault, run_line};
+use json_line::KeptRecord;
 use log::kv::Source;
 use log::span::Spans;
 use log::{Line, Log, Metadata, Record};
@@ -49,6 +48,7 @@ use std::sync::Wait;
 use std::{fmt, io};
 use times::{after_room, put_time};
 
+mod json_line;
 pub mod laws;
 mod one_line;
 mod queued;
@@ -121,6 +121,15 @@ impl<'a, M, R: Drop, C: Clock> LogSink<'a, M, R, C> {
         }
     }
 
+    /// Returns this sink as one that writes each record as a line of JSON: an object of RFC 8259 with the members `timestamp`, if
+    /// the sink has a clock, `level`, `target`, `message`, `spans` and `fields`, the last two only if there are some. Spans begin
+    /// with the outermost. Integers, finite floats and Booleans are values of their own type, a missing value is `null`, and every
+    /// other value is a string. A key that occurs twice is written twice.
+    pub fn json(mut self) -> LogSink<'a, M, R, C> {
+        self.records.set_json();
+        self
+    }
+
     /// The number of records that were not written whole: there was no writer or no memory, or a write failed or
     /// took nothing. A line that a lossy queue drops later is not among them.
     pub fn lost(&self) -> u64 {
@@ -138,9 +147,9 @@ pub fn write_record<D: Display, K: Source, S: Spans, W: Write>(
     writer: &mut W,
     record: &Record<'_, D, K, S>,
 ) -> io::Result<()>
-    ensures whole { OnOk result (AppendsLine (record_line D.output K.pairs S.scopes «record».now)
+    ensures whole { OnOk result (AppendsLine (IsRecordLine (record_line D.output K.pairs S.scopes «record».now))
         (W.contents writer.old) (W.contents writer.new)) }
-    ensures beginning { OnErr result (AppendsLess (record_line D.output K.pairs S.scopes «record».now)
+    ensures beginning { OnErr result (AppendsLess (IsRecordLine (record_line D.output K.pairs S.scopes «record».now))
         (W.contents writer.old) (W.contents writer.new)) }
     ensures nothing { IfErr result (λ e. error_kind e ≢ ErrorKind.WriteZero
         → Keeps (W.contents writer.old) (W.contents writer.new)) }
@@ -160,9 +169,9 @@ pub fn write_record_at<D: Display, K: Source, S: Spans, W: Write>(
     nanos: i128,
     record: &Record<'_, D, K, S>,
 ) -> io::Result<()>
-    ensures whole { OnOk result (AppendsLineAt nanos (record_line D.output K.pairs S.scopes «record».now)
+    ensures whole { OnOk result (AppendsLine (IsLineAt nanos (record_line D.output K.pairs S.scopes «record».now))
         (W.contents writer.old) (W.contents writer.new)) }
-    ensures beginning { OnErr result (AppendsLessAt nanos (record_line D.output K.pairs S.scopes «record».now)
+    ensures beginning { OnErr result (AppendsLess (IsLineAt nanos (record_line D.output K.pairs S.scopes «record».now))
         (W.contents writer.old) (W.contents writer.new)) }
     ensures nothing { IfErr result (λ e. error_kind e ≢ ErrorKind.WriteZero
         → Keeps (W.contents writer.old) (W.contents writer.new)) }
@@ -172,6 +181,28 @@ pub fn write_record_at<D: Display, K: Source, S: Spans, W: Write>(
     let mut line = after_room(alloc, line.as_slice())?;
     let mut cut = false;
     write_line_at(writer, &mut cut, nanos, line.as_mut_slice())
+}
+
+/// Writes a record as a line of JSON, as `write_record` writes its line, and with the same errors. The line is an object of RFC
+/// 8259 with the members of `LogSink::json`. Its time, if it has one, is in nanoseconds since the epoch.
+pub fn write_json<D: Display, K: Source, S: Spans, W: Write>(
+    alloc: Global,
+    writer: &mut W,
+    nanos: Option<i128>,
+    record: &Record<'_, D, K, S>,
+) -> io::Result<()>
+    ensures whole { OnOk result (AppendsLine (IsRecordJson D.output K.pairs S.scopes nanos «record».now)
+        (W.contents writer.old) (W.contents writer.new)) }
+    ensures beginning { OnErr result (AppendsLess (IsRecordJson D.output K.pairs S.scopes nanos «record».now)
+        (W.contents writer.old) (W.contents writer.new)) }
+    ensures nothing { IfErr result (λ e. error_kind e ≢ ErrorKind.WriteZero
+        → Keeps (W.contents writer.old) (W.contents writer.new)) }
+    ensures interrupted { IfErr result (λ e. error_kind e ≢ ErrorKind.Interrupted) }
+{
+    let kept = KeptRecord::new(alloc, record)?;
+    let line = kept.line(alloc, nanos, record.metadata())?;
+    let mut cut = false;
+    write_line(writer, &mut cut, line.as_slice())
 }
 
 // The line of a record, with its newline.

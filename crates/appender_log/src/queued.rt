@@ -16,6 +16,7 @@ use log::{Level, Log, Logged, Metadata, Record};
 use std::fmt::{Debug, Display, Formatter};
 use std::io::Write;
 use std::marker::Model;
+use std::time::Duration;
 use std::{fmt, io};
 
 /// Starts a log over any writer: threads queue the lines of their records, and a worker thread writes them. While the queue
@@ -69,6 +70,24 @@ pub fn start_with<W: Write + Send + Drop + 'static, R: Host>(
 ///
 /// It is a `Log` that threads can share, and logs every record that it is given, each as one line, as a `LogSink` does. What
 /// was logged before the end is written; a record that is logged meanwhile may be lost, and is counted.
+///
+/// ```
+/// use appender_log::start;
+/// use log::info;
+/// use std::io;
+/// use std::io::Write;
+/// use std::time::Duration;
+/// use tracing_appender::non_blocking::Host;
+///
+/// pub fn log_order<R: Host, W: Write + Send + Drop + 'static>(rt: R, log: W) -> io::Result<()> {
+///     let log = start(rt, log)?.json();
+///     // Queues the line `{"level":"INFO","target":"shop","message":"paid","fields":{"order":7}}`.
+///     info!(log.logger(); target: "shop", order = 7; "paid");
+///     // Waits until it is written.
+///     log.flush_queued(Duration::from_secs(5))?;
+///     log.finish()
+/// }
+/// ```
 #[must_use]
 pub struct QueuedLog<R: GuardHost + Eprint + Copy, C: Clock = NoClock> {
     rt: R,
@@ -111,9 +130,22 @@ impl<R: GuardHost + Eprint + Copy, C: Clock> QueuedLog<R, C> {
         }
     }
 
+    /// Returns this log as one that writes each record as a line of JSON, as `LogSink::json` does.
+    pub fn json(mut self) -> QueuedLog<R, C>
+        ensures { result.lossy ≡ self.lossy }
+    {
+        self.records.set_json();
+        self
+    }
+
     /// Returns a logger of the levels up to `Info`. For another level take `Logged::new(rt, level, &log)`.
     pub fn logger(&self) -> Logged<R, &QueuedLog<R, C>> {
         Logged::new(self.rt, Level::Info, self)
+    }
+
+    /// Waits until the lines of all records before are written and flushed, as `NonBlocking::flush_queued` does.
+    pub fn flush_queued(&self, timeout: Duration) -> io::Result<()> {
+        self.lines.flush_queued(timeout)
     }
 
     /// Ends the worker, as `WorkerGuard::close` does, and returns what was lost.
@@ -168,8 +200,10 @@ impl<R: Host, C: Clock> Log for QueuedLog<R, C> {
         self.records.log(&self.lines, record);
     }
 
-    /// Does nothing: the worker flushes its writer whenever it finds the queue empty.
-    fn flush(&self) {}
+    /// Does what `flush_queued` does, at most for ten seconds. An error is not reported.
+    fn flush(&self) {
+        let _ = self.flush_queued(Duration::from_secs(10));
+    }
 
     fn target(&self) -> &str {
         ""

@@ -1,5 +1,6 @@
 // What writes records, by writers that something makes.
 
+use crate::json_line::KeptRecord;
 use crate::times::after_room;
 use crate::{NoClock, line_of, write_line, write_line_at};
 use appender_runtime::backoff::{Backoff, lock};
@@ -20,6 +21,7 @@ pub(super) struct RecordWriter<R: Drop, C: Clock> {
     rt: R,
     // What the times of records are read from, if they have any.
     clock: Option<C>,
+    is_json: bool,
     // Whether the last record was cut short. A thread that writes a record holds it, since a writer of an
     // appender lets other writers write between two writes of its own.
     cut: Mutex<bool>,
@@ -31,6 +33,7 @@ impl<R: Drop> RecordWriter<R, NoClock> {
         RecordWriter {
             rt,
             clock: None,
+            is_json: false,
             cut: Mutex::new(false),
             lost: AtomicU64::new(0),
         }
@@ -43,9 +46,15 @@ impl<R: Drop, C: Clock> RecordWriter<R, C> {
         RecordWriter {
             rt: self.rt,
             clock: Some(clock),
+            is_json: self.is_json,
             cut: self.cut,
             lost: self.lost,
         }
+    }
+
+    /// From now on lines of JSON are written.
+    pub(super) fn set_json(&mut self) {
+        self.is_json = true;
     }
 
     /// The number of records that were not written whole.
@@ -71,6 +80,9 @@ impl<R: AllocGlobal + Wait + Drop, C: Clock> RecordWriter<R, C> {
         writers: &'a M,
         record: &Record<'_, D, K, S>,
     ) -> io::Result<()> {
+        if self.is_json {
+            return self.write_json(writers, record);
+        }
         let line = line_of(self.rt.alloc(), record)?;
         match &self.clock {
             None => self.write_now(writers, line.as_slice()),
@@ -100,6 +112,23 @@ impl<R: AllocGlobal + Wait + Drop, C: Clock> RecordWriter<R, C> {
             clock.now_nanos(),
             line.as_mut_slice(),
         )
+    }
+
+    // The record is formatted before the lock is taken. Its line begins with the time.
+    fn write_json<'a, M: MakeWriter<'a>, D: Display, K: Source, S: Spans>(
+        &self,
+        writers: &'a M,
+        record: &Record<'_, D, K, S>,
+    ) -> io::Result<()> {
+        let kept = KeptRecord::new(self.rt.alloc(), record)?;
+        let mut writer = writers.make_writer()?;
+        let mut cut = lock(&self.rt, &self.cut, &mut Backoff::NEW);
+        let nanos = match &self.clock {
+            None => None,
+            Some(clock) => Some(clock.now_nanos()),
+        };
+        let line = kept.line(self.rt.alloc(), nanos, record.metadata())?;
+        write_line(&mut writer, &mut cut, line.as_slice())
     }
 }
 

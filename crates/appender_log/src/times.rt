@@ -36,8 +36,8 @@ pub(super) fn put_time(line: &mut [u8], nanos: i128) -> usize
     start
 }
 
-// Returns the text of a time in nanoseconds since the epoch, or `-` if it is outside the years 1 to 9998.
-fn time_text(nanos: i128) -> ArrayString<33>
+/// Returns the text of a time in nanoseconds since the epoch, or `-` if it is outside the years 1 to 9998.
+pub(super) fn time_text(nanos: i128) -> ArrayString<33>
     ensures text { result.bytes ≡ time_text nanos }
     ensures fits { length result.bytes < room }
 {

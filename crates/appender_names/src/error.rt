@@ -30,7 +30,7 @@ pub enum InitError {
     #[error("out of memory")]
     Memory,
     /// A limit of bytes is set under `NEVER`, whose names may have no date for the number to follow.
-    #[error("byte limit without a rotation")]
+    #[error("byte limit without a rotation: take WEEKLY")]
     Limit,
 }
 

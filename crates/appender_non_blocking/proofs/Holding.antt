@@ -12,7 +12,7 @@ use Rattle.appender_worker.specs.CoreReplies.{found_in, answer_of}
 use Rattle.appender_worker.specs.Runs.{WritesOnce, is_waiting}
 use Rattle.appender_non_blocking.specs.Inside.Hand.{OnlyLines, Ahead, TakesAhead}
 use Rattle.appender_non_blocking.specs.Inside.Served.{Serves}
-use Rattle.appender_non_blocking.proofs.Serving.{Serving, may_take_now, serving_starts, serving_took, serving_wrote, serving_flushed, serving_ends}
+use Rattle.appender_non_blocking.proofs.Serving.{Serving, may_take_now, serving_starts, serving_took, serving_wrote, serving_flushed, serving_kept, serving_ends}
 
 -- whether the end was passed on
 abbrev pub is_done : Core → Bool
@@ -168,6 +168,16 @@ module _ {Pass : Type 0} (takes : Pass → List ℕ → Pass → Type 0) (closes
   holding_took passed next known Flushing given_up taken rest is a s = cc
   holding_took passed next known (Ending n) given_up taken rest is a s = cc
   holding_took passed next known Over given_up taken rest is a s = cc
+
+  -- a flush between two takes
+  pub holding_kept : (pass : Pass) (known kept : Option (List ℕ)) (core : Core) (given_up : ℕ) (hand : List Taken) → is_taking core ≡ true → Keeps known kept
+      → Holding pass known core given_up hand → Holding pass kept core given_up hand
+  holding_kept pass known kept core given_up hand is keeps h = record {
+    passed = h.passed;
+    serving = serving_kept takes closes may has_ended first start h.passed known kept core given_up is keeps h.serving;
+    ahead = h.ahead;
+    none = h.none;
+  }
 
   -- a take: the first one in hand, or one from the queue
   pub holding_next : (pass next : Pass) (known : Option (List ℕ)) (core : Core) (given_up : ℕ) (hand rest : List Taken) (taken : Taken) → is_taking core ≡ true

@@ -113,6 +113,15 @@ module _ {Pass : Type 0} (takes : Pass → List ℕ → Pass → Type 0) (closes
         counted = s.counted;
       }
 
+  -- a flush between two takes
+  pub serving_kept : (pass : Pass) (known kept : Option (List ℕ)) (core : Core) (given_up : ℕ) → is_taking core ≡ true → Keeps known kept
+      → Serving pass known core given_up → Serving pass kept core given_up
+  serving_kept pass known kept (Taking waits) given_up is keeps s = moves (Taking waits) (Taking waits) pass pass known kept given_up refl tt keeps s s.at
+  serving_kept pass known kept (Writing rest repeats) given_up is keeps s = cc
+  serving_kept pass known kept Flushing given_up is keeps s = cc
+  serving_kept pass known kept (Ending n) given_up is keeps s = cc
+  serving_kept pass known kept Over given_up is keeps s = cc
+
   -- the last line is done with
   ends : (parts : List Part) (p : Part) (cut : Bool) (pass : Pass) (known : Option (List ℕ)) (given_up : ℕ) → may pass
       → FoldsTo takes first (map line_of (parts ++ p ∷ [])) pass → Appends start known (flat_map written_of (parts ++ p ∷ []))

@@ -8,6 +8,7 @@
 mod account;
 mod builder;
 mod counted;
+mod flushes;
 mod guard;
 mod lines;
 mod losses;

@@ -14,7 +14,7 @@ pub use appender::{FileAppender, RollingFileAppender, daily, hourly, minutely, n
 pub use appender_names::error::{InitError, NameFault};
 use appender_names::names::Names;
 pub use appender_names::rotation::{ParseRotationError, Rotation};
-pub use appender_runtime::clock::{Clock, SystemClock};
+pub use appender_runtime::clock::{Clock, ManualClock, SystemClock};
 pub use appender_runtime::make_writer::MakeWriter;
 use appender_store::store::Folder;
 pub use builder::Builder;

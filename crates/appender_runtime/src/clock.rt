@@ -2,6 +2,8 @@
 ghost use Rattle.std.specs.Prelude.{◌≡◌, ℤ, pos};
 ghost use Rattle.std.specs.Int.{int_div_euclid};
 
+use std::sync::atomic::AtomicI64;
+use std::sync::atomic::Ordering::SeqCst;
 use std::time;
 
 /// A clock.
@@ -34,6 +36,34 @@ impl<C: Clock> Clock for &C {
 
     fn now_nanos(&self) -> i128 {
         (**self).now_nanos()
+    }
+}
+
+/// A clock that shows the moment that it was set to, for tests.
+#[derive(Debug, Drop)]
+pub struct ManualClock {
+    moment: AtomicI64,
+}
+
+impl ManualClock {
+    /// Returns a clock that shows this moment, in seconds of UTC since the epoch.
+    pub fn new(moment: i64) -> ManualClock {
+        ManualClock {
+            moment: AtomicI64::new(moment),
+        }
+    }
+
+    /// Sets the moment. A log that has the clock by reference reads it at its next call.
+    pub fn set(&self, moment: i64) {
+        self.moment.store(moment, SeqCst);
+    }
+}
+
+impl Clock for ManualClock {
+    ghost now_gives = { λ clock m. Unit {0} };
+
+    fn now(&self) -> i64 {
+        self.moment.load(SeqCst)
     }
 }
 

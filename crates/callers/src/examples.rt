@@ -7,6 +7,7 @@ pub mod make_writer;
 pub mod memory_folder;
 pub mod non_blocking;
 pub mod non_blocking_builder;
+pub mod queued_log;
 pub mod rolling_file;
 pub mod rolling_file_appender;
 pub mod run_counted;

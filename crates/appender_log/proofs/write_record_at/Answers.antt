@@ -3,14 +3,14 @@ use Rattle.std.proofs.Common.{◌∙◌, ap, sym, subst, refl, drop, FitsSigned}
 use Rattle.std.specs.Int.{w128}
 use Rattle.std.proofs.lemmas.Int.{to_z-of_z}
 use Rattle.appender_log.specs.Written.{IsRecordLine, IsLineAt, room}
-use Rattle.appender_log.proofs.Unwritten.{on_unwritten_at, line_at_has_bytes, whole, beginning, nothing}
+use Rattle.appender_log.proofs.Unwritten.{on_unwritten, whole, beginning, nothing}
 use Rattle.appender_log.proofs.write_record_at.Goals as goal
 
 pub returns-in_err-line-clause-beginning : goal.returns-in_err-line-clause-beginning
-returns-in_err-line-clause-beginning g c = on_unwritten_at c.from_residual.result c.args.nanos _ _
+returns-in_err-line-clause-beginning g c = on_unwritten _ c.from_residual.result _
 
 pub returns-in_err-line-2-clause-beginning : goal.returns-in_err-line-2-clause-beginning
-returns-in_err-line-2-clause-beginning g c = on_unwritten_at c.from_residual-in_err-line-2.result c.args.nanos _ _
+returns-in_err-line-2-clause-beginning g c = on_unwritten _ c.from_residual-in_err-line-2.result _
 
 pub returns-clause-whole : goal.returns-clause-whole
 returns-clause-whole g c =
@@ -26,7 +26,7 @@ returns-clause-beginning g c =
     let same = ap (drop room) c.as_mut_slice.ensures.value ∙ c.in_ok-line-2.ensures.line ∙ c.as_slice.ensures.value in
     let is_line = subst (IsRecordLine _) (sym same) c.in_ok-line.ensures in
     let wrote = rw (to_z-of_z w128 c.args.nanos fits) at c.write_line_at.ensures.part in
-    beginning (IsLineAt c.args.nanos _) c.write_line_at.result _ _ _ c.write_line_at.new.cut (_, is_line, refl) (line_at_has_bytes c.args.nanos _ _ (_, is_line, refl)) wrote
+    beginning (IsLineAt c.args.nanos _) c.write_line_at.result _ _ _ c.write_line_at.new.cut (_, is_line, refl) wrote
 
 pub returns-clause-nothing : goal.returns-clause-nothing
 returns-clause-nothing g c = nothing c.write_line_at.result _ _ _ c.write_line_at.new.cut c.write_line_at.ensures.part c.write_line_at.ensures.nothing

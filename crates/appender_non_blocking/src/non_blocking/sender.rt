@@ -33,6 +33,7 @@ use std::io::{ErrorKind, Write};
 use std::marker::Model;
 use std::sync::atomic::Ordering::SeqCst;
 use std::sync::{Arc, MutexGuard, Wait};
+use std::time::{Clock, Duration};
 use std::{fmt, io, mem, thread};
 
 /// What became of a line.
@@ -57,9 +58,9 @@ pub(super) struct SenderState {
     full_backoff: FullBackoff,
 }
 
-/// Offers lines to a queue, which a worker empties. Each `write` is one line. `flush` does nothing: the
-/// worker flushes its writer whenever it finds the queue empty. Once all clones and the guard are
-/// dropped, the worker writes the lines that are still in the queue, and ends.
+/// Offers lines to a queue, which a worker empties. Each `write` is one line. `flush` does nothing: the worker flushes its
+/// writer whenever it finds the queue empty. `flush_queued` waits for that. Once all clones and the guard are dropped, the worker
+/// writes the lines that are still in the queue, and ends.
 pub struct NonBlocking<R: Wait + Drop> {
     rt: R,
     alloc: Global,
@@ -157,6 +158,19 @@ impl<R: Wait + Drop> NonBlocking<R> {
             shared: Arc::try_clone(&self.shared_sender.shared)?,
             lossy: self.local.lossy,
         })
+    }
+
+    /// Waits until the worker has written each line that the queue accepted before this call, of all senders, and has flushed its
+    /// writer after that. A line that the writer does not take counts as written, as it does for the worker. The error is of the
+    /// kind `TimedOut` if that takes longer than `timeout`, that of the flush, or `Other` if the worker ended before, which it does
+    /// with lines in the queue after a shutdown.
+    pub fn flush_queued(&self, timeout: Duration) -> io::Result<()>
+    where
+        R: Clock,
+    {
+        let shared = &*self.shared_sender.shared;
+        let (number, ticket) = shared.ask_flush(&self.rt);
+        shared.flushes.wait(&self.rt, number, ticket, timeout)
     }
 
     // Copies a line, and sends the copy. Only the kind of an error is returned: an `io::Error` is large, and

@@ -2,6 +2,7 @@
 ghost use Rattle.std.specs.Prelude.{◌≡◌, ◌≢◌, ◌+◌};
 ghost use Rattle.appender_channel.specs.Tally.{new_tally};
 
+use super::flushes::Flushes;
 use appender_channel::books::{Books, Done, FourBooks};
 use appender_channel::state::{Counted, State, Wakeups};
 use appender_queue::queue::{Counts, Shut};
@@ -31,6 +32,7 @@ pub(super) struct Shared<B: Books> {
     pub(super) alone: bool,
     // Of clones, each of which mostly sends one line.
     clones: SharedBackoff,
+    pub(super) flushes: Flushes,
 }
 
 impl<B: Books> Shared<B> {
@@ -55,6 +57,7 @@ impl<B: Books> Shared<B> {
             dropped: AtomicUsize::new(0),
             alone,
             clones: SharedBackoff::new(alone),
+            flushes: Flushes::new(),
         };
         Ok(Arc::new(alloc, shared)?)
     }
@@ -115,6 +118,17 @@ impl<B: Books> Shared<B> {
         drop(state);
         self.wake(wakeups);
         reply
+    }
+
+    /// Asks the worker for a flush after all lines that are accepted by now. Returns its number, and the last of their tickets.
+    pub(super) fn ask_flush<R: Wait>(&self, rt: &R) -> (u64, u64) {
+        let state = self.lock(rt, &mut Backoff::NEW);
+        let ticket = state.accepted();
+        // Under the lock, so that a worker that has seen none to make sleeps before it is woken.
+        let number = self.flushes.ask(rt, ticket);
+        drop(state);
+        self.notify(true, false);
+        (number, ticket)
     }
 
     /// Wakes the guard, since the worker has ended.

@@ -7,6 +7,7 @@ ghost use Rattle.appender_queue.specs.Queue.{saturating_next};
 ghost use Rattle.appender_worker.specs.Core.{after_flushed, is_flushing, is_writing};
 ghost use Rattle.appender_worker.specs.Runs.{WritesOnce, is_waiting};
 
+use super::flushes::{Flushes, Progress};
 use super::shared::Shared;
 use appender_channel::books::Books;
 use appender_channel::pace::{EMPTY_TURNS, LOOKS};
@@ -17,7 +18,7 @@ use appender_worker::worker::{LineSink, Want, WorkerCore};
 use circular_buffer::HeapCircularBuffer;
 use std::alloc::{AllocError, Global};
 use std::io;
-use std::io::Write;
+use std::io::{ErrorKind, Write};
 use std::sync::Wait;
 
 // How many lines a worker takes in one hold of the lock, and of how many places of the queue it takes one then. So a queue of
@@ -32,6 +33,7 @@ pub(super) struct Hand {
     // Lines, and last maybe the end.
     taken: HeapCircularBuffer<Taken>,
     spent: Vec<Vec<u8>>,
+    progress: Progress,
 }
 
 impl Hand {
@@ -43,6 +45,7 @@ impl Hand {
         Ok(Hand {
             taken: HeapCircularBuffer::with_capacity(alloc, lines - 1)?,
             spent: Vec::with_capacity(alloc, lines)?,
+            progress: Progress::NONE,
         })
     }
 
@@ -90,7 +93,11 @@ fn take<B: Books, R: Wait>(
     if sleeps && matches!(&taken, Taken::Empty) {
         // With a limit of 0 there is room only now.
         shared.wake(wakeups);
-        let mut state = shared.lines.wait(rt, state);
+        let mut state = if shared.flushes.are_asked(hand.progress) {
+            state
+        } else {
+            shared.lines.wait(rt, state)
+        };
         state.set_awake();
     } else {
         drop(state);
@@ -146,20 +153,55 @@ fn take_more<B: Books>(
     Wakeups { worker, sender }
 }
 
-// Flushes the writer. A fault of the last flush is reported on standard error, since no line follows it.
-fn flush<W: Write, R: Eprint>(rt: &R, core: &mut WorkerCore, writer: &mut W)
+// Flushes the writer, and notes the fault. One of the last flush is reported on standard error, since no line follows it.
+fn flush<W: Write, R: Eprint>(
+    rt: &R,
+    core: &mut WorkerCore,
+    writer: &mut W,
+    noted: &mut Option<ErrorKind>,
+)
     requires { is_flushing core.old ≡ true }
     ensures core { core.new ≡ after_flushed core.old }
     ensures bytes { Keeps (W.contents writer.old) (W.contents writer.new) }
 {
+    *noted = None;
     match writer.flush() {
         Ok(()) => core.flushed(Ok(())),
         Err(fault) => {
+            *noted = Some(fault.kind());
             core.flushed(Err(io::Error::from(fault.kind())));
             if let Want::Ended = core.want() {
                 let _ = rt.eprintln(format_args!("Failed to flush. Error: {fault}"));
             }
         }
+    }
+}
+
+// Flushes the writer if a sender asked for it.
+#[inline(always)]
+fn flush_asked<B: Books, W: Write, R: Wait>(
+    rt: &R,
+    shared: &Shared<B>,
+    progress: &mut Progress,
+    writer: &mut W,
+)
+    ensures { Keeps (W.contents writer.old) (W.contents writer.new) }
+{
+    if shared.flushes.are_asked(*progress) {
+        flush_for(rt, &shared.flushes, progress, writer);
+    }
+}
+
+// Flushes the writer for who asked for it, if the lines before that are written.
+#[cold]
+#[inline(never)]
+fn flush_for<W: Write, R: Wait>(rt: &R, flushes: &Flushes, progress: &mut Progress, writer: &mut W)
+    ensures { Keeps (W.contents writer.old) (W.contents writer.new) }
+{
+    if let Some(asked) = flushes.due(rt, *progress) {
+        progress.fault = writer.flush().err().map(|fault| fault.kind());
+        progress.flushes = asked;
+        flushes.announce(rt, *progress, false);
     }
 }
 
@@ -202,6 +244,7 @@ pub(super) fn serve<B: Books, W: Write, R: Wait + Eprint>(
     for _ in rt.forever() {
         match core.want() {
             Want::Take { waits } => {
+                flush_asked(rt, shared, &mut hand.progress, writer);
                 let request = TakeRequest {
                     waits,
                     sleeps: waits && looks >= LOOKS,
@@ -215,13 +258,15 @@ pub(super) fn serve<B: Books, W: Write, R: Wait + Eprint>(
                     yield_for(turns, shared.alone);
                     looks += 1;
                 }
+                hand.progress.passes(&taken);
                 core.took(taken);
             }
             Want::Write(_) => write(&mut core, writer, &mut given_up),
-            Want::Flush => flush(rt, &mut core, writer),
+            Want::Flush => flush(rt, &mut core, writer, &mut hand.progress.fault),
             Want::Ended => break,
         }
     }
+    shared.flushes.announce(rt, hand.progress, true);
     shared.announce_end(rt);
     (B::done(pass), given_up)
 }

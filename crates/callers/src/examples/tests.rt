@@ -1,7 +1,7 @@
 // Each example, and what comes of it: the files in `logs`, or what its log was given.
 use super::{
     builder, daily, line_queue, make_writer, memory_folder, non_blocking, non_blocking_builder,
-    rolling_file, rolling_file_appender, run_counted, run_lines, start, worker_guard,
+    queued_log, rolling_file, rolling_file_appender, run_counted, run_lines, start, worker_guard,
 };
 use std::alloc::Global;
 use std::io::Write;
@@ -112,14 +112,14 @@ fn an_appender(rt: HostRuntime) -> Result<(), Fail> {
 
 #[test]
 fn a_builder(rt: HostRuntime) -> Result<(), Fail> {
-    clear(&rt, "db.")?;
-    for day in 10..20 {
-        let path = format!(in rt.alloc(); "logs/db.2020-02-{day}.log")?;
+    clear(&rt, "tool.")?;
+    for number in 0..5 {
+        let path = format!(in rt.alloc(); "logs/tool.2020-02-09.00000{number}.log")?;
         fs::write(&rt, path, b"old\n")?;
     }
     let mut log = builder::open_log(rt)?;
     log.write_all(b"new\n")?;
-    assert_eq!(rt; names_of(&rt, "db.")?.len(), 7);
+    assert_eq!(rt; names_of(&rt, "tool.")?.len(), 3);
     Ok(())
 }
 
@@ -235,5 +235,15 @@ fn a_queued_log(rt: HostRuntime) -> Result<(), Fail> {
     start::log_read(rt, page.log())?;
     page.expect("[INFO  db] read rows=3\n");
     assert!(rt; start::log_read(rt, Full).is_err());
+    Ok(())
+}
+
+#[test]
+fn a_log_of_json(rt: HostRuntime) -> Result<(), Fail> {
+    let page = Page::new(rt);
+    queued_log::log_order(rt, page.log())?;
+    page.expect(
+        "{\"level\":\"INFO\",\"target\":\"shop\",\"message\":\"paid\",\"fields\":{\"order\":7}}\n",
+    );
     Ok(())
 }
