@@ -9,8 +9,6 @@ use crate::runs::{
 };
 use std::io::ErrorKind;
 use std::process::Abort;
-use tracing_appender::store::Folder;
-use tracing_appender::waiting::Faults;
 
 // An hourly log of two files with a link.
 const LINKED_TWO: Settings = Settings { max: 2, ..LINKED };
@@ -228,21 +226,4 @@ fn no_counted_byte_is_lost_whichever_call_fails(rt: HostRuntime) {
         }
     }
     rt.panic("more calls than there can be");
-}
-
-// Appends to a file while the disk has no room at the first attempt, and checks that this is no failure.
-fn append_late<S: Folder>(rt: &impl Abort, disk: &Disk, mut folder: S) {
-    let mut file = folder.open(LOG).expect(rt, "a file");
-    disk.fault.set(DiskFault::Kind(ErrorKind::StorageFull));
-    disk.event
-        .set((disk.calls().saturating_add(1), Event::Fails));
-    let taken = folder.append(&mut file, b"one").ok();
-    expect_eq_of(rt, LOG, (taken, folder.failures()), (Some(3), 0));
-}
-
-#[test]
-fn an_append_to_a_full_disk_waits(rt: HostRuntime) {
-    let disk = Disk::new(rt.alloc());
-    let folder = folder_of(&rt, &disk).waiting(rt, Faults::Temporary);
-    append_late(&rt, &disk, folder);
 }

@@ -76,7 +76,7 @@ fn lines_that_find_no_room_are_told(rt: HostRuntime) -> Result<(), Fail> {
     Ok(())
 }
 
-// The page has no room for the last record, which is no fault of a flush.
+// The page has no room for the last record.
 #[test]
 fn a_flush_waits_for_the_records_before(rt: HostRuntime) -> Result<(), Fail> {
     let (page, text) = Page::new(rt, 2)?;
@@ -88,15 +88,18 @@ fn a_flush_waits_for_the_records_before(rt: HostRuntime) -> Result<(), Fail> {
     info!(log.logger(); target: "db", "b");
     let late = log.flush_queued(Duration::from_millis(20));
     drop(held);
-    assert_eq!(rt;
-        late.err().map(|error| error.kind()),
-        Some(ErrorKind::TimedOut)
-    );
+    assert_eq!(rt; kind_of(late), Some(ErrorKind::TimedOut));
     info!(log.logger(); target: "db", "c");
+    let lost = log.flush_queued(Duration::from_secs(10));
+    assert_eq!(rt; kind_of(lost), Some(ErrorKind::StorageFull));
     log.flush_queued(Duration::from_secs(10))?;
     assert_eq!(rt; text.lock(&rt).len(), 26);
     assert_eq!(rt; log.close(), Losses::NONE.and_unwritten(1));
     Ok(())
+}
+
+fn kind_of(flushed: io::Result<()>) -> Option<ErrorKind> {
+    flushed.err().map(|error| error.kind())
 }
 
 // One line waits in the queue, and one is in the worker's hand.

@@ -2,7 +2,7 @@
 use crate::expect::{AllocAndAbort, bytes, expect_eq, expect_eq_of};
 use crate::writer::Act::{Accept, Fail};
 use crate::writer::{Act, FaultyWriter};
-use appender_core::worker::{BatchWriter, CountingWriter, LineCounts, run_line};
+use appender_core::worker::{BatchWriter, LineCounts, run_line};
 use std::io;
 use std::io::ErrorKind::{Interrupted, Other, QuotaExceeded, StorageFull, WriteZero};
 use std::io::{ErrorKind, Write};
@@ -161,13 +161,16 @@ type Written = (Vec<u8>, (u64, u64));
 fn write_alone(rt: &impl AllocAndAbort, place: usize) -> Written {
     let mut writer = FaultyWriter::new(rt.alloc(), &[]);
     writer.room = Some(place);
-    let made = CountingWriter::new(rt.alloc(), &mut writer);
-    let (mut counting, counts) = made.expect(rt, "memory");
-    let _ = write_each(&mut counting, &LINES);
-    let _ = counting.flush().is_ok();
-    drop(counting);
+    let (mut taken, mut lost) = (0u64, 0u64);
+    for line in &LINES {
+        let count = match run_line(&mut writer, line.as_bytes()) {
+            Ok(()) => &mut taken,
+            Err(_) => &mut lost,
+        };
+        *count = count.saturating_add(1);
+    }
     let FaultyWriter { text, .. } = writer;
-    (text, counts_of(&counts))
+    (text, (taken, lost))
 }
 
 fn write_together(rt: &impl AllocAndAbort, place: usize, capacity: usize) -> Written {

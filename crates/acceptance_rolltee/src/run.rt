@@ -18,8 +18,8 @@ pub(crate) fn words_of(alloc: Global, line: &str) -> Result<Vec<String>, AllocEr
     Ok(words)
 }
 
-// Returns what a command line asks for.
-fn request_of<R: AllocGlobal + Abort>(rt: &R, line: &str) -> (Options, Vec<String>) {
+/// Returns what a command line asks for.
+pub(crate) fn request_of<R: AllocGlobal + Abort>(rt: &R, line: &str) -> (Options, Vec<String>) {
     let words = words_of(rt.alloc(), line).expect(rt, "memory");
     match read(rt.alloc(), words.as_slice()) {
         Ok(Request::Run(options, arguments)) => (options, arguments),

@@ -2,7 +2,7 @@
 use crate::expect::expect_eq;
 use crate::inputs::add_lines;
 use crate::logs::{OneLog, Text};
-use crate::run::check;
+use crate::run::{check, request_of};
 use program_io::options::Options;
 use rolltee_core::check::{DirCheck, FileCheck};
 use rolltee_core::feed::{Feed, FeedSink};
@@ -103,8 +103,7 @@ fn the_log_continues_without_an_output(rt: HostRuntime) -> Result<(), Fail> {
 // A line that is not queued is not echoed.
 #[test]
 fn a_line_is_queued_before_it_is_echoed(rt: HostRuntime) {
-    let mut options = Options::new(rt.alloc());
-    options.echo = true;
+    let (options, _) = request_of(&rt, "--echo");
     let (queue, output) = (Closing { writes: 0 }, Closing { writes: 0 });
     let mut feed = Feed::new(rt, queue, &options, output);
     expect_eq(&rt, feed.write(b"a\n").is_err(), true);

@@ -1,10 +1,10 @@
-// Lines that a counting writer counts, by itself and in a worker's thread.
+// Lines that are counted by a writer where none waits, by itself and in a worker's thread.
 use crate::expect::expect_eq;
 use crate::gate::{Gate, new_gate};
 use crate::plain;
 use crate::stage::Queue;
 use appender_non_blocking::non_blocking::{Closing, Host};
-use appender_worker::worker::{CountingWriter, LineCounts};
+use appender_worker::worker::{BatchWriter, LineCounts};
 use std::alloc::AllocError;
 use std::io;
 use std::io::{ErrorKind, Write};
@@ -29,10 +29,11 @@ fn expect_counts<R: Host + Abort>(rt: R, line: &str, counts: &LineCounts, taken:
     expect_eq(&rt, line, counts.lost(), lost);
 }
 
-// Writes a line by a counting writer of its own. Returns the result.
+// Writes a line by a writer of its own, and flushes that. Returns the result.
 fn write<R: Host + Abort>(rt: R, line: &str, gate: Gate<R>, is_ok: bool) -> io::Result<usize> {
-    let (mut writer, counts) = CountingWriter::new(rt.alloc(), gate)?;
+    let (mut writer, counts) = BatchWriter::new(rt.alloc(), gate, 0)?;
     let result = writer.write(line.as_bytes());
+    expect_eq(&rt, line, writer.flush().is_ok(), is_ok);
     expect_counts(rt, line, &counts, u64::from(is_ok), u64::from(!is_ok));
     result
 }
@@ -49,23 +50,11 @@ fn each_line_is_taken_or_lost(rt: HostRuntime) -> Result<(), AllocError> {
     Ok(())
 }
 
-#[test]
-fn a_flush_counts_nothing(rt: HostRuntime) -> io::Result<()> {
-    let (gate, seen) = new_gate(rt, None)?;
-    let (mut writer, counts) = CountingWriter::new(rt.alloc(), gate)?;
-    writer.write_all(b"f")?;
-    let flushed = writer.flush().map_err(|fault| fault.kind());
-    expect_eq(&rt, "a flush", flushed, Err(ErrorKind::StorageFull));
-    expect_eq(&rt, "a flush", seen.last_flushes(), 1);
-    expect_counts(rt, "a flush", &counts, 1, 0);
-    Ok(())
-}
-
 // A worker writes no empty line, so it is not counted.
 #[test]
 fn lines_of_a_worker_are_taken_or_lost(rt: HostRuntime) -> io::Result<()> {
     let (gate, seen) = new_gate(rt, None)?;
-    let (writer, counts) = CountingWriter::new(rt.alloc(), gate)?;
+    let (writer, counts) = BatchWriter::new(rt.alloc(), gate, 0)?;
     let (mut sender, guard) = plain::start(rt, Queue::Waiting(16), writer)?;
     for (line, _, _, _) in &ROWS {
         sender.write_all(line.as_bytes())?;

@@ -23,7 +23,7 @@ pub use Rattle.appender_store.specs.MemoryView
 pub use Rattle.appender_worker.specs.Core
 pub use Rattle.appender_worker.specs.CoreReplies
 pub use Rattle.appender_worker.specs.Runs
-pub use Rattle.appender_worker.specs.Counting
 pub use Rattle.appender_worker.specs.Parts
 pub use Rattle.appender_worker.specs.Tries
 pub use Rattle.appender_worker.specs.Batch
+pub use Rattle.appender_worker.specs.Served

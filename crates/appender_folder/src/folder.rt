@@ -6,8 +6,6 @@ mod entries;
 mod files;
 mod links;
 
-use appender_runtime::policy::{NoRetry, Retries, RetryPolicy};
-use appender_runtime::waiting::Faults;
 use appender_store::store::{Folder, Listed, Notice, NoticeCounts, NoticeKind};
 use entries::list_entries;
 use files::{is_named, open_plain, remove_plain};
@@ -32,7 +30,7 @@ const MODE: u32 = 0o666;
 /// a link that is absent). Every call rejects a name that is not a single path component with
 /// `InvalidInput`, so that no call leaves the folder. Notices are lines on standard error, after the title if one is set.
 #[derive(Drop)]
-pub struct DirFolder<R = HostRuntime, P = NoRetry> {
+pub struct DirFolder<R = HostRuntime> {
     rt: R,
     // Ends with a slash.
     path: String,
@@ -42,8 +40,6 @@ pub struct DirFolder<R = HostRuntime, P = NoRetry> {
     mode: u32,
     // What each notice begins with.
     title: String,
-    // How an append is made.
-    policy: P,
     // Whether the last opening that succeeded made its file.
     made_file: bool,
     // Why the last link that was to be made was not.
@@ -52,7 +48,7 @@ pub struct DirFolder<R = HostRuntime, P = NoRetry> {
     noted: NoticeCounts,
 }
 
-impl<R, P> Model for DirFolder<R, P> {
+impl<R> Model for DirFolder<R> {
     ghost use Rattle.appender_folder.specs.Calls.{DirFolderState};
 
     ghost Value = { DirFolderState };
@@ -86,7 +82,6 @@ impl<R: FilesHost> DirFolder<R> {
             syncs: false,
             mode: MODE,
             title,
-            policy: NoRetry,
             made_file: false,
             link_fault: None,
             failures: 0,
@@ -94,49 +89,10 @@ impl<R: FilesHost> DirFolder<R> {
         })
     }
 
-    /// Makes each append wait while the disk has one of these faults, by the clock of `waiter`, which prints that on
-    /// standard error. `failures` counts the faults that were returned.
-    #[must_use]
-    pub fn waiting<T>(self, waiter: T, faults: Faults) -> DirFolder<R, Retries<T>>
-        ensures failures { result.failures ≡ self.failures }
-        ensures notices { result.noted ≡ self.noted }
-    {
-        let DirFolder {
-            rt,
-            path,
-            syncs,
-            mode,
-            title,
-            policy: _,
-            made_file,
-            link_fault,
-            failures,
-            noted,
-        } = self;
-        DirFolder {
-            rt,
-            path,
-            syncs,
-            mode,
-            title,
-            policy: Retries::new(waiter, faults),
-            made_file,
-            link_fault,
-            failures,
-            noted,
-        }
-    }
-}
-
-impl<R: FilesHost, P: RetryPolicy> DirFolder<R, P> {
-    ghost use Rattle.std.specs.Prelude.{◌≡◌, ◌%◌, ◌^◌, IfOk};
-    ghost use Rattle.appender_store.specs.MemoryState.{notice_count};
-    ghost use Rattle.appender_store.specs.NoticeCounts.{notice_counts_of};
-
     /// Makes each flush of a file also sync its data to the disk (`fdatasync`), so that what was written before
     /// survives a loss of power.
     #[must_use]
-    pub fn synced(mut self) -> DirFolder<R, P>
+    pub fn synced(mut self) -> DirFolder<R>
         ensures { result ≡ self }
     {
         self.syncs = true;
@@ -146,7 +102,7 @@ impl<R: FilesHost, P: RetryPolicy> DirFolder<R, P> {
     /// Sets the permission bits of files that are made from then on, such as `0o640`, instead of `0o666`. The system
     /// clears those of the process's umask. A file that is there keeps its own.
     #[must_use]
-    pub fn mode(mut self, mode: u32) -> DirFolder<R, P>
+    pub fn mode(mut self, mode: u32) -> DirFolder<R>
         ensures { result ≡ self }
     {
         self.mode = mode;
@@ -155,7 +111,7 @@ impl<R: FilesHost, P: RetryPolicy> DirFolder<R, P> {
 
     /// Begins each notice with a text, such as the name of a program. If memory is refused, the folder is dropped.
     #[must_use]
-    pub fn titled(mut self, title: &str) -> Result<DirFolder<R, P>, AllocError>
+    pub fn titled(mut self, title: &str) -> Result<DirFolder<R>, AllocError>
         ensures { IfOk result (λ folder. folder ≡ self) }
     {
         self.title = String::from_str(self.rt.alloc(), title)?;
@@ -220,7 +176,7 @@ fn flush_file<F: Write + OpenFile>(file: &mut F, syncs: bool) -> io::Result<()>
     if syncs { file.sync_data() } else { Ok(()) }
 }
 
-impl<R: FilesHost, P: RetryPolicy> Folder for DirFolder<R, P> {
+impl<R: FilesHost> Folder for DirFolder<R> {
     ghost use Rattle.std.specs.Prelude.{◌≡◌, ◌%◌, ◌^◌, false};
     ghost use Rattle.std.specs.Io.KnownBytes.{Keeps, WriteAppends};
     ghost use Rattle.appender_store.specs.Folder.{after_note, notice_kind_of};
@@ -323,7 +279,7 @@ impl<R: FilesHost, P: RetryPolicy> Folder for DirFolder<R, P> {
     }
 
     fn append(&mut self, file: &mut R::File, bytes: &[u8]) -> io::Result<usize> {
-        let answer = self.policy.write(file, bytes);
+        let answer = file.write(bytes);
         self.count_failure(answer)
     }
 

@@ -9,7 +9,7 @@ use appender_non_blocking::non_blocking::{
     ErrorCounter, GuardHost, Host, Losses, NonBlocking, NonBlockingBuilder, WorkerGuard,
 };
 use appender_runtime::clock::Clock;
-use appender_worker::worker::{CountingWriter, LineCounts};
+use appender_worker::worker::{BatchWriter, LineCounts};
 use log::kv::Source;
 use log::span::Spans;
 use log::{Level, Log, Logged, Metadata, Record};
@@ -52,7 +52,7 @@ pub fn start_with<W: Write + Send + Drop + 'static, R: Host>(
 ) -> io::Result<QueuedLog<R>>
     ensures { IfOk result (λ log. log.lossy ≡ queue.lossy) }
 {
-    let (log, counts) = CountingWriter::new(rt.alloc(), log)?;
+    let (log, counts) = BatchWriter::new(rt.alloc(), log, 0)?;
     let (lines, guard) = queue.finish(rt, rt.alloc(), log)?;
     let drops = lines.error_counter()?;
     Ok(QueuedLog {

@@ -24,7 +24,7 @@ use Rattle.appender_replay.specs.Inside.Steps.{Parts, parts, OffersCopy, WorkDoe
 use Rattle.appender_replay.specs.declared.replay.whole.Step.TheVariants.{Offer, Shut, AddSender, DropSender, Work}
 use Rattle.appender_replay.specs.declared.replay.whole.Reply.{Reply}
 use Rattle.appender_replay.specs.declared.replay.whole.Reply.TheVariants.{Accepted, Full, Closed, Shut as DidShut, Senders, Took, TookShutdown, TookGone, TookEmpty, Wrote, Flushed}
-use Rattle.appender_replay.proofs.Turns.{count_by_kind}
+use Rattle.appender_replay.proofs.Runs.{count_by_kind}
 
 -- what the worker does next, by the fields of an account
 abbrev pub CoreIs : Core → List ℕ → ℕ → Bool → ℕ → Bool → Type 0

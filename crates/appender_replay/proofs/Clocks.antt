@@ -1,116 +1,53 @@
--- The boundary that a roller keeps follows the latest moment.
-use Rattle.std.proofs.Common.{◌≡◌, ◌≤◌, ◌⊎◌, inl, inr, length-append, ℕ, suc, ◌+◌, ◌-◌, ◌<◌, ◌==◌, nat_lt, nat_le, arith, length, ◌++◌, if◌then◌else◌, ℤ, Bool, true, false, not, ◌&&◌, cond, List, [], ◌∷◌, filter, Option, None, Some, is_some, refl, ap, sym, ◌∙◌, subst}
+-- The schedule of a roller follows the account of its files.
+use Rattle.std.proofs.Common.{◌≡◌, inl, inr, length-append, ℕ, ◌+◌, ◌-◌, ◌<◌, ◌==◌, nat_lt, arith, length, ◌++◌, take, ℤ, Bool, true, false, not, ◌&&◌, cond, List, [], ◌∷◌, filter, Option, None, Some, Result, refl, ap, sym, ◌∙◌, subst}
+use Rattle.std.specs.Prelude.{if◌then◌else◌, ◌↔◌, unwrap_or}
 use Rattle.std.specs.Int.{int_max}
-use Rattle.std.specs.List.{filter_map}
+use Rattle.std.specs.declared.io.Error.{Error}
+use Rattle.std.specs.declared.io.ErrorKind.{ErrorKind}
+use Rattle.std.proofs.Math.Seq.{length-take-le}
+use Rattle.std.proofs.lemmas.Bool.Decides.{nat_tests}
+use Rattle.appender_names.specs.Name.{greatest_number}
 use Rattle.appender_names.specs.declared.rotation.Rotation.{Rotation}
 use Rattle.appender_names.specs.Rotation.{IsMoment, is_moment, period_of, next_of, is_same_start}
+use Rattle.appender_names.proofs.Periods.{is_same_is}
 use Rattle.appender_store.specs.declared.store.Folder.{Ghosts}
 use Rattle.appender_rolling.specs.Config.{Config, IsStamp, stamp, is_limited, last_of}
 use Rattle.appender_rolling.specs.declared.rolling.setup.Stamp.{Stamp}
-use Rattle.appender_rolling.specs.Roller.{Rolling, is_due, is_full as roller_is_full, schedule_of, ChecksClock, next_stamp, room_needed}
-use Rattle.std.specs.Prelude.{unwrap_or}
-use Rattle.appender_names.specs.Name.{greatest_number}
-use Rattle.std.proofs.lemmas.Bool.Decides.{nat_tests}
-use Rattle.appender_replay.specs.Start.{Start, start_stamp}
-use Rattle.appender_replay.specs.Run.{Event, latest_moment, greatest, period_at, arrives, is_switch, is_full_step, stamp_at, attempt_times, last_stamp, last_step, with_time, is_opened, count_since, held_at, pieces_since, SwitchesAtAttempts}
+use Rattle.appender_rolling.specs.Roller.{Rolling, is_due, is_full as roller_is_full, schedule_of, ChecksClock, Writes, KeepsOpenFile, next_stamp, room_needed, written_count}
 use Rattle.appender_rolling.specs.declared.rolling.Switch.{Switch}
 use Rattle.appender_rolling.specs.declared.rolling.Switch.TheVariants.{None as Stayed, Opened as Switched, Failed as SwitchFailed}
-use Rattle.appender_names.proofs.Periods.{is_same_is}
-use Rattle.appender_replay.proofs.Periods.{Laws, IsLater, moves, later_differs}
-use Rattle.appender_replay.proofs.Turns.{LooksBy, Turns}
+use Rattle.appender_replay.specs.Start.{Start}
+use Rattle.appender_replay.specs.Run.{file_key, greatest}
+use Rattle.appender_replay.specs.Headline.{Files, counted, bytes_taken, due_file, later_moment, open_stamp, files_at_opening, files_after_try, files_after_check, files_after_write}
+use Rattle.appender_replay.proofs.Periods.{Laws, IsLater, IsLaterKey, moves, later_differs, same_key_is_same, later_key_differs}
 
--- whether a check of the clock is due
-abbrev pub due_by : Option ℤ → Option ℤ → Bool
-due_by boundary None = false
-due_by boundary (Some m) = is_due boundary m
+-- ---- the latest moment
 
-abbrev pub boundary_by : Rotation → Option ℤ → Option ℤ → Option ℤ
-boundary_by r boundary None = boundary
-boundary_by r boundary (Some m) = cond (is_due boundary m) (next_of r m) boundary
-
--- ---- how a step decides
-
--- the stamp for which a roller makes an attempt at a look, or at none
-abbrev pub stamp_by : {S F : Type 0} → Rolling S F → Option ℤ → ℕ → Option Stamp
-stamp_by r None len = None
-stamp_by r (Some m) len = next_stamp r m len
-
-abbrev pub boundary_at : Rotation → Option Stamp → Option ℤ → Option ℤ
-boundary_at r None boundary = boundary
-boundary_at r (Some s) boundary = next_of r s.moment
-
-abbrev pub room_at : ℕ → Option Stamp → ℕ → ℕ
-room_at max None room = room
-room_at max (Some s) room = max
-
-pub record DecidesBy {S F : Type 0} (s : Option Stamp) (switch : Switch) (piece : List ℕ) (old new : Rolling S F) : Type 0 where
-  pub switches : is_switch switch ≡ is_some s
-  pub last : new.last ≡ unwrap_or s old.last
-  pub boundary : new.boundary ≡ boundary_at old.config.rotation s old.boundary
-  pub room : new.room ≡ room_at old.config.max_bytes s old.room - length piece
-
-abbrev pub Decides : {S F : Type 0} → Event → Rolling S F → Rolling S F → Type 0
-Decides e old new = DecidesBy (stamp_by old e.read e.offered) e.switch e.piece old new
-
--- before the piece
-looks_decide : {S F : Type 0} (kind : Ghosts S F) (read : Option ℤ) (len : ℕ) (switch : Switch) (old new : Rolling S F) → LooksBy kind read len switch old new → DecidesBy (stamp_by old read len) switch [] old new
-looks_decide kind None len switch old new (stayed, is) = record { switches = ap is_switch stayed; last = ap (λ r. r.last) is; boundary = ap (λ r. r.boundary) is; room = omega (arith, ap (λ r. r.room) is) }
-looks_decide kind (Some m) len Stayed old new s = record { switches = rw s.0 refl; last = rw (s.0, s.1) refl; boundary = rw (s.0, s.1) refl; room = rw (s.0, s.1) (omega arith) }
-looks_decide kind (Some m) len Switched old new s = record { switches = rw s.cause refl; last = rw s.cause s.last; boundary = rw s.cause s.boundary; room = rw s.cause (omega (arith, s.room)) }
-looks_decide kind (Some m) len SwitchFailed old new s = record { switches = rw s.cause refl; last = rw s.cause s.last; boundary = rw s.cause s.boundary; room = rw s.cause (omega (arith, s.room)) }
-
-pub turn_decides : {S F : Type 0} (kind : Ghosts S F) (e : Event) (old new : Rolling S F) → Turns kind e old new → Decides e old new
-turn_decides kind e old new t =
-    let d = looks_decide kind e.read e.offered e.switch old t.between t.looks in
-    record {
-      switches = d.switches;
-      last = t.stays.last ∙ d.last;
-      boundary = t.stays.boundary ∙ d.boundary;
-      room = omega (arith, t.room, d.room);
-    }
-
--- What a check of the clock, or none, does to the latest moment l.
-pub record Turn (r : Rotation) (l : ℤ) (read : Option ℤ) (now : ℤ) : Type 0 where
-  pub arrived : (is_some read && not (is_same_start (period_of r now) (period_of r l))) ≡ due_by (next_of r l) read
-  pub boundary : boundary_by r (next_of r l) read ≡ next_of r now
+-- What a moment m does to the latest moment l, which is `now` then.
+pub record Turn (r : Rotation) (l m now : ℤ) : Type 0 where
+  pub arrived : not (is_same_start (period_of r now) (period_of r l)) ≡ is_due (next_of r l) m
   pub in_range : IsMoment now
-  pub is_it : due_by (next_of r l) read ≡ true → read ≡ Some now
-  pub stays : due_by (next_of r l) read ≡ false → period_of r now ≡ period_of r l
-  pub goes : due_by (next_of r l) read ≡ true → IsLater (period_of r l) (period_of r now)
+  pub is_it : is_due (next_of r l) m ≡ true → m ≡ now
+  pub stays : is_due (next_of r l) m ≡ false → period_of r now ≡ period_of r l
+  pub goes : is_due (next_of r l) m ≡ true → IsLater (period_of r l) (period_of r now)
 
 both : {A : Type 0} (t : Bool) → t ≡ true → t ≡ false → A
 both t is is_not = absurd (let same : true ≡ false = sym is ∙ is_not in cc)
 
--- where the step reads no moment of the range
-turn_none : (r : Rotation) (l : ℤ) (read : Option ℤ) → IsMoment l → due_by (next_of r l) read ≡ false → boundary_by r (next_of r l) read ≡ next_of r l → Turn r l read l
-turn_none r l read h d b = record {
-  arrived = rw (d, is_same_is (period_of r l)) (elim (is_some read) as (λ t. (t && false) ≡ false) [ true ↦ refl | false ↦ refl ]);
-  boundary = b;
-  in_range = h;
-  is_it = λ due. both (due_by (next_of r l) read) due d;
-  stays = λ _. refl;
-  goes = λ due. both (due_by (next_of r l) read) due d;
-}
-
-same_next : (r : Rotation) (l now : ℤ) → period_of r now ≡ period_of r l → next_of r l ≡ next_of r now
-same_next r l now e = rw e refl
-
--- where it reads one
-turn_some : (r : Rotation) (l m : ℤ) → Laws r → IsMoment l → is_moment m ≡ true → Turn r l (Some m) (int_max m l)
+-- one of the range
+turn_some : (r : Rotation) (l m : ℤ) → Laws r → IsMoment l → is_moment m ≡ true → Turn r l m (int_max m l)
 turn_some r l m laws h g =
     let it = moves r l m laws h g in
-    let by : (due : Bool) → is_due (next_of r l) m ≡ due → Turn r l (Some m) (int_max m l) = λ due. elim due as (λ (t : Bool). is_due (next_of r l) m ≡ t → Turn r l (Some m) (int_max m l)) [
+    let by : (due : Bool) → is_due (next_of r l) m ≡ due → Turn r l m (int_max m l) = λ due. elim due as (λ (t : Bool). is_due (next_of r l) m ≡ t → Turn r l m (int_max m l)) [
       | true ↦ λ e. let past = it.goes e in record {
         arrived = rw (e, past.0, (later_differs (period_of r l) (period_of r m) past.1).0) refl;
-        boundary = rw (e, past.0) refl;
         in_range = it.in_range;
-        is_it = λ _. ap Some (sym past.0);
+        is_it = λ _. sym past.0;
         stays = λ no. both (is_due (next_of r l) m) e no;
         goes = λ _. rw past.0 past.1;
       }
       | false ↦ λ e. let stay = it.stays e in record {
         arrived = rw (e, stay, is_same_is (period_of r l)) refl;
-        boundary = rw e (same_next r l (int_max m l) stay);
         in_range = it.in_range;
         is_it = λ due. both (is_due (next_of r l) m) due e;
         stays = λ _. stay;
@@ -123,36 +60,56 @@ out_of_range : (b : Option ℤ) (m : ℤ) → is_moment m ≡ false → is_due b
 out_of_range None m g = refl
 out_of_range (Some b) m g = rw g refl
 
-turn_read : (r : Rotation) (start m : ℤ) (moments : List ℤ) → Laws r → IsMoment (greatest start (filter is_moment moments)) → Turn r (greatest start (filter is_moment moments)) (Some m) (greatest start (filter is_moment (m ∷ moments)))
-turn_read r start m moments laws g =
-    let before = filter is_moment moments in
-    let by : (t : Bool) → is_moment m ≡ t → Turn r (greatest start before) (Some m) (greatest start (cond t (m ∷ before) before)) = λ t. elim t as (λ (b : Bool). is_moment m ≡ b → Turn r (greatest start before) (Some m) (greatest start (cond b (m ∷ before) before))) [
-      | true ↦ λ e. turn_some r (greatest start before) m laws g e
-      | false ↦ λ e.
-          let no : is_due (next_of r (greatest start before)) m ≡ false = out_of_range (next_of r (greatest start before)) m e in
-          turn_none r (greatest start before) (Some m) g no (rw no refl)
-    ] in
-    by (is_moment m) refl
+pub turn : (r : Rotation) (l m : ℤ) → Laws r → IsMoment l → Turn r l m (later_moment l m)
+turn r l m laws h = by (is_moment m) refl
+  where
+    by : (b : Bool) → is_moment m ≡ b → Turn r l m (if b then int_max m l else l)
+    by true e = turn_some r l m laws h e
+    by false e =
+        let no = out_of_range (next_of r l) m e in
+        record {
+          arrived = rw (no, is_same_is (period_of r l)) refl;
+          in_range = h;
+          is_it = λ due. both (is_due (next_of r l) m) due no;
+          stays = λ _. refl;
+          goes = λ due. both (is_due (next_of r l) m) due no;
+        }
 
-turn_event : (r : Rotation) (start : ℤ) (read : Option ℤ) (offered : ℕ) (switch : Switch) (piece : List ℕ) (h : List Event) → Laws r → IsMoment (latest_moment start h) → Turn r (latest_moment start h) read (latest_moment start (record { read = read; offered = offered; switch = switch; piece = piece } ∷ h))
-turn_event r start None offered switch piece h laws g = turn_none r (latest_moment start h) None g refl refl
-turn_event r start (Some m) offered switch piece h laws g = turn_read r start m (filter_map (λ e. e.read) h) laws g
+-- the latest moment is the greatest
+pub latest_more : (start m : ℤ) (ms : List ℤ) → greatest start (filter is_moment (m ∷ ms)) ≡ later_moment (greatest start (filter is_moment ms)) m
+latest_more start m ms = by (is_moment m) (filter is_moment ms)
+  where
+    by : (b : Bool) (before : List ℤ) → greatest start (cond b (m ∷ before) before) ≡ (if b then int_max m (greatest start before) else greatest start before)
+    by true before = refl
+    by false before = refl
 
--- the latest moment after one more event
-pub turn : (r : Rotation) (start : ℤ) (e : Event) (h : List Event) → Laws r → IsMoment (latest_moment start h) → Turn r (latest_moment start h) e.read (latest_moment start (e ∷ h))
-turn r start e h laws g = turn_event r start e.read e.offered e.switch e.piece h laws g
+pub check_latest : (c : Config) (m : ℤ) (len : ℕ) (switch : Switch) (f : Files) → (files_after_check c m len switch f).latest ≡ later_moment f.latest m
+check_latest c m len switch f = by (due_file c f m len) switch
+  where
+    by : (o : Option Stamp) (switch : Switch) → (files_after_try o switch (record f { latest = later_moment f.latest m })).latest ≡ later_moment f.latest m
+    by None switch = refl
+    by (Some s) Stayed = refl
+    by (Some s) Switched = refl
+    by (Some s) SwitchFailed = refl
 
--- ---- the clock and the count so far
+-- ---- the schedule
 
--- What is known of the roller so far.
-pub record ClockSoFar {S F : Type 0} (c : Config) (first : Start) (h : List Event) (now : Rolling S F) : Type 0 where
-  pub switches : SwitchesAtAttempts c first h
-  pub boundary_is : now.boundary ≡ next_of c.rotation (latest_moment first.moment h)
-  pub in_range : IsMoment (latest_moment first.moment h)
-  pub last_is : now.last ≡ last_stamp first (attempt_times c first h)
-  pub stamp_in : IsStamp c now.last
-  pub period_is : period_of c.rotation now.last.moment ≡ period_at c.rotation first.moment h
-  pub room_is : now.room ≡ c.max_bytes - count_since first (attempt_times c first h) h
+-- What a roller's schedule is, by the account of its files.
+pub record RollerIs {S F : Type 0} (c : Config) (f : Files) (now : Rolling S F) : Type 0 where
+  pub config_is : now.config ≡ c
+  pub opened_is : open_stamp (f.newest ∷ f.earlier) ≡ Some now.opened
+  pub last_is : now.last ≡ f.newest.stamp
+  pub boundary_is : now.boundary ≡ next_of c.rotation f.latest
+  pub room_is : now.room ≡ c.max_bytes - counted f
+  pub in_range : IsMoment f.latest
+  pub stamp_in : IsStamp c f.newest.stamp
+  pub period_is : period_of c.rotation f.newest.stamp.moment ≡ period_of c.rotation f.latest
+
+-- A check of the clock makes no try, and the latest period stays; or it makes one for this stamp, whose key is later.
+pub data Comes {S F : Type 0} (c : Config) (f : Files) (m : ℤ) (len : ℕ) (old : Rolling S F) : Option Stamp → Type 0 where
+  Stays : next_stamp old m len ≡ None → period_of c.rotation (later_moment f.latest m) ≡ period_of c.rotation f.latest → Comes c f m len old None
+  Goes : (s : Stamp) → next_stamp old m len ≡ Some s → IsStamp c s → period_of c.rotation s.moment ≡ period_of c.rotation (later_moment f.latest m)
+      → IsLaterKey (file_key c f.newest.stamp) (file_key c s) → Comes c f m len old (Some s)
 
 -- the room agrees with the count
 full_is : (max count w n room : ℕ) → 0 < w → room ≡ max - count
@@ -162,166 +119,138 @@ full_is max count w n room some is = grind (arith, nat_tests)
 wanted_some : (len : ℕ) → 0 < room_needed len
 wanted_some len = grind (arith, nat_tests)
 
-module _ {S F : Type 0} (c : Config) (first : Start) (laws : Laws c.rotation) where
-  -- the roller makes an attempt for the stamp for which the history has one
-  stamps_agree : (read : Option ℤ) (offered : ℕ) (switch : Switch) (piece : List ℕ) (h : List Event) (old : Rolling S F) → old.config ≡ c → ClockSoFar c first h old
-      → stamp_by old read offered ≡ stamp_at c first (attempt_times c first h) (record { read = read; offered = offered; switch = switch; piece = piece }) h
-  stamps_agree None offered switch piece h old same so = refl
-  stamps_agree (Some m) offered switch piece h old same so =
-      let e : Event = record { read = Some m; offered = offered; switch = switch; piece = piece } in
-      let t = turn c.rotation first.moment e h laws so.in_range in
-      let due : is_due old.boundary m ≡ arrives c.rotation first.moment e h = ap (λ b. is_due b m) so.boundary_is ∙ sym t.arrived in
-      let full : roller_is_full (schedule_of old) old.room offered ≡ is_full_step c first (attempt_times c first h) e h =
-      rw (same, so.last_is) (full_is c.max_bytes (count_since first (attempt_times c first h) h) (room_needed offered) (last_stamp first (attempt_times c first h)).number old.room (wanted_some offered) so.room_is) in
-      by (arrives c.rotation first.moment e h) refl due full (λ came. t.is_it (sym t.arrived ∙ came))
+same_next : (r : Rotation) (l now : ℤ) → period_of r now ≡ period_of r l → next_of r l ≡ next_of r now
+same_next r l now e = rw e refl
+
+pub same_stamp : (s t : Stamp) → ◌≡◌ {A = Option Stamp} (Some s) (Some t) → s ≡ t
+same_stamp s t e = ap (λ (o : Option Stamp). unwrap_or o s) e
+
+pub none_is_some : {A : Type 0} (s : Stamp) → ◌≡◌ {A = Option Stamp} None (Some s) → A
+none_is_some s e = absurd (let same : ◌≡◌ {A = Option Stamp} None (Some s) = e in cc)
+
+-- a stamp is not later than itself
+pub is_fresh : (c : Config) (s t : Stamp) → IsLaterKey (file_key c s) (file_key c t) → s ≡ t → ⊥
+is_fresh c s t later same =
+    let itself : IsLaterKey (file_key c t) (file_key c t) = subst (λ (x : Stamp). IsLaterKey (file_key c x) (file_key c t)) same later in
+    both _ (same_key_is_same (file_key c t)) (later_key_differs (file_key c t) (file_key c t) itself).0
+
+module _ {S F : Type 0} (c : Config) (laws : Laws c.rotation) where
+  pub comes : (f : Files) (m : ℤ) (len : ℕ) (old : Rolling S F) → RollerIs c f old → Comes c f m len old (due_file c f m len)
+  comes f m len old so = by (not (is_same_start (period_of c.rotation now) (period_of c.rotation f.latest))) (is_limited c && nat_lt f.newest.stamp.number 999999 && nat_lt 0 (counted f) && nat_lt c.max_bytes (counted f + room_needed len)) refl refl
     where
-      e : Event
-      e = record { read = Some m; offered = offered; switch = switch; piece = piece }
+      now : ℤ
+      now = later_moment f.latest m
 
-      it : (a b : ℤ) → ◌≡◌ {A = Option ℤ} (Some a) (Some b) → a ≡ b
-      it a b same = cc
+      t : Turn c.rotation f.latest m now
+      t = turn c.rotation f.latest m laws so.in_range
 
-      by : (came : Bool) → arrives c.rotation first.moment e h ≡ came → is_due old.boundary m ≡ arrives c.rotation first.moment e h → roller_is_full (schedule_of old) old.room offered ≡ is_full_step c first (attempt_times c first h) e h
-          → (arrives c.rotation first.moment e h ≡ true → ◌≡◌ {A = Option ℤ} (Some m) (Some (latest_moment first.moment (e ∷ h))))
-          → next_stamp old m offered ≡ stamp_at c first (attempt_times c first h) e h
-      by true came due full is = rw (due ∙ came, came) (ap (λ x. Some (stamp x 0)) (it m (latest_moment first.moment (e ∷ h)) (is came)))
-      by false came due full is = rw (due ∙ came, came, full, so.last_is) refl
+      due : is_due old.boundary m ≡ not (is_same_start (period_of c.rotation now) (period_of c.rotation f.latest))
+      due = ap (λ b. is_due b m) so.boundary_is ∙ sym t.arrived
 
--- ---- one step more
+      full : roller_is_full (schedule_of old) old.room len ≡ (is_limited c && nat_lt f.newest.stamp.number 999999 && nat_lt 0 (counted f) && nat_lt c.max_bytes (counted f + room_needed len))
+      full = rw (so.config_is, so.last_is) (full_is c.max_bytes (counted f) (room_needed len) f.newest.stamp.number old.room (wanted_some len) so.room_is)
 
-pub since_now : (h : List Event) (n : ℕ) → length h < n → pieces_since n h ≡ []
-since_now [] n lt = refl
-since_now (e ∷ h) n lt = let no : nat_le n (suc (length h)) ≡ false = grind arith in rw (since_now h n (omega arith), no) refl
+      low : (is_limited c && nat_lt f.newest.stamp.number 999999 && nat_lt 0 (counted f) && nat_lt c.max_bytes (counted f + room_needed len)) ≡ true → (f.newest.stamp.number < 999999) × (is_limited c ≡ true)
+      low is = (grind (arith, nat_tests), grind (arith, nat_tests))
 
-module _ (c : Config) (first : Start) where
-  -- the last attempt was made at a step of these
-  pub step_in : (h : List Event) → last_step (attempt_times c first h) ≤ length h
-  step_in [] = omega arith
-  step_in (e ∷ h) = by (stamp_at c first (attempt_times c first h) e h) (step_in h)
-    where
-      by : (s : Option Stamp) → last_step (attempt_times c first h) ≤ length h → last_step (with_time s (suc (length h)) (is_opened e.switch) (attempt_times c first h)) ≤ suc (length h)
-      by None le = omega (arith, le)
-      by (Some s) le = omega arith
+      greatest_is : is_limited c ≡ true → last_of c ≡ 999999
+      greatest_is is = ap greatest_number is
 
-  -- how the count goes on
-  pub count_stays : (e : Event) (h : List Event) → stamp_at c first (attempt_times c first h) e h ≡ None → count_since first (attempt_times c first (e ∷ h)) (e ∷ h) ≡ count_since first (attempt_times c first h) h + length e.piece
-  count_stays e h none =
-      let n = last_step (attempt_times c first h) in
-      let same : last_step (attempt_times c first (e ∷ h)) ≡ n = ap (λ s. last_step (with_time s (suc (length h)) (is_opened e.switch) (attempt_times c first h))) none in
-      let le = step_in h in
-      let in_time : nat_le n (suc (length h)) ≡ true = grind (arith, le) in
-      let split : pieces_since n (e ∷ h) ≡ pieces_since n h ++ e.piece = ap (λ t. pieces_since n h ++ (if t then e.piece else [])) in_time in
-      let whole : length (pieces_since (last_step (attempt_times c first (e ∷ h))) (e ∷ h)) ≡ length (pieces_since n h) + length e.piece =
-      ap (λ j. length (pieces_since j (e ∷ h))) same ∙ ap length split ∙ length-append (pieces_since n h) e.piece in
-      let held : held_at first (attempt_times c first (e ∷ h)) ≡ held_at first (attempt_times c first h) = ap (λ (j : ℕ). if j == 0 then first.held else 0) same in
-      omega (arith, whole, held)
+      by : (came fills : Bool) → not (is_same_start (period_of c.rotation now) (period_of c.rotation f.latest)) ≡ came
+          → (is_limited c && nat_lt f.newest.stamp.number 999999 && nat_lt 0 (counted f) && nat_lt c.max_bytes (counted f + room_needed len)) ≡ fills
+          → Comes c f m len old (if came then Some (record { moment = now; number = 0 }) else if fills then Some (record { moment = f.newest.stamp.moment; number = f.newest.stamp.number + 1 }) else None)
+      by true fills is e =
+          Goes (stamp now 0) (rw (due ∙ is) (ap (λ (x : ℤ). Some (stamp x 0)) (t.is_it (sym t.arrived ∙ is)))) (record { in_range = t.in_range; number_is = omega arith }) refl
+          (inl (subst (λ (p : Option ℤ). IsLater p (period_of c.rotation now)) (sym so.period_is) (t.goes (sym t.arrived ∙ is))))
+      by false true is e =
+          let under = low e in
+          Goes (stamp f.newest.stamp.moment (f.newest.stamp.number + 1)) (rw (due ∙ is, full ∙ e, so.last_is) refl)
+          (record { in_range = so.stamp_in.in_range; number_is = omega (arith, greatest_is under.1, under.0) }) (so.period_is ∙ sym (t.stays (sym t.arrived ∙ is)))
+          (inr (refl, omega arith))
+      by false false is e = Stays (rw (due ∙ is, full ∙ e) refl) (t.stays (sym t.arrived ∙ is))
 
-  pub count_begins : (e : Event) (h : List Event) (s : Stamp) → stamp_at c first (attempt_times c first h) e h ≡ Some s → count_since first (attempt_times c first (e ∷ h)) (e ∷ h) ≡ length e.piece
-  count_begins e h s some =
-      let n = suc (length h) in
-      let same : last_step (attempt_times c first (e ∷ h)) ≡ n = ap (λ o. last_step (with_time o (suc (length h)) (is_opened e.switch) (attempt_times c first h))) some in
-      let in_time : nat_le n (suc (length h)) ≡ true = grind arith in
-      let split : pieces_since n (e ∷ h) ≡ pieces_since n h ++ e.piece = ap (λ t. pieces_since n h ++ (if t then e.piece else [])) in_time in
-      let none : pieces_since n h ≡ [] = since_now h n (omega arith) in
-      let whole : length (pieces_since (last_step (attempt_times c first (e ∷ h))) (e ∷ h)) ≡ length e.piece =
-      ap (λ j. length (pieces_since j (e ∷ h))) same ∙ ap length (split ∙ ap (λ xs. xs ++ e.piece) none) in
-      let no : (n == 0) ≡ false = grind arith in
-      let held : held_at first (attempt_times c first (e ∷ h)) ≡ 0 = ap (λ (j : ℕ). if j == 0 then first.held else 0) same ∙ ap (λ (t : Bool). if t then first.held else 0) no in
-      omega (arith, whole, held)
-
-  pub full_number : (e : Event) (h : List Event) → is_full_step c first (attempt_times c first h) e h ≡ true → ((last_stamp first (attempt_times c first h)).number < 999999) × (is_limited c ≡ true)
-  full_number e h full = (grind (arith, nat_tests), grind (arith, nat_tests))
-
-  pub limited_last : is_limited c ≡ true → last_of c ≡ 999999
-  limited_last is = ap greatest_number is
-
-module _ {S F : Type 0} (c : Config) (first : Start) (laws : Laws c.rotation) where
-  -- A step makes no attempt, and the key is as before; or it makes one for this stamp, whose key is later.
-  pub data Comes (e : Event) (h : List Event) (old : Rolling S F) : Type 0 where
-    Stays : (none : stamp_at c first (attempt_times c first h) e h ≡ None) → (agrees : stamp_by old e.read e.offered ≡ None) → (same : period_at c.rotation first.moment (e ∷ h) ≡ period_at c.rotation first.moment h) → Comes e h old
-    Goes : (s : Stamp) → (some : stamp_at c first (attempt_times c first h) e h ≡ Some s) → (agrees : stamp_by old e.read e.offered ≡ Some s) → (is_stamp : IsStamp c s)
-        → (period : period_of c.rotation s.moment ≡ period_at c.rotation first.moment (e ∷ h))
-        → (later : IsLater (period_at c.rotation first.moment h) (period_at c.rotation first.moment (e ∷ h)) ⊎ ((period_at c.rotation first.moment h ≡ period_at c.rotation first.moment (e ∷ h)) × ((last_stamp first (attempt_times c first h)).number < s.number)))
-        → Comes e h old
-
-  pub comes : (e : Event) (h : List Event) (old : Rolling S F) → old.config ≡ c → ClockSoFar c first h old → Comes e h old
-  comes e h old same so = by (arrives c.rotation first.moment e h) (is_full_step c first (attempt_times c first h) e h) refl refl
-    where
-      agree : stamp_by old e.read e.offered ≡ stamp_at c first (attempt_times c first h) e h
-      agree = stamps_agree c first laws e.read e.offered e.switch e.piece h old same so
-
-      t : Turn c.rotation (latest_moment first.moment h) e.read (latest_moment first.moment (e ∷ h))
-      t = turn c.rotation first.moment e h laws so.in_range
-
-      by : (came full : Bool) → arrives c.rotation first.moment e h ≡ came → is_full_step c first (attempt_times c first h) e h ≡ full → Comes e h old
-      by true full is f =
-          let some : stamp_at c first (attempt_times c first h) e h ≡ Some (stamp (latest_moment first.moment (e ∷ h)) 0) = rw is refl in
-          Goes (stamp (latest_moment first.moment (e ∷ h)) 0) some (agree ∙ some) (record { in_range = t.in_range; number_is = omega arith }) refl (inl (t.goes (sym t.arrived ∙ is)))
-      by false true is f =
-          let last = last_stamp first (attempt_times c first h) in
-          let some : stamp_at c first (attempt_times c first h) e h ≡ Some (stamp last.moment (last.number + 1)) = rw (is, f) refl in
-          let stays = t.stays (sym t.arrived ∙ is) in
-          let low = full_number c first e h f in
-          let range : IsMoment last.moment = rw (← so.last_is) so.stamp_in.in_range in
-          let period : period_of c.rotation last.moment ≡ period_at c.rotation first.moment h = ap (λ (s : Stamp). period_of c.rotation s.moment) (sym so.last_is) ∙ so.period_is in
-          Goes (stamp last.moment (last.number + 1)) some (agree ∙ some) (record { in_range = range; number_is = omega (arith, limited_last c first low.1, low.0) })
-          (period ∙ sym stays) (inr (sym stays, omega arith))
-      by false false is f =
-          let none : stamp_at c first (attempt_times c first h) e h ≡ None = rw (is, f) refl in
-          Stays none (agree ∙ none) (t.stays (sym t.arrived ∙ is))
-
-  pub clock_goes_on : (e : Event) (h : List Event) (old new : Rolling S F) → old.config ≡ c → ClockSoFar c first h old → Comes e h old → Decides e old new → ClockSoFar c first (e ∷ h) new
-  clock_goes_on e h old new same so (Stays none agrees stays) d =
-      let t = turn c.rotation first.moment e h laws so.in_range in
-      let last : new.last ≡ old.last = d.last ∙ ap (λ s. unwrap_or s old.last) agrees in
-      let past : is_some (stamp_by old e.read e.offered) ≡ is_some (stamp_at c first (attempt_times c first h) e h) = ap is_some (agrees ∙ sym none) in
-      let room : new.room ≡ old.room - length e.piece = d.room ∙ ap (λ s. room_at old.config.max_bytes s old.room - length e.piece) agrees in
-      let count = count_stays c first e h none in
-      record {
-        switches = (d.switches ∙ past, so.switches);
-        boundary_is = d.boundary ∙ ap (λ s. boundary_at old.config.rotation s old.boundary) agrees ∙ so.boundary_is ∙ same_next c.rotation (latest_moment first.moment h) (latest_moment first.moment (e ∷ h)) stays;
-        in_range = t.in_range;
-        last_is = last ∙ so.last_is ∙ ap (λ s. last_stamp first (with_time s (suc (length h)) (is_opened e.switch) (attempt_times c first h))) (sym none);
-        stamp_in = subst (λ (s : Stamp). IsStamp c s) (sym last) so.stamp_in;
-        period_is = ap (λ (s : Stamp). period_of c.rotation s.moment) last ∙ so.period_is ∙ sym stays;
-        room_is = omega (arith, count, so.room_is, room);
-      }
-  clock_goes_on e h old new same so (Goes s some agrees is_stamp period later) d =
-      let t = turn c.rotation first.moment e h laws so.in_range in
-      let last : new.last ≡ s = d.last ∙ ap (λ s. unwrap_or s old.last) agrees in
-      let past : is_some (stamp_by old e.read e.offered) ≡ is_some (stamp_at c first (attempt_times c first h) e h) = ap is_some (agrees ∙ sym some) in
-      let room : new.room ≡ c.max_bytes - length e.piece = d.room ∙ ap (λ s. room_at old.config.max_bytes s old.room - length e.piece) agrees ∙ ap (λ (k : Config). k.max_bytes - length e.piece) same in
-      let count = count_begins c first e h s some in
-      record {
-        switches = (d.switches ∙ past, so.switches);
-        boundary_is = d.boundary ∙ ap (λ s. boundary_at old.config.rotation s old.boundary) agrees ∙ ap (λ (k : Config). next_of k.rotation s.moment) same ∙ sym (same_next c.rotation (latest_moment first.moment (e ∷ h)) s.moment period);
-        in_range = t.in_range;
-        last_is = last ∙ ap (λ o. last_stamp first (with_time o (suc (length h)) (is_opened e.switch) (attempt_times c first h))) (sym some);
-        stamp_in = subst (λ (s : Stamp). IsStamp c s) (sym last) is_stamp;
-        period_is = ap (λ (s : Stamp). period_of c.rotation s.moment) last ∙ period;
-        room_is = omega (arith, count, room);
-      }
-
-  pub clock_begins : (now : Rolling S F) → IsStamp c (start_stamp first) → now.last ≡ start_stamp first → now.boundary ≡ next_of c.rotation first.moment → now.room ≡ c.max_bytes - first.held → ClockSoFar c first [] now
-  clock_begins now is_stamp last boundary room = record {
-    switches = tt;
-    boundary_is = boundary;
-    in_range = is_stamp.in_range;
-    last_is = last;
-    stamp_in = rw last is_stamp;
-    period_is = ap (λ (s : Stamp). period_of c.rotation s.moment) last;
-    room_is = omega (arith, room);
+  -- after a try
+  tried : (f : Files) (m : ℤ) (ok : Bool) (s : Stamp) (old new : Rolling S F) → RollerIs c f old → IsStamp c s → period_of c.rotation s.moment ≡ period_of c.rotation (later_moment f.latest m)
+      → (at : Stamp) → at ≡ s → new.config ≡ old.config → new.last ≡ at → new.boundary ≡ next_of old.config.rotation at.moment → new.room ≡ old.config.max_bytes
+      → (if ok then Some s else open_stamp (f.newest ∷ f.earlier)) ≡ Some new.opened
+      → RollerIs c (record f { latest = later_moment f.latest m; newest = record { stamp = s; opened = ok; writes = [] }; earlier = f.newest ∷ f.earlier; held = 0 }) new
+  tried f m ok s old new so is_stamp period at it config last boundary room opened = record {
+    config_is = config ∙ so.config_is;
+    opened_is = opened;
+    last_is = last ∙ it;
+    boundary_is = boundary ∙ ap (λ (x : Stamp). next_of old.config.rotation x.moment) it ∙ ap (λ (k : Config). next_of k.rotation s.moment) so.config_is ∙ sym (same_next c.rotation (later_moment f.latest m) s.moment period);
+    room_is = omega (arith, room, ap (λ (k : Config). k.max_bytes) so.config_is);
+    in_range = (turn c.rotation f.latest m laws so.in_range).in_range;
+    stamp_in = is_stamp;
+    period_is = period;
   }
 
--- no step changes what the roller was opened with
-looks_keep : {S F : Type 0} (kind : Ghosts S F) (m : ℤ) (len : ℕ) (switch : Switch) (old new : Rolling S F) → ChecksClock kind m len switch old new → new.config ≡ old.config
-looks_keep kind m len Stayed old new s = ap (λ r. r.config) s.1
-looks_keep kind m len Switched old new s = s.config_is
-looks_keep kind m len SwitchFailed old new s = s.config_is
+  -- a check of the clock
+  pub roller_checks : (kind : Ghosts S F) (f : Files) (m : ℤ) (len : ℕ) (switch : Switch) (old new : Rolling S F) (o : Option Stamp) → Comes c f m len old o → RollerIs c f old → ChecksClock kind m len switch old new
+      → RollerIs c (files_after_try o switch (record f { latest = later_moment f.latest m })) new
+  roller_checks kind f m len Stayed old new o (Stays none same) so checks = subst (λ (r : Rolling S F). RollerIs c (record f { latest = later_moment f.latest m }) r) (sym checks.1) (record {
+    config_is = so.config_is;
+    opened_is = so.opened_is;
+    last_is = so.last_is;
+    boundary_is = so.boundary_is ∙ same_next c.rotation f.latest (later_moment f.latest m) same;
+    room_is = so.room_is;
+    in_range = (turn c.rotation f.latest m laws so.in_range).in_range;
+    stamp_in = so.stamp_in;
+    period_is = so.period_is ∙ sym same;
+  })
+  roller_checks kind f m len Switched old new o (Stays none same) so checks = none_is_some checks.at_stamp (sym none ∙ checks.cause)
+  roller_checks kind f m len SwitchFailed old new o (Stays none same) so checks = none_is_some checks.at_stamp (sym none ∙ checks.cause)
+  roller_checks kind f m len Stayed old new o (Goes s some is_stamp period later) so checks = none_is_some s (sym checks.0 ∙ some)
+  roller_checks kind f m len Switched old new o (Goes s some is_stamp period later) so checks =
+      let it = same_stamp checks.at_stamp s (sym checks.cause ∙ some) in
+      tried f m true s old new so is_stamp period checks.at_stamp it checks.config_is checks.last checks.boundary checks.room (ap Some (sym (checks.opened ∙ it)))
+  roller_checks kind f m len SwitchFailed old new o (Goes s some is_stamp period later) so checks =
+      let it = same_stamp checks.at_stamp s (sym checks.cause ∙ some) in
+      tried f m false s old new so is_stamp period checks.at_stamp it checks.config_is checks.last checks.boundary checks.room (so.opened_is ∙ ap Some (sym checks.opened))
 
-keeps_by : {S F : Type 0} (kind : Ghosts S F) (read : Option ℤ) (len : ℕ) (switch : Switch) (old new : Rolling S F) → LooksBy kind read len switch old new → new.config ≡ old.config
-keeps_by kind None len switch old new looks = ap (λ r. r.config) looks.1
-keeps_by kind (Some m) len switch old new looks = looks_keep kind m len switch old new looks
+  -- its reply
+  pub switches_if_due : (kind : Ghosts S F) (f : Files) (m : ℤ) (len : ℕ) (switch : Switch) (old new : Rolling S F) → RollerIs c f old → ChecksClock kind m len switch old new → (switch ≡ Stayed) ↔ (due_file c f m len ≡ None)
+  switches_if_due kind f m len switch old new so checks = by switch checks (due_file c f m len) (comes f m len old so)
+    where
+      by : (switch : Switch) → ChecksClock kind m len switch old new → (o : Option Stamp) → Comes c f m len old o → (switch ≡ Stayed) ↔ (o ≡ None)
+      by Stayed checks o (Stays none same) = ((λ _. refl), (λ _. refl))
+      by Switched checks o (Stays none same) = none_is_some checks.at_stamp (sym none ∙ checks.cause)
+      by SwitchFailed checks o (Stays none same) = none_is_some checks.at_stamp (sym none ∙ checks.cause)
+      by Stayed checks o (Goes s some is_stamp period later) = none_is_some s (sym checks.0 ∙ some)
+      by Switched checks o (Goes s some is_stamp period later) = ((λ is. absurd (let same : ◌≡◌ {A = Switch} Switched Stayed = is in cc)), (λ is. none_is_some s (sym is)))
+      by SwitchFailed checks o (Goes s some is_stamp period later) = ((λ is. absurd (let same : ◌≡◌ {A = Switch} SwitchFailed Stayed = is in cc)), (λ is. none_is_some s (sym is)))
 
-pub turn_keeps : {S F : Type 0} (kind : Ghosts S F) (e : Event) (old new : Rolling S F) → Turns kind e old new → new.config ≡ old.config
-turn_keeps kind e old new t = t.stays.config_is ∙ keeps_by kind e.read e.offered e.switch old t.between t.looks
+  -- what keeps the open file
+  pub roller_stays : (kind : Ghosts S F) (f g : Files) (old new : Rolling S F) → KeepsOpenFile kind old new → g.latest ≡ f.latest → g.newest.stamp ≡ f.newest.stamp → open_stamp (g.newest ∷ g.earlier) ≡ open_stamp (f.newest ∷ f.earlier)
+      → new.room ≡ c.max_bytes - counted g → RollerIs c f old → RollerIs c g new
+  roller_stays kind f g old new stays latest stamped opened room so = record {
+    config_is = stays.config_is ∙ so.config_is;
+    opened_is = opened ∙ so.opened_is ∙ ap Some (sym stays.opened);
+    last_is = stays.last ∙ so.last_is ∙ sym stamped;
+    boundary_is = stays.boundary ∙ so.boundary_is ∙ ap (next_of c.rotation) (sym latest);
+    room_is = room;
+    in_range = subst (λ (l : ℤ). IsMoment l) (sym latest) so.in_range;
+    stamp_in = subst (λ (s : Stamp). IsStamp c s) (sym stamped) so.stamp_in;
+    period_is = ap (λ (s : Stamp). period_of c.rotation s.moment) stamped ∙ so.period_is ∙ ap (period_of c.rotation) (sym latest);
+  }
+
+  -- a write
+  pub roller_writes : (kind : Ghosts S F) (f : Files) (bytes : List ℕ) (answer : Result ℕ Error) (shown : Result ℕ ErrorKind) (old new : Rolling S F) → written_count shown ≡ written_count answer → Writes kind bytes answer old new → RollerIs c f old → RollerIs c (files_after_write bytes shown f) new
+  roller_writes kind f bytes answer shown old new count writes so =
+      let size : length (take (written_count shown) bytes) ≡ written_count answer = ap (λ (n : ℕ). length (take n bytes)) count ∙ length-take-le (written_count answer) bytes writes.bound in
+      let longer : length (bytes_taken f.newest.writes ++ take (written_count shown) bytes) ≡ length (bytes_taken f.newest.writes) + length (take (written_count shown) bytes) = length-append (bytes_taken f.newest.writes) (take (written_count shown) bytes) in
+      roller_stays kind f (files_after_write bytes shown f) old new writes.stays refl refl refl (omega (arith, size, longer, writes.room, so.room_is)) so
+
+  -- the opening
+  pub roller_begins : (start : Start) (now : Rolling S F) → now.config ≡ c → IsStamp c start.stamp → now.opened ≡ start.stamp → now.last ≡ start.stamp → now.boundary ≡ next_of c.rotation start.stamp.moment → now.room ≡ c.max_bytes - start.held
+      → RollerIs c (files_at_opening start) now
+  roller_begins start now config is_stamp opened last boundary room = record {
+    config_is = config;
+    opened_is = ap Some (sym opened);
+    last_is = last;
+    boundary_is = boundary;
+    room_is = omega (arith, room);
+    in_range = is_stamp.in_range;
+    stamp_in = is_stamp;
+    period_is = refl;
+  }

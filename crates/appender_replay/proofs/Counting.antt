@@ -1,5 +1,5 @@
 -- What a folder counts over a run: failed attempts as notices, and errors of writes and flushes as failures.
-use Rattle.std.proofs.Common.{◌≡◌, ◌∙◌, ℕ, zero, suc, ℤ, ◌+◌, ◌-◌, ◌^◌, ◌<◌, ◌≤◌, min, Option, None, Some, sym, Bool, true, false, List, [], ◌∷◌, length, map, Result, Ok, Err, MatchResult, Vec, inl, inr, refl, ap, arith}
+use Rattle.std.proofs.Common.{◌≡◌, ◌∙◌, ℕ, zero, suc, ℤ, ◌+◌, ◌-◌, ◌^◌, ◌<◌, ◌≤◌, min, Option, None, Some, sym, Bool, true, false, List, [], ◌∷◌, map, Result, Ok, Err, MatchResult, Vec, inl, inr, refl, ap, arith}
 use Rattle.std.specs.IoError.{error_kind}
 use Rattle.std.specs.declared.alloc.Global.{Global}
 use Rattle.std.specs.declared.io.Error.{Error}
@@ -14,13 +14,16 @@ use Rattle.appender_store.specs.declared.store.Listed.{Listed}
 use Rattle.appender_store.proofs.Rising.{same_rises, rises_on}
 use Rattle.appender_rolling.specs.Config.{Config, is_limited}
 use Rattle.appender_rolling.specs.Opening.{FindsNumber, ListsNumbers, IsFirstNumber, IsListed, FailsToLink, RemovesEmpty, RemovesNewFile, OpensFile, RefusesFile}
-use Rattle.appender_rolling.specs.Roller.{Rolling, ChecksClock, Writes, Puts, Flushes, ClosesLast}
+use Rattle.appender_rolling.specs.Roller.{Rolling, ChecksClock, Writes, Flushes, ClosesLast}
 use Rattle.appender_rolling.specs.declared.rolling.Switch.{Switch}
 use Rattle.appender_rolling.specs.declared.rolling.Switch.TheVariants.{None as Stayed, Opened as Switched, Failed as SwitchFailed}
 use Rattle.appender_rolling.proofs.Rising.{finds_rise, opens_rise, looks_rise, writes_rise, flushes_rise}
-use Rattle.appender_replay.specs.Replay.{by_kind}
-use Rattle.appender_replay.specs.Headline.{faults_in}
-use Rattle.appender_replay.proofs.FileAccounts.{failed_by}
+use Rattle.appender_replay.specs.Headline.{by_kind, faults_in}
+
+-- how many tries failed
+abbrev pub failed_by : Switch → ℕ
+failed_by SwitchFailed = 1
+failed_by switch = 0
 
 -- no notice of a failed attempt
 abbrev SameOpens : NotedCounts → NotedCounts → Type 0
@@ -48,6 +51,9 @@ module _ {S F : Type 0} (kind : Ghosts S F) (failures_fit : (s : S) → kind.fai
     failures = omega (arith, first.failures, second.failures);
     rise = rises_on kind old between new first.rise second.rise;
   }
+
+  pub counted_as : (a b x y : ℕ) (old new : S) → a ≡ x → b ≡ y → Counted a b old new → Counted x y old new
+  counted_as a b x y old new failed faults so = record { opens = omega (arith, so.opens, failed); failures = omega (arith, so.failures, faults); rise = so.rise }
 
   -- ---- the first file
 
@@ -153,9 +159,3 @@ module _ {S F : Type 0} (kind : Ghosts S F) (failures_fit : (s : S) → kind.fai
     failures = fault_counted (kind.failures old.folder) (kind.failures new.folder) answer (failures_fit old.folder) flushes.cause;
     rise = flushes_rise kind failures_fit noted_fit answer old new flushes;
   }
-
-  pub puts_counted : (m : ℤ) (bytes : List ℕ) (switch : Switch) (answer : Result ℕ Error) (old new : Rolling S F) → Puts kind m bytes switch answer old new → Counted (failed_by switch) (faults_in (by_kind answer)) old.folder new.folder
-  puts_counted m bytes switch answer old new puts = more (counted_on (failed_by switch) 0 0 (faults_in (by_kind answer)) old.folder puts.between.folder new.folder (looks_counted m (length bytes) switch old puts.between puts.looks) (writes_counted bytes answer puts.between new puts.writes))
-    where
-      more : Counted (failed_by switch + 0) (0 + faults_in (by_kind answer)) old.folder new.folder → Counted (failed_by switch) (faults_in (by_kind answer)) old.folder new.folder
-      more all = record { opens = omega (arith, all.opens); failures = omega (arith, all.failures); rise = all.rise }

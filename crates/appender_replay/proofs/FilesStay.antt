@@ -1,6 +1,7 @@
 -- Which files have their names at the end of a run.
-use Rattle.std.proofs.Common.{◌≡◌, ◌≢◌, ◌∙◌, ◌⊎◌, ℕ, ℤ, suc, Bool, true, false, List, [], ◌∷◌, ◌++◌, length, map, Option, None, Some, is_some, inl, inr, refl, sym, ap, subst}
+use Rattle.std.proofs.Common.{◌≡◌, ◌≢◌, ◌∙◌, ◌⊎◌, ◌+◌, ℕ, ℤ, arith, Bool, true, false, List, [], ◌∷◌, ◌++◌, map, Option, None, Some, is_some, inl, inr, refl, sym, ap, subst}
 use Rattle.std.specs.Prelude.{if◌then◌else◌, MatchOption}
+use Rattle.std.specs.Option.{option_map_or}
 use Rattle.std.specs.Str.{bytes_eq}
 use Rattle.std.specs.FinMap as fin
 use Rattle.std.proofs.lemmas.List.{append-nil}
@@ -13,16 +14,11 @@ use Rattle.appender_rolling.specs.Config.{Config, log_files_of, max_before, max_
 use Rattle.appender_rolling.specs.Limits.{KeepsEachFile}
 use Rattle.appender_rolling.specs.Opening.{file_name_of, MayRemoveLink, MayRemoveNew, IsRefusalEffect}
 use Rattle.appender_rolling.specs.declared.rolling.setup.Stamp.{Stamp}
-use Rattle.appender_replay.specs.Start.{Start, start_stamp}
-use Rattle.appender_replay.specs.Run.{Event, Attempt, AttemptTime, time_of, pieces_since, events_before, open_body, OnlyAttemptsChange, Succeeded, AttemptDoes, attempt_times, stamp_at, with_time, last_opened, is_opened}
-use Rattle.appender_replay.proofs.NamesLeft.{unlimited_keep, opened_other, freed_other, unremoved_other, tried_file}
+use Rattle.appender_replay.specs.Run.{Attempt, WrittenAttempt, try_of, open_body, OnlyAttemptsChange, Succeeded, AttemptDoes, EachOf}
+use Rattle.appender_replay.specs.Headline.{bytes_taken, failures_in, open_stamp, written_to_name}
+use Rattle.appender_replay.proofs.NamesLeft.{leads_to, unlimited_keep, opened_other, freed_other, unremoved_other, tried_file}
 use Rattle.appender_replay.proofs.NamesLead.{carried_names, none_before, none_after}
-use Rattle.appender_replay.proofs.FileAccounts.{bytes_named}
-
--- each of these attempts succeeded
-abbrev pub AllOpened : List AttemptTime → Type 0
-AllOpened [] = Unit {0}
-AllOpened ((step, s, ok) ∷ ts) = (ok ≡ true) × AllOpened ts
+use Rattle.appender_replay.proofs.Files.{each_map}
 
 is_file : (o : Option Entry) (b : ℕ) (t : Option ℤ) → o ≡ Some (File b t) → IsFile o
 is_file o b t e = subst IsFile (sym e) tt
@@ -105,105 +101,66 @@ module _ (maps : NameLaws) (c : Config) where
     where
       by : (o : Option ℕ) → MatchOption o (IsRefusalEffect c (file_name_of c a.stamp) a.before a.after) (Succeeded c a) → is_some o ≡ true → IsFile (fin.get a.after.names (file_name_of c a.stamp))
       by None little some = absurd (let both : false ≡ true = some in cc)
-      by (Some x) did some = is_file (fin.get a.after.names (file_name_of c a.stamp)) x did.names.own.0 did.names.own.1
+      by (Some x) did some =
+          let own : List ℕ = file_name_of c a.stamp in
+          let to = leads_to maps own (after_make_folder did.pruned) did.unlinked x did.opens in
+          is_file (fin.get a.after.names own) x to.0 (did.spares.file ∙ tried_file maps c own did.unlinked did.linked own x to.0 did.links to.1)
 
-  -- ---- without a maximum
+  -- the name of an attempt that succeeded leads to a file
+  abbrev pub LeadsToFile : NameMap → Attempt → Type 0
+  LeadsToFile names a = is_some a.body ≡ true → IsFile (fin.get names (file_name_of c a.stamp))
 
-  -- the names of all attempts that succeeded lead to files
-  abbrev pub AllLead : NameMap → List AttemptTime → Type 0
-  AllLead names [] = Unit {0}
-  AllLead names ((step, s, ok) ∷ ts) = (ok ≡ true → IsFile (fin.get names (file_name_of c s))) × AllLead names ts
-
-  all_lead_on : (old new : Content) (ts : List AttemptTime) → KeepsEachFile old new → AllLead old.names ts → AllLead new.names ts
-  all_lead_on old new [] keeps all = tt
-  all_lead_on old new ((step, s, ok) ∷ ts) keeps all = ((λ opened. keeps_file old new (file_name_of c s) keeps (all.0 opened)), all_lead_on old new ts keeps all.1)
-
-  pub all_kept : c.max_files ≡ 0 → (attempts : List Attempt) (h : List Event) (first last : Content) → OnlyAttemptsChange c attempts h first last → KeepsEachFile first last × AllLead last.names (map time_of attempts)
-  all_kept none [] h first last leads = (same_names first last leads, tt)
-  all_kept none (a ∷ rest) h first last leads =
-      let earlier = all_kept none rest (events_before a.step h) first a.before leads.0 in
-      let same : last.names ≡ a.after.names = carried_names (open_body (a ∷ rest)) (pieces_since a.step h) a.after last leads.2 in
+  -- without a maximum
+  pub all_kept : c.max_files ≡ 0 → (attempts : List WrittenAttempt) (first last : Content) → OnlyAttemptsChange c attempts first last → KeepsEachFile first last × EachOf (LeadsToFile last.names) attempts
+  all_kept none [] first last leads = (same_names first last leads, tt)
+  all_kept none ((a, writes) ∷ earlier) first last leads =
+      let before = all_kept none earlier first a.before leads.0 in
+      let same : last.names ≡ a.after.names = carried_names (open_body ((a, writes) ∷ earlier)) (bytes_taken writes) a.after last leads.2 in
       let now : KeepsEachFile a.before last = λ name b t at. ap (λ (m : NameMap). fin.get m name) same ∙ tried_keeps a none leads.1 name b t at in (
-        keeps_on first a.before last earlier.0 now,
-        ((λ opened. subst (λ (m : NameMap). IsFile (fin.get m (file_name_of c a.stamp))) (sym same) (own_leads a leads.1 opened)), all_lead_on a.before last (map time_of rest) now earlier.1),
+        keeps_on first a.before last before.0 now,
+        (
+          (λ opened. subst (λ (m : NameMap). IsFile (fin.get m (file_name_of c a.stamp))) (sym same) (own_leads a leads.1 opened)),
+          each_map (LeadsToFile a.before.names) (LeadsToFile last.names) earlier (λ e leads opened. keeps_file a.before last (file_name_of c e.stamp) now (leads opened)) before.1,
+        ),
       )
 
-  module _ (start : Start) (names : NameMap) where
-    last_leads : (ts : List AttemptTime) → IsFile (fin.get names (file_name_of c (start_stamp start))) → AllLead names ts → IsFile (fin.get names (file_name_of c (last_opened start ts)))
-    last_leads [] begins all = begins
-    last_leads ((step, s, ok) ∷ ts) begins all = by ok all.0 (last_leads ts begins all.1)
-      where
-        by : (ok : Bool) → (ok ≡ true → IsFile (fin.get names (file_name_of c s))) → IsFile (fin.get names (file_name_of c (last_opened start ts))) → IsFile (fin.get names (file_name_of c (if ok then s else last_opened start ts)))
-        by true own earlier = own refl
-        by false own earlier = earlier
+  same_stamp : (s t : Stamp) → ◌≡◌ {A = Option Stamp} (Some s) (Some t) → s ≡ t
+  same_stamp s t e = cc
 
-    all_before : (e : Event) (h : List Event) → AllLead names (attempt_times c start (e ∷ h)) → AllLead names (attempt_times c start h)
-    all_before e h all = by (stamp_at c start (attempt_times c start h) e h) all
+  module _ (names : NameMap) where
+    open_leads : (attempts : List WrittenAttempt) → EachOf (LeadsToFile names) attempts → (s : Stamp) → open_stamp (map try_of attempts) ≡ Some s → IsFile (fin.get names (file_name_of c s))
+    open_leads [] all s is = absurd (let both : ◌≡◌ {A = Option Stamp} None (Some s) = is in cc)
+    open_leads ((a, writes) ∷ earlier) all s is = by (is_some a.body) all.0 (open_leads earlier all.1 s) is
       where
-        by : (o : Option Stamp) → AllLead names (with_time o (suc (length h)) (is_opened e.switch) (attempt_times c start h)) → AllLead names (attempt_times c start h)
-        by None all = all
-        by (Some s) all = all.1
-
-    begins_lead : (h : List Event) → AllLead names (attempt_times c start h) → IsFile (fin.get names (file_name_of c (start_stamp start)))
-    begins_lead [] all = all.0 refl
-    begins_lead (e ∷ h) all = begins_lead h (all_before e h all)
+        by : (ok : Bool) → (ok ≡ true → IsFile (fin.get names (file_name_of c a.stamp))) → (open_stamp (map try_of earlier) ≡ Some s → IsFile (fin.get names (file_name_of c s))) → (if ok then Some a.stamp else open_stamp (map try_of earlier)) ≡ Some s → IsFile (fin.get names (file_name_of c s))
+        by true own before is = subst (λ (x : Stamp). IsFile (fin.get names (file_name_of c x))) (same_stamp a.stamp s is) (own refl)
+        by false own before is = before is
 
     -- each name to which bytes were written leads to a file
-    pub written_lead : (h : List Event) → AllLead names (attempt_times c start h) → (name : List ℕ) → bytes_named c start name h ≢ [] → IsFile (fin.get names name)
-    written_lead [] all name some = absurd (some refl)
-    written_lead (e ∷ h) all name some = by (bytes_eq file name) refl some (written_lead h (all_before e h all) name)
+    pub written_lead : (name : List ℕ) (attempts : List WrittenAttempt) → EachOf (LeadsToFile names) attempts → written_to_name c name (map try_of attempts) ≢ [] → IsFile (fin.get names name)
+    written_lead name [] all some = absurd (some refl)
+    written_lead name ((a, writes) ∷ earlier) all some = by (open_stamp (map try_of ((a, writes) ∷ earlier))) refl (written_lead name earlier all.1) some
       where
-        file : List ℕ
-        file = file_name_of c (last_opened start (attempt_times c start (e ∷ h)))
+        by : (o : Option Stamp) → open_stamp (map try_of ((a, writes) ∷ earlier)) ≡ o → (written_to_name c name (map try_of earlier) ≢ [] → IsFile (fin.get names name))
+            → written_to_name c name (map try_of earlier) ++ (if option_map_or (λ (s : Stamp). bytes_eq (file_name_of c s) name) o false then bytes_taken writes else []) ≢ [] → IsFile (fin.get names name)
+        by None is before some = before (λ none. some (append-nil (written_to_name c name (map try_of earlier)) ∙ none))
+        by (Some s) is before some = named (bytes_eq (file_name_of c s) name) refl some
+          where
+            named : (d : Bool) → bytes_eq (file_name_of c s) name ≡ d → written_to_name c name (map try_of earlier) ++ (if d then bytes_taken writes else []) ≢ [] → IsFile (fin.get names name)
+            named true same some = subst (λ (n : List ℕ). IsFile (fin.get names n)) ((bytes_eq-Decides (file_name_of c s) name).0 same) (open_leads ((a, writes) ∷ earlier) all s is)
+            named false same some = before (λ none. some (append-nil (written_to_name c name (map try_of earlier)) ∙ none))
 
-        by : (d : Bool) → bytes_eq file name ≡ d → bytes_named c start name h ++ (if d then e.piece else []) ≢ [] → (bytes_named c start name h ≢ [] → IsFile (fin.get names name)) → IsFile (fin.get names name)
-        by true same some earlier =
-            subst (λ (n : List ℕ). IsFile (fin.get names n)) ((bytes_eq-Decides file name).0 same) (last_leads (attempt_times c start (e ∷ h)) (begins_lead (e ∷ h) all) all)
-        by false same some earlier = earlier (λ none. some (append-nil (bytes_named c start name h) ∙ none))
-
-  -- ---- the open file
-
-  abbrev SomeOpened : List AttemptTime → Type 0
-  SomeOpened [] = ⊥
-  SomeOpened ((step, s, ok) ∷ ts) = (ok ≡ true) ⊎ SomeOpened ts
-
-  opening_succeeded : (start : Start) (h : List Event) → SomeOpened (attempt_times c start h)
-  opening_succeeded start [] = inl refl
-  opening_succeeded start (e ∷ h) = by (stamp_at c start (attempt_times c start h) e h) (opening_succeeded start h)
+  -- the open file has its name if no try failed, or where retention doesn't come before an opening
+  pub open_file_leads : (attempts : List WrittenAttempt) (first last : Content) → OnlyAttemptsChange c attempts first last → (failures_in (map try_of attempts) ≡ 0) ⊎ (max_before c ≡ 0)
+      → (s : Stamp) → open_stamp (map try_of attempts) ≡ Some s → IsFile (fin.get last.names (file_name_of c s))
+  open_file_leads [] first last leads fine s is = absurd (let both : ◌≡◌ {A = Option Stamp} None (Some s) = is in cc)
+  open_file_leads ((a, writes) ∷ earlier) first last leads fine s is =
+      subst (λ (m : NameMap). IsFile (fin.get m (file_name_of c s))) (sym (carried_names (open_body ((a, writes) ∷ earlier)) (bytes_taken writes) a.after last leads.2))
+      (by a.body leads.1 (own_leads a leads.1) (open_file_leads earlier first a.before leads.0) fine is)
     where
-      by : (o : Option Stamp) → SomeOpened (attempt_times c start h) → SomeOpened (with_time o (suc (length h)) (is_opened e.switch) (attempt_times c start h))
-      by None some = some
-      by (Some s) some = inr some
-
-  leads_open : (start : Start) (attempts : List Attempt) (h : List Event) (first last : Content) → OnlyAttemptsChange c attempts h first last
-      → (max_before c ≡ 0) ⊎ AllOpened (map time_of attempts) → SomeOpened (map time_of attempts) → IsFile (fin.get last.names (file_name_of c (last_opened start (map time_of attempts))))
-  leads_open start [] h first last leads fine some = absurd some
-  leads_open start (a ∷ rest) h first last leads fine some =
-      subst (λ (m : NameMap). IsFile (fin.get m (file_name_of c (last_opened start (map time_of (a ∷ rest)))))) (sym same) (by (is_some a.body) refl fine some (leads_open start rest (events_before a.step h) first a.before leads.0))
-    where
-      same : last.names ≡ a.after.names
-      same = carried_names (open_body (a ∷ rest)) (pieces_since a.step h) a.after last leads.2
-
-      before : List ℕ
-      before = file_name_of c (last_opened start (map time_of rest))
-
-      failed : is_some a.body ≡ false → max_before c ≡ 0 → IsFile (fin.get a.before.names before) → IsFile (fin.get a.after.names before)
-      failed refused none is = on a.body leads.1 refused
-        where
-          on : (o : Option ℕ) → MatchOption o (IsRefusalEffect c (file_name_of c a.stamp) a.before a.after) (Succeeded c a) → is_some o ≡ false → IsFile (fin.get a.after.names before)
-          on None little refused = keeps_file a.before a.after before (failure_keeps (file_name_of c a.stamp) a.before a.after none little) is
-          on (Some x) did refused = absurd (let both : true ≡ false = refused in cc)
-
-      by : (ok : Bool) → is_some a.body ≡ ok → (max_before c ≡ 0) ⊎ ((ok ≡ true) × AllOpened (map time_of rest)) → (ok ≡ true) ⊎ SomeOpened (map time_of rest)
-          → ((max_before c ≡ 0) ⊎ AllOpened (map time_of rest) → SomeOpened (map time_of rest) → IsFile (fin.get a.before.names before))
-          → IsFile (fin.get a.after.names (file_name_of c (if ok then a.stamp else last_opened start (map time_of rest))))
-      by true is fine some earlier = own_leads a leads.1 is
-      by false is (inl none) (inl opened) earlier = absurd (let both : false ≡ true = opened in cc)
-      by false is (inl none) (inr some) earlier = failed is none (earlier (inl none) some)
-      by false is (inr all) some earlier = absurd (let both : false ≡ true = all.0 in cc)
-
-  pub open_leads : (start : Start) (attempts : List Attempt) (h : List Event) (first last : Content) → OnlyAttemptsChange c attempts h first last → map time_of attempts ≡ attempt_times c start h
-      → (max_before c ≡ 0) ⊎ AllOpened (attempt_times c start h) → IsFile (fin.get last.names (file_name_of c (last_opened start (attempt_times c start h))))
-  open_leads start attempts h first last leads are fine =
-      subst (λ (ts : List AttemptTime). (max_before c ≡ 0) ⊎ AllOpened ts → SomeOpened ts → IsFile (fin.get last.names (file_name_of c (last_opened start ts)))) are
-      (leads_open start attempts h first last leads) fine (opening_succeeded start h)
+      by : (o : Option ℕ) → MatchOption o (IsRefusalEffect c (file_name_of c a.stamp) a.before a.after) (Succeeded c a) → (is_some o ≡ true → IsFile (fin.get a.after.names (file_name_of c a.stamp)))
+          → ((failures_in (map try_of earlier) ≡ 0) ⊎ (max_before c ≡ 0) → (x : Stamp) → open_stamp (map try_of earlier) ≡ Some x → IsFile (fin.get a.before.names (file_name_of c x)))
+          → (failures_in (map try_of earlier) + (if is_some o then 0 else 1) ≡ 0) ⊎ (max_before c ≡ 0) → (if is_some o then Some a.stamp else open_stamp (map try_of earlier)) ≡ Some s → IsFile (fin.get a.after.names (file_name_of c s))
+      by (Some x) did own before fine is = subst (λ (y : Stamp). IsFile (fin.get a.after.names (file_name_of c y))) (same_stamp a.stamp s is) (own refl)
+      by None little own before (inl none) is = absurd (omega (arith, none))
+      by None little own before (inr none) is = keeps_file a.before a.after (file_name_of c s) (failure_keeps (file_name_of c a.stamp) a.before a.after none little) (before (inr none) s is)

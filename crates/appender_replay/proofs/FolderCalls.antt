@@ -18,13 +18,12 @@ use Rattle.appender_rolling.specs.Opening.{IsFirstNumber, IsListed, ListsNumbers
 use Rattle.appender_rolling.specs.Roller.{Rolling, ClosesLast, ChecksClock, Writes, Flushes}
 use Rattle.appender_rolling.specs.declared.rolling.Switch.{Switch}
 use Rattle.appender_rolling.specs.declared.rolling.Switch.TheVariants.{None as Stayed, Opened as Switched, Failed as SwitchFailed}
-use Rattle.appender_replay.specs.Replay.{by_kind}
-use Rattle.appender_replay.specs.Headline.{WriteList, Calls, CallsLead, CallsAppend, NotesNothing, HasFault, calls, notes, notes_attempt, Lists, Removes, Opens, MakesFolder as MakesFolderCall, RemovesLink, MakesLink, Flushes as FlushesFile}
+use Rattle.appender_replay.specs.Headline.{FileWrite, by_kind, Calls, CallsLead, CallsAppend, NotesNothing, HasFault, calls, notes, notes_try, Lists, Removes, Opens, MakesFolder as MakesFolderCall, RemovesLink, MakesLink, Flushes as FlushesFile}
 
 module _ {S F : Type 0} (kind : Ghosts S F) (failures_fit : (s : S) → kind.failures s < 2 ^ 64) (first : S) where
   -- calls that are no appends lead from one folder to the other
   abbrev pub Goes : S → S → Type 0
-  Goes s t = (writes : WriteList) → CallsLead kind first writes s → CallsLead kind first writes t
+  Goes s t = (writes : List FileWrite) → CallsLead kind first writes s → CallsLead kind first writes t
 
   pub goes_same : (s t : S) → t ≡ s → Goes s t
   goes_same s t same writes lead = subst (CallsLead kind first writes) (sym same) lead
@@ -206,7 +205,7 @@ module _ {S F : Type 0} (kind : Ghosts S F) (failures_fit : (s : S) → kind.fai
   looks_go m len Switched old new switches =
       goes_on old.folder switches.ready new.folder (opens_go old.config _ old.folder new.file switches.ready switches.opens) (closes_go switches.ready old.file new.folder switches.closes)
   looks_go m len SwitchFailed old new keeps =
-      goes_on old.folder keeps.refused new.folder (refuses_go old.config _ old.folder keeps.reason keeps.refused keeps.refuses) (λ writes lead. notes_attempt writes keeps.refused new.folder keeps.reason lead keeps.notes)
+      goes_on old.folder keeps.refused new.folder (refuses_go old.config _ old.folder keeps.reason keeps.refused keeps.refuses) (λ writes lead. notes_try writes keeps.refused new.folder keeps.reason lead keeps.notes)
 
   pub flushes_go : (answer : Result (Unit {0}) Error) (old new : Rolling S F) → Flushes kind answer old new → Goes old.folder new.folder
   flushes_go answer old new flushes = by_call old.folder new.folder (FlushesFile old.file new.file answer flushes.call) (quietly ⊥ answer old.folder new.folder flushes.cause flushes.stays.noted)

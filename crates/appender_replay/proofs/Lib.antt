@@ -1,16 +1,12 @@
 pub mod NamesLeft
 pub mod Periods
-pub mod Turns
 pub mod Clocks
-pub mod Owners
 pub mod Files
 pub mod Runs
-pub mod Keys
 pub mod Lines
-pub mod Wholes
 pub mod Bounds
 pub mod Accounts
-pub mod FileAccounts
+pub mod Texts
 pub mod NamesLead
 pub mod FilesStay
 pub mod Counting

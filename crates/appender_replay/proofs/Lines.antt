@@ -1,5 +1,5 @@
 -- The lines that were handed, and what was written of them.
-use Rattle.std.proofs.Common.{◌≡◌, ◌≢◌, ◌⊎◌, ℕ, suc, zero, ◌+◌, ◌-◌, ◌<◌, ◌≤◌, ◌==◌, nat_le, nat_lt, Bool, true, false, not, ◌&&◌, ◌||◌, if◌then◌else◌, List, [], ◌∷◌, ◌++◌, length, take, drop, get_or, is_some, length-drop, length-append, Result, Ok, Err, inl, inr, refl, ap, sym, ◌∙◌, subst, arith, append_assoc}
+use Rattle.std.proofs.Common.{◌≡◌, ◌≢◌, ◌⊎◌, ℕ, suc, zero, ◌+◌, ◌-◌, ◌<◌, ◌≤◌, ◌==◌, nat_le, nat_lt, Bool, true, false, not, ◌&&◌, ◌||◌, if◌then◌else◌, List, [], ◌∷◌, ◌++◌, length, take, drop, get_or, Option, None, Some, is_some, length-drop, length-append, Result, Ok, Err, inl, inr, refl, ap, sym, ◌∙◌, subst, arith, append_assoc}
 use Rattle.std.specs.Prelude.{ℤ, All}
 use Rattle.std.specs.declared.io.ErrorKind.{ErrorKind}
 use Rattle.std.proofs.lemmas.List.{append-nil, drop-drop, take_all, take_more, take-append-le}
@@ -8,11 +8,13 @@ use Rattle.std.proofs.Math.Seq.{take-add, length-take-le}
 use Rattle.appender_worker.specs.Core.{most_repeats}
 use Rattle.appender_worker.specs.CoreReplies.{is_interruption}
 use Rattle.appender_rolling.specs.Config.{Config}
+use Rattle.appender_rolling.specs.Roller.{written_count}
+use Rattle.appender_rolling.specs.declared.rolling.setup.Stamp.{Stamp}
 use Rattle.appender_rolling.specs.declared.rolling.Switch.{Switch}
+use Rattle.appender_rolling.specs.declared.rolling.Switch.TheVariants.{None as Stayed, Opened as Switched, Failed as SwitchFailed}
 use Rattle.appender_replay.specs.Start.{Start}
-use Rattle.appender_replay.specs.Headline.{RunAccount, Replies, Follows, account, account_after, account_after_write, account_take_reply}
-use Rattle.appender_replay.specs.Replay.{events_by}
-use Rattle.appender_replay.specs.Record.{StepWithReply, WrittenLine, accepted_labels, handed_labels, taken_line, line_after_write, written_by, written_lines, text_of_lines, whole_lines, file_event, run_event, text_of_events}
+use Rattle.appender_replay.specs.Headline.{RunAccount, Files, Replies, Follows, account, account_after, account_after_write, account_take_reply, bytes_taken, writes_of, due_file, later_moment, files_after_try, files_after_check}
+use Rattle.appender_replay.specs.Record.{StepWithReply, WrittenLine, accepted_labels, handed_labels, taken_line, line_after_write, written_by, written_lines, text_of_lines, whole_lines}
 use Rattle.appender_replay.specs.Whole.{IsDone, AreDone, IsBegun, HandsInOrder, TextLaw}
 use Rattle.appender_replay.specs.declared.replay.whole.Step.TheVariants.{Offer, Shut, Work}
 use Rattle.appender_replay.specs.declared.replay.whole.Reply.{Reply}
@@ -168,12 +170,37 @@ same_lines a m switch answer [] = refl
 same_lines a m switch (Ok n) (w ∷ earlier) = refl
 same_lines a m switch (Err kind) (w ∷ earlier) = refl
 
+-- ---- what all writes took
+
+abbrev text_of : Files → List ℕ
+text_of f = bytes_taken (writes_of (f.newest ∷ f.earlier))
+
+-- what a step wrote of the rest of the line in hand
+abbrev piece_of : List ℕ → StepWithReply → List ℕ
+piece_of rest (Work m, Wrote switch answer) = take (written_count answer) rest
+piece_of rest t = []
+
+check_text : (c : Config) (m : ℤ) (len : ℕ) (switch : Switch) (f : Files) → text_of (files_after_check c m len switch f) ≡ text_of f
+check_text c m len switch f = by (due_file c f m len) switch
+  where
+    by : (o : Option Stamp) (switch : Switch) → text_of (files_after_try o switch (record f { latest = later_moment f.latest m })) ≡ text_of f
+    by None switch = refl
+    by (Some s) Stayed = refl
+    by (Some s) Switched = refl
+    by (Some s) SwitchFailed = refl
+
+text_more : (c : Config) (a : RunAccount) (t : StepWithReply) → text_of (account_after c a t).files ≡ text_of a.files ++ piece_of a.rest t
+text_more c a (Work m, Wrote switch answer) = ap (λ (xs : List ℕ). xs ++ take (written_count answer) a.rest) (check_text c m (length a.rest) switch a.files)
+text_more c a (Offer label line, Accepted k) = sym (append-nil (text_of a.files))
+text_more c a (Shut, DidShut Sent) = sym (append-nil (text_of a.files))
+text_more c a (s, r) = sym (append-nil (text_of a.files))
+
 -- ---- one step
 
 -- What a step does to the lines: what is known of them, and the bytes that it adds.
 record Steps (after : RunAccount) (rest : List ℕ) (t : StepWithReply) (lines now : List WrittenLine) : Type 0 where
   leaves : Leaves after.rest after.interrupted now
-  text : text_of_lines lines ++ (file_event rest t).piece ≡ text_of_lines now
+  text : text_of_lines lines ++ piece_of rest t ≡ text_of_lines now
 
 line_steps : (limit : ℕ) (c : Config) (a : RunAccount) (t : StepWithReply) (lines : List WrittenLine) → Replies limit c a t → DoneBy a.rest a.interrupted lines → All IsBegun lines → Steps (account_after c a t) a.rest t lines (written_by a t lines)
 line_steps limit c a (Work m, Took k) lines gets done begun = record { leaves = taken (get_or a.accepted a.handed []) lines (all_done a.rest a.interrupted lines gets.0 done) begun; text = refl }
@@ -252,7 +279,7 @@ module _ (limit : ℕ) (c : Config) (start : Start) where
   -- What is known after these steps.
   record LinesSoFar (past : List StepWithReply) : Type 0 where
     leaves : Leaves (account c start past).rest (account c start past).interrupted (written_lines c start past)
-    text : text_of_events (events_by (run_event c start) past) ≡ text_of_lines (written_lines c start past)
+    text : text_of (account c start past).files ≡ text_of_lines (written_lines c start past)
     order : InOrder past (account c start past).accepted (account c start past).handed (written_lines c start past)
 
   lines_so_far : (past : List StepWithReply) → Follows limit c start past → LinesSoFar past
@@ -263,7 +290,7 @@ module _ (limit : ℕ) (c : Config) (start : Start) where
       let step = line_steps limit c a t (written_lines c start past) all.1 so.leaves.done so.leaves.begun in
       record {
         leaves = step.leaves;
-        text = ap (λ text. text ++ (file_event a.rest t).piece) so.text ∙ step.text;
+        text = text_more c a t ∙ ap (λ text. text ++ piece_of a.rest t) so.text ∙ step.text;
         order = order_on limit c past a t (written_lines c start past) all.1 so.order;
       }
 

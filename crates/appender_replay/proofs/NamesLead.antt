@@ -1,7 +1,7 @@
 -- The names that the attempts of a run leave, one after another.
 use Rattle.std.proofs.Common.{◌≡◌, ◌≢◌, ◌∙◌, ◌⊎◌, ℕ, ℤ, ◌<◌, ◌≤◌, nat_le, Bool, true, false, ◌||◌, List, [], ◌∷◌, ◌++◌, length, map, All, Any, Contains, Option, None, Some, is_some, inl, inr, refl, sym, ap, subst, arith}
 use Rattle.std.specs.Prelude.{if◌then◌else◌, ◌==◌, MatchOption}
-use Rattle.std.specs.Option.{option_map, option_map_or, option_and_then}
+use Rattle.std.specs.Option.{option_map_or, option_and_then}
 use Rattle.std.specs.FinMap as fin
 use Rattle.std.proofs.lemmas.List.{length-set}
 use Rattle.std.proofs.lemmas.List.Elements.{All-head, All-tail}
@@ -15,12 +15,9 @@ use Rattle.appender_rolling.specs.Config.{Config, log_files_of, max_before, max_
 use Rattle.appender_rolling.specs.Kept.{OpeningPartsKeepBodies}
 use Rattle.appender_rolling.specs.declared.rolling.setup.Stamp.{Stamp}
 use Rattle.appender_rolling.specs.Opening.{file_name_of, IsRefusalEffect, MayRemoveLink, MayRemoveNew}
-use Rattle.appender_replay.specs.Run.{Event, Attempt, pieces_since, events_before, open_body, Carried, OnlyAttemptsChange, Succeeded, AttemptDoes, EachOf}
-use Rattle.appender_replay.specs.Headline.{NamesAfterOpening, NamesAfterFailure, NamesAfterAttempts, kept_entry}
-use Rattle.appender_replay.proofs.NamesLeft.{nothing_survives, nothing_survives_last, unlimited_keep, either_leaves, left_by, leads_to, removed_name, opened_other, freed_other, unremoved_other, tried_other, tried_file}
-
-abbrev pub stamps_in : List Attempt → List Stamp
-stamps_in = map (λ (a : Attempt). a.stamp)
+use Rattle.appender_replay.specs.Run.{Attempt, WrittenAttempt, try_of, open_body, Carried, OnlyAttemptsChange, Succeeded, AttemptDoes, EachOf}
+use Rattle.appender_replay.specs.Headline.{FileWrite, Try, bytes_taken, NamesAfterOpening, NamesAfterFailure, NamesAfterTries, kept_entry}
+use Rattle.appender_replay.proofs.NamesLeft.{linked_name, nothing_survives, nothing_survives_last, unlimited_keep, either_leaves, left_by, leads_to, removed_name, opened_other, freed_other, unremoved_other, tried_other, tried_file}
 
 pub carried_names : (o : Option ℕ) (bytes : List ℕ) (old new : Content) → Carried o bytes old new → new.names ≡ old.names
 carried_names None bytes old new is = ap (λ (d : Content). d.names) is
@@ -48,10 +45,10 @@ module _ (parts : OpeningPartsKeepBodies) (c : Config) where
           ((parts.opening (file_name_of c a.stamp) (after_make_folder did.pruned) did.unlinked b did.opens).keeps.more x
           ((parts.folder did.pruned).keeps.more x ((parts.retention (log_files_of c (Some (file_name_of c a.stamp))) (max_before c) a.before did.pruned did.only_old).keeps.more x lt))))
 
-  pub leads_bodies : (attempts : List Attempt) (h : List Event) (first last : Content) → OnlyAttemptsChange c attempts h first last → HasAll first last
-  leads_bodies [] h first last leads x lt = rw leads lt
-  leads_bodies (a ∷ rest) h first last leads x lt =
-      carried_bodies (open_body (a ∷ rest)) (pieces_since a.step h) a.after last leads.2 x (tried_bodies a leads.1 x (leads_bodies rest (events_before a.step h) first a.before leads.0 x lt))
+  pub leads_bodies : (attempts : List WrittenAttempt) (first last : Content) → OnlyAttemptsChange c attempts first last → HasAll first last
+  leads_bodies [] first last leads x lt = rw leads lt
+  leads_bodies ((a, writes) ∷ earlier) first last leads x lt =
+      carried_bodies (open_body ((a, writes) ∷ earlier)) (bytes_taken writes) a.after last leads.2 x (tried_bodies a leads.1 x (leads_bodies earlier first a.before leads.0 x lt))
 
 at_least : (m n : ℕ) → ((x : ℕ) → x < m → x < n) → m ≤ n
 at_least m n more = by (nat_le m n) refl
@@ -138,38 +135,38 @@ module _ (maps : NameLaws) (c : Config) where
           inr (sym (own_is b to.0 to.1) ∙ free, omega arith),
         )
 
-    -- what leaves a name, if it survives, leaves exactly what survives
-    link_kept : (fin.get a.after.names c.link ≡ fin.get a.before.names c.link) ⊎ ((fin.get a.after.names c.link ≡ None) × (name_survives log c.max_files a.before.names c.link ≡ false))
-        → ((IsQuiet a.noted_before a.noted_after ⊎ (a.before.there ≡ false)) → fin.get a.after.names c.link ≡ kept_entry c a.stamp a.before.names c.link)
-        → fin.get a.after.names c.link ≡ kept_entry c a.stamp a.before.names c.link
-    link_kept left survivors = elim all [
-      | inl none ↦
-          let survives = all_survive log c.max_files a.before.names c.link none in
-          elim left [
-            | inl same ↦ same ∙ sym (ap (λ (s : Bool). if s then fin.get a.before.names c.link else None) survives)
-            | inr gone ↦ absurd (let both : true ≡ false = sym survives ∙ gone.1 in cc)
-          ]
-      | inr (inl quiet) ↦ survivors (inl quiet)
-      | inr (inr absent) ↦ survivors (inr absent.0)
-    ]
+    -- what is left of a name that the opening does not change
+    left : (name : List ℕ) → fin.get did.linked.names name ≡ fin.get did.pruned.names name → fin.get a.after.names name ≡ kept_entry c a.stamp a.before.names name
+    left name same = left_by c log a.before.names did.linked.names a.after.names name (left_is a b did all name) (did.spares.same name) (same ∙ pruned_is a b did all name)
 
-    leaves : NamesAfterOpening c n a.stamp a.before.names a.after.names
+    -- a link that was not made
+    link_kept : c.link ≢ own → MayRemoveLink c.link did.unlinked did.linked
+        → (fin.get a.after.names c.link ≡ kept_entry c a.stamp a.before.names c.link) ⊎ (IsLink (fin.get a.before.names c.link) × (fin.get a.after.names c.link ≡ None))
+    link_kept apart (inl same) = inl (left c.link (ap (λ (d : Content). fin.get d.names c.link) same ∙ opened_other maps own (after_make_folder did.pruned) did.unlinked b c.link did.opens apart))
+    link_kept apart (inr removes) = inr (
+      elim (did.only_old.names c.link) [
+        | inl same ↦ subst IsLink (sym there ∙ same) tt
+        | inr gone ↦ absurd (let both : ◌≡◌ {A = Option Entry} None (Some (Link removes.was_there.0)) = sym gone.0 ∙ there in cc)
+      ],
+      elim (did.only_old_last.names c.link) [ inl same ↦ same ∙ none | inr gone ↦ gone.0 ],
+    )
+      where
+        there : fin.get did.pruned.names c.link ≡ Some (Link removes.was_there.0)
+        there = sym (opened_other maps own (after_make_folder did.pruned) did.unlinked b c.link did.opens apart) ∙ removes.was_there.1
+
+        none : fin.get did.linked.names c.link ≡ None
+        none = ap (λ (d : Content). fin.get d.names c.link) removes.after ∙ removed_name maps did.unlinked.names c.link
+
+    pub leaves : NamesAfterOpening c n a.stamp a.before.names a.after.names
     leaves = record {
       own = own_name did.opens;
-      link = λ is_set. elim (did.names.link is_set) [
-        | inl made ↦ inl made
-        | inr (optional, link_left) ↦ inr (
-          optional,
-          λ apart. elim (link_left apart) [
-            | inl gone ↦ inr gone
-            | inr (left, survivors) ↦ inl (link_kept left survivors)
-          ],
-        )
+      link = λ is_set. elim did.links [
+        | inl changes ↦
+            let made : fin.get did.linked.names c.link ≡ Some (Link own) = linked_name maps c.link own did.unlinked did.linked changes is_set in
+            inl (did.spares.link (inl (subst IsLink (sym made) tt)) ∙ made)
+        | inr (optional, set, frees) ↦ inr (optional, λ apart. link_kept apart frees)
       ];
-      others = λ name not_own not_link.
-          left_by c log a.before.names did.linked.names a.after.names name (left_is a b did all name) (did.spares.same name)
-          (tried_other maps c own did.unlinked did.linked name did.links (λ same. absurd (not_link same)) ∙ opened_other maps own (after_make_folder did.pruned) did.unlinked b name did.opens not_own
-          ∙ pruned_is a b did all name);
+      others = λ name not_own not_link. left name (tried_other maps c own did.unlinked did.linked name did.links (λ same. absurd (not_link same)) ∙ opened_other maps own (after_make_folder did.pruned) did.unlinked b name did.opens not_own);
     }
 
   -- ---- attempts that failed
@@ -261,39 +258,36 @@ module _ (maps : NameLaws) (c : Config) where
   abbrev pub LeavesAll : Attempt → Type 0
   LeavesAll a = ((is_some a.body ≡ true) ⊎ (max_before c ≡ 0)) × PrunesAll a
 
-  abbrev pub outcomes_in : List Attempt → List Bool
-  outcomes_in = map (λ (a : Attempt). is_some a.body)
-
-  all_leave : (parts : OpeningPartsKeepBodies) (n : ℕ) (attempts : List Attempt) (h : List Event) (first last : Content) → ((x : ℕ) → x < n → x < length first.bodies)
-      → OnlyAttemptsChange c attempts h first last → EachOf LeavesAll attempts → NamesAfterAttempts c n (outcomes_in attempts) (stamps_in attempts) first.names last.names
-  all_leave parts n [] h first last more leads all = ap (λ (d : Content). d.names) leads
-  all_leave parts n (a ∷ rest) h first last more leads all =
-      by a.body refl leads.1 all.0.0 (all_leave parts n rest (events_before a.step h) first a.before more leads.0 all.1)
+  all_leave : (parts : OpeningPartsKeepBodies) (n : ℕ) (attempts : List WrittenAttempt) (first last : Content) → ((x : ℕ) → x < n → x < length first.bodies)
+      → OnlyAttemptsChange c attempts first last → EachOf LeavesAll attempts → NamesAfterTries c n (map try_of attempts) first.names last.names
+  all_leave parts n [] first last more leads all = ap (λ (d : Content). d.names) leads
+  all_leave parts n ((a, writes) ∷ earlier) first last more leads all =
+      by a.body refl leads.1 all.0.0 (all_leave parts n earlier first a.before more leads.0 all.1)
     where
       names : last.names ≡ a.after.names
-      names = carried_names (open_body (a ∷ rest)) (pieces_since a.step h) a.after last leads.2
+      names = carried_names (open_body ((a, writes) ∷ earlier)) (bytes_taken writes) a.after last leads.2
 
       grown : (x : ℕ) → x < n → x < length a.before.bodies
-      grown x lt = leads_bodies parts c rest (events_before a.step h) first a.before leads.0 x (more x lt)
+      grown x lt = leads_bodies parts c earlier first a.before leads.0 x (more x lt)
 
       by : (o : Option ℕ) → a.body ≡ o → MatchOption o (IsRefusalEffect c (file_name_of c a.stamp) a.before a.after) (Succeeded c a) → (is_some o ≡ true) ⊎ (max_before c ≡ 0)
-          → NamesAfterAttempts c n (outcomes_in rest) (stamps_in rest) first.names a.before.names → NamesAfterAttempts c n (is_some o ∷ outcomes_in rest) (a.stamp ∷ stamps_in rest) first.names last.names
-      by None is little (inl some) earlier = absurd (let both : false ≡ true = some in cc)
-      by None is little (inr none) earlier =
-          (a.before.names, earlier, subst (λ (m : NameMap). NamesAfterFailure c n a.stamp a.before.names m) (sym names) (fails n a.stamp none a.before a.after little grown))
-      by (Some b) is did fine earlier =
-          (a.before.names, earlier, subst (λ (m : NameMap). NamesAfterOpening c n a.stamp a.before.names m) (sym names) (leaves n a b did all.0.1 grown))
+          → NamesAfterTries c n (map try_of earlier) first.names a.before.names → NamesAfterTries c n (record { stamp = a.stamp; opened = is_some o; writes = writes } ∷ map try_of earlier) first.names last.names
+      by None is little (inl some) before = absurd (let both : false ≡ true = some in cc)
+      by None is little (inr none) before =
+          (a.before.names, before, subst (λ (m : NameMap). NamesAfterFailure c n a.stamp a.before.names m) (sym names) (fails n a.stamp none a.before a.after little grown))
+      by (Some b) is did fine before =
+          (a.before.names, before, subst (λ (m : NameMap). NamesAfterOpening c n a.stamp a.before.names m) (sym names) (leaves n a b did all.0.1 grown))
 
-  pub names_lead : (parts : OpeningPartsKeepBodies) (attempts : List Attempt) (h : List Event) (first last : Content) → OnlyAttemptsChange c attempts h first last → EachOf LeavesAll attempts
-      → NamesAfterAttempts c (length first.bodies) (outcomes_in attempts) (stamps_in attempts) first.names last.names
-  names_lead parts attempts h first last leads all = all_leave parts (length first.bodies) attempts h first last (λ x lt. lt) leads all
+  pub names_lead : (parts : OpeningPartsKeepBodies) (attempts : List WrittenAttempt) (first last : Content) → OnlyAttemptsChange c attempts first last → EachOf LeavesAll attempts
+      → NamesAfterTries c (length first.bodies) (map try_of attempts) first.names last.names
+  names_lead parts attempts first last leads all = all_leave parts (length first.bodies) attempts first last (λ x lt. lt) leads all
 
   -- ---- other names
 
-  module _ (name : List ℕ) (not_link : name ≢ c.link) (stamps : List Stamp) where
+  module _ (name : List ℕ) (not_link : name ≢ c.link) (tries : List Try) where
     -- what was a candidate when one of these files was opened
     abbrev WasOld : Option Entry → Type 0
-    WasOld o = Any (λ (s : Stamp). is_some (option_and_then (λ (e : Entry). rank_of (log_files_of c (Some (file_name_of c s))) (0, entry_row (name, e))) o) ≡ true) stamps
+    WasOld o = Any (λ (t : Try). is_some (option_and_then (λ (e : Entry). rank_of (log_files_of c (Some (file_name_of c t.stamp))) (0, entry_row (name, e))) o) ≡ true) tries
 
     -- a name leads to what it led to, or it was a candidate's and is removed
     abbrev pub MayGo : NameMap → NameMap → Type 0
@@ -319,50 +313,56 @@ module _ (maps : NameLaws) (c : Config) where
     after_set : max_after c ≢ 0 → c.max_files ≢ 0
     after_set some none = some (none_after none)
 
-    pruned_may : (s : Stamp) → Contains stamps s → (max : ℕ) (old new : Content) → (max ≢ 0 → c.max_files ≢ 0) → RemovesOnlyOld (log_files_of c (Some (file_name_of c s))) max old new → MayGo old.names new.names
-    pruned_may s at max old new is_set only = elim (only.names name) [
+    pruned_may : (t : Try) → Contains tries t → (max : ℕ) (old new : Content) → (max ≢ 0 → c.max_files ≢ 0) → RemovesOnlyOld (log_files_of c (Some (file_name_of c t.stamp))) max old new → MayGo old.names new.names
+    pruned_may t at max old new is_set only = elim (only.names name) [
       | inl same ↦ inl same
       | inr gone ↦
-          let was = candidate (max == 0) (name_rank (log_files_of c (Some (file_name_of c s))) old.names name) _ gone.1 in
+          let was = candidate (max == 0) (name_rank (log_files_of c (Some (file_name_of c t.stamp))) old.names name) _ gone.1 in
           let set : c.max_files ≢ 0 = is_set (λ e. let zero : (max == 0) ≡ true = grind arith in let both : true ≡ false = sym zero ∙ was.0 in cc) in
-          inr (gone.0, set, (at.0, s, at.1, at.2, was.1))
+          inr (gone.0, set, (at.0, t, at.1, at.2, was.1))
     ]
 
-    module _ (s : Stamp) (at : Contains stamps s) (not_own : name ≢ file_name_of c s) where
+    module _ (t : Try) (at : Contains tries t) (not_own : name ≢ file_name_of c t.stamp) where
       abbrev file : List ℕ
-      file = file_name_of c s
+      file = file_name_of c t.stamp
 
       opened_may : (old pruned unlinked : Content) (b : ℕ) → RemovesOnlyOld (log_files_of c (Some file)) (max_before c) old pruned → OpensBody file (after_make_folder pruned) unlinked b → MayGo old.names unlinked.names
       opened_may old pruned unlinked b only opens =
-          then_same old.names pruned.names unlinked.names (pruned_may s at (max_before c) old pruned before_set only) (opened_other maps file (after_make_folder pruned) unlinked b name opens not_own)
+          then_same old.names pruned.names unlinked.names (pruned_may t at (max_before c) old pruned before_set only) (opened_other maps file (after_make_folder pruned) unlinked b name opens not_own)
 
       little_may : (old new : Content) → IsRefusalEffect c file old new → MayGo old.names new.names
       little_may old new little = elim little.rest [
-        | inl same ↦ then_same old.names little.pruned.names new.names (pruned_may s at (max_before c) old little.pruned before_set little.only_old) (ap (λ (d : Content). fin.get d.names name) same)
-        | inr (inl same) ↦ then_same old.names little.pruned.names new.names (pruned_may s at (max_before c) old little.pruned before_set little.only_old) (ap (λ (d : Content). fin.get d.names name) same)
+        | inl same ↦ then_same old.names little.pruned.names new.names (pruned_may t at (max_before c) old little.pruned before_set little.only_old) (ap (λ (d : Content). fin.get d.names name) same)
+        | inr (inl same) ↦ then_same old.names little.pruned.names new.names (pruned_may t at (max_before c) old little.pruned before_set little.only_old) (ap (λ (d : Content). fin.get d.names name) same)
         | inr (inr (unlinked, b, left, opens, frees, removes)) ↦
             then_same old.names unlinked.names new.names (opened_may old little.pruned unlinked b little.only_old opens)
             (unremoved_other maps c file old left new name removes not_own ∙ freed_other maps c.link unlinked left name frees not_link)
       ]
 
-      succeeded_may : (a : Attempt) (b : ℕ) → a.stamp ≡ s → Succeeded c a b → MayGo a.before.names a.after.names
+      succeeded_may : (a : Attempt) (b : ℕ) → a.stamp ≡ t.stamp → Succeeded c a b → MayGo a.before.names a.after.names
       succeeded_may a b is did =
           may_go_on a.before.names did.linked.names a.after.names
           (then_same a.before.names did.unlinked.names did.linked.names
           (opened_may a.before did.pruned did.unlinked b (subst (λ (x : Stamp). RemovesOnlyOld (log_files_of c (Some (file_name_of c x))) (max_before c) a.before did.pruned) is did.only_old) (subst (λ (x : Stamp). OpensBody (file_name_of c x) (after_make_folder did.pruned) did.unlinked b) is did.opens))
           (tried_other maps c (file_name_of c a.stamp) did.unlinked did.linked name did.links (λ same. absurd (not_link same))))
-          (pruned_may a.stamp (subst (Contains stamps) (sym is) at) (max_after c) did.linked a.after after_set did.only_old_last)
+          (pruned_may t at (max_after c) did.linked a.after after_set (subst (λ (x : Stamp). RemovesOnlyOld (log_files_of c (Some (file_name_of c x))) (max_after c) did.linked a.after) is did.only_old_last))
 
-    tried_may : (a : Attempt) → AttemptDoes c a → Contains stamps a.stamp → name ≢ file_name_of c a.stamp → MayGo a.before.names a.after.names
-    tried_may a did at not_own = by a.body did
+    tried_may : (a : Attempt) (writes : List FileWrite) → AttemptDoes c a → Contains tries (try_of (a, writes)) → name ≢ file_name_of c a.stamp → MayGo a.before.names a.after.names
+    tried_may a writes did at not_own = by a.body did
       where
         by : (o : Option ℕ) → MatchOption o (IsRefusalEffect c (file_name_of c a.stamp) a.before a.after) (Succeeded c a) → MayGo a.before.names a.after.names
-        by None did = little_may a.stamp at not_own a.before a.after did
-        by (Some b) did = succeeded_may a.stamp at not_own a b refl did
+        by None did = little_may (try_of (a, writes)) at not_own a.before a.after did
+        by (Some b) did = succeeded_may (try_of (a, writes)) at not_own a b refl did
 
-    pub others_stay : (attempts : List Attempt) (h : List Event) (first last : Content) → OnlyAttemptsChange c attempts h first last → All (Contains stamps) (stamps_in attempts) → All (λ s. name ≢ file_name_of c s) (stamps_in attempts) → MayGo first.names last.names
-    others_stay [] h first last leads all others = inl (ap (λ (d : Content). fin.get d.names name) leads)
-    others_stay (a ∷ rest) h first last leads all others =
+    abbrev IsOther : Try → Type 0
+    IsOther t = name ≢ file_name_of c t.stamp
+
+    pub others_stay : (attempts : List WrittenAttempt) (first last : Content) → OnlyAttemptsChange c attempts first last → All (Contains tries) (map try_of attempts) → All IsOther (map try_of attempts) → MayGo first.names last.names
+    others_stay [] first last leads all others = inl (ap (λ (d : Content). fin.get d.names name) leads)
+    others_stay ((a, writes) ∷ earlier) first last leads all others =
+        let t : Try = try_of (a, writes) in
+        let ts : List Try = map try_of earlier in
         then_same first.names a.after.names last.names
-        (may_go_on first.names a.before.names a.after.names (others_stay rest (events_before a.step h) first a.before leads.0 (All-tail (Contains stamps) a.stamp (stamps_in rest) all) (All-tail (λ s. name ≢ file_name_of c s) a.stamp (stamps_in rest) others)) (tried_may a leads.1 (All-head (Contains stamps) a.stamp (stamps_in rest) all) (All-head (λ s. name ≢ file_name_of c s) a.stamp (stamps_in rest) others)))
-        (ap (λ (m : NameMap). fin.get m name) (carried_names (open_body (a ∷ rest)) (pieces_since a.step h) a.after last leads.2))
+        (may_go_on first.names a.before.names a.after.names (others_stay earlier first a.before leads.0 (All-tail (Contains tries) t ts all) (All-tail IsOther t ts others))
+        (tried_may a writes leads.1 (All-head (Contains tries) t ts all) (All-head IsOther t ts others)))
+        (ap (λ (m : NameMap). fin.get m name) (carried_names (open_body ((a, writes) ∷ earlier)) (bytes_taken writes) a.after last leads.2))

@@ -1,16 +1,14 @@
 -- The names that an attempt leaves.
-use Rattle.std.proofs.Common.{◌≡◌, ◌≢◌, ◌∙◌, ◌⊎◌, ◌||◌, ℕ, ℤ, Bool, true, false, if◌then◌else◌, List, [], ◌∷◌, Option, None, Some, is_some, inl, inr, refl, sym, ap, subst}
+use Rattle.std.proofs.Common.{◌≡◌, ◌≢◌, ◌∙◌, ◌||◌, ℕ, ℤ, Bool, true, false, if◌then◌else◌, List, [], ◌∷◌, Option, None, Some, is_some, inl, inr, refl, sym, ap, subst}
 use Rattle.std.specs.Prelude.{◌==◌, option_and_then}
 use Rattle.std.specs.FinMap as fin
 use Rattle.appender_retain.specs.Rank.{LogFiles, rank_of, rank_survives}
-use Rattle.appender_store.specs.Content.{Content, NameMap, Entry, File, Link, IsLink, OpensBody, IsSound, after_make_folder}
+use Rattle.appender_store.specs.Content.{Content, NameMap, Entry, File, Link, OpensBody, IsSound}
 use Rattle.appender_store.specs.Folder.{entry_row}
 use Rattle.appender_store.specs.NameLaws.{NameLaws}
-use Rattle.appender_retain.specs.Pruning.{IsQuiet}
 use Rattle.appender_retain.specs.Survival.{RemovesOnlyOld, KeepsSurvivors, name_rank, name_ranks, name_survives}
 use Rattle.appender_rolling.specs.Config.{Config, log_files_of, max_before, max_after}
-use Rattle.appender_rolling.specs.Opening.{file_name_of, MayRemoveLink, MayRemoveNew, ChangesLink, MayChangeLink, SparesOpened}
-use Rattle.appender_replay.specs.Run.{Attempt, IsOtherName, LeavesLink, NamesAfter}
+use Rattle.appender_rolling.specs.Opening.{MayRemoveLink, MayRemoveNew, ChangesLink, MayChangeLink, SparesOpened}
 
 -- a file's name is not that of a link that was made
 no_file : (target : List ℕ) (x : ℕ) (t : Option ℤ) → ¬ (◌≡◌ {A = Option Entry} (Some (Link target)) (Some (File x t)))
@@ -57,22 +55,7 @@ pub nothing_survives_last : (c : Config) (name : List ℕ) (old linked new : Con
 nothing_survives_last c name old linked new sound gone spares took =
     all_keep (log_files_of c (Some name)) (max_after c) linked new (λ other. spares.same other ∙ none_survives (log_files_of c (Some name)) (max_after c) old.names other (none_of (fin.get old.names other) (sound.absent gone other))) took
 
--- what retention takes before the opening or after it, it takes with the maximum
-weaker_before : (c : Config) (log : LogFiles) (names : NameMap) (name : List ℕ) → name_survives log (max_before c) names name ≡ false → name_survives log c.max_files names name ≡ false
-weaker_before c log names name = by c.by_name
-  where
-    by : (t : Bool) → name_survives log (if t then 0 else c.max_files) names name ≡ false → name_survives log c.max_files names name ≡ false
-    by true falls = absurd (let both : true ≡ false = falls in cc)
-    by false falls = falls
-
-weaker_after : (c : Config) (log : LogFiles) (names : NameMap) (name : List ℕ) → name_survives log (max_after c) names name ≡ false → name_survives log c.max_files names name ≡ false
-weaker_after c log names name = by c.by_name
-  where
-    by : (t : Bool) → name_survives log (if t then c.max_files else 0) names name ≡ false → name_survives log c.max_files names name ≡ false
-    by true falls = falls
-    by false falls = absurd (let both : true ≡ false = falls in cc)
-
--- and both leave what the maximum leaves
+-- what retention before the opening and after it leave is what the maximum leaves
 pub either_leaves : (c : Config) (log : LogFiles) (names : NameMap) (name : List ℕ) (v : Option Entry) → (if name_survives log (max_after c) names name then (if name_survives log (max_before c) names name then v else None) else None) ≡ (if name_survives log c.max_files names name then v else None)
 either_leaves c log names name v = by c.by_name
   where
@@ -123,7 +106,7 @@ module _ (maps : NameLaws) where
       let ne : n ≢ b ∷ bs = λ is. let both : ◌≡◌ {A = List ℕ} (b ∷ bs) [] = unset is in cc in
       ap (λ (d : Content). fin.get d.names n) makes.after ∙ added_other freed.names (b ∷ bs) (Link name) n ne ∙ freed_other (b ∷ bs) old freed n frees ne
 
-  linked_name : (link name : List ℕ) (old new : Content) → ChangesLink link name old new → link ≢ [] → fin.get new.names link ≡ Some (Link name)
+  pub linked_name : (link name : List ℕ) (old new : Content) → ChangesLink link name old new → link ≢ [] → fin.get new.names link ≡ Some (Link name)
   linked_name [] name old new same is_set = absurd (is_set refl)
   linked_name (b ∷ bs) name old new (freed, frees, makes) is_set = ap (λ (d : Content). fin.get d.names (b ∷ bs)) makes.after ∙ added_name freed.names (b ∷ bs) (Link name)
 
@@ -146,73 +129,3 @@ module _ (maps : NameLaws) where
   tried_file c name old new m x t (inr (optional, is_set, inl same)) at = ap (λ (d : Content). fin.get d.names m) same ∙ at
   tried_file c name old new m x t (inr (optional, is_set, inr removes)) at =
       freed_other c.link old new m (inr removes) (λ is. no_file removes.was_there.0 x t (sym removes.was_there.1 ∙ ap (fin.get old.names) (sym is) ∙ at)) ∙ at
-
-  -- after an attempt that opened a body
-  module _ (c : Config) (a : Attempt) (b : ℕ) (pruned unlinked linked : Content) (only_old : RemovesOnlyOld (log_files_of c (Some (file_name_of c a.stamp))) (max_before c) a.before pruned)
-      (survivors : (IsQuiet a.noted_before a.noted_after ⊎ (a.before.there ≡ false)) → KeepsSurvivors (log_files_of c (Some (file_name_of c a.stamp))) (max_before c) a.before pruned)
-      (opens : OpensBody (file_name_of c a.stamp) (after_make_folder pruned) unlinked b) (links : MayChangeLink c (file_name_of c a.stamp) unlinked linked)
-      (only_old_last : RemovesOnlyOld (log_files_of c (Some (file_name_of c a.stamp))) (max_after c) linked a.after)
-      (survivors_last : (IsQuiet a.noted_before a.noted_after ⊎ (a.before.there ≡ false)) → KeepsSurvivors (log_files_of c (Some (file_name_of c a.stamp))) (max_after c) linked a.after)
-      (spares : SparesOpened c (file_name_of c a.stamp) a.before linked a.after) where
-    abbrev opened_name : List ℕ
-    opened_name = file_name_of c a.stamp
-
-    abbrev log : LogFiles
-    log = log_files_of c (Some opened_name)
-
-    to : (t : Option ℤ) × (fin.get unlinked.names opened_name ≡ Some (File b t))
-    to = leads_to opened_name (after_make_folder pruned) unlinked b opens
-
-    as_pruned : (other : List ℕ) → IsOtherName c a.stamp other → fin.get linked.names other ≡ fin.get pruned.names other
-    as_pruned other is = tried_other c opened_name unlinked linked other links is.not_link ∙ opened_other opened_name (after_make_folder pruned) unlinked b other opens is.not_own
-
-    -- what retention leaves of a name that the opening does not change
-    left : (other : List ℕ) → fin.get linked.names other ≡ fin.get pruned.names other
-        → (fin.get a.after.names other ≡ fin.get a.before.names other) ⊎ ((fin.get a.after.names other ≡ None) × (name_survives log c.max_files a.before.names other ≡ false))
-    left other as_before = elim (only_old_last.names other) [
-      | inl stays ↦ elim (only_old.names other) [
-        | inl same ↦ inl (stays ∙ as_before ∙ same)
-        | inr gone ↦ inr (stays ∙ as_before ∙ gone.0, weaker_before c log a.before.names other gone.1)
-      ]
-      | inr gone ↦ inr (gone.0, weaker_after c log a.before.names other (sym (spares.same other) ∙ gone.1))
-    ]
-
-    survivors_left : (IsQuiet a.noted_before a.noted_after ⊎ (a.before.there ≡ false)) → (other : List ℕ) → fin.get linked.names other ≡ fin.get pruned.names other
-        → fin.get a.after.names other ≡ (if name_survives log c.max_files a.before.names other then fin.get a.before.names other else None)
-    survivors_left quiet other as_before = left_by c log a.before.names linked.names a.after.names other (survivors_last quiet other) (spares.same other) (as_before ∙ survivors quiet other)
-
-    -- a link that was not made
-    link_left : c.link ≢ opened_name → MayRemoveLink c.link unlinked linked → LeavesLink c a
-    link_left apart (inl same) =
-        let as_before : fin.get linked.names c.link ≡ fin.get pruned.names c.link = ap (λ (d : Content). fin.get d.names c.link) same ∙ opened_other opened_name (after_make_folder pruned) unlinked b c.link opens apart in
-        inr (left c.link as_before, λ quiet. survivors_left quiet c.link as_before)
-    link_left apart (inr removes) = inl (was_link, now_none)
-      where
-        target : List ℕ
-        target = removes.was_there.0
-
-        was_link : IsLink (fin.get a.before.names c.link)
-        was_link =
-            let there : fin.get pruned.names c.link ≡ Some (Link target) = sym (opened_other opened_name (after_make_folder pruned) unlinked b c.link opens apart) ∙ removes.was_there.1 in
-            elim (only_old.names c.link) [
-              | inl same ↦ subst IsLink (sym there ∙ same) tt
-              | inr gone ↦ absurd (let both : ◌≡◌ {A = Option Entry} None (Some (Link target)) = sym gone.0 ∙ there in cc)
-            ]
-
-        now_none : fin.get a.after.names c.link ≡ None
-        now_none =
-            let none : fin.get linked.names c.link ≡ None = ap (λ (d : Content). fin.get d.names c.link) removes.after ∙ removed_name unlinked.names c.link in
-            elim (only_old_last.names c.link) [ inl same ↦ same ∙ none | inr gone ↦ gone.0 ]
-
-    pub names_after : NamesAfter c a b
-    names_after = record {
-      own = (to.0, spares.file ∙ tried_file c opened_name unlinked linked opened_name b to.0 links to.1);
-      link = λ is_set. elim links [
-        | inl changes ↦
-            let made : fin.get linked.names c.link ≡ Some (Link opened_name) = linked_name c.link opened_name unlinked linked changes is_set in
-            inl (spares.link (inl (subst IsLink (sym made) tt)) ∙ made)
-        | inr (optional, set, frees) ↦ inr (optional, λ apart. link_left apart frees)
-      ];
-      others = λ other is. left other (as_pruned other is);
-      survivors = λ quiet other is. survivors_left quiet other (as_pruned other is);
-    }

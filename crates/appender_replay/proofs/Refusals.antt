@@ -1,5 +1,5 @@
 -- Wrong runs that the headline refuses.
-use Rattle.std.proofs.Common.{◌≡◌, ◌≢◌, ◌∙◌, ◌⊎◌, ℕ, ℤ, pos, ◌+◌, ◌-◌, ◌^◌, ◌<◌, ◌≤◌, Bool, true, false, if◌then◌else◌, nat_le, min, List, [], ◌∷◌, length, Option, None, Some, is_some, Result, Ok, Err, inl, inr, refl, ap, sym, subst, arith}
+use Rattle.std.proofs.Common.{◌≡◌, ◌≢◌, ◌∙◌, ◌⊎◌, ℕ, ℤ, pos, ◌+◌, ◌-◌, ◌^◌, ◌<◌, ◌≤◌, Bool, true, false, if◌then◌else◌, nat_le, min, List, [], ◌∷◌, ◌++◌, length, Option, None, Some, is_some, Result, Ok, Err, inl, inr, refl, ap, sym, subst, arith}
 use Rattle.std.specs.FinMap as fin
 use Rattle.std.specs.Option.{option_map_or}
 use Rattle.std.specs.IoError.{error_kind}
@@ -10,7 +10,7 @@ use Rattle.std.specs.Str.{bytes_eq}
 use Rattle.std.proofs.lemmas.Int.{ints}
 use Rattle.std.proofs.lemmas.List.Elements.{All-cons, All-nil, All-contains}
 use Rattle.std.proofs.lemmas.Slice.Eq.{bytes_eq-Decides}
-use Rattle.appender_store.specs.Content.{Entry, File, Link, IsFile, NameMap}
+use Rattle.appender_store.specs.Content.{Entry, File, Link, IsFile, NameMap, body_at}
 use Rattle.appender_store.specs.Folder.{IsOneMore, NotedCounts, NoticeMessage, NotedList, NotedRemove, NotedFlush, NotedOpen, next_count}
 use Rattle.appender_store.specs.Notes.{Notes}
 use Rattle.appender_store.specs.MemoryState.{AppendLimits, MemoryState, TakesBytes, count_taken}
@@ -24,8 +24,7 @@ use Rattle.appender_names.specs.Rotation.{IsMoment, period_of}
 use Rattle.appender_names.proofs.NameLaws.{reads_as_start}
 use Rattle.appender_names.proofs.Reading.{reads_reading}
 use Rattle.appender_rolling.specs.Roller.{written_count}
-use Rattle.appender_replay.specs.Headline.{WriteList, kept_entry, Calls, CallsLead, NotesNothing, HasFault, begins, calls, appends, notes, notes_attempt}
-use Rattle.appender_replay.specs.Replay.{by_kind}
+use Rattle.appender_replay.specs.Headline.{FileWrite, Try, by_kind, bytes_taken, written_to_name, kept_entry, Calls, CallsLead, NotesNothing, HasFault, begins, calls, appends, notes, notes_try}
 use Rattle.appender_replay.specs.Inside.Refused.{WritesTwice, LosesByte, WritesOutOfOrder, TakesOutOfOrder, ShutdownTakesNoPlace, NeverPrunes, FollowsClockBack, ChangesOtherNames, LosesFile, ReusesNumber, TakesNothing, NotesNoFault, RemovesLaterFile, RemovesAtFailure, LacksLink, LinksElsewhere, one_file, linked, hourly, hourly_by_name}
 use Rattle.appender_replay.specs.declared.replay.whole.Reply.{Reply}
 use Rattle.appender_replay.specs.declared.replay.whole.Reply.TheVariants.{Accepted, Full, NoMemory, Took}
@@ -68,6 +67,10 @@ shutdown_takes_no_place kind c number room line first last law = elim law.replie
 abbrev stamp_at : ℤ → Stamp
 stamp_at m = record { moment = m; number = 0 }
 
+-- the opening of the first file
+abbrev opened_first : Try
+opened_first = record { stamp = stamp_at (pos 0); opened = true; writes = [] }
+
 too_many : (n : ℕ) → nat_le (n + 2) 1 ≡ false
 too_many n = grind arith
 
@@ -91,10 +94,20 @@ names_differ law = by (bytes_eq (file_name_of hourly (stamp_at (pos 3600))) (fil
         let is : pos 3600 ≡ pos 0 = ((law (pos 3600) (pos 0) (pos 3600) (pos 0) 0 0 (omega (arith, ints), omega (arith, ints)) (omega (arith, ints), omega (arith, ints)) refl refl (omega arith) (omega arith)).0 same).0 in
         absurd (omega (arith, ints))
 
+-- nothing was written to a name that the newest file does not have, if nothing was before it
+other_file : (name : List ℕ) (s t : Stamp) (writes : List FileWrite) → bytes_eq (file_name_of hourly s) name ≡ false
+    → written_to_name hourly name (record { stamp = s; opened = true; writes = writes } ∷ record { stamp = t; opened = true; writes = [] } ∷ []) ≡ []
+other_file name s t writes apart = by (bytes_eq (file_name_of hourly t) name)
+  where
+    by : (b : Bool) → ([] ++ (if b then [] else [])) ++ (if bytes_eq (file_name_of hourly s) name then bytes_taken writes else []) ≡ []
+    by true = rw apart refl
+    by false = rw apart refl
+
 pub follows_clock_back : {S F : Type 0} (kind : Ghosts S F) → NamesArePeriods (naming_of hourly) → FollowsClockBack kind
 follows_clock_back kind law x y is_x is_y limit room first last holds head =
-    let apart = names_differ law in
-    let all : ◌≡◌ {A = List ℕ} (121 ∷ []) [] = sym holds.now ∙ (head.folder.content holds.is_known).bytes _ holds.body holds.created holds.at ∙ simp (holds.empty, apart) refl in
+    let wrote : List ℕ → FileWrite = λ bytes. record { latest = pos 3600; bytes = bytes; answer = Ok 1 } in
+    let none = other_file (file_name_of hourly (stamp_at (pos 0))) (stamp_at (pos 3600)) (stamp_at (pos 0)) (wrote y.items ∷ wrote x.items ∷ []) (names_differ law) in
+    let all : ◌≡◌ {A = List ℕ} (121 ∷ []) [] = sym holds.now ∙ (head.folder.content holds.is_known).bytes _ holds.body holds.created holds.at ∙ ap (λ (xs : List ℕ). body_at (kind.content first) holds.body ++ xs) none ∙ rw holds.empty refl in
     let both : ◌≡◌ {A = List ℕ} (121 ∷ []) [] = all in
     cc
 
@@ -109,15 +122,14 @@ same_body b c t u e = cc
 
 pub changes_other_names : {S F : Type 0} (kind : Ghosts S F) → ChangesOtherNames kind
 changes_other_names kind limit room first last b c t u is_known was is differs law =
-    let file : Stamp = record { moment = pos 0; number = 0 } in
-    let apart : Stamp → Type 0 = λ s. 98 ∷ [] ≢ file_name_of (one_file 1) s in
-    elim ((law.folder.content is_known).others (98 ∷ []) (All-cons apart file [] other_byte (All-nil apart)) some_byte) [
+    let apart : Try → Type 0 = λ t. 98 ∷ [] ≢ file_name_of (one_file 1) t.stamp in
+    elim ((law.folder.content is_known).others (98 ∷ []) (All-cons apart opened_first [] other_byte (All-nil apart)) some_byte) [
       | inl same ↦ differs (same_body b c t u (sym is ∙ same ∙ was))
       | inr gone ↦ let both : ◌≡◌ {A = Option Entry} (Some (File c u)) None = sym is ∙ gone.0 in cc
     ]
 
 pub loses_file : {S F : Type 0} (kind : Ghosts S F) → LosesFile kind
-loses_file kind x y limit room first last is_known gone law = subst IsFile gone ((law.folder.content is_known).open_file (inr refl))
+loses_file kind x y limit room first last is_known gone law = subst IsFile gone ((law.folder.content is_known).open_file (inr refl) (stamp_at (pos 0)) refl)
 
 -- the name of an hour's file reads as that hour
 hour_reads : (h : ℤ) → IsMoment h → period_of hourly.rotation h ≡ Some h → reading_at (naming_of hourly) (file_name_of hourly (stamp_at h)) ≡ Some (h, 0)
@@ -131,13 +143,13 @@ removes_later_file kind names limit room first last b t is_known was gone law =
     let later_read = hour_reads (pos 3600) (omega (arith, ints), omega (arith, ints)) refl in
     let differs : later ≢ own = λ same. (let both : true ≡ false = sym ((bytes_eq-Decides later own).1 same) ∙ names_differ names in cc) in
     let some : ◌≢◌ {A = List ℕ} later [] = λ e. (let both : ◌≡◌ {A = List ℕ} later [] = e in cc) in
-    let apart : Stamp → Type 0 = λ s. later ≢ file_name_of hourly_by_name s in
-    let unranked : Stamp → Type 0 = λ s. is_some (name_rank (log_files_of hourly_by_name (Some (file_name_of hourly_by_name s))) (kind.content first).names later) ≡ false in
-    let none : unranked (stamp_at (pos 0)) = rw (was, own_read, later_read) refl in
-    elim ((law.folder.content is_known).others later (All-cons apart (stamp_at (pos 0)) [] differs (All-nil apart)) some) [
+    let apart : Try → Type 0 = λ t. later ≢ file_name_of hourly_by_name t.stamp in
+    let unranked : Try → Type 0 = λ t. is_some (name_rank (log_files_of hourly_by_name (Some (file_name_of hourly_by_name t.stamp))) (kind.content first).names later) ≡ false in
+    let none : unranked opened_first = rw (was, own_read, later_read) refl in
+    elim ((law.folder.content is_known).others later (All-cons apart opened_first [] differs (All-nil apart)) some) [
       | inl same ↦ let both : ◌≡◌ {A = Option Entry} (Some (File b t)) None = sym was ∙ sym same ∙ gone in cc
       | inr (free, set, old) ↦
-          let not_old = All-contains unranked (stamp_at (pos 0) ∷ []) old.1 (All-cons unranked (stamp_at (pos 0)) [] none (All-nil unranked)) (old.0, old.2, old.3) in
+          let not_old = All-contains unranked (opened_first ∷ []) old.1 (All-cons unranked opened_first [] none (All-nil unranked)) (old.0, old.2, old.3) in
           let both : true ≡ false = sym old.4 ∙ not_old in
           cc
     ]
@@ -196,9 +208,9 @@ module _ {S F : Type 0} (kind : Ghosts S F) (state : S → MemoryState) (keeps :
     (noting : (old new : S) (notice : NoticeMessage) → kind.note_gives old notice new → (state new).shortened ≡ (state old).shortened)
     (takes : (old new : S) (file after : F) (bytes : List ℕ) (answer : Result ℕ Error) → kind.append_gives old file bytes answer new after → TakesBytes bytes (state old) answer (state new)) where
   -- each write that took nothing was given nothing
-  abbrev NoneShort : WriteList → Type 0
+  abbrev NoneShort : List FileWrite → Type 0
   NoneShort [] = Unit {0}
-  NoneShort ((name, bytes, answer) ∷ earlier) = (answer ≡ Ok 0 → length bytes ≡ 0) × NoneShort earlier
+  NoneShort (w ∷ earlier) = (w.answer ≡ Ok 0 → length w.bytes ≡ 0) × NoneShort earlier
 
   takes_all : (old new : S) (bytes : List ℕ) (answer : Result ℕ Error) → (state old).shortened ≡ fin.empty → TakesBytes bytes (state old) answer (state new) → by_kind answer ≡ Ok 0 → length bytes ≡ 0
   takes_all old new bytes (Ok n) none does is =
@@ -209,19 +221,19 @@ module _ {S F : Type 0} (kind : Ghosts S F) (state : S → MemoryState) (keeps :
       sym all ∙ sym does.takes ∙ zero
   takes_all old new bytes (Err fault) none does is = absurd (let both : ◌≡◌ {A = Result ℕ ErrorKind} (Err (error_kind fault)) (Ok 0) = is in cc)
 
-  none_short : (first last : S) (writes : WriteList) → (state first).shortened ≡ fin.empty → CallsLead kind first writes last → ((state last).shortened ≡ fin.empty) × NoneShort writes
+  none_short : (first last : S) (writes : List FileWrite) → (state first).shortened ≡ fin.empty → CallsLead kind first writes last → ((state last).shortened ≡ fin.empty) × NoneShort writes
   none_short first last writes none begins = (none, tt)
   none_short first last writes none (calls earlier old new lead call quiet) =
       let before = none_short first old earlier none lead in
       (keeps old new call ∙ before.0, before.1)
-  none_short first last writes none (appends earlier (name, bytes, shown) old new lead (file, after, answer, as_shown, call, quiet)) =
+  none_short first last writes none (appends earlier w old new lead (file, after, answer, as_shown, call, quiet)) =
       let before = none_short first old earlier none lead in
-      let does = takes old new file after bytes answer call in
-      (does.called.shortened ∙ before.0, ((λ is. takes_all old new bytes answer before.0 does (sym as_shown ∙ is)), before.1))
+      let does = takes old new file after w.bytes answer call in
+      (does.called.shortened ∙ before.0, ((λ is. takes_all old new w.bytes answer before.0 does (sym as_shown ∙ is)), before.1))
   none_short first last writes none (notes earlier old failed new lead call quiet (notice, fault, noted)) =
       let before = none_short first old earlier none lead in
       (noting failed new notice noted.call ∙ keeps old failed call ∙ before.0, before.1)
-  none_short first last writes none (notes_attempt earlier old new error lead noted) =
+  none_short first last writes none (notes_try earlier old new error lead noted) =
       let before = none_short first old earlier none lead in
       (noting old new (NotedOpen error) noted.call ∙ before.0, before.1)
 
@@ -252,11 +264,11 @@ module _ {S F : Type 0} (kind : Ghosts S F) (removes : (old new : S) (name : Lis
     caused = elim before.caused [ inl none ↦ inl (removed ∙ none) | inr more ↦ inr (omega (arith, more, same)) ];
   }
 
-  counted : (first last : S) (writes : WriteList) → kind.failures first < 2 ^ 64 - 1 → CallsLead kind first writes last → IsCounted first last
+  counted : (first last : S) (writes : List FileWrite) → kind.failures first < 2 ^ 64 - 1 → CallsLead kind first writes last → IsCounted first last
   counted first last writes below begins = record { rise = omega arith; caused = inl refl }
   counted first last writes below (calls earlier old new lead call quiet) = counted_quiet first old new quiet (counted first old earlier below lead)
-  counted first last writes below (appends earlier (name, bytes, shown) old new lead (file, after, answer, as_shown, call, quiet)) = counted_quiet first old new quiet (counted first old earlier below lead)
-  counted first last writes below (notes_attempt earlier old new error lead noted) =
+  counted first last writes below (appends earlier w old new lead (file, after, answer, as_shown, call, quiet)) = counted_quiet first old new quiet (counted first old earlier below lead)
+  counted first last writes below (notes_try earlier old new error lead noted) =
       counted_note first old new noted.failures (ap (λ (n : NotedCounts). n.removes) noted.noted) (counted first old earlier below lead)
   counted first last writes below (notes earlier old failed new lead call quiet (notice, fault, noted)) =
       by notice fault noted (counted first old earlier below lead) (counted_quiet first old failed quiet (counted first old earlier below lead))

@@ -1,40 +1,38 @@
--- A run of steps over a roller keeps to the laws of the clock and of the files.
+-- A run of steps over a roller keeps to the account of its files, and the folder to the laws of the files.
 use Rattle.std.proofs.lemmas.Int.{ints}
-use Rattle.std.proofs.Common.{◌-◌, ◌≡◌, ◌≢◌, ◌⊎◌, ◌^◌, ◌<◌, ◌≤◌, nat_le, Bool, ℕ, ℤ, true, false, inl, inr, List, [], ◌∷◌, ◌++◌, length, Option, None, Some, IsTrue, arith, refl, ap, sym, ◌∙◌, subst, suc}
-use Rattle.appender_names.specs.Name.{NamesArePeriods}
-use Rattle.appender_names.specs.Rotation.{IsMoment, period_of}
-use Rattle.appender_store.specs.declared.store.Folder.{Ghosts}
-use Rattle.appender_store.specs.Content.{IsSound, after_append}
-use Rattle.appender_store.proofs.Appends.{after_append_nothing}
-use Rattle.appender_store.specs.Folder.{AreNotedCounts, NotedCounts}
-use Rattle.appender_store.specs.NameLaws.{NameLaws}
-use Rattle.appender_retain.specs.Pruning.{IsQuiet}
-use Rattle.appender_rolling.specs.Config.{Config, naming_of, log_files_of, IsStamp, MayLimit, is_limited, max_before, max_after, last_of, stamp}
-use Rattle.appender_names.specs.Name.{greatest_number}
-use Rattle.appender_names.specs.Rotation.{period_of_kind}
+use Rattle.std.proofs.Common.{◌≡◌, ◌≢◌, ◌^◌, ◌+◌, ◌<◌, ◌≤◌, Bool, ℕ, ℤ, true, false, inl, inr, List, [], ◌∷◌, ◌++◌, length, take, filter, filter_map, Option, None, Some, Result, Ok, Err, IsTrue, arith, refl, ap, sym, ◌∙◌, subst}
+use Rattle.std.specs.declared.io.Error.{Error}
+use Rattle.std.specs.declared.io.ErrorKind.{ErrorKind}
+use Rattle.appender_names.specs.Name.{NamesArePeriods, greatest_number}
+use Rattle.appender_names.specs.Rotation.{is_moment, period_of, period_of_kind}
 use Rattle.appender_names.specs.declared.rotation.RotationKind.{RotationKind}
 use Rattle.appender_names.specs.declared.rotation.RotationKind.TheVariants.{Minutely, Hourly, Daily, Weekly, Never}
-use Rattle.appender_rolling.specs.declared.rolling.setup.Stamp.{Stamp}
-use Rattle.std.specs.Prelude.{unwrap_or}
-use Rattle.appender_rolling.specs.Kept.{OpeningPartsKeepBodies}
+use Rattle.appender_store.specs.declared.store.Folder.{Ghosts}
+use Rattle.appender_store.specs.Content.{Content, IsSound, after_append}
+use Rattle.appender_store.proofs.Appends.{after_append_nothing, after_append_twice}
+use Rattle.appender_store.specs.Folder.{AreNotedCounts}
+use Rattle.appender_store.specs.NameLaws.{NameLaws}
+use Rattle.appender_store.specs.Notes.{CountsRise}
+use Rattle.appender_store.proofs.Rising.{same_rises, rises_on}
+use Rattle.appender_retain.specs.Pruning.{IsQuiet}
 use Rattle.appender_retain.specs.Survival.{RemovesOnlyOld, KeepsSurvivors}
+use Rattle.appender_rolling.specs.Config.{Config, naming_of, log_files_of, IsStamp, MayLimit, is_limited, max_after, last_of, stamp}
+use Rattle.appender_rolling.specs.declared.rolling.setup.Stamp.{Stamp}
+use Rattle.appender_rolling.specs.Kept.{OpeningPartsKeepBodies}
 use Rattle.appender_rolling.specs.Opening.{file_name_of, OpensFile, IsRefusalEffect, SparesOpened}
-use Rattle.appender_rolling.specs.Roller.{Rolling, OpensRoller}
+use Rattle.appender_rolling.specs.Roller.{Rolling, OpensRoller, ChecksClock, Writes, Puts, Flushes, written_count}
 use Rattle.appender_rolling.specs.declared.rolling.Switch.{Switch}
 use Rattle.appender_rolling.specs.declared.rolling.Switch.TheVariants.{None as Stayed, Opened as Switched, Failed as SwitchFailed}
-use Rattle.appender_replay.specs.Start.{Start, start_stamp, start_of}
-use Rattle.appender_replay.specs.Run.{Event, Attempt, period_at, stamp_at, last_stamp, last_opened, attempt_times, file_key, key_at, StepState, NotedAtAttempts}
-use Rattle.appender_replay.specs.Replay.{RollStepWithReply, RollerFollows, LeadsTo, RunsFrom, RollDoes, roll_event, events_by, with_replies_onto, step_state_of, step_states_after, run_states}
-use Rattle.appender_replay.proofs.Periods.{Laws, IsLater, IsLaterKey}
-use Rattle.appender_replay.proofs.Turns.{LooksBy, Turns, step_turns}
-use Rattle.appender_replay.proofs.Clocks.{ClockSoFar, Comes, Stays, Goes, comes, stamp_by, clock_begins, clock_goes_on, turn_decides, turn_keeps}
-use Rattle.appender_replay.proofs.Owners.{OtherNames}
-use Rattle.appender_replay.proofs.NamesLeft.{names_after, nothing_survives, nothing_survives_last}
-use Rattle.appender_replay.proofs.Files.{FilesSoFar, Succeeds, no_attempt, a_failure, a_success, a_piece, files_begin, law_so_far}
-use Rattle.appender_replay.proofs.Bounds.{PiecesFit, keeps_to_limit}
-
-same_moment : (a b : ℤ) → ◌≡◌ {A = Option ℤ} (Some a) (Some b) → a ≡ b
-same_moment a b e = cc
+use Rattle.appender_rolling.proofs.Rising.{looks_rise, writes_rise, flushes_rise}
+use Rattle.appender_replay.specs.Start.{Start, start_of}
+use Rattle.appender_replay.specs.Run.{Attempt, file_key, greatest}
+use Rattle.appender_replay.specs.Replay.{RollerFollows, LeadsTo, RunsFrom, IsStepOf, IsSeen, SawAttempt, SawOpening, with_replies_onto}
+use Rattle.appender_replay.specs.Headline.{Files, CallsLead, begins, appends, by_kind, due_file, later_moment, faults_in, failures_in, writes_of, files_at_opening, files_after_try, files_after_check, files_after_write}
+use Rattle.appender_replay.proofs.Periods.{Laws, IsLaterKey}
+use Rattle.appender_replay.proofs.Clocks.{RollerIs, Comes, Stays, Goes, comes, roller_checks, roller_writes, roller_stays, roller_begins, same_stamp, is_fresh, none_is_some}
+use Rattle.appender_replay.proofs.Files.{OtherNames, FilesSoFar, Succeeds, a_failure, a_success, a_write, files_begin, law_so_far}
+use Rattle.appender_replay.proofs.Counting.{Counted, counted_on, counted_as, finds_counted, opens_counted, looks_counted, writes_counted, flushes_counted}
+use Rattle.appender_replay.proofs.FolderCalls.{finds_go, opens_go, looks_go, flushes_go, calls_append}
 
 -- What a run rests on: the laws of periods, of names and of openings, that a content that is known is sound, and that counts have 64 bits.
 pub record Grounds {S F : Type 0} (kind : Ghosts S F) (config : Config) : Type 0 where
@@ -46,254 +44,291 @@ pub record Grounds {S F : Type 0} (kind : Ghosts S F) (config : Config) : Type 0
   pub failures_fit : (folder : S) → kind.failures folder < 2 ^ 64
   pub noted_fit : (folder : S) → AreNotedCounts (kind.noted folder)
 
--- the events of any kind of step, one after another
-abbrev pub TurnsFrom : {S F : Type 0} → Ghosts S F → List Event → Rolling S F → Rolling S F → Type 0
-TurnsFrom kind = LeadsTo (λ earlier. Turns kind)
+pub count_by_kind : (answer : Result ℕ Error) (shown : Result ℕ ErrorKind) → shown ≡ by_kind answer → written_count shown ≡ written_count answer
+count_by_kind (Ok n) shown e = ap written_count e
+count_by_kind (Err fault) shown e = ap written_count e
 
--- what leads from roller to roller step by step does so turn by turn
-abbrev turns_from : {S F T : Type 0} (kind : Ghosts S F) (does : List T → T → Rolling S F → Rolling S F → Type 0) (event : List T → T → Event) → ((earlier : List T) (t : T) (old new : Rolling S F) → does earlier t old new → Turns kind (event earlier t) old new)
-    → (past : List T) (old new : Rolling S F) → LeadsTo does past old new → TurnsFrom kind (events_by event past) old new
-turns_from kind does event turn [] old new runs = runs
-turns_from kind does event turn (t ∷ past) old new (between, earlier, is) = (between, turns_from kind does event turn past old between earlier, turn past t between new is)
+module _ {S F : Type 0} (kind : Ghosts S F) (c : Config) (grounds : Grounds kind c) (folder : S) where
+  abbrev Counts : ℕ → ℕ → S → S → Type 0
+  Counts = Counted kind grounds.failures_fit grounds.noted_fit
 
--- what is seen after each step of a run of turns
-abbrev IsSeen : {S F : Type 0} → (kind : Ghosts S F) → (ℕ → StepState) → (h : List Event) (old new : Rolling S F) → TurnsFrom kind h old new → Type 0
-IsSeen kind seen [] old new runs = seen 0 ≡ step_state_of kind [] old
-IsSeen kind seen (e ∷ h) old new (between, runs, is) = (seen (suc (length h)) ≡ step_state_of kind e.piece new) × IsSeen kind seen h old between runs
+  -- What is known of a roller after this account, over a folder that was this at first, if so much was seen of each attempt.
+  pub record Known (Seen : Attempt → Type 0) (f : Files) (now : Rolling S F) : Type 0 where
+    pub roller : RollerIs c f now
+    pub files : IsTrue kind.is_known → FilesSoFar c f.newest f.earlier (kind.content folder) (kind.content now.folder) (kind.body now.file) Seen
+    pub counts : Counts (failures_in (f.newest ∷ f.earlier)) f.faults folder now.folder
+    pub calls : CallsLead kind folder (writes_of (f.newest ∷ f.earlier)) now.folder
 
-length-events : {T : Type 0} (event : List T → T → Event) (past : List T) → length (events_by event past) ≡ length past
-length-events event [] = refl
-length-events event (t ∷ past) = ap suc (length-events event past)
+  same_roller : (Seen : Attempt → Type 0) (f : Files) (old new : Rolling S F) → new ≡ old → Known Seen f old → Known Seen f new
+  same_roller Seen f old new same so = subst (λ (r : Rolling S F). Known Seen f r) (sym same) so
 
--- so it is of what was seen of the steps
-is_seen : {S F T : Type 0} (kind : Ghosts S F) (does : List T → T → Rolling S F → Rolling S F → Type 0) (event : List T → T → Event) (turn : (earlier : List T) (t : T) (old new : Rolling S F) → does earlier t old new → Turns kind (event earlier t) old new)
-    → (seen : ℕ → StepState) (past : List T) (old new : Rolling S F) (runs : LeadsTo does past old new) → ((n : ℕ) → n ≤ length past → seen n ≡ step_states_after kind event does past old new runs n)
-    → IsSeen kind seen (events_by event past) old new (turns_from kind does event turn past old new runs)
-is_seen kind does event turn seen [] old new runs agree = agree 0 (omega arith)
-is_seen kind does event turn seen (t ∷ past) old new (between, runs, is) agree =
-    let yes : nat_le (suc (length past)) (suc (length past)) ≡ true = grind arith in (
-      ap (λ n. seen (suc n)) (length-events event past) ∙ agree (suc (length past)) (omega arith) ∙ rw yes refl,
-      is_seen kind does event turn seen past old between runs (λ n le. agree n (omega arith) ∙ (let no : nat_le (suc (length past)) n ≡ false = grind arith in rw no refl)),
+  -- ---- tries
+
+  -- an attempt that opened a file
+  abbrev attempted : Stamp → S → S → F → Attempt
+  attempted m old new file = record {
+    stamp = m;
+    body = Some (kind.body file);
+    before = kind.content old;
+    after = kind.content new;
+    noted_before = kind.noted old;
+    noted_after = kind.noted new;
+  }
+
+  -- and what it did
+  succeeds : (m : Stamp) (old ready new : S) (file : F) → IsTrue kind.is_known → OpensFile kind c (file_name_of c m) old file ready → kind.content new ≡ kind.content ready → (IsQuiet (kind.noted old) (kind.noted new) → IsQuiet (kind.noted old) (kind.noted ready)) → Succeeds c (attempted m old new file) (kind.body file)
+  succeeds m old ready new file is_known o same quieter =
+      let only_old = o.prunes.only_old is_known in
+      let only_old_last : RemovesOnlyOld (log_files_of c (Some (file_name_of c m))) (max_after c) (kind.content o.linked) (kind.content new) = rw same (o.prunes_last.only_old is_known) in
+      let spares : SparesOpened c (file_name_of c m) (kind.content old) (kind.content o.linked) (kind.content new) = rw same (o.spares is_known) in
+      let survivors = λ (quiet : IsQuiet (kind.noted old) (kind.noted new)). o.prunes.survivors (o.quiet (quieter quiet)).0 is_known in
+      let survivors_last : IsQuiet (kind.noted old) (kind.noted new) → KeepsSurvivors (log_files_of c (Some (file_name_of c m))) (max_after c) (kind.content o.linked) (kind.content new) =
+      λ quiet. rw same (o.prunes_last.survivors (o.quiet (quieter quiet)).1 is_known) in
+      record {
+        did = record {
+          pruned = kind.content o.pruned;
+          unlinked = kind.content o.unlinked;
+          linked = kind.content o.linked;
+          only_old = only_old;
+          survivors = survivors;
+          opens = o.gets.opens is_known;
+          links = o.changes_link is_known;
+          only_old_last = only_old_last;
+          survivors_last = survivors_last;
+          spares = spares;
+          at_most = λ quiet some. rw same (o.at_most (quieter quiet) is_known some);
+        };
+        sound = grounds.sound o.unlinked is_known;
+        sound_before = grounds.sound old is_known;
+        unlinked_there = o.gets.body_is_there is_known;
+        there = rw same (o.body_is_there is_known);
+      }
+
+  module _ (Seen : Attempt → Type 0) (f : Files) (old new : Rolling S F) (so : Known Seen f old) where
+    -- what is seen of a try
+    seen_at : (s : Stamp) → new.last ≡ s → IsLaterKey (file_key c f.newest.stamp) (file_key c s) → (body : Option ℕ)
+        → SawAttempt kind old new (record { stamp = s; body = body; before = kind.content old.folder; after = kind.content new.folder; noted_before = kind.noted old.folder; noted_after = kind.noted new.folder })
+    seen_at s made later body = record {
+      made = made;
+      fresh = λ same. is_fresh c f.newest.stamp s later (sym so.roller.last_is ∙ same);
+      before = refl;
+      noted_before = refl;
+      bytes = [];
+      after = λ is_known. sym (after_append_nothing (kind.content new.folder) (kind.body new.file));
+      noted_after = refl;
+    }
+
+    looked : (m : ℤ) (len : ℕ) (switch : Switch) (o : Option Stamp) → Comes c f m len old o → ChecksClock kind m len switch old new → ((a : Attempt) → SawAttempt kind old new a → Seen a)
+        → Known Seen (files_after_try o switch (record f { latest = later_moment f.latest m })) new
+    looked m len Stayed o (Stays none same) checks saw =
+        let at : RollerIs c (record f { latest = later_moment f.latest m }) new = roller_checks c grounds.laws kind f m len Stayed old new None (Stays none same) so.roller checks in
+        let all : Known Seen f new = same_roller Seen f old new checks.1 so in
+        record { roller = at; files = all.files; counts = all.counts; calls = all.calls }
+    looked m len Switched o (Stays none same) checks saw = none_is_some checks.at_stamp (sym none ∙ checks.cause)
+    looked m len SwitchFailed o (Stays none same) checks saw = none_is_some checks.at_stamp (sym none ∙ checks.cause)
+    looked m len Stayed o (Goes s some is_stamp period later) checks saw = none_is_some s (sym checks.0 ∙ some)
+    looked m len Switched o (Goes s some is_stamp period later) checks saw =
+        let it : checks.at_stamp ≡ s = same_stamp checks.at_stamp s (sym checks.cause ∙ some) in
+        let opens : OpensFile kind c (file_name_of c s) old.folder new.file checks.ready = rw (← so.roller.config_is, ← it) checks.opens in
+        record {
+          roller = roller_checks c grounds.laws kind f m len Switched old new (Some s) (Goes s some is_stamp period later) so.roller checks;
+          files = λ is_known. a_success c (kind.content folder) grounds.parts grounds.maps grounds.others f.newest f.earlier (kind.content old.folder) (kind.body old.file) Seen (so.files is_known) s is_stamp later (kind.content new.folder) (kind.noted old.folder) (kind.noted new.folder)
+              (kind.body new.file) (succeeds s old.folder checks.ready new.folder new.file is_known opens checks.content checks.quiet) (saw (attempted s old.folder new.folder new.file) (seen_at s (checks.last ∙ it) later (Some (kind.body new.file))));
+          counts = counted_as kind grounds.failures_fit grounds.noted_fit _ _ _ _ folder new.folder (omega arith) (omega arith) (counted_on kind grounds.failures_fit grounds.noted_fit (failures_in (f.newest ∷ f.earlier)) f.faults 0 0 folder old.folder new.folder so.counts (looks_counted kind grounds.failures_fit grounds.noted_fit m len Switched old new checks));
+          calls = looks_go kind grounds.failures_fit folder m len Switched old new checks (writes_of (f.newest ∷ f.earlier)) so.calls;
+        }
+    looked m len SwitchFailed o (Goes s some is_stamp period later) checks saw =
+        let it : checks.at_stamp ≡ s = same_stamp checks.at_stamp s (sym checks.cause ∙ some) in
+        record {
+          roller = roller_checks c grounds.laws kind f m len SwitchFailed old new (Some s) (Goes s some is_stamp period later) so.roller checks;
+          files = λ is_known.
+              let little : IsRefusalEffect c (file_name_of c s) (kind.content old.folder) (kind.content new.folder) = rw (← it, ← so.roller.config_is) (checks.content is_known) in
+              rw checks.file (a_failure c (kind.content folder) grounds.parts grounds.maps grounds.others f.newest f.earlier (kind.content old.folder) (kind.body old.file) Seen (so.files is_known) s is_stamp later (kind.content new.folder) (kind.noted old.folder) (kind.noted new.folder)
+              little (saw _ (seen_at s (checks.last ∙ it) later None)));
+          counts = counted_as kind grounds.failures_fit grounds.noted_fit _ _ _ _ folder new.folder (omega arith) (omega arith) (counted_on kind grounds.failures_fit grounds.noted_fit (failures_in (f.newest ∷ f.earlier)) f.faults 1 0 folder old.folder new.folder so.counts (looks_counted kind grounds.failures_fit grounds.noted_fit m len SwitchFailed old new checks));
+          calls = looks_go kind grounds.failures_fit folder m len SwitchFailed old new checks (writes_of (f.newest ∷ f.earlier)) so.calls;
+        }
+
+    -- a check of the clock
+    checked : (m : ℤ) (len : ℕ) (switch : Switch) → ChecksClock kind m len switch old new → ((a : Attempt) → SawAttempt kind old new a → Seen a) → Known Seen (files_after_check c m len switch f) new
+    checked m len switch checks saw = looked m len switch (due_file c f m len) (comes c grounds.laws f m len old so.roller) checks saw
+
+    -- ---- writes and flushes
+
+    wrote : (bytes : List ℕ) (shown : Result ℕ ErrorKind) (answer : Result ℕ Error) → shown ≡ by_kind answer → Writes kind bytes answer old new → Known Seen (files_after_write bytes shown f) new
+    wrote bytes shown answer is writes =
+        let count = count_by_kind answer shown is in
+        record {
+          roller = roller_writes c grounds.laws kind f bytes answer shown old new count writes so.roller;
+          files = λ is_known.
+              let content : kind.content new.folder ≡ after_append (kind.content old.folder) (kind.body old.file) (take (written_count shown) bytes) =
+              writes.content is_known ∙ ap (λ (n : ℕ). after_append (kind.content old.folder) (kind.body old.file) (take n bytes)) (sym count) in
+              rw (content, writes.stays.file) (a_write c (kind.content folder) f.newest f.earlier (kind.content old.folder) (kind.body old.file) Seen (record { latest = f.latest; bytes = bytes; answer = shown }) (sym so.roller.period_is) (so.files is_known));
+          counts = counted_as kind grounds.failures_fit grounds.noted_fit _ _ _ _ folder new.folder (omega arith) (ap (λ (r : Result ℕ ErrorKind). f.faults + faults_in r) (sym is))
+              (counted_on kind grounds.failures_fit grounds.noted_fit (failures_in (f.newest ∷ f.earlier)) f.faults 0 (faults_in (by_kind answer)) folder old.folder new.folder so.counts (writes_counted kind grounds.failures_fit grounds.noted_fit bytes answer old new writes));
+          calls = appends (writes_of (f.newest ∷ f.earlier)) (record { latest = f.latest; bytes = bytes; answer = shown }) old.folder new.folder so.calls (calls_append kind grounds.failures_fit folder bytes shown answer old new is writes);
+        }
+
+    flushed : (shown : Result (Unit {0}) ErrorKind) (answer : Result (Unit {0}) Error) → shown ≡ by_kind answer → Flushes kind answer old new → Known Seen (record f { faults = f.faults + faults_in shown }) new
+    flushed shown answer is flushes = record {
+      roller = roller_stays c grounds.laws kind f (record f { faults = f.faults + faults_in shown }) old new flushes.stays refl refl refl (omega (arith, flushes.room, so.roller.room_is)) so.roller;
+      files = λ is_known. rw (flushes.content, flushes.stays.file) (so.files is_known);
+      counts = counted_as kind grounds.failures_fit grounds.noted_fit _ _ _ _ folder new.folder (omega arith) (ap (λ (r : Result (Unit {0}) ErrorKind). f.faults + faults_in r) (sym is))
+          (counted_on kind grounds.failures_fit grounds.noted_fit (failures_in (f.newest ∷ f.earlier)) f.faults 0 (faults_in (by_kind answer)) folder old.folder new.folder so.counts (flushes_counted kind grounds.failures_fit grounds.noted_fit answer old new flushes));
+      calls = flushes_go kind grounds.failures_fit folder answer old new flushes (writes_of (f.newest ∷ f.earlier)) so.calls;
+    }
+
+  -- ---- one step
+
+  -- What a step does, of which each attempt is seen.
+  pub record StepsTo (f g : Files) (old new : Rolling S F) : Type 1 where
+    pub goes : (Seen : Attempt → Type 0) → Known Seen f old → ((a : Attempt) → SawAttempt kind old new a → Seen a) → Known Seen g new
+    pub notes : RollerIs c f old → new.last ≡ old.last → kind.noted new.folder ≡ kind.noted old.folder
+    pub rises : CountsRise kind old.folder new.folder
+
+  check_notes : (f : Files) (m : ℤ) (len : ℕ) (switch : Switch) (old new : Rolling S F) → RollerIs c f old → ChecksClock kind m len switch old new → new.last ≡ old.last → kind.noted new.folder ≡ kind.noted old.folder
+  check_notes f m len switch old new so checks same = by switch checks (due_file c f m len) (comes c grounds.laws f m len old so)
+    where
+      fresh : (s at : Stamp) → at ≡ s → new.last ≡ at → IsLaterKey (file_key c f.newest.stamp) (file_key c s) → ⊥
+      fresh s at it last later = is_fresh c f.newest.stamp s later (sym so.last_is ∙ sym same ∙ last ∙ it)
+
+      by : (switch : Switch) → ChecksClock kind m len switch old new → (o : Option Stamp) → Comes c f m len old o → kind.noted new.folder ≡ kind.noted old.folder
+      by Stayed checks o come = ap (λ (r : Rolling S F). kind.noted r.folder) checks.1
+      by Switched checks o (Stays none stays) = none_is_some checks.at_stamp (sym none ∙ checks.cause)
+      by SwitchFailed checks o (Stays none stays) = none_is_some checks.at_stamp (sym none ∙ checks.cause)
+      by Switched checks o (Goes s some is_stamp period later) = absurd (fresh s checks.at_stamp (same_stamp checks.at_stamp s (sym checks.cause ∙ some)) checks.last later)
+      by SwitchFailed checks o (Goes s some is_stamp period later) = absurd (fresh s checks.at_stamp (same_stamp checks.at_stamp s (sym checks.cause ∙ some)) checks.last later)
+
+  pub steps_check : (f : Files) (m : ℤ) (len : ℕ) (switch : Switch) (old new : Rolling S F) → ChecksClock kind m len switch old new → StepsTo f (files_after_check c m len switch f) old new
+  steps_check f m len switch old new checks = record {
+    goes = λ Seen so saw. checked Seen f old new so m len switch checks saw;
+    notes = λ so same. check_notes f m len switch old new so checks same;
+    rises = looks_rise kind grounds.failures_fit grounds.noted_fit m len switch old new checks;
+  }
+
+  pub steps_write : (f : Files) (bytes : List ℕ) (shown : Result ℕ ErrorKind) (answer : Result ℕ Error) (old new : Rolling S F) → shown ≡ by_kind answer → Writes kind bytes answer old new → StepsTo f (files_after_write bytes shown f) old new
+  steps_write f bytes shown answer old new is writes = record {
+    goes = λ Seen so saw. wrote Seen f old new so bytes shown answer is writes;
+    notes = λ so same. writes.stays.noted;
+    rises = writes_rise kind grounds.failures_fit grounds.noted_fit bytes answer old new writes;
+  }
+
+  pub steps_put : (f : Files) (m : ℤ) (bytes : List ℕ) (switch : Switch) (shown : Result ℕ ErrorKind) (answer : Result ℕ Error) (old new : Rolling S F) → shown ≡ by_kind answer → Puts kind m bytes switch answer old new
+      → StepsTo f (files_after_write bytes shown (files_after_check c m (length bytes) switch f)) old new
+  steps_put f m bytes switch shown answer old new is puts = record {
+    goes = λ Seen so saw. wrote Seen (files_after_check c m (length bytes) switch f) puts.between new (checked Seen f old puts.between so m (length bytes) switch puts.looks (λ a s. saw a (record {
+      made = puts.writes.stays.last ∙ s.made;
+      fresh = s.fresh;
+      before = s.before;
+      noted_before = s.noted_before;
+      bytes = s.bytes ++ take (written_count answer) bytes;
+      after = λ is_known. puts.writes.content is_known
+          ∙ ap (λ (d : Content). after_append d (kind.body puts.between.file) (take (written_count answer) bytes)) (s.after is_known)
+          ∙ after_append_twice a.after (kind.body puts.between.file) s.bytes (take (written_count answer) bytes)
+          ∙ ap (λ (b : ℕ). after_append a.after b (s.bytes ++ take (written_count answer) bytes)) (sym puts.writes.stays.file);
+      noted_after = s.noted_after ∙ sym puts.writes.stays.noted;
+    }))) bytes shown answer is puts.writes;
+    notes = λ so same. puts.writes.stays.noted ∙ check_notes f m (length bytes) switch old puts.between so puts.looks (sym puts.writes.stays.last ∙ same);
+    rises = rises_on kind old.folder puts.between.folder new.folder (looks_rise kind grounds.failures_fit grounds.noted_fit m (length bytes) switch old puts.between puts.looks) (writes_rise kind grounds.failures_fit grounds.noted_fit bytes answer puts.between new puts.writes);
+  }
+
+  pub steps_flush : (f : Files) (shown : Result (Unit {0}) ErrorKind) (answer : Result (Unit {0}) Error) (old new : Rolling S F) → shown ≡ by_kind answer → Flushes kind answer old new → StepsTo f (record f { faults = f.faults + faults_in shown }) old new
+  steps_flush f shown answer old new is flushes = record {
+    goes = λ Seen so saw. flushed Seen f old new so shown answer is flushes;
+    notes = λ so same. flushes.stays.noted;
+    rises = flushes_rise kind grounds.failures_fit grounds.noted_fit answer old new flushes;
+  }
+
+  pub steps_nothing : (f : Files) (old new : Rolling S F) → new ≡ old → StepsTo f f old new
+  steps_nothing f old new same = record {
+    goes = λ Seen so saw. same_roller Seen f old new same so;
+    notes = λ so last. ap (λ (r : Rolling S F). kind.noted r.folder) same;
+    rises = same_rises kind old.folder new.folder (ap (λ (r : Rolling S F). r.folder) same);
+  }
+
+-- ---- all steps
+
+-- Runs of steps of any kind, each of which leads from its account to the next.
+module _ {S F T : Type 0} (kind : Ghosts S F) (c : Config) (grounds : Grounds kind c) (does : List T → T → Rolling S F → Rolling S F → Type 0) (account : List T → Files) (moment : ℤ) (number room : ℕ) (folder : S)
+    (steps : (past : List T) (t : T) (old new : Rolling S F) → does past t old new → StepsTo kind c grounds folder (account past) (account (t ∷ past)) old new)
+    (account_begins : account [] ≡ files_at_opening (start_of c moment number room)) where
+  abbrev start : Start
+  start = start_of c moment number room
+
+  module _ (first : Rolling S F) (o : OpensRoller kind c moment folder first) (number_is : o.number ≡ number) (room_is : first.room ≡ room) where
+    opening_known : (Seen : Attempt → Type 0) → ((a : Attempt) → SawOpening kind o.listed first a → Seen a) → Known kind c grounds folder Seen (files_at_opening start) first
+    opening_known Seen saw =
+        let same : stamp moment o.number ≡ start.stamp = rw number_is refl in
+        let is_stamp : IsStamp c start.stamp = record { in_range = o.may_open.in_range; number_is = rw (← number_is) o.finds.number_is } in
+        let opens : OpensFile kind c (file_name_of c start.stamp) o.listed first.file first.folder = rw (← number_is) o.opens in
+        record {
+          roller = roller_begins c grounds.laws start first o.config_is is_stamp (o.opened ∙ same) (o.last ∙ same) o.boundary (omega (arith, room_is, o.room.at_most));
+          files = λ is_known. subst (λ (d : Content). FilesSoFar c (files_at_opening start).newest [] d (kind.content first.folder) (kind.body first.file) Seen) o.finds.content
+              (files_begin c (kind.content o.listed) grounds.parts grounds.maps start.stamp (kind.body first.file) (kind.content first.folder) (kind.noted o.listed) (kind.noted first.folder) Seen is_stamp
+              (succeeds kind c grounds folder start.stamp o.listed first.folder first.folder first.file is_known opens refl (λ quiet. quiet))
+              (saw _ (record { made = o.last ∙ same; before = refl; noted_before = refl; after = refl; noted_after = refl })));
+          counts = counted_as kind grounds.failures_fit grounds.noted_fit _ _ _ _ folder first.folder (omega arith) (omega arith) (counted_on kind grounds.failures_fit grounds.noted_fit 0 0 0 0 folder o.listed first.folder
+              (finds_counted kind grounds.failures_fit grounds.noted_fit c moment folder o.number o.listed o.finds) (opens_counted kind grounds.failures_fit grounds.noted_fit c _ o.listed first.file first.folder o.opens));
+          calls = opens_go kind grounds.failures_fit folder c _ o.listed first.file first.folder o.opens [] (finds_go kind grounds.failures_fit folder c moment folder o.number o.listed o.finds [] begins);
+        }
+
+    -- what is known after these steps, if so much is seen at the opening and at each step
+    pub run_known : (Seen : Attempt → Type 0) → ((a : Attempt) → SawOpening kind o.listed first a → Seen a) → (past : List T) (last : Rolling S F) (runs : LeadsTo does past first last)
+        → ((old new : Rolling S F) → IsStepOf does past first last runs old new → (a : Attempt) → SawAttempt kind old new a → Seen a) → Known kind c grounds folder Seen (account past) last
+    run_known Seen opening [] last runs saw =
+        subst (λ (f : Files). Known kind c grounds folder Seen f last) (sym account_begins) (same_roller kind c grounds folder Seen (files_at_opening start) first last runs (opening_known Seen opening))
+    run_known Seen opening (t ∷ past) last (old, runs, is) saw =
+        (steps past t old last is).goes Seen (run_known Seen opening past old runs (λ x y at a s. saw x y (inr at) a s)) (λ a s. saw old last (inl (refl, refl)) a s)
+
+    -- of the roller alone
+    pub run_roller : (past : List T) (last : Rolling S F) → LeadsTo does past first last → RollerIs c (account past) last
+    run_roller past last runs = (run_known (λ a. Unit {0}) (λ a s. tt) past last runs (λ x y at a s. tt)).roller
+
+    pub run_notes : (past : List T) (last : Rolling S F) (runs : LeadsTo does past first last) (x y : Rolling S F) → IsStepOf does past first last runs x y → y.last ≡ x.last → kind.noted y.folder ≡ kind.noted x.folder
+    run_notes [] last runs x y at same = absurd at
+    run_notes (t ∷ past) last (old, runs, is) x y (inr before) same = run_notes past old runs x y before same
+    run_notes (t ∷ past) last (old, runs, is) x y (inl here) same =
+        ap (λ (r : Rolling S F). kind.noted r.folder) here.1
+        ∙ (steps past t old last is).notes (run_roller past old runs) (sym (ap (λ (r : Rolling S F). r.last) here.1) ∙ same ∙ ap (λ (r : Rolling S F). r.last) here.0)
+        ∙ sym (ap (λ (r : Rolling S F). kind.noted r.folder) here.0)
+
+    -- no count fell: over all steps, and before, at and after each of them
+    pub run_rises : (past : List T) (last : Rolling S F) → LeadsTo does past first last → CountsRise kind first.folder last.folder
+    run_rises [] last runs = same_rises kind first.folder last.folder (ap (λ (r : Rolling S F). r.folder) runs)
+    run_rises (t ∷ past) last (old, runs, is) = rises_on kind first.folder old.folder last.folder (run_rises past old runs) (steps past t old last is).rises
+
+    pub step_rises : (past : List T) (last : Rolling S F) (runs : LeadsTo does past first last) (x y : Rolling S F) → IsStepOf does past first last runs x y
+        → CountsRise kind first.folder x.folder × CountsRise kind x.folder y.folder × CountsRise kind y.folder last.folder
+    step_rises [] last runs x y at = absurd at
+    step_rises (t ∷ past) last (old, runs, is) x y (inr before) =
+        let so = step_rises past old runs x y before in
+        (so.0, so.1, rises_on kind y.folder old.folder last.folder so.2 (steps past t old last is).rises)
+    step_rises (t ∷ past) last (old, runs, is) x y (inl here) = (
+      subst (λ (r : Rolling S F). CountsRise kind first.folder r.folder) (sym here.0) (run_rises past old runs),
+      subst (λ (r : Rolling S F). CountsRise kind r.folder y.folder) (sym here.0) (subst (λ (r : Rolling S F). CountsRise kind old.folder r.folder) (sym here.1) (steps past t old last is).rises),
+      same_rises kind y.folder last.folder (sym (ap (λ (r : Rolling S F). r.folder) here.1)),
     )
 
-module _ {S F : Type 0} (kind : Ghosts S F) (config : Config) (start : Start) (first : S) (begin : NotedCounts) (seen : ℕ → StepState) where
-  -- the law of the files for a roller
-  abbrev pub Holds : List Event → List Event → Rolling S F → Type 0
-  Holds past h now =
-      FilesSoFar config start seen past h (kind.content first) (kind.content now.folder) begin now.opened (kind.body now.file)
+  -- what is known of a run
+  pub known_of : (past : List T) (last : Rolling S F) (run : RunsFrom kind does c moment number room folder past last)
+      → Known kind c grounds folder (IsSeen kind does run.opens.listed past run.first last run.runs) (account past) last
+  known_of past last run = run_known run.first run.opens run.number_is run.room_is (IsSeen kind does run.opens.listed past run.first last run.runs) (λ a s. inl s) past last run.runs (λ x y at a s. inr (x, y, at, s))
 
-  -- What is known after a run.
-  pub record RunSoFar (h : List Event) (now : Rolling S F) : Type 0 where
-    pub config_is : now.config ≡ config
-    pub is_stamp : IsStamp config (start_stamp start)
-    pub clock : ClockSoFar config start h now
-    pub files : IsTrue kind.is_known → Holds h h now
-    pub opened_is : now.opened ≡ last_opened start (attempt_times config start h)
-    pub noted : NotedAtAttempts config start seen h
-    pub seen_content : (seen (length h)).content ≡ kind.content now.folder
-    pub seen_noted : (seen (length h)).noted ≡ kind.noted now.folder
-    pub fit : PiecesFit h
-
-  module _ (grounds : Grounds kind config) where
-    -- an attempt that opened a file
-    abbrev attempted : ℕ → Stamp → S → S → F → Attempt
-    attempted step m old new file = record {
-      step = step;
-      stamp = m;
-      body = Some (kind.body file);
-      before = kind.content old;
-      after = kind.content new;
-      noted_before = kind.noted old;
-      noted_after = kind.noted new;
-    }
-
-    -- and what it did
-    succeeds : (step : ℕ) (m : Stamp) (old ready new : S) (file : F) → IsTrue kind.is_known → OpensFile kind config (file_name_of config m) old file ready → kind.content new ≡ kind.content ready → (IsQuiet (kind.noted old) (kind.noted new) → IsQuiet (kind.noted old) (kind.noted ready)) → Succeeds config (attempted step m old new file) (kind.body file)
-    succeeds step m old ready new file is_known o same quieter =
-        let only_old = o.prunes.only_old is_known in
-        let only_old_last : RemovesOnlyOld (log_files_of config (Some (file_name_of config m))) (max_after config) (kind.content o.linked) (kind.content new) = rw same (o.prunes_last.only_old is_known) in
-        let spares : SparesOpened config (file_name_of config m) (kind.content old) (kind.content o.linked) (kind.content new) = rw same (o.spares is_known) in
-        let survivors = λ (quiet : IsQuiet (kind.noted old) (kind.noted new)). o.prunes.survivors (o.quiet (quieter quiet)).0 is_known in
-        let survivors_last : IsQuiet (kind.noted old) (kind.noted new) → KeepsSurvivors (log_files_of config (Some (file_name_of config m))) (max_after config) (kind.content o.linked) (kind.content new) =
-        λ quiet. rw same (o.prunes_last.survivors (o.quiet (quieter quiet)).1 is_known) in
-        record {
-          did = record {
-            pruned = kind.content o.pruned;
-            unlinked = kind.content o.unlinked;
-            linked = kind.content o.linked;
-            only_old = only_old;
-            survivors = survivors;
-            names = names_after grounds.maps config (attempted step m old new file) (kind.body file) (kind.content o.pruned) (kind.content o.unlinked) (kind.content o.linked) only_old
-                (λ quiet. elim quiet [
-                  | inl q ↦ survivors q
-                  | inr gone ↦ nothing_survives (log_files_of config (Some (file_name_of config m))) (max_before config) (kind.content old) (kind.content o.pruned) (grounds.sound old is_known) gone only_old
-                ]) (o.gets.opens is_known) (o.changes_link is_known) only_old_last
-                (λ quiet. elim quiet [
-                  | inl q ↦ survivors_last q
-                  | inr gone ↦ nothing_survives_last config (file_name_of config m) (kind.content old) (kind.content o.linked) (kind.content new) (grounds.sound old is_known) gone spares only_old_last
-                ]) spares;
-            opens = o.gets.opens is_known;
-            links = o.changes_link is_known;
-            only_old_last = only_old_last;
-            survivors_last = survivors_last;
-            spares = spares;
-            at_most = λ quiet some. rw same (o.at_most (quieter quiet) is_known some);
-          };
-          sound = grounds.sound o.unlinked is_known;
-          unlinked_there = o.gets.body_is_there is_known;
-          there = rw same (o.body_is_there is_known);
-        }
-
-    run_begins : (now : Rolling S F) → (o : OpensRoller kind config start.moment first now) → o.number ≡ start.number → now.room ≡ config.max_bytes - start.held → kind.noted o.listed ≡ begin → seen 0 ≡ step_state_of kind [] now → RunSoFar [] now
-    run_begins now o number left counts is_seen_now =
-        let same : stamp start.moment o.number ≡ start_stamp start = rw number refl in
-        let is_stamp : IsStamp config (start_stamp start) = record { in_range = o.may_open.in_range; number_is = rw (← number) o.finds.number_is } in
-        let opens : OpensFile kind config (file_name_of config (start_stamp start)) o.listed now.file now.folder = rw (← number) o.opens in
-        record {
-          config_is = o.config_is;
-          is_stamp = is_stamp;
-          clock = clock_begins config start grounds.laws now is_stamp (o.last ∙ same) o.boundary left;
-          files = λ is_known. subst (λ (x : Stamp). FilesSoFar config start seen [] [] (kind.content first) (kind.content now.folder) begin x (kind.body now.file)) (sym (o.opened ∙ same))
-              (rw (← o.finds.content, ← counts) (files_begin config start seen grounds.parts grounds.maps (attempted 0 (start_stamp start) o.listed now.folder now.file) (kind.body now.file) refl refl refl is_stamp (succeeds 0 (start_stamp start) o.listed now.folder now.folder now.file is_known opens refl (λ quiet. quiet))
-              (record { before = refl; noted_before = refl; after = rw is_seen_now (sym (after_append_nothing (kind.content now.folder) (kind.body now.file))); noted_after = sym (ap (λ (s : StepState). s.noted) is_seen_now) })));
-          opened_is = o.opened ∙ same;
-          noted = tt;
-          seen_content = ap (λ (s : StepState). s.content) is_seen_now;
-          seen_noted = ap (λ (s : StepState). s.noted) is_seen_now;
-          fit = tt;
-        }
-
-    module _ (starts : IsMoment start.moment) where
-      key : (s : Stamp) (e : Event) (h : List Event) → stamp_at config start (attempt_times config start h) e h ≡ Some s → period_of config.rotation s.moment ≡ period_at config.rotation start.moment (e ∷ h) → file_key config s ≡ key_at config start (e ∷ h)
-      key s e h some period = rw some (ap (λ (p : Option ℤ). (p, s.number)) period)
-
-      same_key : (e : Event) (h : List Event) → stamp_at config start (attempt_times config start h) e h ≡ None → period_at config.rotation start.moment (e ∷ h) ≡ period_at config.rotation start.moment h → key_at config start (e ∷ h) ≡ key_at config start h
-      same_key e h none same = rw none (ap (λ (p : Option ℤ). (p, (last_stamp start (attempt_times config start h)).number)) same)
-
-      later_key : (s : Stamp) (e : Event) (h : List Event) → stamp_at config start (attempt_times config start h) e h ≡ Some s
-          → IsLater (period_at config.rotation start.moment h) (period_at config.rotation start.moment (e ∷ h)) ⊎ ((period_at config.rotation start.moment h ≡ period_at config.rotation start.moment (e ∷ h)) × ((last_stamp start (attempt_times config start h)).number < s.number))
-          → IsLaterKey (key_at config start h) (key_at config start (e ∷ h))
-      later_key s e h some later = rw some later
-
-      same_stamp : (s t : Stamp) → ◌≡◌ {A = Option Stamp} (Some s) (Some t) → s ≡ t
-      same_stamp s t e = ap (λ (o : Option Stamp). unwrap_or o s) e
-
-      -- what is seen before and after a step whose look led to this roller
-      record AtStep (e : Event) (h : List Event) (old now : Rolling S F) : Type 0 where
-        before : kind.content old.folder ≡ (seen (length h)).content
-        noted_before : kind.noted old.folder ≡ (seen (length h)).noted
-        after : (seen (suc (length h))).content ≡ after_append (kind.content now.folder) (seen (suc (length h))).body (seen (suc (length h))).piece
-        noted_after : kind.noted now.folder ≡ (seen (suc (length h))).noted
-
-      -- after the check of the clock of a step, and before its piece
-      looked : (e : Event) (h : List Event) (old now : Rolling S F) → AtStep e h old now → IsTrue kind.is_known → old.config ≡ config → Comes config start grounds.laws e h old → Holds h h old → (switch : Switch) → e.switch ≡ switch → LooksBy kind e.read e.offered switch old now → Holds (e ∷ h) h now
-      looked e h old now at_step is_known same come so switch is looks = by e.read refl switch is come looks
-        where
-          by : (read : Option ℤ) → e.read ≡ read → (switch : Switch) → e.switch ≡ switch → Comes config start grounds.laws e h old → LooksBy kind read e.offered switch old now → Holds (e ∷ h) h now
-          by None read switch is (Stays none agrees stays) looks =
-              rw looks.1 (no_attempt config start seen e h (kind.content first) (kind.content old.folder) begin old.opened (kind.body old.file) none (same_key e h none stays) so)
-          by None read switch is (Goes s some agrees is_stamp period later) looks = absurd (let none : ◌≡◌ {A = Option Stamp} None (Some s) = rw read at agrees in cc)
-          by (Some m) read Stayed is (Stays none agrees stays) looks =
-              rw looks.1 (no_attempt config start seen e h (kind.content first) (kind.content old.folder) begin old.opened (kind.body old.file) none (same_key e h none stays) so)
-          by (Some m) read Stayed is (Goes s some agrees is_stamp period later) looks = absurd (let both : ◌≡◌ {A = Option Stamp} None (Some s) = sym looks.0 ∙ (rw read at agrees) in cc)
-          by (Some m) read Switched is (Stays none agrees stays) looks = absurd (let both : ◌≡◌ {A = Option Stamp} None (Some looks.at_stamp) = sym (rw read at agrees) ∙ looks.cause in cc)
-          by (Some m) read Switched is (Goes s some agrees is_stamp period later) looks =
-              let it : looks.at_stamp ≡ s = same_stamp looks.at_stamp s (sym looks.cause ∙ (rw read at agrees)) in
-              let opens : OpensFile kind config (file_name_of config s) old.folder now.file looks.ready = rw (← same, ← it) looks.opens in
-              let did = succeeds (suc (length h)) s old.folder looks.ready now.folder now.file is_known opens looks.content looks.quiet in
-              subst (λ (x : Stamp). FilesSoFar config start seen (e ∷ h) h (kind.content first) (kind.content now.folder) begin x (kind.body now.file)) (sym (looks.opened ∙ it))
-              (a_success config start seen grounds.parts grounds.maps grounds.laws grounds.others starts e h (kind.content first) begin old.opened (kind.body old.file) s some is_stamp (key s e h some period) (later_key s e h some later)
-              (attempted (suc (length h)) s old.folder now.folder now.file) (kind.body now.file) is refl refl refl did (record { before = at_step.before; noted_before = at_step.noted_before; after = at_step.after; noted_after = at_step.noted_after }) so)
-          by (Some m) read SwitchFailed is (Stays none agrees stays) looks = absurd (let both : ◌≡◌ {A = Option Stamp} None (Some looks.at_stamp) = sym (rw read at agrees) ∙ looks.cause in cc)
-          by (Some m) read SwitchFailed is (Goes s some agrees is_stamp period later) looks =
-              let it : looks.at_stamp ≡ s = same_stamp looks.at_stamp s (sym looks.cause ∙ (rw read at agrees)) in
-              let little : IsRefusalEffect config (file_name_of config s) (kind.content old.folder) (kind.content now.folder) = rw (← it, ← same) (looks.content is_known) in
-              rw (looks.opened, looks.file)
-              (a_failure config start seen grounds.parts grounds.maps grounds.laws grounds.others starts e h (kind.content first) begin old.opened (kind.body old.file) s some is_stamp (key s e h some period) (later_key s e h some later)
-              (kind.content old.folder) (kind.content now.folder) (kind.noted old.folder) (kind.noted now.folder) is little (record { before = at_step.before; noted_before = at_step.noted_before; after = at_step.after; noted_after = at_step.noted_after }) so)
-
-      -- after its piece
-      turned : (e : Event) (h : List Event) (old new : Rolling S F) → IsTrue kind.is_known → Comes config start grounds.laws e h old → old.config ≡ config → Holds h h old → (t : Turns kind e old new) → AtStep e h old t.between → Holds (e ∷ h) (e ∷ h) new
-      turned e h old new is_known come same so t at_step =
-          let between = looked e h old t.between at_step is_known same come so e.switch refl t.looks in
-          rw (t.content is_known, t.stays.opened, t.stays.file)
-          (a_piece config start seen e h (kind.content first) (kind.content t.between.folder) begin t.between.opened (kind.body t.between.file) between)
-
-      opened_by : (e : Event) (h : List Event) (old now : Rolling S F) (read : Option ℤ) → e.read ≡ read → (switch : Switch) → e.switch ≡ switch → Comes config start grounds.laws e h old → LooksBy kind read e.offered switch old now
-          → old.opened ≡ last_opened start (attempt_times config start h) → now.opened ≡ last_opened start (attempt_times config start (e ∷ h))
-      opened_by e h old now None read switch is (Stays none agrees stays) looks so = rw (looks.1, none) so
-      opened_by e h old now None read switch is (Goes s some agrees is_stamp period later) looks so = absurd (let none : ◌≡◌ {A = Option Stamp} None (Some s) = rw read at agrees in cc)
-      opened_by e h old now (Some m) read Stayed is (Stays none agrees stays) looks so = rw (looks.1, none) so
-      opened_by e h old now (Some m) read Stayed is (Goes s some agrees is_stamp period later) looks so = absurd (let both : ◌≡◌ {A = Option Stamp} None (Some s) = sym looks.0 ∙ (rw read at agrees) in cc)
-      opened_by e h old now (Some m) read Switched is (Stays none agrees stays) looks so = absurd (let both : ◌≡◌ {A = Option Stamp} None (Some looks.at_stamp) = sym (rw read at agrees) ∙ looks.cause in cc)
-      opened_by e h old now (Some m) read Switched is (Goes s some agrees is_stamp period later) looks so = rw (some, is) (looks.opened ∙ same_stamp looks.at_stamp s (sym looks.cause ∙ (rw read at agrees)))
-      opened_by e h old now (Some m) read SwitchFailed is (Stays none agrees stays) looks so = absurd (let both : ◌≡◌ {A = Option Stamp} None (Some looks.at_stamp) = sym (rw read at agrees) ∙ looks.cause in cc)
-      opened_by e h old now (Some m) read SwitchFailed is (Goes s some agrees is_stamp period later) looks so = rw (some, is) (looks.opened ∙ so)
-
-      -- the folder notes nothing where a step makes no attempt
-      noted_same : (e : Event) (h : List Event) (old now : Rolling S F) (read : Option ℤ) → e.read ≡ read → (switch : Switch) → stamp_by old e.read e.offered ≡ None → LooksBy kind read e.offered switch old now → kind.noted now.folder ≡ kind.noted old.folder
-      noted_same e h old now None read switch agrees looks = ap (λ (r : Rolling S F). kind.noted r.folder) looks.1
-      noted_same e h old now (Some m) read Stayed agrees looks = ap (λ (r : Rolling S F). kind.noted r.folder) looks.1
-      noted_same e h old now (Some m) read Switched agrees looks = absurd (let both : ◌≡◌ {A = Option Stamp} None (Some looks.at_stamp) = sym (rw read at agrees) ∙ looks.cause in cc)
-      noted_same e h old now (Some m) read SwitchFailed agrees looks = absurd (let both : ◌≡◌ {A = Option Stamp} None (Some looks.at_stamp) = sym (rw read at agrees) ∙ looks.cause in cc)
-
-      noted_by : (e : Event) (h : List Event) (old now : Rolling S F) → Comes config start grounds.laws e h old → LooksBy kind e.read e.offered e.switch old now
-          → stamp_at config start (attempt_times config start h) e h ≡ None → kind.noted now.folder ≡ kind.noted old.folder
-      noted_by e h old now (Stays none agrees stays) looks never = noted_same e h old now e.read refl e.switch agrees looks
-      noted_by e h old now (Goes s some agrees is_stamp period later) looks never = absurd (let both : ◌≡◌ {A = Option Stamp} None (Some s) = sym never ∙ some in cc)
-
-      turn_goes_on : (e : Event) (h : List Event) (old new : Rolling S F) → RunSoFar h old → Turns kind e old new → seen (suc (length h)) ≡ step_state_of kind e.piece new → RunSoFar (e ∷ h) new
-      turn_goes_on e h old new so turns is_seen_now =
-          let come = comes config start grounds.laws e h old so.config_is so.clock in
-          record {
-            config_is = turn_keeps kind e old new turns ∙ so.config_is;
-            is_stamp = so.is_stamp;
-            clock = clock_goes_on config start grounds.laws e h old new so.config_is so.clock come (turn_decides kind e old new turns);
-            files = λ is_known. turned e h old new is_known come so.config_is (so.files is_known) turns (record {
-              before = sym so.seen_content;
-              noted_before = sym so.seen_noted;
-              after = rw (is_seen_now, turns.stays.file) (turns.content is_known);
-              noted_after = sym (ap (λ (s : StepState). s.noted) is_seen_now ∙ turns.stays.noted);
-            });
-            seen_content = ap (λ (s : StepState). s.content) is_seen_now;
-            seen_noted = ap (λ (s : StepState). s.noted) is_seen_now;
-            noted = (
-              λ none. ap (λ (s : StepState). s.noted) is_seen_now ∙ turns.stays.noted ∙ noted_by e h old turns.between come turns.looks none ∙ sym so.seen_noted,
-              so.noted,
-            );
-            fit = (turns.fits, so.fit);
-            opened_is = turns.stays.opened ∙ opened_by e h old turns.between e.read refl e.switch refl come turns.looks so.opened_is;
-          }
-
-    -- any run keeps to the laws
-    pub turns_law : (h : List Event) (opened now : Rolling S F) → (o : OpensRoller kind config start.moment first opened) → o.number ≡ start.number → opened.room ≡ config.max_bytes - start.held → kind.noted o.listed ≡ begin → (runs : TurnsFrom kind h opened now) → IsSeen kind seen h opened now runs → RunSoFar h now
-    turns_law [] opened now o number left counts runs is = rw runs (run_begins opened o number left counts is)
-    turns_law (e ∷ h) opened now o number left counts (between, earlier, turns) is = turn_goes_on o.may_open.in_range e h between now (turns_law h opened between o number left counts earlier is.1) turns is.0
-
--- any run whose steps are turns of a roller does
-pub run_law : {S F T : Type 0} (kind : Ghosts S F) (does : List T → T → Rolling S F → Rolling S F → Type 0) (event : List T → T → Event) (config : Config) (start : ℤ) (number room : ℕ) (folder : S) (past : List T) (last : Rolling S F) → ((earlier : List T) (t : T) (old new : Rolling S F) → does earlier t old new → Turns kind (event earlier t) old new) → Grounds kind config → (run : RunsFrom kind does config start number room folder past last) → RunSoFar kind config (start_of config start number room) folder (kind.noted run.opens.listed) (run_states event run) (events_by event past) last
-run_law kind does event config start number room folder past last turn grounds run =
-    turns_law kind config (start_of config start number room) folder (kind.noted run.opens.listed) (run_states event run) grounds (events_by event past) run.first last run.opens run.number_is (omega (arith, run.room_is, run.opens.room.at_most)) refl (turns_from kind does event turn past run.first last run.runs)
-    (is_seen kind does event turn (run_states event run) past run.first last run.runs (λ n le. refl))
-
--- and so does a run of a roller's own steps
-pub roll_law : {S F : Type 0} (kind : Ghosts S F) (config : Config) (start : ℤ) (number room : ℕ) (folder : S) (past : List RollStepWithReply) (last : Rolling S F) → Grounds kind config → (run : RunsFrom kind (RollDoes kind) config start number room folder past last) → RunSoFar kind config (start_of config start number room) folder (kind.noted run.opens.listed) (run_states roll_event run) (events_by roll_event past) last
-roll_law kind config start number room folder past last = run_law kind (RollDoes kind) roll_event config start number room folder past last (λ earlier. step_turns kind)
-
--- what a run that keeps to the laws says of its roller
-pub follows : {S F T : Type 0} (kind : Ghosts S F) (does : List T → T → Rolling S F → Rolling S F → Type 0) (event : List T → T → Event) (config : Config) (start : ℤ) (number room : ℕ) (folder : S) (past : List T) (last : Rolling S F)
-    → ((run : RunsFrom kind does config start number room folder past last) → RunSoFar kind config (start_of config start number room) folder (kind.noted run.opens.listed) (run_states event run) (events_by event past) last)
-    → RunsFrom kind does config start number room folder past last → RollerFollows kind does event config start number room folder past last
-follows kind does event config start number room folder past last law run =
-    let so = law run in
-    record {
-      config_is = so.config_is;
-      switches = so.clock.switches;
-      boundary_is = so.clock.boundary_is;
-      opened_is = so.opened_is;
-      files = λ known run. law_so_far _ _ _ _ _ _ _ _ _ ((law run).files known) (keeps_to_limit config _ _ _ ((law run).files known).are_times (law run).clock.switches (law run).fit);
-      notices = λ run. (law run).noted;
-    }
+  -- what a run says of its roller
+  pub follows : (read : T → Option ℤ) (past : List T) (last : Rolling S F) → (account past).latest ≡ greatest moment (filter is_moment (filter_map read past)) → RunsFrom kind does c moment number room folder past last
+      → RollerFollows kind does read c moment number room folder past last (account past)
+  follows read past last latest run =
+      let at = (known_of past last run).roller in
+      record {
+        config_is = at.config_is;
+        latest_is = latest;
+        newest_is = at.last_is;
+        in_its_period = at.period_is;
+        boundary_is = at.boundary_is;
+        opened_is = at.opened_is;
+        files = λ is_known run. law_so_far c (kind.content folder) (account past).newest (account past).earlier (kind.content last.folder) (kind.body last.file) _ ((known_of past last run).files is_known);
+        notices = λ run. run_notes run.first run.opens run.number_is run.room_is past last run.runs;
+      }
 
 -- one more step
 pub one_reply_more : {S R : Type 0} (past : List (S × R)) (steps : List S) (replies : List R) (s : S) (r : R) → length steps ≡ length replies → with_replies_onto past (steps ++ s ∷ []) (replies ++ r ∷ []) ≡ (s, r) ∷ with_replies_onto past steps replies

@@ -4,6 +4,8 @@
 -- `name_rank`, the rank of a log file's name; `name_survives`, whether retention leaves a name.
 use Rattle.std.specs.Prelude.{◌≡◌, ◌≢◌, ◌⊎◌, ◌↔◌, IsTrue, ℕ, ◌+◌, ◌-◌, ◌^◌, ◌<◌, ◌≤◌, nat_lt, min, ◌==◌, ℤ, Bool, true, false, not, ◌&&◌, if◌then◌else◌, List, [], ◌∷◌, ◌++◌, length, take, drop, get_or, All, Any, Option, None, Some, is_some, unwrap_or, Result, Ok, Err, Vec}
 use Rattle.std.specs.Int.{int_max}
+use Rattle.std.specs.Bool.{MatchBool}
+use Rattle.std.specs.Option.{option_map_or}
 use Rattle.std.specs.Str.{bytes_eq}
 use Rattle.std.specs.FinMap as fin
 use Rattle.std.specs.IoError.{error_kind}
@@ -20,7 +22,6 @@ use Rattle.appender_store.specs.Notes.{Notes}
 use Rattle.appender_store.specs.declared.store.Listed.{Listed}
 use Rattle.appender_retain.specs.Survival.{name_rank, name_survives}
 use Rattle.appender_rolling.specs.Config.{Config, is_limited, max_before, log_files_of}
-use Rattle.appender_rolling.specs.Limits.{KeepsEachFile}
 use Rattle.appender_rolling.specs.Opening.{file_name_of, IsFirstNumber, HasEntry}
 use Rattle.appender_rolling.specs.Roller.{written_count}
 use Rattle.appender_rolling.specs.declared.rolling.setup.Stamp.{Stamp}
@@ -29,29 +30,31 @@ use Rattle.appender_queue.specs.Queue.{saturating_next, one_less}
 use Rattle.appender_queue.specs.declared.queue.Shut.TheVariants.{Sent, Already, Full as ShutFull, Closed as ShutClosed}
 use Rattle.appender_rolling.specs.declared.rolling.Switch.{Switch}
 use Rattle.appender_rolling.specs.declared.rolling.Switch.TheVariants.{None as Stayed, Opened as Switched}
-use Rattle.appender_replay.specs.Start.{Start, start_stamp, start_of}
-use Rattle.appender_replay.specs.Replay.{by_kind}
+use Rattle.appender_replay.specs.Start.{Start, start_of}
 use Rattle.appender_replay.specs.declared.replay.whole.Step.{Step}
 use Rattle.appender_replay.specs.declared.replay.whole.Step.TheVariants.{Offer, Shut, AddSender, DropSender, Work}
 use Rattle.appender_replay.specs.declared.replay.whole.Reply.{Reply}
 use Rattle.appender_replay.specs.declared.replay.whole.Reply.TheVariants.{Accepted, Full, Closed, NoMemory, Shut as DidShut, Senders, Took, TookShutdown, TookGone, TookEmpty, Wrote, Flushed, Ended}
 
--- the writes, the newest first: the name of the open file, the bytes, and the answer
-abbrev pub WriteList : Type 0
-WriteList = List (List ℕ × List ℕ × Result ℕ ErrorKind)
+-- one write: the latest moment then, the bytes, and the answer
+pub record FileWrite : Type 0 where
+  pub latest : ℤ
+  pub bytes : List ℕ
+  pub answer : Result ℕ ErrorKind
 
--- The files: the latest moment that was read; the attempts to open one, the newest, the earlier ones, newest first, whether each succeeded, and how
--- many failed; the bytes that count since, which are those that were written, and those that the first file held if the log continues it; the open
--- file's name; the writes; how many writes and flushes failed, but for want of memory.
+-- A try to open a file: its stamp, and whether it succeeded; and the writes from then until the next one, the newest first.
+pub record Try : Type 0 where
+  pub stamp : Stamp
+  pub opened : Bool
+  pub writes : List FileWrite
+
+-- The files: the latest moment that was read; the newest try, and those before it, the newest first, of which the last is the opening; how many bytes
+-- that the first file held count, until the next try; how many writes and flushes failed, but for want of memory.
 pub record Files : Type 0 where
   pub latest : ℤ
-  pub newest : Stamp
-  pub earlier : List Stamp
-  pub outcomes : List Bool
-  pub failed : ℕ
-  pub since : ℕ
-  pub file : List ℕ
-  pub writes : WriteList
+  pub newest : Try
+  pub earlier : List Try
+  pub held : ℕ
   pub faults : ℕ
 
 -- The queue: all lines that were accepted, in order, and how many of them were handed to the worker; how many had been accepted when the
@@ -72,8 +75,17 @@ pub record RunAccount : Type 0 where
   pub files : Files
 
 -- after the opening of the first file
-abbrev pub files_at_opening : Config → Start → Files
-files_at_opening c s = record { latest = s.moment; newest = start_stamp s; earlier = []; outcomes = true ∷ []; failed = 0; since = s.held; file = file_name_of c (start_stamp s); writes = []; faults = 0 }
+abbrev pub files_at_opening : Start → Files
+files_at_opening s = record { latest = s.stamp.moment; newest = record { stamp = s.stamp; opened = true; writes = [] }; earlier = []; held = s.held; faults = 0 }
+
+-- what writes took, the oldest first
+abbrev pub bytes_taken : List FileWrite → List ℕ
+bytes_taken [] = []
+bytes_taken (w ∷ earlier) = bytes_taken earlier ++ take (written_count w.answer) w.bytes
+
+-- the bytes that count since the newest try
+abbrev pub counted : Files → ℕ
+counted f = f.held + length (bytes_taken f.newest.writes)
 
 -- ---- the reply to a step
 
@@ -102,12 +114,12 @@ abbrev pub later_moment : ℤ → ℤ → ℤ
 later_moment latest m = if is_moment m then int_max m latest else latest
 
 -- The file that is due at m, if one is: the first of another period, if the latest moment is in one with m; under a limit of bytes the next of the
--- same period, if what counts since the newest attempt and the bytes to write, at least one, are more than the limit.
+-- same period, if what counts since the newest try and the bytes to write, at least one, are more than the limit.
 abbrev pub due_file : Config → Files → ℤ → ℕ → Option Stamp
 due_file c f m len =
     if not (is_same_start (period_of c.rotation (later_moment f.latest m)) (period_of c.rotation f.latest)) then Some (record { moment = later_moment f.latest m; number = 0 })
-    else if is_limited c && nat_lt f.newest.number 999999 && nat_lt 0 f.since && nat_lt c.max_bytes (f.since + (if len == 0 then 1 else len))
-    then Some (record { moment = f.newest.moment; number = f.newest.number + 1 }) else None
+    else if is_limited c && nat_lt f.newest.stamp.number 999999 && nat_lt 0 (counted f) && nat_lt c.max_bytes (counted f + (if len == 0 then 1 else len))
+    then Some (record { moment = f.newest.stamp.moment; number = f.newest.stamp.number + 1 }) else None
 
 -- A line is accepted exactly if the queue is open and has room, and memory was there for its copy; an empty one needs none. The worker writes
 -- on if a line is in hand, makes the flushes that are due, or else takes the first line that was not handed.
@@ -122,17 +134,15 @@ Replies limit c a (Work m, reply) = (a.rest ≡ []) × (a.flushes ≡ 0) × (rep
 
 -- ---- what follows from a step and its reply
 
--- a file that could not be opened leaves the last one open
-abbrev pub files_after_attempt : Config → Option Stamp → Switch → Files → Files
-files_after_attempt c None switch f = f
-files_after_attempt c (Some s) Switched f =
-    record f { newest = s; earlier = f.newest ∷ f.earlier; outcomes = true ∷ f.outcomes; since = 0; file = file_name_of c s }
-files_after_attempt c (Some s) switch f =
-    record f { newest = s; earlier = f.newest ∷ f.earlier; outcomes = false ∷ f.outcomes; since = 0; failed = f.failed + 1 }
+-- after a try for this stamp, if there was one
+abbrev pub files_after_try : Option Stamp → Switch → Files → Files
+files_after_try None switch f = f
+files_after_try (Some s) Switched f = record f { newest = record { stamp = s; opened = true; writes = [] }; earlier = f.newest ∷ f.earlier; held = 0 }
+files_after_try (Some s) switch f = record f { newest = record { stamp = s; opened = false; writes = [] }; earlier = f.newest ∷ f.earlier; held = 0 }
 
 -- a check of the clock at m, with this number of bytes to write
 abbrev pub files_after_check : Config → ℤ → ℕ → Switch → Files → Files
-files_after_check c m len switch f = files_after_attempt c (due_file c f m len) switch (record f { latest = later_moment f.latest m })
+files_after_check c m len switch f = files_after_try (due_file c f m len) switch (record f { latest = later_moment f.latest m })
 
 abbrev pub faults_in : {T : Type 0} → Result T ErrorKind → ℕ
 faults_in (Ok x) = 0
@@ -141,7 +151,8 @@ faults_in (Err kind) = 1
 
 -- a write of these bytes to the open file
 abbrev pub files_after_write : List ℕ → Result ℕ ErrorKind → Files → Files
-files_after_write bytes answer f = record f { since = f.since + length (take (written_count answer) bytes); writes = (f.file, bytes, answer) ∷ f.writes; faults = f.faults + faults_in answer }
+files_after_write bytes answer f =
+    record f { newest = record f.newest { writes = record { latest = f.latest; bytes = bytes; answer = answer } ∷ f.newest.writes }; faults = f.faults + faults_in answer }
 
 -- a line is given up at a write of no byte, at the 101st interruption and at any other error
 abbrev pub account_after_write : Result ℕ ErrorKind → RunAccount → RunAccount
@@ -163,7 +174,7 @@ account_after c a t = a
 
 -- a run: its steps with their replies, the newest first
 abbrev pub account : Config → Start → List (Step × Reply) → RunAccount
-account c start [] = record { accepted = []; handed = 0; shutdown = None; closed = false; senders = 1; idle = false; rest = []; interrupted = 0; whole = false; flushes = 0; files = files_at_opening c start }
+account c start [] = record { accepted = []; handed = 0; shutdown = None; closed = false; senders = 1; idle = false; rest = []; interrupted = 0; whole = false; flushes = 0; files = files_at_opening start }
 account c start (t ∷ past) = account_after c (account c start past) t
 
 abbrev pub Follows : ℕ → Config → Start → List (Step × Reply) → Type 0
@@ -172,10 +183,26 @@ Follows limit c start (t ∷ past) = Follows limit c start past × Replies limit
 
 -- ---- the folder
 
+-- all writes of these tries, the newest first
+abbrev pub writes_of : List Try → List FileWrite
+writes_of [] = []
+writes_of (t ∷ earlier) = t.writes ++ writes_of earlier
+
+-- how many failed
+abbrev pub failures_in : List Try → ℕ
+failures_in [] = 0
+failures_in (t ∷ earlier) = failures_in earlier + (if t.opened then 0 else 1)
+
+-- the stamp of the open file, which is that of the last try that succeeded
+abbrev pub open_stamp : List Try → Option Stamp
+open_stamp [] = None
+open_stamp (t ∷ earlier) = if t.opened then Some t.stamp else open_stamp earlier
+
 -- what was written to the file of this name
-abbrev pub written_to_name : List ℕ → WriteList → List ℕ
-written_to_name name [] = []
-written_to_name name ((file, bytes, answer) ∷ earlier) = written_to_name name earlier ++ (if bytes_eq file name then take (written_count answer) bytes else [])
+abbrev pub written_to_name : Config → List ℕ → List Try → List ℕ
+written_to_name c name [] = []
+written_to_name c name (t ∷ earlier) = written_to_name c name earlier
+    ++ (if option_map_or (λ (s : Stamp). bytes_eq (file_name_of c s) name) (open_stamp (t ∷ earlier)) false then bytes_taken t.writes else [])
 
 -- What retention leaves under a name when this file is opened. By name, the file that is opened is none of those that it counts, and so stays.
 abbrev pub kept_entry : Config → Stamp → NameMap → List ℕ → Option Entry
@@ -191,20 +218,19 @@ pub record NamesAfterOpening (c : Config) (bodies : ℕ) (s : Stamp) (old new : 
       ⊎ ((c.link_optional ≡ true) × (c.link ≢ file_name_of c s → (fin.get new c.link ≡ kept_entry c s old c.link) ⊎ (IsLink (fin.get old c.link) × (fin.get new c.link ≡ None))))
   pub others : (name : List ℕ) → name ≢ file_name_of c s → name ≢ c.link → fin.get new name ≡ kept_entry c s old name
 
--- The names after an attempt that failed, if retention doesn't come before it. A name that was free may lead to a new file, and the link may be gone.
+-- The names after a try that failed, if retention doesn't come before it. A name that was free may lead to a new file, and the link may be gone.
 pub record NamesAfterFailure (c : Config) (bodies : ℕ) (s : Stamp) (old new : NameMap) : Type 0 where
   pub own : (fin.get new (file_name_of c s) ≡ fin.get old (file_name_of c s)) ⊎ ((fin.get old (file_name_of c s) ≡ None)
       × ((b : ℕ) × (t : Option ℤ) × (fin.get new (file_name_of c s) ≡ Some (File b t)) × (bodies ≤ b)))
   pub link : c.link ≢ file_name_of c s → (fin.get new c.link ≡ fin.get old c.link) ⊎ (IsLink (fin.get old c.link) × (fin.get new c.link ≡ None))
   pub others : (name : List ℕ) → name ≢ file_name_of c s → name ≢ c.link → fin.get new name ≡ fin.get old name
 
--- the same of one attempt after another, the newest first. The creation moment of a new file follows from no map before it.
-abbrev pub NamesAfterAttempts : Config → ℕ → List Bool → List Stamp → NameMap → NameMap → Type 0
-NamesAfterAttempts c bodies (true ∷ outcomes) (s ∷ earlier) first last =
-    (between : NameMap) × NamesAfterAttempts c bodies outcomes earlier first between × NamesAfterOpening c bodies s between last
-NamesAfterAttempts c bodies (false ∷ outcomes) (s ∷ earlier) first last =
-    (between : NameMap) × NamesAfterAttempts c bodies outcomes earlier first between × NamesAfterFailure c bodies s between last
-NamesAfterAttempts c bodies outcomes stamps first last = last ≡ first
+-- the same of one try after another, the newest first. The creation moment of a new file follows from no map before it.
+abbrev pub NamesAfterTries : Config → ℕ → List Try → NameMap → NameMap → Type 0
+NamesAfterTries c bodies [] first last = last ≡ first
+NamesAfterTries c bodies (t ∷ earlier) first last =
+    (between : NameMap) × NamesAfterTries c bodies earlier first between
+    × MatchBool t.opened (NamesAfterOpening c bodies t.stamp between last) (NamesAfterFailure c bodies t.stamp between last)
 
 -- Every listing and every removal succeeded, except the listings of an absent folder before the opening. Counts at their greatest don't show it.
 pub record RetentionSucceeded (c : Config) (there : Bool) (old new : NotedCounts) : Type 0 where
@@ -215,37 +241,42 @@ pub record RetentionSucceeded (c : Config) (there : Bool) (old new : NotedCounts
 -- How many bytes the first file held, up to the limit. It held none if its name led to nothing, or if retention removed it first.
 abbrev pub IsHeld : Config → Start → Content → Type 0
 IsHeld c start first =
-    ((b : ℕ) × (t : Option ℤ) × (fin.get first.names (file_name_of c (start_stamp start)) ≡ Some (File b t)) × (start.held ≡ min c.max_bytes (length (body_at first b))))
+    ((b : ℕ) × (t : Option ℤ) × (fin.get first.names (file_name_of c start.stamp) ≡ Some (File b t)) × (start.held ≡ min c.max_bytes (length (body_at first b))))
     ⊎ ((start.held ≡ 0)
-    × ((fin.get first.names (file_name_of c (start_stamp start)) ≡ None)
-    ⊎ (name_survives (log_files_of c (Some (file_name_of c (start_stamp start)))) (max_before c) first.names (file_name_of c (start_stamp start)) ≡ false)))
+    × ((fin.get first.names (file_name_of c start.stamp) ≡ None)
+    ⊎ (name_survives (log_files_of c (Some (file_name_of c start.stamp))) (max_before c) first.names (file_name_of c start.stamp) ≡ false)))
 
--- What a folder with known content contains after a run whose first file was this.
-pub record Contains (c : Config) (start : Start) (f : Files) (first last : Content) (noted_first noted_last : NotedCounts) : Type 0 where
+-- What a folder with known content contains after a run with these tries, the newest first.
+pub record Contains (c : Config) (start : Start) (tries : List Try) (first last : Content) (noted_first noted_last : NotedCounts) : Type 0 where
   -- A file holds what it held at first, which is nothing if it is new, and then exactly what was written while it was the open one.
-  pub bytes : (name : List ℕ) (b : ℕ) (t : Option ℤ) → fin.get last.names name ≡ Some (File b t) → body_at last b ≡ body_at first b ++ written_to_name name f.writes
+  pub bytes : (name : List ℕ) (b : ℕ) (t : Option ℤ) → fin.get last.names name ≡ Some (File b t) → body_at last b ≡ body_at first b ++ written_to_name c name tries
   -- Whatever fails, no other name changes, except that log files may be removed if there is a maximum of them. By name each of these has a
-  -- period and number before those of some attempt's file (`is_before_opened`).
-  pub others : (name : List ℕ) → All (λ s. name ≢ file_name_of c s) (f.newest ∷ f.earlier) → name ≢ c.link
+  -- period and number before those of some try's file (`is_before_opened`).
+  pub others : (name : List ℕ) → All (λ t. name ≢ file_name_of c t.stamp) tries → name ≢ c.link
       → (fin.get last.names name ≡ fin.get first.names name) ⊎ ((fin.get last.names name ≡ None) × (c.max_files ≢ 0)
-      × Any (λ s. is_some (name_rank (log_files_of c (Some (file_name_of c s))) first.names name) ≡ true) (f.newest ∷ f.earlier))
+      × Any (λ t. is_some (name_rank (log_files_of c (Some (file_name_of c t.stamp))) first.names name) ≡ true) tries)
   -- Without a maximum each file that was there at first has its name, whatever fails, and so has each to which bytes were written.
-  pub kept : c.max_files ≡ 0 → KeepsEachFile first last
-  pub written : c.max_files ≡ 0 → (name : List ℕ) → written_to_name name f.writes ≢ [] → IsFile (fin.get last.names name)
-  -- The open file has its name if no attempt failed. Else it has it by name or without a maximum, where retention doesn't come before the opening.
-  pub open_file : (f.failed ≡ 0) ⊎ (max_before c ≡ 0) → IsFile (fin.get last.names f.file)
-  -- If each listing and removal succeeded, the names are exactly these; by name or without a maximum whichever attempts fail, else if none does.
+  pub kept : c.max_files ≡ 0 → (name : List ℕ) (b : ℕ) (t : Option ℤ) → fin.get first.names name ≡ Some (File b t) → fin.get last.names name ≡ Some (File b t)
+  pub written : c.max_files ≡ 0 → (name : List ℕ) → written_to_name c name tries ≢ [] → IsFile (fin.get last.names name)
+  -- The open file has its name if no try failed. Else it has it by name or without a maximum, where retention doesn't come before the opening.
+  pub open_file : (failures_in tries ≡ 0) ⊎ (max_before c ≡ 0) → (s : Stamp) → open_stamp tries ≡ Some s → IsFile (fin.get last.names (file_name_of c s))
+  -- If each listing and removal succeeded, the names are exactly these; by name or without a maximum whichever tries fail, else if none does.
   -- Without a maximum nothing is listed for retention.
-  pub names : (f.failed ≡ 0) ⊎ (max_before c ≡ 0) → ((c.max_files ≡ 0) ⊎ RetentionSucceeded c first.there noted_first noted_last)
-      → NamesAfterAttempts c (length first.bodies) f.outcomes (f.newest ∷ f.earlier) first.names last.names
+  pub names : (failures_in tries ≡ 0) ⊎ (max_before c ≡ 0) → ((c.max_files ≡ 0) ⊎ RetentionSucceeded c first.there noted_first noted_last)
+      → NamesAfterTries c (length first.bodies) tries first.names last.names
   -- If the log continues its last file, what the first file held counts.
   pub held : c.continues ≡ true → IsHeld c start first
   -- With a limit of bytes the first number is the next after those that the folder had in that period, or that of the file that is continued. If the
   -- listing that finds it failed, List was noted, and it is 0.
-  pub number : is_limited c ≡ true → IsFirstNumber c start.moment (HasEntry first) start.number
-      ⊎ ((start.number ≡ 0) × (first.there ≡ true) × (next_count noted_first.lists ≤ noted_last.lists))
+  pub number : is_limited c ≡ true → IsFirstNumber c start.stamp.moment (HasEntry first) start.stamp.number
+      ⊎ ((start.stamp.number ≡ 0) × (first.there ≡ true) × (next_count noted_first.lists ≤ noted_last.lists))
 
 -- ---- the calls of the folder
+
+-- an answer, of an error only its kind
+abbrev pub by_kind : {T : Type 0} → Result T Error → Result T ErrorKind
+by_kind (Ok x) = Ok x
+by_kind (Err fault) = Err (error_kind fault)
 
 module _ {S F : Type 0} (kind : Ghosts S F) where
   -- one call that is neither an append nor a notice, whatever it returned
@@ -279,25 +310,25 @@ module _ {S F : Type 0} (kind : Ghosts S F) where
   abbrev pub NotesFault : S → S → S → Type 0
   NotesFault old failed new = (notice : NoticeMessage) × HasFault old failed notice × Notes kind failed notice new
 
-  -- All calls since the first folder, one after another, that lead to this one. The appends are these writes. A notice is of a call or of an attempt.
-  pub data CallsLead (first : S) : WriteList → S → Type 0 where
+  -- All calls since the first folder, one after another, that lead to this one. The appends are these writes. A notice is of a call or of a try.
+  pub data CallsLead (first : S) : List FileWrite → S → Type 0 where
     begins : CallsLead first [] first
-    calls : (w : WriteList) (s t : S) → CallsLead first w s → Calls s t → NotesNothing s t → CallsLead first w t
-    appends : (w : WriteList) (e : List ℕ × List ℕ × Result ℕ ErrorKind) (s t : S) → CallsLead first w s → CallsAppend e.1 e.2 s t →
+    calls : (w : List FileWrite) (s t : S) → CallsLead first w s → Calls s t → NotesNothing s t → CallsLead first w t
+    appends : (w : List FileWrite) (e : FileWrite) (s t : S) → CallsLead first w s → CallsAppend e.bytes e.answer s t →
         CallsLead first (e ∷ w) t
-    notes : (w : WriteList) (s t u : S) → CallsLead first w s → Calls s t → NotesNothing s t → NotesFault s t u → CallsLead first w u
-    notes_attempt : (w : WriteList) (s t : S) (error : InitError) → CallsLead first w s → Notes kind s (NotedOpen error) t → CallsLead first w t
+    notes : (w : List FileWrite) (s t u : S) → CallsLead first w s → Calls s t → NotesNothing s t → NotesFault s t u → CallsLead first w u
+    notes_try : (w : List FileWrite) (s t : S) (error : InitError) → CallsLead first w s → Notes kind s (NotedOpen error) t → CallsLead first w t
 
--- The folder after a run: it noted each attempt that failed, and counted each write and each flush that failed. Why an attempt failed is in the
+-- The folder after a run: it noted each try that failed, and counted each write and each flush that failed. Why a try failed is in the
 -- clause `runs` of `replay` (`KeepsFile` of `appender_rolling`).
 pub record FolderFollows {S F : Type 0} (kind : Ghosts S F) (c : Config) (start : Start) (f : Files) (first last : S) : Type 0 where
-  pub failed : (kind.noted last).opens ≡ min ((kind.noted first).opens + f.failed) (2 ^ 64 - 1)
+  pub failed : (kind.noted last).opens ≡ min ((kind.noted first).opens + failures_in (f.newest ∷ f.earlier)) (2 ^ 64 - 1)
   pub faults : min (kind.failures first + f.faults) (2 ^ 64 - 1) ≤ kind.failures last
   -- Nothing else was called. So its relation of appends says why a write took nothing, and each List or Remove that was noted has a cause.
-  pub calls : CallsLead kind first f.writes last
-  pub unnumbered : is_limited c ≡ false → start.number ≡ 0
+  pub calls : CallsLead kind first (writes_of (f.newest ∷ f.earlier)) last
+  pub unnumbered : is_limited c ≡ false → start.stamp.number ≡ 0
   pub anew : c.continues ≡ false → start.held ≡ 0
-  pub content : IsTrue kind.is_known → Contains c start f (kind.content first) (kind.content last) (kind.noted first) (kind.noted last)
+  pub content : IsTrue kind.is_known → Contains c start (f.newest ∷ f.earlier) (kind.content first) (kind.content last) (kind.noted first) (kind.noted last)
 
 pub record Headline {S F : Type 0} (kind : Ghosts S F) (limit : ℕ) (c : Config) (moment : ℤ) (number room : ℕ) (past : List (Step × Reply)) (first last : S) : Type 0 where
   pub replies : Follows limit c (start_of c moment number room) past

@@ -1,8 +1,8 @@
 pub mod Start
-pub mod Run
-pub mod Replay
 pub mod Headline
 pub mod RollHeadline
+pub mod Run
+pub mod Replay
 pub mod Record
 pub mod Whole
 pub mod Inside

@@ -1,6 +1,6 @@
 -- What follows from the account of a run: the queue, what the worker does next, and what was written of the lines. Also what each step does
--- to the roller, and how the run reads as a history of the files.
-use Rattle.std.specs.Prelude.{◌≡◌, ℕ, ◌+◌, ◌-◌, ◌^◌, List, [], ◌∷◌, ◌++◌, Bool, false, not, ◌||◌, ◌==◌, nat_le, if◌then◌else◌, length, get_or, take, drop, min, Some, None, Result, Ok, Err}
+-- to the roller, and which moment it reads.
+use Rattle.std.specs.Prelude.{◌≡◌, ℕ, ◌+◌, ◌-◌, ◌^◌, List, [], ◌∷◌, ◌++◌, Bool, false, not, ◌||◌, ◌==◌, nat_le, if◌then◌else◌, length, get_or, take, drop, min, ℤ, Option, Some, None, Result, Ok, Err}
 use Rattle.std.specs.declared.io.Error.{Error}
 use Rattle.std.specs.declared.io.ErrorKind.{ErrorKind}
 use Rattle.appender_worker.specs.Core.{Core, Taking, Writing, Flushing, Ending, Over, most_repeats}
@@ -8,12 +8,9 @@ use Rattle.appender_worker.specs.CoreReplies.{is_interruption}
 use Rattle.appender_queue.specs.Queue.{Queue}
 use Rattle.appender_store.specs.declared.store.Folder.{Ghosts}
 use Rattle.appender_rolling.specs.Config.{Config}
-use Rattle.appender_rolling.specs.Roller.{Rolling, Puts, Flushes, written_count}
-use Rattle.appender_rolling.specs.declared.rolling.Switch.TheVariants.{None as Stayed}
+use Rattle.appender_rolling.specs.Roller.{Rolling, Puts, Flushes}
 use Rattle.appender_replay.specs.Start.{Start}
-use Rattle.appender_replay.specs.Run.{Event}
-use Rattle.appender_replay.specs.Replay.{by_kind}
-use Rattle.appender_replay.specs.Headline.{RunAccount, account}
+use Rattle.appender_replay.specs.Headline.{RunAccount, account, by_kind}
 use Rattle.appender_replay.specs.declared.replay.whole.Step.{Step}
 use Rattle.appender_replay.specs.declared.replay.whole.Step.TheVariants.{Offer, Work}
 use Rattle.appender_replay.specs.declared.replay.whole.Reply.{Reply}
@@ -124,18 +121,7 @@ RollerDoes kind rest t old new = new ≡ old
 abbrev pub WorkerDoes : {S F : Type 0} → Ghosts S F → Config → Start → List StepWithReply → StepWithReply → Rolling S F → Rolling S F → Type 0
 WorkerDoes kind c start earlier = RollerDoes kind (account c start earlier).rest
 
--- ---- read as a run of files
-
--- A step of the worker that wrote reads the clock, and its piece is what was taken of the rest. No other step reads the
--- clock, switches or writes.
-abbrev pub file_event : List ℕ → StepWithReply → Event
-file_event rest (Work m, Wrote switch answer) = record { read = Some m; offered = length rest; switch = switch; piece = take (written_count answer) rest }
-file_event rest t = record { read = None; offered = 0; switch = Stayed; piece = [] }
-
-abbrev pub run_event : Config → Start → List StepWithReply → StepWithReply → Event
-run_event c start earlier = file_event (account c start earlier).rest
-
--- all pieces of a history strung together, the oldest first
-abbrev pub text_of_events : List Event → List ℕ
-text_of_events [] = []
-text_of_events (e ∷ earlier) = text_of_events earlier ++ e.piece
+-- the moment that a step reads: only a write of the worker checks the clock
+abbrev pub read_in : StepWithReply → Option ℤ
+read_in (Work m, Wrote switch answer) = Some m
+read_in t = None

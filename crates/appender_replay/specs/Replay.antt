@@ -1,27 +1,20 @@
 -- What a replay of steps over a roller returns, and how it reads as a run.
-use Rattle.std.specs.Prelude.{◌≡◌, ◌<◌, nat_le, suc, if◌then◌else◌, ℕ, ℤ, IsTrue, List, [], ◌∷◌, length, take, Option, None, Some, Result, Ok, Err}
-use Rattle.std.specs.IoError.{error_kind}
+use Rattle.std.specs.Prelude.{◌≡◌, ◌≢◌, ◌⊎◌, ◌<◌, ℕ, ℤ, IsTrue, List, [], ◌∷◌, filter, Option, None, Some, Result}
+use Rattle.std.specs.List.{filter_map}
 use Rattle.std.specs.declared.io.Error.{Error}
-use Rattle.std.specs.declared.io.ErrorKind.{ErrorKind}
+use Rattle.appender_store.specs.Content.{after_append}
 use Rattle.appender_store.specs.declared.store.Folder.{Ghosts}
-use Rattle.appender_names.specs.Rotation.{next_of}
+use Rattle.appender_names.specs.Rotation.{is_moment, next_of, period_of}
 use Rattle.appender_rolling.specs.Config.{Config}
 use Rattle.appender_rolling.specs.Roller.{Rolling, OpensRoller, OpensNoRoller, ChecksClockOnly, Writes, Puts, Flushes, written_count}
-use Rattle.appender_replay.specs.Run.{Event, StepState, FileLaw, NotedAtAttempts, SwitchesAtAttempts, latest_moment, last_opened, attempt_times}
-use Rattle.appender_rolling.specs.declared.rolling.Switch.{Switch}
-use Rattle.appender_rolling.specs.declared.rolling.Switch.TheVariants.{None as Stayed}
-use Rattle.appender_replay.specs.Start.{start_of}
+use Rattle.appender_replay.specs.Headline.{Files, by_kind, open_stamp}
+use Rattle.appender_replay.specs.Run.{Attempt, FileLaw, greatest}
 use Rattle.appender_replay.specs.declared.replay.RollStep.{RollStep}
 use Rattle.appender_replay.specs.declared.replay.RollStep.TheVariants.{See, Put, Write, Flush}
 use Rattle.appender_replay.specs.declared.replay.RollReply.{RollReply}
 use Rattle.appender_replay.specs.declared.replay.ReplayError.{ReplayError}
 use Rattle.appender_replay.specs.declared.replay.ReplayError.TheVariants.{Memory as OutOfMemory, Init}
 use Rattle.appender_replay.specs.declared.replay.RollReply.TheVariants.{Saw, Put as DidPut, Wrote, Flushed}
-
--- an answer, of an error only its kind
-abbrev pub by_kind : {T : Type 0} → Result T Error → Result T ErrorKind
-by_kind (Ok x) = Ok x
-by_kind (Err fault) = Err (error_kind fault)
 
 -- ---- steps
 
@@ -51,11 +44,6 @@ abbrev pub LeadsTo : {X T : Type 0} → (List T → T → X → X → Type 0) �
 LeadsTo does [] old new = new ≡ old
 LeadsTo {X} does (t ∷ earlier) old new = (between : X) × LeadsTo does earlier old between × does earlier t between new
 
--- the events of steps with replies, where the event of a step may depend on those before it
-abbrev pub events_by : {T : Type 0} → (List T → T → Event) → List T → List Event
-events_by event [] = []
-events_by event (t ∷ earlier) = event earlier t ∷ events_by event earlier
-
 -- a roller was opened over the folder, for its first file with this number and this room, and the steps lead from it to this one
 pub record RunsFrom {S F T : Type 0} (kind : Ghosts S F) (does : List T → T → Rolling S F → Rolling S F → Type 0) (config : Config) (start : ℤ) (number room : ℕ) (folder : S) (past : List T) (last : Rolling S F) : Type 0 where
   pub first : Rolling S F
@@ -64,40 +52,49 @@ pub record RunsFrom {S F T : Type 0} (kind : Ghosts S F) (does : List T → T �
   pub room_is : first.room ≡ room
   pub runs : LeadsTo does past first last
 
--- what is seen of a roller after a step with this piece
-abbrev pub step_state_of : {S F : Type 0} → Ghosts S F → List ℕ → Rolling S F → StepState
-step_state_of kind piece r = record { content = kind.content r.folder; noted = kind.noted r.folder; body = kind.body r.file; piece = piece }
+-- these are the rollers before and after one of the steps
+abbrev pub IsStepOf : {X T : Type 0} (does : List T → T → X → X → Type 0) (past : List T) (first last : X) → LeadsTo does past first last → X → X → Type 0
+IsStepOf does [] first last runs old new = ⊥
+IsStepOf does (t ∷ past) first last (between, runs, is) old new = ((old ≡ between) × (new ≡ last)) ⊎ IsStepOf does past first between runs old new
 
--- and of the rollers between the steps that lead from the old to the new: what was seen after step n, and at 0 of the old
-abbrev pub step_states_after : {S F T : Type 0} → Ghosts S F → (List T → T → Event) → (does : List T → T → Rolling S F → Rolling S F → Type 0) → (past : List T) (old new : Rolling S F) → LeadsTo does past old new → ℕ → StepState
-step_states_after kind event does [] old new runs n = step_state_of kind [] old
-step_states_after kind event does (t ∷ past) old new (between, runs, is) n =
-    if nat_le (suc (length past)) n then step_state_of kind (event past t).piece new else step_states_after kind event does past old between runs n
+-- What was seen of the attempt by these rollers, before and after the step that made it: its stamp is the newest after it, and was not before. The
+-- step's own write comes after the attempt.
+pub record SawAttempt {S F : Type 0} (kind : Ghosts S F) (old new : Rolling S F) (a : Attempt) : Type 0 where
+  pub made : new.last ≡ a.stamp
+  pub fresh : old.last ≢ a.stamp
+  pub before : a.before ≡ kind.content old.folder
+  pub noted_before : a.noted_before ≡ kind.noted old.folder
+  pub bytes : List ℕ
+  pub after : IsTrue kind.is_known → kind.content new.folder ≡ after_append a.after (kind.body new.file) bytes
+  pub noted_after : a.noted_after ≡ kind.noted new.folder
 
--- what was seen of a run
-abbrev pub run_states : {S F T : Type 0} {kind : Ghosts S F} {does : List T → T → Rolling S F → Rolling S F → Type 0} {config : Config} {start : ℤ} {number : ℕ} {room : ℕ} {folder : S} {past : List T} {last : Rolling S F} → (List T → T → Event) → RunsFrom kind does config start number room folder past last → ℕ → StepState
-run_states {S} {F} {T} {kind} {does} {config} {start} {number} {room} {folder} {past} {last} event run = step_states_after kind event does past run.first last run.runs
+-- what was seen of the opening, by the folder before it and the roller after it
+pub record SawOpening {S F : Type 0} (kind : Ghosts S F) (listed : S) (first : Rolling S F) (a : Attempt) : Type 0 where
+  pub made : first.last ≡ a.stamp
+  pub before : a.before ≡ kind.content listed
+  pub noted_before : a.noted_before ≡ kind.noted listed
+  pub after : a.after ≡ kind.content first.folder
+  pub noted_after : a.noted_after ≡ kind.noted first.folder
 
--- The laws of a run, of whatever rollers its steps lead through. Notices are counted from the listing that finds the first number.
-module _ {S F T : Type 0} (kind : Ghosts S F) (does : List T → T → Rolling S F → Rolling S F → Type 0) (event : List T → T → Event) (config : Config) (start : ℤ) (number room : ℕ) (folder : S) (past : List T) (last : Rolling S F) where
-  abbrev pub FilesFollow : Type 0
-  FilesFollow = (run : RunsFrom kind does config start number room folder past last)
-      → FileLaw config (start_of config start number room) (events_by event past) (kind.content folder) (kind.content last.folder) (kind.noted run.opens.listed)
-      (run_states event run) last.opened (kind.body last.file)
+-- the attempt was seen in a run, at its opening or at a step
+abbrev pub IsSeen : {S F T : Type 0} (kind : Ghosts S F) (does : List T → T → Rolling S F → Rolling S F → Type 0) (listed : S) (past : List T) (first last : Rolling S F) → LeadsTo does past first last → Attempt → Type 0
+IsSeen {S} {F} {T} kind does listed past first last runs a =
+    SawOpening kind listed first a ⊎ ((old new : Rolling S F) × IsStepOf does past first last runs old new × SawAttempt kind old new a)
 
-  abbrev pub NoticesFollow : Type 0
-  NoticesFollow = (run : RunsFrom kind does config start number room folder past last)
-      → NotedAtAttempts config (start_of config start number room) (run_states event run) (events_by event past)
-
-  -- What the events of a run say of its roller: its configuration, when it switched, its boundary, the file that is open, and the
-  -- laws of files and notices. Files follow if the folder's content is known.
-  pub record RollerFollows : Type 0 where
-    pub config_is : last.config ≡ config
-    pub switches : SwitchesAtAttempts config (start_of config start number room) (events_by event past)
-    pub boundary_is : last.boundary ≡ next_of config.rotation (latest_moment start (events_by event past))
-    pub opened_is : last.opened ≡ last_opened (start_of config start number room) (attempt_times config (start_of config start number room) (events_by event past))
-    pub files : IsTrue kind.is_known → FilesFollow
-    pub notices : NoticesFollow
+-- What the account of the files says of the roller after a run, and the laws of files and notices: its configuration, the latest moment, which
+-- is the greatest of the range that was read, the newest try and the open file, and when the next begins. Files follow if the folder's content is known.
+pub record RollerFollows {S F T : Type 0} (kind : Ghosts S F) (does : List T → T → Rolling S F → Rolling S F → Type 0) (read : T → Option ℤ) (config : Config) (start : ℤ) (number room : ℕ) (folder : S) (past : List T) (last : Rolling S F) (f : Files) : Type 0 where
+  pub config_is : last.config ≡ config
+  pub latest_is : f.latest ≡ greatest start (filter is_moment (filter_map read past))
+  pub newest_is : last.last ≡ f.newest.stamp
+  pub in_its_period : period_of config.rotation f.newest.stamp.moment ≡ period_of config.rotation f.latest
+  pub boundary_is : last.boundary ≡ next_of config.rotation f.latest
+  pub opened_is : open_stamp (f.newest ∷ f.earlier) ≡ Some last.opened
+  pub files : IsTrue kind.is_known → (run : RunsFrom kind does config start number room folder past last)
+      → FileLaw config (f.newest ∷ f.earlier) (kind.content folder) (kind.content last.folder) (IsSeen kind does run.opens.listed past run.first last run.runs) (kind.body last.file)
+  -- notices are noted only at attempts, for any kind of folder
+  pub notices : (run : RunsFrom kind does config start number room folder past last) (old new : Rolling S F)
+      → IsStepOf does past run.first last run.runs old new → new.last ≡ old.last → kind.noted new.folder ≡ kind.noted old.folder
 
 -- what a step of a roller without a queue does, whatever came before it
 abbrev pub RollDoes : {S F : Type 0} → Ghosts S F → List RollStepWithReply → RollStepWithReply → Rolling S F → Rolling S F → Type 0
@@ -113,37 +110,16 @@ abbrev pub HasSteps : {S : Type 0} → ℕ → ReplayError S → Type 0
 HasSteps n (OutOfMemory back) = 0 < n
 HasSteps n (Init error back) = Unit {0}
 
--- ---- read as a run
+-- ---- the clock
 
 -- the moment that a step reads, if it reads the clock
-abbrev pub read_by : RollStep → Option ℤ
-read_by (See m) = Some m
-read_by (Put m bytes) = Some m
-read_by (Write bytes) = None
-read_by Flush = None
+abbrev pub read_by : RollStepWithReply → Option ℤ
+read_by (See m, Saw switch) = Some m
+read_by (Put m bytes, DidPut switch answer) = Some m
+read_by t = None
 
--- the bytes that it offers
-abbrev pub offered_by : RollStep → List ℕ
-offered_by (See m) = []
-offered_by (Put m bytes) = bytes.items
-offered_by (Write bytes) = bytes.items
-offered_by Flush = []
-
-abbrev pub switch_in : RollReply → Switch
-switch_in (Saw switch) = switch
-switch_in (DidPut switch answer) = switch
-switch_in (Wrote answer) = Stayed
-switch_in (Flushed answer) = Stayed
-
--- how many of them were taken
-abbrev pub count_in : RollReply → ℕ
-count_in (Saw switch) = 0
-count_in (DidPut switch answer) = written_count answer
-count_in (Wrote answer) = written_count answer
-count_in (Flushed answer) = 0
-
-abbrev pub event_of : RollStepWithReply → Event
-event_of (step, reply) = record { read = read_by step; offered = length (offered_by step); switch = switch_in reply; piece = take (count_in reply) (offered_by step) }
-
-abbrev pub roll_event : List RollStepWithReply → RollStepWithReply → Event
-roll_event earlier = event_of
+-- no step wrote without a check of the clock
+abbrev pub ChecksBeforeWrites : List RollStepWithReply → Type 0
+ChecksBeforeWrites [] = Unit {0}
+ChecksBeforeWrites ((Write bytes, Wrote answer) ∷ earlier) = (written_count answer ≡ 0) × ChecksBeforeWrites earlier
+ChecksBeforeWrites (t ∷ earlier) = ChecksBeforeWrites earlier

@@ -28,7 +28,7 @@ roll_after c f (Flush, Flushed answer) = record f { faults = f.faults + faults_i
 roll_after c f t = f
 
 abbrev pub roll_account : Config → Start → List (RollStep × RollReply) → Files
-roll_account c start [] = files_at_opening c start
+roll_account c start [] = files_at_opening start
 roll_account c start (t ∷ past) = roll_after c (roll_account c start past) t
 
 abbrev pub RollFollows : Config → Start → List (RollStep × RollReply) → Type 0

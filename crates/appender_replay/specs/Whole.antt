@@ -4,9 +4,8 @@ use Rattle.appender_worker.specs.Core.{Core}
 use Rattle.appender_queue.specs.Queue.{Queue}
 use Rattle.appender_rolling.specs.Config.{Config}
 use Rattle.appender_replay.specs.Start.{Start}
-use Rattle.appender_replay.specs.Headline.{Follows, account}
-use Rattle.appender_replay.specs.Replay.{events_by}
-use Rattle.appender_replay.specs.Record.{StepWithReply, WrittenLine, refusals, account_queue, account_core, accepted_labels, handed_labels, written_lines, text_of_lines, whole_lines, run_event, text_of_events}
+use Rattle.appender_replay.specs.Headline.{Follows, account, bytes_taken, writes_of}
+use Rattle.appender_replay.specs.Record.{StepWithReply, WrittenLine, refusals, account_queue, account_core, accepted_labels, handed_labels, written_lines, text_of_lines, whole_lines}
 
 -- ---- the worker's text
 
@@ -36,7 +35,7 @@ module _ (c : Config) (start : Start) (past : List StepWithReply) where
   -- or is still in hand.
   pub record TextLaw : Type 0 where
     pub lines : whole_lines (written_lines c start past) ≡ take (account c start past).handed (account c start past).accepted
-    pub text : text_of_events (events_by (run_event c start) past) ≡ text_of_lines (written_lines c start past)
+    pub text : bytes_taken (writes_of ((account c start past).files.newest ∷ (account c start past).files.earlier)) ≡ text_of_lines (written_lines c start past)
     pub begun : All IsBegun (written_lines c start past)
     pub done : AreDone (account c start past).rest (written_lines c start past)
 

@@ -1,7 +1,10 @@
 //! Runs of an appender that are given as lists of steps, for tests and scripts.
 ghost use Rattle.std.specs.Prelude.{◌≡◌, [], length, IfOk, IfErr};
-ghost use Rattle.appender_replay.specs.RollHeadline.{RollHeadline};
-ghost use Rattle.appender_replay.specs.Replay.{by_kind, with_replies, with_replies_onto, roll_event, RollStepDoes, RollDoes, RunsFrom, RollerFollows, IsNotRun, HasSteps};
+ghost use Rattle.appender_replay.specs.RollHeadline.{RollHeadline, roll_account};
+ghost use Rattle.appender_replay.specs.Headline.{by_kind};
+ghost use Rattle.appender_replay.specs.Run.{KeepsToLimit};
+ghost use Rattle.appender_replay.specs.Start.{start_of};
+ghost use Rattle.appender_replay.specs.Replay.{with_replies, with_replies_onto, read_by, RollStepDoes, RollDoes, RunsFrom, RollerFollows, IsNotRun, HasSteps, ChecksBeforeWrites};
 
 mod refused;
 mod whole;
@@ -103,8 +106,11 @@ pub fn replay_rolling<S: Folder>(
     ensures one_each { IfOk result (λ run. length run.replies.items ≡ length steps.now) }
     ensures runs { IfOk result (λ run. RunsFrom S.Folder (RollDoes S.Folder) builder.now start run.number run.room
         folder (with_replies steps.now run.replies.items) run.roller) }
-    ensures roller { IfOk result (λ run. RollerFollows S.Folder (RollDoes S.Folder) roll_event builder.now start
-        run.number run.room folder (with_replies steps.now run.replies.items) run.roller) }
+    ensures roller { IfOk result (λ run. RollerFollows S.Folder (RollDoes S.Folder) read_by builder.now start
+        run.number run.room folder (with_replies steps.now run.replies.items) run.roller
+        (roll_account builder.now (start_of builder.now start run.number run.room) (with_replies steps.now run.replies.items))) }
+    ensures limit { IfOk result (λ run. ChecksBeforeWrites (with_replies steps.now run.replies.items) → KeepsToLimit builder.now
+        (roll_account builder.now (start_of builder.now start run.number run.room) (with_replies steps.now run.replies.items))) }
     ensures err { IfErr result (λ error. IsNotRun S.Folder builder.now start folder error) }
     ensures memory { IfErr result (HasSteps (length steps.now)) }
 {

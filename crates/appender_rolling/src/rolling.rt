@@ -133,7 +133,7 @@ impl<S: Folder> Roller<S> {
     }
 
     /// Returns whether a put of `length` bytes at this moment would open the next file.
-    pub fn due_for(&self, moment: i64, length: usize) -> bool
+    pub fn is_due(&self, moment: i64, length: usize) -> bool
         ensures { result ≡ is_some (next_stamp self.now moment length) }
     {
         self.schedule
@@ -143,7 +143,7 @@ impl<S: Folder> Roller<S> {
 
     /// Checks the clock as a put of `length` bytes does before its write: it also opens the next file if they do not
     /// fit in the limit of bytes.
-    pub fn see_for(&mut self, moment: i64, length: usize) -> Switch
+    pub fn check_clock(&mut self, moment: i64, length: usize) -> Switch
         ensures call { ChecksClock S.Folder moment length result self.old self.new }
         ensures none { result ≡ Switch.None → (next_stamp self.old moment length ≡ None) × (self.new ≡ self.old) }
         ensures attempt { result ≢ Switch.None → next_stamp self.old moment length ≡ Some self.new.last }

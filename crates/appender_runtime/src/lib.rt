@@ -6,5 +6,4 @@ pub mod backoff;
 pub mod clock;
 pub mod host;
 pub mod make_writer;
-pub mod policy;
 pub mod waiting;

@@ -27,7 +27,7 @@ ghost use Rattle.std.specs.Io.KnownBytes.{Appends};
 ghost use Rattle.appender_worker.specs.Batch.{most_lines};
 ghost use Rattle.appender_worker.specs.Inside.Gathered.{lines_of_lengths, WritesGathered, TriesOn};
 
-use crate::counting::{LineCounts, SharedCounts, reported};
+use crate::counts::{LineCounts, SharedCounts, reported};
 use crate::sink::LineSink;
 use std::alloc::{AllocError, Global};
 use std::io;
@@ -41,7 +41,8 @@ const MOST_LINES: usize = 1024;
 /// Gathers whole lines, and writes them together: if there is no room for another one, and at a flush. One write has
 /// only whole lines, so an appender puts all of them into one file, at one moment. A worker flushes whenever its queue is
 /// empty, so a line waits only while others come. After a fault the line in which it is is given up, and the lines after it
-/// are written. Its `LineCounts` leave out the lines that wait. Dropping it writes these, and ignores errors.
+/// are written. Its `LineCounts` leave out the lines that wait. Dropping it writes these, and ignores errors. With a capacity of 0
+/// no line waits: each is written by itself, and counted.
 pub struct BatchWriter<W: LineSink + Drop> {
     writer: W,
     capacity: usize,

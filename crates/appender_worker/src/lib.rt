@@ -3,7 +3,7 @@
 #![tactic(auto)]
 
 mod batching;
-mod counting;
+mod counts;
 pub mod laws;
 mod sink;
 pub mod worker;

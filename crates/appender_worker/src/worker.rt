@@ -6,7 +6,7 @@ ghost use Rattle.appender_worker.specs.CoreReplies.{answer_of};
 ghost use Rattle.appender_worker.specs.Inside.LineSteps.{IsNextStep};
 
 pub use crate::batching::BatchWriter;
-pub use crate::counting::{CountingWriter, LineCounts};
+pub use crate::counts::LineCounts;
 pub use crate::sink::LineSink;
 use appender_queue::queue::Taken;
 use std::io::{ErrorKind, Write};

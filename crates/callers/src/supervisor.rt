@@ -9,7 +9,7 @@ use std::alloc::Global;
 use std::io;
 use std::io::{BufRead, Write};
 use tracing_appender::non_blocking::{Closing, Host, NonBlockingBuilder};
-use tracing_appender::worker::{CountingWriter, run_line};
+use tracing_appender::worker::{BatchWriter, run_line};
 
 /// The counts of copied lines.
 #[derive(Clone, Copy, Debug, PartialEq, Eq)]
@@ -89,7 +89,7 @@ pub fn capture<I: BufRead, W: Write + Send + Drop + 'static, R: Host>(
     ensures { IfOk result (λ captured. (text : List ℕ) → I.remaining input.old ≡ Some text
         → HasLines captured.copied.lines text) }
 {
-    let (log, counts) = CountingWriter::new(rt.alloc(), log)?;
+    let (log, counts) = BatchWriter::new(rt.alloc(), log, 0)?;
     let (mut queue, guard) = NonBlockingBuilder::default()
         .buffered_lines_limit(1024)
         .finish(rt, rt.alloc(), log)?;

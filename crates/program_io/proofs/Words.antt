@@ -4,10 +4,10 @@ use Rattle.std.proofs.lemmas.List.{map-append}
 use Rattle.std.specs.Prelude.{String}
 use Rattle.std.specs.declared.alloc.Global.{Global}
 use Rattle.program_io.specs.Options.{begins_with_dash}
-use Rattle.program_io.specs.Options.{AddsArgument, AreDefaults, AreUndashed, IsPlain, IsRead, ReadsWords, ReadsWord, ReadsWordAs}
+use Rattle.program_io.specs.Options.{AddsArgument, AreDefaults, AreUndashed, IsPlain, IsRead, ReadsWord, ReadsWords}
 use Rattle.program_io.specs.declared.options.Next.{Next}
 use Rattle.program_io.specs.declared.options.Next.TheVariants.{Any, Value, Argument, Help, Version}
-use Rattle.program_io.specs.declared.options.Valued.{Valued}
+use Rattle.program_io.specs.declared.options.OptionName.{OptionName}
 use Rattle.program_io.specs.declared.options.Reading.{Reading}
 use Rattle.program_io.specs.declared.options.Request.{Request}
 use Rattle.program_io.specs.declared.options.Request.TheVariants.{Help as AsksHelp, Version as AsksVersion, Run}
@@ -26,9 +26,9 @@ undashed_at [] word rest all = all.0
 undashed_at (first ∷ taken) word rest all = undashed_at taken word rest all.1
 
 plain_word : (word : String Global) (old new : Reading) → begins_with_dash (string_bytes word) ≡ false → old.next ≡ Any
-    → ReadsWord (string_bytes word) old new → AddsArgument (string_bytes word) old new
+    → ReadsWord old.next (string_bytes word) old new → AddsArgument (string_bytes word) old new
 plain_word word old new undashed any takes =
-    elim (subst (λ next. ReadsWordAs next (string_bytes word) old new) any takes) [
+    elim (subst (λ next. ReadsWord next (string_bytes word) old new) any takes) [
       | inl dashed ↦ absurd (cc)
       | inr adds ↦ adds.1
     ]
@@ -38,9 +38,9 @@ plain_so_far : (words : List (String Global)) (k : ℕ) (rest : List (String Glo
 plain_so_far words zero rest r all reached = record {
   taken = [];
   split = sym reached.0;
-  options = reached.1.options;
-  texts = ap (map string_bytes) reached.1.arguments;
-  any = reached.1.next;
+  options = reached.1;
+  texts = ap (map string_bytes) reached.2;
+  any = reached.3;
 }
 plain_so_far words (suc k) rest r all (word, before, reached, takes) =
     let so : PlainSoFar words (word ∷ rest) before = plain_so_far words k (word ∷ rest) before all reached in
@@ -74,22 +74,22 @@ GoesOn next = Unit {0}
 
 pub open_next : (next : Next) → next ≢ Help → next ≢ Version → GoesOn next
 open_next Any h v = tt
-open_next (Value option) h v = tt
+open_next (Value name) h v = tt
 open_next Argument h v = tt
 open_next Help h v = h refl
 open_next Version h v = v refl
 
 -- one more word was read
 pub next_reached : (words before after : List (String Global)) (word : String Global) (old new : Reading)
-    → (k : ℕ) × ReadsWords words k before old → before ≡ word ∷ after → ReadsWord (string_bytes word) old new → (k : ℕ) × ReadsWords words k after new
+    → (k : ℕ) × ReadsWords words k before old → before ≡ word ∷ after → ReadsWord old.next (string_bytes word) old new → (k : ℕ) × ReadsWords words k after new
 next_reached words before after word old new (k, reached) split takes =
     (suc k, (word, old, subst (λ rest. ReadsWords words k rest old) split reached, takes))
 
 -- what the next word may be at the end
-ends_with : (next : Next) → GoesOn next → ((option : Valued) → next ≢ Value option) → (next ≡ Any) ⊎ (next ≡ Argument)
+ends_with : (next : Next) → GoesOn next → ((name : OptionName) → next ≢ Value name) → (next ≡ Any) ⊎ (next ≡ Argument)
 ends_with Any on value = inl refl
 ends_with Argument on value = inr refl
-ends_with (Value option) on value = absurd (value option refl)
+ends_with (Value name) on value = absurd (value name refl)
 ends_with Help on value = absurd on
 ends_with Version on value = absurd on
 
@@ -98,6 +98,6 @@ no_words [] e = refl
 no_words (word ∷ words) e = absurd (omega (arith, e))
 
 pub at_end : (words rest : List (String Global)) (r : Reading) → (k : ℕ) × ReadsWords words k rest r → length rest ≡ 0 → GoesOn r.next
-    → ((option : Valued) → r.next ≢ Value option) → IsRead words (Run r.options r.arguments)
+    → ((name : OptionName) → r.next ≢ Value name) → IsRead words (Run r.options r.arguments)
 at_end words rest r (k, reached) empty on value =
     (k, r, subst (λ rest. ReadsWords words k rest r) (no_words rest empty) reached, refl, refl, ends_with r.next on value)

@@ -1,64 +1,143 @@
 //! Command-line options of programs that write logs.
-ghost use Rattle.std.specs.Prelude.{◌≡◌, ◌≢◌, ◌⊎◌, ◌<◌, ◌^◌, ℕ, List, [], ◌∷◌, ◌++◌, IfErr, IfNone, IfOk, IfSome, OnErr, string_bytes};
-ghost use Rattle.std.specs.Str.Parse.{IsNumeral};
-ghost use Rattle.program_io.specs.declared.options.Flag.{Flag};
+ghost use Rattle.std.specs.Prelude.{◌≡◌, ◌≢◌, ◌≤◌, ℕ, List, ◌∷◌, ◌++◌, IfErr, IfNone, IfOk, IfSome, MatchOption};
 ghost use Rattle.program_io.specs.declared.options.Next.{Next};
-ghost use Rattle.program_io.specs.declared.options.Valued.{Valued};
-ghost use Rattle.program_io.specs.Options.{begins_negative, begins_with_dash, dashed_reason, flag_word, unit_bytes, valued_word, AreUndashed, HasUnit, IsByteCount, IsPositiveNumber, IsFaultOf, IsNextAfter, IsNumber, IsPlain, IsRead, IsWrong, NamesSomeWord, IsNoByteCount, IsNoPositiveNumber};
+ghost use Rattle.program_io.specs.declared.options.OptionName.{OptionName};
+ghost use Rattle.program_io.specs.declared.options.Kind.{Kind};
+ghost use Rattle.program_io.specs.Options.{begins_negative, begins_with_dash, kind_error, option_kind, option_word, split_unit, unit_bytes, AreUndashed, IsByteCount, IsPositiveNumber, IsFaultOf, IsNextAfter, IsNoValue, IsPlain, IsRead, IsValue, NamesSomeWord};
 
 use std::alloc::{AllocError, Global};
 use thiserror::Error;
 
+/// An option of a command line.
+#[derive(Clone, Copy, Debug, PartialEq, Eq)]
+pub enum OptionName {
+    /// `--keep`: the number of log files that are kept. Without it all are.
+    Keep,
+    /// `--max-bytes`: the number of bytes after which the next file of a period begins. Without it there is no limit.
+    MaxBytes,
+    /// `--suffix`: the suffix of the log files' names.
+    Suffix,
+    /// `--link`: the name of a symbolic link to the newest log file.
+    Link,
+    /// `--queue`: the greatest number of queued lines, in place of the program's default.
+    Queue,
+    /// `--lossy`: whether a line is dropped if the queue is full. Otherwise the input waits.
+    Lossy,
+    /// `--no-wait`: whether lines are lost that the disk refuses, as when it is full. Otherwise they wait.
+    NoWait,
+    /// `--sync`: whether each flush of the log also syncs it.
+    Sync,
+    /// `--echo`: whether each line is also written to standard output.
+    Echo,
+    /// `--timestamps`: whether each line begins with the time at which it was read.
+    Timestamps,
+    /// `--whole-lines`: whether a part of a line is ended by a newline before the next line.
+    WholeLines,
+    /// `--direct`: whether each block of lines is written before the next one is read, without a queue.
+    Direct,
+}
+
+impl OptionName {
+    // Returns the word of the option.
+    fn word(self) -> &'static str
+        ensures { result.now ≡ option_word self }
+    {
+        match self {
+            OptionName::Keep => "--keep",
+            OptionName::MaxBytes => "--max-bytes",
+            OptionName::Suffix => "--suffix",
+            OptionName::Link => "--link",
+            OptionName::Queue => "--queue",
+            OptionName::Lossy => "--lossy",
+            OptionName::NoWait => "--no-wait",
+            OptionName::Sync => "--sync",
+            OptionName::Echo => "--echo",
+            OptionName::Timestamps => "--timestamps",
+            OptionName::WholeLines => "--whole-lines",
+            OptionName::Direct => "--direct",
+        }
+    }
+
+    // Returns what the value of the option is.
+    fn kind(self) -> Kind
+        ensures { result ≡ option_kind self }
+    {
+        match self {
+            OptionName::Keep | OptionName::Queue => Kind::Count,
+            OptionName::MaxBytes => Kind::Bytes,
+            OptionName::Suffix | OptionName::Link => Kind::Text,
+            _ => Kind::Flag,
+        }
+    }
+}
+
+// What the value of an option is.
+#[derive(Clone, Copy)]
+enum Kind {
+    // There is none.
+    Flag,
+    // A number from 1. 0 is rejected: without the option there is no limit.
+    Count,
+    // A number of bytes from 1.
+    Bytes,
+    // A text that is not empty.
+    Text,
+}
+
+impl Kind {
+    // Returns the reason why a number is no value of this kind. A text has none.
+    fn error(self) -> OptionError
+        ensures { result ≡ kind_error self }
+    {
+        match self {
+            Kind::Count => OptionError::Count,
+            Kind::Bytes => OptionError::ByteCount,
+            Kind::Flag | Kind::Text => OptionError::Missing,
+        }
+    }
+
+    // Reads a value of this kind.
+    fn value(self, alloc: Global, text: &str) -> Result<Option<Given>, AllocError>
+        ensures { IfOk result (λ value. MatchOption value (IsNoValue self text.now) (IsValue self text.now)) }
+    {
+        Ok(match self {
+            Kind::Flag => Some(Given::Flag),
+            Kind::Count => count(text).map(|n| Given::Number(n as u64)),
+            Kind::Bytes => bytes(text).map(Given::Number),
+            Kind::Text if text.is_empty() => None,
+            Kind::Text => Some(Given::Text(String::from_str(alloc, text)?)),
+        })
+    }
+}
+
+/// What was given for an option.
+#[derive(Debug, Drop)]
+pub enum Given {
+    /// It has no value.
+    Flag,
+    /// This number.
+    Number(u64),
+    /// This text.
+    Text(String),
+}
+
 /// What a command line asks for beside its arguments.
 #[derive(Debug, Drop)]
 pub struct Options {
-    /// `--keep`: the number of log files that are kept; 0 is all.
-    pub keep: usize,
-    /// `--max-bytes`: the number of bytes after which the next file of a period begins; 0 is no limit.
-    pub max_bytes: u64,
-    /// `--suffix`: the suffix of the log files' names; an empty one is none.
-    pub suffix: String,
-    /// `--link`: the name of a symbolic link to the newest log file; an empty one is none.
-    pub link: String,
-    /// `--queue`: the greatest number of queued lines; 0 is the program's default.
-    pub queue: usize,
-    /// `--lossy`: whether a line is dropped if the queue is full. Otherwise the input waits.
-    pub lossy: bool,
-    /// `--no-wait`: whether lines are lost that the disk refuses, as when it is full. Otherwise they wait.
-    pub no_wait: bool,
-    /// `--sync`: whether each flush of the log also syncs it.
-    pub sync: bool,
-    /// `--echo`: whether each line is also written to standard output.
-    pub echo: bool,
-    /// `--timestamps`: whether each line begins with the time at which it was read.
-    pub timestamps: bool,
-    /// `--whole-lines`: whether a part of a line is ended by a newline before the next line.
-    pub whole_lines: bool,
-    /// `--direct`: whether each block of lines is written before the next one is read, without a queue.
-    pub direct: bool,
+    /// Each option that is set, in their order.
+    pub given: Vec<(OptionName, Given)>,
 }
 
 impl Options {
-    ghost use Rattle.std.specs.Prelude.{◌≡◌, ◌↔◌, true};
-    ghost use Rattle.program_io.specs.Options.{AreDefaults};
+    ghost use Rattle.std.specs.Prelude.{◌≡◌, ◌↔◌, true, option_map, IfErr, OnOk};
+    ghost use Rattle.program_io.specs.Options.{given_of, has_option, number_of, text_of, AreDefaults, IsWrong, IsReason, SetsOption};
 
     /// Returns the options of a command line that sets none.
     pub fn new(alloc: Global) -> Options
         ensures { AreDefaults result }
     {
         Options {
-            keep: 0,
-            max_bytes: 0,
-            suffix: String::new(alloc),
-            link: String::new(alloc),
-            queue: 0,
-            lossy: false,
-            no_wait: false,
-            sync: false,
-            echo: false,
-            timestamps: false,
-            whole_lines: false,
-            direct: false,
+            given: Vec::new(alloc),
         }
     }
 
@@ -66,82 +145,57 @@ impl Options {
     pub fn is_plain(&self) -> bool
         ensures { (result ≡ true) ↔ AreDefaults self.now }
     {
-        self.keep == 0
-            && self.max_bytes == 0
-            && self.suffix.is_empty()
-            && self.link.is_empty()
-            && self.queue == 0
-            && !(self.lossy || self.no_wait || self.sync || self.echo)
-            && !(self.timestamps || self.whole_lines || self.direct)
+        self.given.is_empty()
     }
-}
 
-// An option with a value.
-#[derive(Clone, Copy, Debug, PartialEq, Eq)]
-enum Valued {
-    Keep,
-    MaxBytes,
-    Suffix,
-    Link,
-    Queue,
-}
-
-impl Valued {
-    // Returns the word of the option.
-    fn word(self) -> &'static str
-        ensures { result.now ≡ valued_word self }
+    /// Returns whether an option is set.
+    pub fn has(&self, name: OptionName) -> bool
+        ensures { result ≡ has_option name self.now }
     {
-        match self {
-            Valued::Keep => "--keep",
-            Valued::MaxBytes => "--max-bytes",
-            Valued::Suffix => "--suffix",
-            Valued::Link => "--link",
-            Valued::Queue => "--queue",
+        self.given(name).is_some()
+    }
+
+    /// Returns the number that an option is set to, or 0.
+    pub fn number(&self, name: OptionName) -> u64
+        ensures { result ≡ number_of name self.now }
+    {
+        match self.given(name) {
+            Some(Given::Number(number)) => *number,
+            _ => 0,
         }
     }
 
-    // Returns the reason why a word that begins with a dash is no value of the option. Without a negative number the value
-    // may have been forgotten.
-    fn dashed(self, word: &str) -> OptionError
-        ensures { result ≡ dashed_reason self word.now }
+    /// Returns the text that an option is set to, or an empty one.
+    pub fn text(&self, name: OptionName) -> &str
+        ensures { result.now ≡ text_of name self.now }
     {
-        if !is_negative(word) {
-            return OptionError::Missing;
-        }
-        match self {
-            Valued::Keep | Valued::Queue => OptionError::Count,
-            Valued::MaxBytes => OptionError::ByteCount,
-            Valued::Suffix | Valued::Link => OptionError::Missing,
+        match self.given(name) {
+            Some(Given::Text(text)) => text.as_str(),
+            _ => "",
         }
     }
-}
 
-// An option without a value.
-#[derive(Clone, Copy, Debug, PartialEq, Eq)]
-enum Flag {
-    Lossy,
-    NoWait,
-    Sync,
-    Echo,
-    Timestamps,
-    WholeLines,
-    Direct,
-}
-
-impl Flag {
-    // Returns the word of the option.
-    fn word(self) -> &'static str
-        ensures { result.now ≡ flag_word self }
+    // Returns what was given for an option.
+    fn given(&self, name: OptionName) -> Option<&Given>
+        ensures { option_map (λ given. given.now) result ≡ given_of name self.now }
     {
-        match self {
-            Flag::Lossy => "--lossy",
-            Flag::NoWait => "--no-wait",
-            Flag::Sync => "--sync",
-            Flag::Echo => "--echo",
-            Flag::Timestamps => "--timestamps",
-            Flag::WholeLines => "--whole-lines",
-            Flag::Direct => "--direct",
+        let found = self.given.iter().find(|given| given.0 == name)?;
+        Some(&found.1)
+    }
+
+    // Sets an option that was not set before. The value of a flag is not read.
+    fn set(&mut self, alloc: Global, name: OptionName, value: &str) -> Result<(), OptionFault>
+        ensures set { OnOk result (SetsOption name value.now self.old self.new) }
+        ensures fault { IfErr result (IsWrong name (IsReason name value.now self.old)) }
+    {
+        if self.has(name) {
+            return Err(OptionFault::Wrong(name.word(), OptionError::Twice));
         }
+        let Some(given) = name.kind().value(alloc, value)? else {
+            return Err(OptionFault::Wrong(name.word(), name.kind().error()));
+        };
+        self.given.push((name, given)).map_err(AllocError::from)?;
+        Ok(())
     }
 }
 
@@ -216,7 +270,11 @@ pub fn read(alloc: Global, words: &[String]) -> Result<Request, OptionFault>
     ensures fault { IfErr result (IsFaultOf words.now) }
     ensures named { IfErr result (NamesSomeWord words.now) }
 {
-    let mut reading = Reading::new(alloc);
+    let mut reading = Reading {
+        options: Options::new(alloc),
+        arguments: Vec::new(alloc),
+        next: Next::Any,
+    };
     let mut rest = words;
     while let Some((word, behind)) = rest.split_first() {
         reading.take(alloc, word.as_str())?;
@@ -227,7 +285,7 @@ pub fn read(alloc: Global, words: &[String]) -> Result<Request, OptionFault>
         }
     }
     match reading.next {
-        Next::Value(option) => Err(OptionFault::Wrong(option.word(), OptionError::Missing)),
+        Next::Value(name) => Err(OptionFault::Wrong(name.word(), OptionError::Missing)),
         _ => Ok(Request::Run(reading.options, reading.arguments)),
     }
 }
@@ -238,7 +296,7 @@ enum Next {
     // An option or an argument.
     Any,
     // The value of an option.
-    Value(Valued),
+    Value(OptionName),
     // An argument, after `--`.
     Argument,
     // It is not read, since the last one asks for the usage.
@@ -257,31 +315,25 @@ struct Reading {
 
 impl Reading {
     ghost use Rattle.std.specs.Prelude.{◌≡◌, true, IfErr, OnOk};
-    ghost use Rattle.program_io.specs.Options.{AddsArgument, IsEmptyReading, IsWrongOption, Rejects, ReadsWord, ReadsOption};
-
-    // Returns what was read before the first word.
-    fn new(alloc: Global) -> Reading
-        ensures { IsEmptyReading result }
-    {
-        Reading {
-            options: Options::new(alloc),
-            arguments: Vec::new(alloc),
-            next: Next::Any,
-        }
-    }
+    ghost use Rattle.program_io.specs.Options.{AddsArgument, IsWrongOption, Rejects, ReadsOption, ReadsWord};
 
     // Reads the next word.
     fn take(&mut self, alloc: Global, word: &str) -> Result<(), OptionFault>
-        ensures taken { OnOk result (ReadsWord word.now self.old self.new) }
+        ensures taken { OnOk result (ReadsWord self.old.next word.now self.old self.new) }
         ensures fault { IfErr result (Rejects self.old.next word.now self.old.options) }
     {
         match self.next {
-            Next::Value(option) if begins(word) => {
-                Err(OptionFault::Wrong(option.word(), option.dashed(word)))
+            Next::Value(name) if begins(word) => {
+                let reason = if is_negative(word) {
+                    name.kind().error()
+                } else {
+                    OptionError::Missing
+                };
+                Err(OptionFault::Wrong(name.word(), reason))
             }
-            Next::Value(option) => {
+            Next::Value(name) => {
                 self.next = Next::Any;
-                self.options.set(alloc, option, word)
+                self.options.set(alloc, name, word)
             }
             Next::Any if begins(word) => self.take_option(alloc, word),
             _ => self.add(alloc, word),
@@ -299,10 +351,10 @@ impl Reading {
             return Ok(());
         }
         if let Some(flag) = flag_of(word) {
-            return self.options.raise(flag);
+            return self.options.set(alloc, flag, "");
         }
         match with_value(word) {
-            Some((option, value)) => self.options.set(alloc, option, value),
+            Some((name, value)) => self.options.set(alloc, name, value),
             None => Err(OptionFault::Unknown(String::from_str(alloc, word)?)),
         }
     }
@@ -315,78 +367,6 @@ impl Reading {
         let argument = String::from_str(alloc, word)?;
         self.arguments.push(argument).map_err(AllocError::from)?;
         Ok(())
-    }
-}
-
-impl Options {
-    ghost use Rattle.std.specs.Prelude.{◌≡◌, true, IfErr, IfNone, IfSome, OnErr, OnOk};
-    ghost use Rattle.program_io.specs.Options.{begins_with_dash, flag_word, has_option, has_flag, valued_word, IsWrong, IsWrongValue, SetsFlag, SetsOption};
-
-    // Sets the value of an option, which was not set before.
-    fn set(&mut self, alloc: Global, option: Valued, value: &str) -> Result<(), OptionFault>
-        ensures set { OnOk result (SetsOption option value.now self.old self.new) }
-        ensures fault { IfErr result (IsWrongValue option value.now self.old) }
-    {
-        if self.has(option) {
-            return Err(OptionFault::Wrong(option.word(), OptionError::Twice));
-        }
-        match option {
-            Valued::Keep => self.keep = count(option, value)?,
-            Valued::MaxBytes => self.max_bytes = bytes(option, value)?,
-            Valued::Suffix => self.suffix = text(alloc, option, value)?,
-            Valued::Link => self.link = text(alloc, option, value)?,
-            Valued::Queue => self.queue = count(option, value)?,
-        }
-        Ok(())
-    }
-
-    // Returns whether the option was set.
-    fn has(&self, option: Valued) -> bool
-        ensures { result ≡ has_option option self.now }
-    {
-        match option {
-            Valued::Keep => self.keep > 0,
-            Valued::MaxBytes => self.max_bytes > 0,
-            Valued::Suffix => !self.suffix.is_empty(),
-            Valued::Link => !self.link.is_empty(),
-            Valued::Queue => self.queue > 0,
-        }
-    }
-
-    // Sets a flag, which was not set before.
-    fn raise(&mut self, flag: Flag) -> Result<(), OptionFault>
-        ensures raised { OnOk result (SetsFlag flag self.old self.new) }
-        ensures fault { IfErr result (IsWrong (flag_word flag) OptionError.Twice) }
-        ensures twice { OnErr result (has_flag flag self.old ≡ true) }
-    {
-        if self.is_raised(flag) {
-            return Err(OptionFault::Wrong(flag.word(), OptionError::Twice));
-        }
-        match flag {
-            Flag::Lossy => self.lossy = true,
-            Flag::NoWait => self.no_wait = true,
-            Flag::Sync => self.sync = true,
-            Flag::Echo => self.echo = true,
-            Flag::Timestamps => self.timestamps = true,
-            Flag::WholeLines => self.whole_lines = true,
-            Flag::Direct => self.direct = true,
-        }
-        Ok(())
-    }
-
-    // Returns whether the flag was set.
-    fn is_raised(&self, flag: Flag) -> bool
-        ensures { result ≡ has_flag flag self.now }
-    {
-        match flag {
-            Flag::Lossy => self.lossy,
-            Flag::NoWait => self.no_wait,
-            Flag::Sync => self.sync,
-            Flag::Echo => self.echo,
-            Flag::Timestamps => self.timestamps,
-            Flag::WholeLines => self.whole_lines,
-            Flag::Direct => self.direct,
-        }
     }
 }
 
@@ -424,101 +404,72 @@ fn next_after(word: &str) -> Option<Next>
 }
 
 // Returns the option before the first `=` of a word, and the value after it.
-fn with_value(word: &str) -> Option<(Valued, &str)>
-    ensures some { IfSome result (λ given. word.now ≡ valued_word given.0 ++ (61 ∷ given.1.now)) }
-    ensures none { IfNone result ((option : Valued) (value : List ℕ) → word.now ≢ valued_word option ++ (61 ∷ value)) }
+fn with_value(word: &str) -> Option<(OptionName, &str)>
+    ensures some { IfSome result (λ given. (word.now ≡ option_word given.0 ++ (61 ∷ given.1.now)) × (option_kind given.0 ≢ Kind.Flag)) }
+    ensures none { IfNone result ((name : OptionName) (value : List ℕ) → option_kind name ≢ Kind.Flag
+        → word.now ≢ option_word name ++ (61 ∷ value)) }
 {
     let (name, value) = word.split_once('=')?;
     Some((valued_of(name)?, value))
 }
 
 // Returns the option with a value that has this word.
-fn valued_of(word: &str) -> Option<Valued>
-    ensures some { IfSome result (λ option. word.now ≡ valued_word option) }
-    ensures none { IfNone result ((option : Valued) → word.now ≢ valued_word option) }
+fn valued_of(word: &str) -> Option<OptionName>
+    ensures some { IfSome result (λ name. (word.now ≡ option_word name) × (option_kind name ≢ Kind.Flag)) }
+    ensures none { IfNone result ((name : OptionName) → option_kind name ≢ Kind.Flag → word.now ≢ option_word name) }
 {
     match word {
-        "--keep" => Some(Valued::Keep),
-        "--max-bytes" => Some(Valued::MaxBytes),
-        "--suffix" => Some(Valued::Suffix),
-        "--link" => Some(Valued::Link),
-        "--queue" => Some(Valued::Queue),
+        "--keep" => Some(OptionName::Keep),
+        "--max-bytes" => Some(OptionName::MaxBytes),
+        "--suffix" => Some(OptionName::Suffix),
+        "--link" => Some(OptionName::Link),
+        "--queue" => Some(OptionName::Queue),
         _ => None,
     }
 }
 
 // Returns the flag that has this word.
-fn flag_of(word: &str) -> Option<Flag>
-    ensures some { IfSome result (λ flag. word.now ≡ flag_word flag) }
-    ensures none { IfNone result ((flag : Flag) → word.now ≢ flag_word flag) }
+fn flag_of(word: &str) -> Option<OptionName>
+    ensures some { IfSome result (λ name. (word.now ≡ option_word name) × (option_kind name ≡ Kind.Flag)) }
+    ensures none { IfNone result ((name : OptionName) → option_kind name ≡ Kind.Flag → word.now ≢ option_word name) }
 {
     match word {
-        "--lossy" => Some(Flag::Lossy),
-        "--no-wait" => Some(Flag::NoWait),
-        "--sync" => Some(Flag::Sync),
-        "--echo" => Some(Flag::Echo),
-        "--timestamps" => Some(Flag::Timestamps),
-        "--whole-lines" => Some(Flag::WholeLines),
-        "--direct" => Some(Flag::Direct),
+        "--lossy" => Some(OptionName::Lossy),
+        "--no-wait" => Some(OptionName::NoWait),
+        "--sync" => Some(OptionName::Sync),
+        "--echo" => Some(OptionName::Echo),
+        "--timestamps" => Some(OptionName::Timestamps),
+        "--whole-lines" => Some(OptionName::WholeLines),
+        "--direct" => Some(OptionName::Direct),
         _ => None,
     }
 }
 
-// Returns the value of an option that is a text, which is not empty.
-fn text(alloc: Global, option: Valued, value: &str) -> Result<String, OptionFault>
-    ensures text { IfOk result (λ text. (string_bytes text ≡ value.now) × (value.now ≢ [])) }
-    ensures fault { IfErr result (λ fault. (fault ≡ OptionFault.Memory)
-        ⊎ (IsWrong (valued_word option) OptionError.Missing fault × (value.now ≡ []))) }
+// Reads a number of bytes from 1.
+fn bytes(text: &str) -> Option<u64>
+    ensures { MatchOption result (IsNoValue Kind.Bytes text.now) (IsByteCount text.now) }
 {
-    if value.is_empty() {
-        return Err(OptionFault::Wrong(option.word(), OptionError::Missing));
-    }
-    Ok(String::from_str(alloc, value)?)
+    let (digits, unit) = split_unit(text);
+    (count(digits)? as u64).checked_mul(unit)
 }
 
-// Returns the value of an option that is a number from 1. 0 is rejected: without the option there is no limit.
-fn count(option: Valued, value: &str) -> Result<usize, OptionFault>
-    ensures count { IfOk result (IsPositiveNumber value.now) }
-    ensures fault { IfErr result (IsWrong (valued_word option) OptionError.Count) }
-    ensures none { OnErr result (IsNoPositiveNumber value.now) }
+// Reads a decimal number from 1, without a sign.
+fn count(text: &str) -> Option<usize>
+    ensures { MatchOption result (IsNoValue Kind.Count text.now) (IsPositiveNumber text.now) }
 {
-    match read_count(value) {
-        Some(count) if count > 0 => Ok(count),
-        _ => Err(OptionFault::Wrong(option.word(), OptionError::Count)),
-    }
-}
-
-// Returns the value of an option that is a number of bytes from 1.
-fn bytes(option: Valued, value: &str) -> Result<u64, OptionFault>
-    ensures count { IfOk result (IsByteCount value.now) }
-    ensures fault { IfErr result (IsWrong (valued_word option) OptionError.ByteCount) }
-    ensures none { OnErr result (IsNoByteCount value.now) }
-{
-    let (digits, unit) = split_unit(value);
-    match read_count(digits) {
-        Some(count) if count > 0 => (count as u64)
-            .checked_mul(unit)
-            .ok_or(OptionFault::Wrong(option.word(), OptionError::ByteCount)),
-        _ => Err(OptionFault::Wrong(option.word(), OptionError::ByteCount)),
-    }
-}
-
-// Reads a decimal number without a sign.
-fn read_count(word: &str) -> Option<usize>
-    ensures some { IfSome result (IsNumber word.now) }
-    ensures none { IfNone result ((n : ℕ) → n < 2 ^ 64 → ¬ IsNumber word.now n) }
-{
-    if !word.as_bytes().first()?.is_ascii_digit() {
+    if !text.as_bytes().first()?.is_ascii_digit() {
         return None;
     }
-    word.parse::<usize>().ok()
+    match text.parse::<usize>() {
+        Ok(count) if count > 0 => Some(count),
+        _ => None,
+    }
 }
 
 // Returns the text before the letter of a unit, which may be small, and the number of bytes of the unit.
 fn split_unit(text: &str) -> (&str, u64)
-    ensures unit { HasUnit text.now result.0.now result.1 }
-    ensures only { (digits : List ℕ) (unit : ℕ) → IsNumeral 10 digits → HasUnit text.now digits unit
-        → (digits ≡ result.0.now) × (unit ≡ result.1) }
+    ensures unit { (result.0.now, result.1) ≡ split_unit text.now }
+    ensures from_one { 1 ≤ result.1 }
 {
     let Some(letter) = text.as_bytes().last() else {
         return (text, 1);
@@ -531,7 +482,8 @@ fn split_unit(text: &str) -> (&str, u64)
 
 // Returns the number of bytes of a unit.
 fn bytes_of(letter: u8) -> Option<u64>
-    ensures { result ≡ unit_bytes letter }
+    ensures bytes { result ≡ unit_bytes letter }
+    ensures from_one { IfSome result (λ bytes. 1 ≤ bytes) }
 {
     match letter {
         b'K' | b'k' => Some(1 << 10),

@@ -1,5 +1,5 @@
 -- The log of a run. `kind` has the ghost members of a kind of folder, and `time` those of a kind of clock.
-use Rattle.std.specs.Prelude.{◌≡◌, ◌≢◌, ◌⊎◌, ℕ, ℤ, ◌+◌, List, [], ◌∷◌, length, take, Ok, Err, Result, Bool, true, false, ◌&&◌, ◌==◌, if◌then◌else◌, not, nat_lt, IsTrue, string_bytes}
+use Rattle.std.specs.Prelude.{◌≡◌, ◌≢◌, ◌⊎◌, ℕ, ℤ, ◌+◌, List, [], ◌∷◌, length, take, Ok, Err, Result, Bool, true, false, ◌&&◌, ◌==◌, if◌then◌else◌, not, nat_lt, IsTrue}
 use Rattle.std.specs.Io.BufRead.{ends_with_byte}
 use Rattle.std.specs.declared.io.Error.{Error}
 use Rattle.appender_names.specs.declared.error.InitError.TheVariants.{File as FileRefused}
@@ -12,7 +12,9 @@ use Rattle.appender_runtime.specs.declared.clock.Clock.{Ghosts as Readings}
 use Rattle.appender_rolling.specs.Appender.{Appending, AppendsNow, FlushesNow, OpensNow, OpensInSomeFolder, OpensNone}
 use Rattle.appender_rolling.specs.Config.{Config}
 use Rattle.appender_rolling.specs.Roller.{ChecksClock}
+use Rattle.program_io.specs.Options.{number_of, text_of}
 use Rattle.program_io.specs.declared.options.Options.{Options}
+use Rattle.program_io.specs.declared.options.OptionName.TheVariants.{Keep, MaxBytes, Suffix, Link}
 
 -- a suffix without a dot at its beginning
 abbrev pub undotted : List ℕ → List ℕ
@@ -24,12 +26,12 @@ abbrev pub config_of : Rotation → List ℕ → Options → Config
 config_of rotation prefix o = record {
   rotation = rotation;
   prefix = prefix;
-  suffix = undotted (string_bytes o.suffix);
-  link = string_bytes o.link;
+  suffix = undotted (text_of Suffix o);
+  link = text_of Link o;
   link_optional = true;
-  max_files = o.keep;
+  max_files = number_of Keep o;
   by_name = true;
-  max_bytes = o.max_bytes;
+  max_bytes = number_of MaxBytes o;
   continues = true;
 }
 

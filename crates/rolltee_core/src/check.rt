@@ -3,7 +3,7 @@ ghost use Rattle.std.specs.Prelude.{◌≡◌, true};
 ghost use Rattle.rolltee_core.specs.Log.{EndsLine};
 
 use appender_names::names::Names;
-use program_io::options::Options;
+use program_io::options::{OptionName, Options};
 use std::fs::{OpenFile, OpenOptions};
 use std::io::{ErrorKind, Read, Seek, SeekFrom};
 use std::{fs, io};
@@ -91,8 +91,8 @@ impl<R: FilesHost> DirCheck<R> {
             path: base,
             title: String::from_str(alloc, title)?,
             names: settings.names(alloc)?,
-            link: options.link.clone()?,
-            keeps: options.keep > 0,
+            link: String::from_str(alloc, options.text(OptionName::Link))?,
+            keeps: options.has(OptionName::Keep),
             is_link_reported: false,
             later: 0,
         })

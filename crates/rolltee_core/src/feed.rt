@@ -4,6 +4,8 @@ ghost use Rattle.std.specs.List.{concat};
 ghost use Rattle.std.specs.Io.{WritesAtMost};
 ghost use Rattle.std.specs.Io.BufRead.{ends_with_byte};
 ghost use Rattle.std.specs.Io.KnownBytes.{Appends, Keeps, WriteAppends};
+ghost use Rattle.program_io.specs.Options.{has_option};
+ghost use Rattle.program_io.specs.declared.options.OptionName.{OptionName};
 ghost use Rattle.jiff_core.specs.declared.civil.datetime.DateTime.{DateTime};
 ghost use Rattle.rolltee_core.specs.Feed.{line_count, stamp_text, Echoes, IsTextOf, IsTimed, Sends, KeepsOptions, fed_in};
 
@@ -11,7 +13,7 @@ use jiff_core::Timestamp;
 use jiff_fmt::temporal::DateTimePrinter;
 use line_history::{Recorded, Tape};
 use memchr::memchr;
-use program_io::options::Options;
+use program_io::options::{OptionName, Options};
 use program_io::report::report;
 use std::alloc::{AllocError, Global};
 use std::io::Write;
@@ -303,14 +305,14 @@ impl<R, Q, O> Feed<R, Q, O> {
 impl<R: Clock + AllocGlobal + Eprint, Q: FeedSink, O: Write> Feed<R, Q, O> {
     /// Returns a feed. What is done with each line is in the options.
     pub fn new(rt: R, sink: Q, options: &Options, output: O) -> Feed<R, Q, O>
-        ensures { result ≡ record { sink = sink; output = output; timestamps = options.now.timestamps; echo = options.now.echo; within = false; unechoed = 0 } }
+        ensures { result ≡ record { sink = sink; output = output; timestamps = has_option OptionName.Timestamps options.now; echo = has_option OptionName.Echo options.now; within = false; unechoed = 0 } }
     {
         let stamped = Vec::new(rt.alloc());
         Feed {
             rt,
             sink,
-            timestamps: options.timestamps,
-            echo: options.echo,
+            timestamps: options.has(OptionName::Timestamps),
+            echo: options.has(OptionName::Echo),
             stamped,
             within: false,
             output,

@@ -189,7 +189,7 @@ impl<S: Folder, C: Clock, W: FileCheck<S>, O: Opens<S, C>> FileLog<S, C, W, O> {
             return;
         }
         let moment = self.log.moment();
-        let switch = self.log.see_for(moment, length_with(bytes, self.owed));
+        let switch = self.log.check_clock(moment, length_with(bytes, self.owed));
         if switch != Switch::None {
             self.cut = !ends_whole(&self.check, &self.log);
         }

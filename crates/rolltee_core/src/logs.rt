@@ -13,7 +13,7 @@ use crate::losses::TeeLosses;
 use crate::opening::{open_dir, prepare_dir};
 use crate::tee::Fault;
 use crate::title::title;
-use program_io::options::Options;
+use program_io::options::{OptionName, Options};
 use std::alloc::Global;
 use std::fs::{File, OpenFile};
 use std::os::unix::fs::MetadataExt;
@@ -99,15 +99,15 @@ impl Logs for HostRuntime {
         let settings = settings(self.alloc(), rotation, prefix, options)?;
         let title = title(self.alloc(), directory, prefix).map_err(InitError::from)?;
         let title = title.as_str();
-        let lock = if options.keep > 0 {
-            prepare_dir(self, &settings, directory, options.link.as_str())?;
+        let lock = if options.has(OptionName::Keep) {
+            prepare_dir(self, &settings, directory, options.text(OptionName::Link))?;
             lock_log(self, directory, prefix, title)?
         } else {
             None
         };
         let check = DirCheck::new(*self, &settings, directory, title, options)?;
         let opener = DirOpener::new(*self, settings, directory, title, options, lock)?;
-        let log = FileLog::new(opener, check, options.whole_lines)?;
+        let log = FileLog::new(opener, check, options.has(OptionName::WholeLines))?;
         if is_input(self, log.open_file()) {
             return Err(Fault::Input);
         }
@@ -153,14 +153,14 @@ impl<R: AllocGlobal + Drop> DirOpener<R> {
         ensures { IfOk result (λ opener. opener.settings ≡ settings) }
     {
         let alloc = rt.alloc();
-        let link = options.link.clone()?;
+        let link = String::from_str(alloc, options.text(OptionName::Link))?;
         Ok(DirOpener {
             rt,
             settings,
             directory: String::from_str(alloc, directory)?,
             title: String::from_str(alloc, title)?,
             link,
-            syncs: options.sync,
+            syncs: options.has(OptionName::Sync),
             _lock: lock,
         })
     }
@@ -195,14 +195,14 @@ fn settings(
     let named = Builder::new()
         .rotation(rotation)
         .filename_prefix(alloc, prefix)?
-        .filename_suffix(alloc, without_dot(options.suffix.as_str()))?;
-    let linked = named.latest_symlink(alloc, options.link.as_str())?;
+        .filename_suffix(alloc, without_dot(options.text(OptionName::Suffix)))?;
+    let linked = named.latest_symlink(alloc, options.text(OptionName::Link))?;
     Ok(
         linked
             .optional_symlink(true)
-            .max_log_files(options.keep)
+            .max_log_files(options.number(OptionName::Keep) as usize)
             .log_files_by_name(true)
-            .max_file_bytes(options.max_bytes)
+            .max_file_bytes(options.number(OptionName::MaxBytes))
             .continue_last_file(true),
     )
 }

@@ -3,7 +3,7 @@ use crate::losses::TeeLosses;
 use crate::tee::Fault;
 use crate::title::title;
 use appender_names::error::NameFault;
-use program_io::options::Options;
+use program_io::options::{OptionName, Options};
 use std::alloc::{AllocError, Global};
 use std::io;
 use tracing_appender::rolling::InitError;
@@ -35,14 +35,14 @@ pub fn reason(
             prefix.as_str(),
         ),
         Fault::Open(InitError::Name(NameFault::Suffix)) => {
-            refused(alloc, "--suffix", options.suffix.as_str())
+            refused(alloc, "--suffix", options.text(OptionName::Suffix))
         }
         Fault::Open(InitError::Name(NameFault::Link)) => {
-            refused(alloc, "--link", options.link.as_str())
+            refused(alloc, "--link", options.text(OptionName::Link))
         }
         Fault::Open(InitError::Name(NameFault::Clash)) => format!(in alloc;
             "rolltee: --link '{}' has the name of a log file\n",
-            options.link
+            options.text(OptionName::Link)
         ),
         Fault::Open(InitError::File(fault)) if is_linked_twice(alloc, fault)? => format!(in alloc;
             "{about}a second hard link, as of a snapshot: remove or copy it\n"

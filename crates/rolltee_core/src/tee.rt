@@ -3,7 +3,8 @@ ghost use Rattle.std.specs.Prelude.{◌≡◌, ◌≢◌, ◌≤◌, ℕ, List, 
 ghost use Rattle.std.specs.List.{concat};
 ghost use Rattle.std.specs.Io.KnownBytes.{Keeps};
 ghost use Rattle.std.specs.IoError.{error_kind};
-ghost use Rattle.program_io.specs.Options.{AreDefaults};
+ghost use Rattle.program_io.specs.Options.{has_option, AreDefaults};
+ghost use Rattle.program_io.specs.declared.options.OptionName.{OptionName};
 ghost use Rattle.program_io.specs.declared.options.Options.{Options};
 ghost use Rattle.rolltee_core.specs.Losses.{HasLostNothing};
 ghost use Rattle.rolltee_core.specs.Taken.{IsCopied, WasOpened, LogsText, TookText};
@@ -18,7 +19,7 @@ use crate::title::{Titled, title};
 use crate::waiting::{Asked, LogPlace, Opened};
 use crate::writers::{DirectWriter, TeeWriter};
 use program_io::blocking::{BlockingInput, Ready};
-use program_io::options::{OptionError, OptionFault, Options};
+use program_io::options::{OptionError, OptionFault, OptionName, Options};
 use program_io::report::report;
 use program_io::{ArgumentFault, CopyFault, Split, copy_pieces};
 use std::alloc::{AllocError, Global};
@@ -253,7 +254,7 @@ pub fn tee_with<R: Host, L: Logs, I: Read, O: Write + Drop, E: Write>(
     ensures no_folder { HasNoFolder arguments.now → result ≡ 2 }
     ensures silent { result ≡ 0 → Keeps (E.contents errors.old) (E.contents errors.new) }
     ensures reported { 1 ≤ result → (fault : Fault) × ExplainsTeeFault fault result (E.contents errors.old) (E.contents errors.new) }
-    ensures written { result ≡ 0 → options.now.timestamps ≡ false → (text : List ℕ) → I.remaining input.old ≡ Some text →
+    ensures written { result ≡ 0 → has_option OptionName.Timestamps options.now ≡ false → (text : List ℕ) → I.remaining input.old ≡ Some text →
         LogsText L.Log.opens options.now L.Log.takes L.Log.is_kept arguments.now text }
 {
     match copy_through(rt, logs, options, arguments, input, output) {
@@ -325,7 +326,7 @@ fn copy_through<R: Host, L: Logs, I: Read, O: Write + Drop>(
     ensures usage { length arguments.now ≢ 3 → result ≡ Err Fault.Usage }
     ensures no_rotation { NamesNoRotation arguments.now → result ≡ Err Fault.Usage }
     ensures no_folder { HasNoFolder arguments.now → result ≡ Err Fault.Usage }
-    ensures written { OnOk result (options.now.timestamps ≡ false → (text : List ℕ) → I.remaining input.old ≡ Some text →
+    ensures written { OnOk result (has_option OptionName.Timestamps options.now ≡ false → (text : List ℕ) → I.remaining input.old ≡ Some text →
         LogsText L.Log.opens options.now L.Log.takes L.Log.is_kept arguments.now text) }
 {
     let [rotation, directory, prefix] = arguments else {
@@ -335,7 +336,7 @@ fn copy_through<R: Host, L: Logs, I: Read, O: Write + Drop>(
         return Err(Fault::Usage);
     }
     let rotation = rotation_of(rotation.as_str(), options)?;
-    if options.direct {
+    if options.has(OptionName::Direct) {
         return copy_directly::<Brand, R, L, I, O>(
             rt, logs, rotation, directory, prefix, options, input, output,
         );
@@ -379,21 +380,20 @@ fn copy_to<N: Asked + Send + 'static, R: Host, L: Logs, I: Read, O: Write + Drop
     output: O,
 ) -> Result<(), Fault>
     requires { N.asked rotation (string_bytes directory.now) (string_bytes prefix.now) options.now }
-    ensures { OnOk result (options.now.timestamps ≡ false → (text : List ℕ) → I.remaining input.old ≡ Some text →
+    ensures { OnOk result (has_option OptionName.Timestamps options.now ≡ false → (text : List ℕ) → I.remaining input.old ≡ Some text →
         TookText (WasOpened L.Log.opens N.asked) L.Log.takes L.Log.is_kept text) }
 {
     let (directory, prefix) = (directory.as_str(), prefix.as_str());
     let input = BufReader::new(rt.alloc(), BlockingInput::new(rt, input))?;
     let titled = Titled::new(rt, directory, prefix)?;
-    let limit = if options.queue == 0 {
-        LIMIT
-    } else {
-        options.queue
+    let limit = match options.number(OptionName::Queue) {
+        0 => LIMIT,
+        limit => limit as usize,
     };
     let (writer, place, counts) = TeeWriter::<Titled<R>, L::Log, N>::new(
         Titled::new(rt, directory, prefix)?,
-        !options.no_wait,
-        options.max_bytes,
+        !options.has(OptionName::NoWait),
+        options.number(OptionName::MaxBytes),
     )?;
     let opening = LogOpening {
         logs,
@@ -413,7 +413,7 @@ fn copy_to<N: Asked + Send + 'static, R: Host, L: Logs, I: Read, O: Write + Drop
         outcome: Ok(TeeLosses::NONE),
     };
     let builder = NonBlockingBuilder::default()
-        .lossy(options.lossy)
+        .lossy(options.has(OptionName::Lossy))
         .buffered_lines_limit(limit);
     let most = Some(Duration::from_millis(END_MILLIS));
     let Ran { work, written } = match builder.run_lines(rt, rt.alloc(), writer, work, most) {
@@ -446,7 +446,7 @@ fn copy_directly<N: Asked + Send + 'static, R: Host, L: Logs, I: Read, O: Write 
     output: O,
 ) -> Result<(), Fault>
     requires { N.asked rotation (string_bytes directory.now) (string_bytes prefix.now) options.now }
-    ensures { OnOk result (options.now.timestamps ≡ false → (text : List ℕ) → I.remaining input.old ≡ Some text →
+    ensures { OnOk result (has_option OptionName.Timestamps options.now ≡ false → (text : List ℕ) → I.remaining input.old ≡ Some text →
         TookText (WasOpened L.Log.opens N.asked) L.Log.takes L.Log.is_kept text) }
 {
     let (directory, prefix) = (directory.as_str(), prefix.as_str());
@@ -454,8 +454,8 @@ fn copy_directly<N: Asked + Send + 'static, R: Host, L: Logs, I: Read, O: Write 
     let titled = Titled::new(rt, directory, prefix)?;
     let (writer, place) = DirectWriter::<Titled<R>, L::Log, N>::new(
         Titled::new(rt, directory, prefix)?,
-        !options.no_wait,
-        options.max_bytes,
+        !options.has(OptionName::NoWait),
+        options.number(OptionName::MaxBytes),
     )?;
     let log = logs.open_log(rotation, directory, prefix, options)?;
     let opened = Opened::new(log);
@@ -487,7 +487,7 @@ struct TeeWork<'a, R, L: Logs, I, O, N: Asked> {
 impl<'a, R: Host, L: Logs, I: BufRead + Ready, O: Write, N: Asked> RecordedWork
     for TeeWork<'a, R, L, I, O, N> {
     ghost does = { λ old start new ended.
-        IfOk new.outcome (λ lost. IsCopied (I.remaining old.input) old.opening.timestamps start ended lost.dropped) };
+        IfOk new.outcome (λ lost. IsCopied (I.remaining old.input) (has_option OptionName.Timestamps old.opening) start ended lost.dropped) };
 
     // The log is opened last, so a start that fails for want of memory or of a thread makes no file. The lines that were
     // read are waited for also after a fault, and only then counted: the worker's end is waited for a second only, which
@@ -515,7 +515,8 @@ impl<'a, R: Host, L: Logs, I: BufRead + Ready, O: Write, N: Asked> RecordedWork
         };
         let titled = &*titled;
         place.put(titled, log);
-        let queue = SenderQueue::new(titled, sender, counts, opening.options.lossy);
+        let lossy = opening.options.has(OptionName::Lossy);
+        let queue = SenderQueue::new(titled, sender, counts, lossy);
         let mut feed = Feed::new(titled, queue, opening.options, output);
         let copied = copy_pieces(titled.alloc(), input, &mut feed, Split::Lines);
         let unechoed = feed.unechoed();
@@ -544,19 +545,19 @@ fn rotation_of(word: &str, options: &Options) -> Result<Rotation, Fault>
     ensures rotation { IfOk result (λ rotation. word.now ≡ rotation_word rotation) }
 {
     let rotation = word.parse::<Rotation>().map_err(|_| Fault::Usage)?;
-    if options.direct && options.queue > 0 {
+    if options.has(OptionName::Direct) && options.has(OptionName::Queue) {
         return Err(Fault::Option("--queue", OptionError::Direct));
     }
-    if options.direct && options.lossy {
+    if options.has(OptionName::Direct) && options.has(OptionName::Lossy) {
         return Err(Fault::Option("--lossy", OptionError::Direct));
     }
     if rotation != Rotation::NEVER {
         return Ok(rotation);
     }
-    if options.keep > 0 {
+    if options.has(OptionName::Keep) {
         return Err(Fault::Option("--keep", OptionError::Never));
     }
-    if options.max_bytes > 0 {
+    if options.has(OptionName::MaxBytes) {
         return Err(Fault::Option("--max-bytes", OptionError::Never));
     }
     Ok(rotation)

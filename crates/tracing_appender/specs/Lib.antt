@@ -23,10 +23,10 @@ pub use Rattle.appender_core.specs.MemoryView
 pub use Rattle.appender_core.specs.Core
 pub use Rattle.appender_core.specs.CoreReplies
 pub use Rattle.appender_core.specs.Runs
-pub use Rattle.appender_core.specs.Counting
 pub use Rattle.appender_core.specs.Parts
 pub use Rattle.appender_core.specs.Tries
 pub use Rattle.appender_core.specs.Batch
+pub use Rattle.appender_core.specs.Served
 pub use Rattle.appender_folder.specs.Calls
 pub use Rattle.appender_non_blocking.specs.Account
 pub use Rattle.appender_non_blocking.specs.Losses

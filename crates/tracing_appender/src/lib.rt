@@ -9,4 +9,4 @@ pub use appender_folder::folder;
 pub use appender_non_blocking::non_blocking;
 pub use appender_replay::replay;
 pub use appender_rolling::{laws as rolling_laws, rolling};
-pub use appender_runtime::{policy, waiting};
+pub use appender_runtime::waiting;

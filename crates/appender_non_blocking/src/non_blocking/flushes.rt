@@ -14,7 +14,7 @@ pub(super) struct Progress {
     pub(super) ticket: u64,
     /// How many of the flushes that were asked for were made.
     pub(super) flushes: u64,
-    /// The fault of the last flush.
+    /// The fault of the first flush that failed since the last one that was asked for.
     pub(super) fault: Option<ErrorKind>,
 }
 
@@ -52,6 +52,9 @@ struct State {
     ticket: u64,
     progress: Progress,
     has_ended: bool,
+    // Of the newest flush that failed: its number, the greatest one if the worker has ended, and its fault.
+    failed: u64,
+    fault: Option<ErrorKind>,
 }
 
 impl Flushes {
@@ -63,6 +66,8 @@ impl Flushes {
                 ticket: 0,
                 progress: Progress::NONE,
                 has_ended: false,
+                failed: 0,
+                fault: None,
             }),
             made: Condvar::new(),
         }
@@ -94,6 +99,14 @@ impl Flushes {
         let mut state = self.state.lock(rt);
         state.progress = progress;
         state.has_ended = has_ended;
+        if progress.fault.is_some() {
+            state.failed = if has_ended {
+                u64::MAX
+            } else {
+                progress.flushes
+            };
+            state.fault = progress.fault;
+        }
         drop(state);
         self.made.notify_all();
     }
@@ -113,11 +126,11 @@ impl Flushes {
         let progress = state.progress;
         // The worker flushes last.
         let is_made = progress.flushes >= number || state.has_ended && progress.ticket >= ticket;
-        match progress.fault {
+        match state.fault {
             _ if !is_made && state.has_ended => Err(io::Error::other("the worker has ended")),
             _ if !is_made => Err(io::Error::from(ErrorKind::TimedOut)),
-            Some(kind) => Err(io::Error::from(kind)),
-            None => Ok(()),
+            Some(kind) if state.failed >= number => Err(io::Error::from(kind)),
+            _ => Ok(()),
         }
     }
 }

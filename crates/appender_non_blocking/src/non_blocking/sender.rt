@@ -161,9 +161,9 @@ impl<R: Wait + Drop> NonBlocking<R> {
     }
 
     /// Waits until the worker has written each line that the queue accepted before this call, of all senders, and has flushed its
-    /// writer after that. A line that the writer does not take counts as written, as it does for the worker. The error is of the
-    /// kind `TimedOut` if that takes longer than `timeout`, that of the flush, or `Other` if the worker ended before, which it does
-    /// with lines in the queue after a shutdown.
+    /// writer after that. A line that the writer does not take counts as written, as it does for the worker. The error is that of the
+    /// first flush that failed since the last one that was waited for, or `TimedOut` if all that takes longer than `timeout`. It is
+    /// `Other` if the worker ended before, which it does with lines in the queue after a shutdown.
     pub fn flush_queued(&self, timeout: Duration) -> io::Result<()>
     where
         R: Clock,

@@ -153,7 +153,7 @@ fn take_more<B: Books>(
     Wakeups { worker, sender }
 }
 
-// Flushes the writer, and notes the fault. One of the last flush is reported on standard error, since no line follows it.
+// Flushes the writer, and notes the first fault. One of the last flush is reported on standard error, since no line follows it.
 fn flush<W: Write, R: Eprint>(
     rt: &R,
     core: &mut WorkerCore,
@@ -164,11 +164,10 @@ fn flush<W: Write, R: Eprint>(
     ensures core { core.new ≡ after_flushed core.old }
     ensures bytes { Keeps (W.contents writer.old) (W.contents writer.new) }
 {
-    *noted = None;
     match writer.flush() {
         Ok(()) => core.flushed(Ok(())),
         Err(fault) => {
-            *noted = Some(fault.kind());
+            *noted = noted.or(Some(fault.kind()));
             core.flushed(Err(io::Error::from(fault.kind())));
             if let Want::Ended = core.want() {
                 let _ = rt.eprintln(format_args!("Failed to flush. Error: {fault}"));
@@ -199,9 +198,11 @@ fn flush_for<W: Write, R: Wait>(rt: &R, flushes: &Flushes, progress: &mut Progre
     ensures { Keeps (W.contents writer.old) (W.contents writer.new) }
 {
     if let Some(asked) = flushes.due(rt, *progress) {
-        progress.fault = writer.flush().err().map(|fault| fault.kind());
+        let fault = writer.flush().err().map(|fault| fault.kind());
+        progress.fault = progress.fault.or(fault);
         progress.flushes = asked;
         flushes.announce(rt, *progress, false);
+        progress.fault = None;
     }
 }
 

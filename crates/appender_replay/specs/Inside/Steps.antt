@@ -12,7 +12,7 @@ use Rattle.appender_queue.specs.declared.queue.Taken.{Taken}
 use Rattle.appender_queue.specs.declared.queue.Taken.TheVariants.{Line as TakenLine, Shutdown as TakenShutdown, Gone as TakenGone, Empty as TakenEmpty}
 use Rattle.appender_store.specs.declared.store.Folder.{Ghosts}
 use Rattle.appender_replay.specs.Record.{StepWithReply}
-use Rattle.appender_replay.specs.Replay.{by_kind}
+use Rattle.appender_replay.specs.Headline.{by_kind}
 use Rattle.appender_rolling.specs.Roller.{Rolling, Puts, Flushes}
 use Rattle.appender_replay.specs.declared.replay.whole.Step.TheVariants.{Offer, Shut, AddSender, DropSender, Work}
 use Rattle.appender_replay.specs.declared.replay.whole.Reply.{Reply}

@@ -2,10 +2,11 @@
 ghost use Rattle.std.specs.Prelude.{◌≡◌, [], length, IfOk, IfErr, IsOk};
 ghost use Rattle.appender_replay.specs.Replay.{with_replies, with_replies_onto, RunsFrom, RollerFollows, IsNotRun};
 ghost use Rattle.appender_replay.specs.Start.{start_of};
-ghost use Rattle.appender_replay.specs.Record.{WorkerDoes, run_event};
+ghost use Rattle.appender_replay.specs.Record.{WorkerDoes, read_in};
+ghost use Rattle.appender_replay.specs.Run.{KeepsToLimit};
 ghost use Rattle.appender_replay.specs.Inside.Steps.{offered_reply, taken_reply, OffersCopy, WorkDoes, RunStepDoes, parts};
 ghost use Rattle.appender_replay.specs.Whole.{LinesFollow};
-ghost use Rattle.appender_replay.specs.Headline.{Headline};
+ghost use Rattle.appender_replay.specs.Headline.{Headline, account};
 
 use crate::replay::{ReplayError, by_kind};
 use appender_names::laws::{names_are_periods, periods_lie_between_boundaries};
@@ -199,9 +200,11 @@ pub fn replay<S: Folder>(
         RunsFrom S.Folder (WorkerDoes S.Folder builder.now (start_of builder.now start run.number run.room))
         builder.now start run.number run.room folder (with_replies steps.now run.replies.items) run.roller) }
     ensures roller { IfOk result (λ run.
-        RollerFollows S.Folder (WorkerDoes S.Folder builder.now (start_of builder.now start run.number run.room))
-        (run_event builder.now (start_of builder.now start run.number run.room))
-        builder.now start run.number run.room folder (with_replies steps.now run.replies.items) run.roller) }
+        RollerFollows S.Folder (WorkerDoes S.Folder builder.now (start_of builder.now start run.number run.room)) read_in
+        builder.now start run.number run.room folder (with_replies steps.now run.replies.items) run.roller
+        (account builder.now (start_of builder.now start run.number run.room) (with_replies steps.now run.replies.items)).files) }
+    ensures limit { IfOk result (λ run. KeepsToLimit builder.now
+        (account builder.now (start_of builder.now start run.number run.room) (with_replies steps.now run.replies.items)).files) }
     ensures err { IfErr result (λ error. IsNotRun S.Folder builder.now start folder error) }
 {
     names_change_one_at_a_time();

@@ -89,15 +89,15 @@ impl<S: Folder, C: Clock> RollingFile<S, C> {
     }
 
     /// Returns whether a `put` of `length` bytes at this moment would open the next file.
-    pub fn due_for(&self, moment: i64, length: usize) -> bool
+    pub fn is_due(&self, moment: i64, length: usize) -> bool
         ensures { result ≡ is_some (next_stamp self.now.roller moment length) }
     {
-        self.roller.due_for(moment, length)
+        self.roller.is_due(moment, length)
     }
 
     /// Does what `see` does, and also opens the next file if `length` bytes do not fit in the limit of bytes. An
     /// `append` after it writes to the same file as a `put` of that length.
-    pub fn see_for(&mut self, moment: i64, length: usize) -> Switch
+    pub fn check_clock(&mut self, moment: i64, length: usize) -> Switch
         ensures sees { ChecksClock S.Folder moment length result self.old.roller self.new.roller }
         ensures none { result ≡ Switch.None → self.new ≡ self.old }
         ensures attempt { result ≢ Switch.None → next_stamp self.old.roller moment length ≡ Some self.new.roller.last }
@@ -105,7 +105,7 @@ impl<S: Folder, C: Clock> RollingFile<S, C> {
         ensures failed { result ≡ Switch.Failed → self.new.roller.opened ≡ self.old.roller.opened }
         ensures clock { self.new.clock ≡ self.old.clock }
     {
-        self.roller.see_for(moment, length)
+        self.roller.check_clock(moment, length)
     }
 
     /// Adds bytes to the open file by one append, and reads no clock: what follows a `see` or a short `put` is in

@@ -4,8 +4,9 @@ use Rattle.std.proofs.lemmas.Int.{to_z-of_z}
 use Rattle.std.proofs.lemmas.List.{take_more, take_all}
 use Rattle.appender_rolling.specs.declared.rolling.setup.Stamp.{Stamp}
 use Rattle.appender_replay.specs.Replay.{with_replies}
-use Rattle.appender_replay.proofs.Headlines.{roll_headline}
-use Rattle.appender_replay.proofs.Runs.{Grounds, roll_law, follows, other_names, one_reply_more}
+use Rattle.appender_replay.specs.Start.{start_of}
+use Rattle.appender_replay.proofs.Headlines.{roll_headline, roll_limit, roll_roller}
+use Rattle.appender_replay.proofs.Runs.{Grounds, other_names, one_reply_more}
 use Rattle.appender_replay.proofs.replay.replay_rolling.Goals as goal
 
 pub loop-step-init : goal.loop-step-init
@@ -53,13 +54,16 @@ returns g c =
       failures_fit = g.met.S.Folder.failures_fit;
       noted_fit = g.met.S.Folder.noted_fit;
     } in
-    let law = roll_law g.S.Folder c.args.builder.now c.args.start c.number-number.result c.room-room.result c.args.folder (with_replies c.args.steps.now c.loop-step.replies.items) c.loop-step.roller grounds in
-    let rolls = follows _ _ _ _ _ _ _ _ _ _ law runs in
+    let builder = c.args.builder.now in
+    let number = c.number-number.result in
+    let room = c.room-room.result in
+    let past = with_replies c.args.steps.now c.loop-step.replies.items in
     record {
-      headline = roll_headline g.S.Folder c.args.builder.now grounds c.args.start c.number-number.result c.room-room.result c.args.folder (with_replies c.args.steps.now c.loop-step.replies.items) c.loop-step.roller runs rolls;
+      headline = roll_headline g.S.Folder builder grounds c.args.start number room c.args.folder past c.loop-step.roller runs;
       one_each = one_each;
       runs = runs;
-      roller = rolls;
+      roller = roll_roller g.S.Folder builder grounds c.args.start number room c.args.folder past c.loop-step.roller runs;
+      limit = λ all. roll_limit builder (start_of builder c.args.start number room) past all;
       err = tt;
       memory = tt;
     }

@@ -1,22 +1,11 @@
-use Rattle.std.proofs.Common.{arith, sym, ◌∙◌}
-use Rattle.program_io.proofs.Units.{no_digits, overflows, too_many_bytes}
+use Rattle.program_io.proofs.Units.{no_digits, product_is}
 use Rattle.program_io.proofs.options.bytes.Goals as goal
-use Rattle.program_io.proofs.options.bytes.Goals.{in_default-via-in-Some+else-count-gt0, in_default-via-in_default}
 
-pub returns-in-Some-clause-none : goal.returns-in-Some-clause-none
-returns-in-Some-clause-none c =
-    let number = rw c.in-Some.is at c.read_count.ensures.some in
-    rw c.ok_or.ensures.value (overflows _ _ _ _ c.checked_mul.ensures (λ over.
-    too_many_bytes c.args.value.now _ c.in-Some.count _ c.split_unit-unit.ensures.only number over))
+pub returns-in_err-count : goal.returns-in_err-count
+returns-in_err-count c =
+    let unit = c.split_unit-unit.ensures in
+    rw c.from_residual.ensures (no_digits c.args.text.now _ _ unit.unit unit.from_one c.in_err-count.ensures)
 
-pub returns-in_default-clause-none : goal.returns-in_default-clause-none
-returns-in_default-clause-none c = no_digits c.args.value.now _ _ c.split_unit-unit.ensures.only (λ n fits is.
-    elim c.in_default.branch [
-      | in_default-via-in-Some+else-count-gt0 w ↦
-          let number = rw w.in-Some.is at c.read_count.ensures.some in
-          let same = is.number.value ∙ sym number.value in
-          omega (arith, same, is.from_one, w.if-count-gt0.false)
-      | in_default-via-in_default w ↦
-          let none = rw w.in_default.is at c.read_count.ensures.none in
-          none n fits is.number
-    ])
+pub returns : goal.returns
+returns c =
+    product_is c.args.text.now _ _ _ _ c.split_unit-unit.ensures.unit (rw c.in_ok-count.was at c.count.ensures) c.checked_mul.ensures

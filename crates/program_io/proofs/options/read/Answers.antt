@@ -9,10 +9,8 @@ use Rattle.program_io.proofs.options.read.Goals as goal
 
 pub returns-in-Help-clause-read : goal.returns-in-Help-clause-read
 returns-in-Help-clause-read c =
-    let split = rw c.in-Some.is at c.split_first.ensures.cases in
-    let taken = rw c.in_ok-take.was at c.take.ensures.taken in
-    let takes = rw c.as_str.ensures.value at taken in
-    let reached = next_reached _ _ _ _ _ _ c.loop-word.invariant.reached split.0 takes in
+    let takes = rw c.as_str.ensures.value at c.in_ok-take.ensures.taken in
+    let reached = next_reached _ _ _ _ _ _ c.loop-word.invariant.reached c.in-Some.ensures.cases.0 takes in
     (reached.0, c.in-Some.behind.now, c.take.new.self, reached.1, search rules)
 
 pub returns-in-Help-clause-plain : goal.returns-in-Help-clause-plain
@@ -20,10 +18,8 @@ returns-in-Help-clause-plain c = λ all. plain_request _ AsksHelp all (returns-i
 
 pub returns-in-Version-clause-read : goal.returns-in-Version-clause-read
 returns-in-Version-clause-read c =
-    let split = rw c.in-Some.is at c.split_first.ensures.cases in
-    let taken = rw c.in_ok-take.was at c.take.ensures.taken in
-    let takes = rw c.as_str.ensures.value at taken in
-    let reached = next_reached _ _ _ _ _ _ c.loop-word.invariant.reached split.0 takes in
+    let takes = rw c.as_str.ensures.value at c.in_ok-take.ensures.taken in
+    let reached = next_reached _ _ _ _ _ _ c.loop-word.invariant.reached c.in-Some.ensures.cases.0 takes in
     (reached.0, c.in-Some.behind.now, c.take.new.self, reached.1, search rules)
 
 pub returns-in-Version-clause-plain : goal.returns-in-Version-clause-plain
@@ -31,18 +27,15 @@ returns-in-Version-clause-plain c = λ all. plain_request _ AsksVersion all (ret
 
 pub loop-word-preserved : goal.loop-word-preserved
 loop-word-preserved c =
-    let split = rw c.in-Some.is at c.split_first.ensures.cases in
-    let taken = rw c.in_ok-take.was at c.take.ensures.taken in
-    let takes = rw c.as_str.ensures.value at taken in
+    let takes = rw c.as_str.ensures.value at c.in_ok-take.ensures.taken in
     record {
-      reached = next_reached _ _ _ _ _ _ c.loop-word.invariant.reached split.0 takes;
+      reached = next_reached _ _ _ _ _ _ c.loop-word.invariant.reached c.in-Some.ensures.cases.0 takes;
       goes_on = open_next _ c.in_default-next.not-Help c.in_default-next.not-Version;
     }
 
 pub returns-in_default-next-2-clause-read : goal.returns-in_default-next-2-clause-read
 returns-in_default-next-2-clause-read c =
-    let empty = rw c.in_default.is at c.split_first.ensures.cases in
-    at_end _ _ _ c.loop-word.invariant.reached empty c.loop-word.invariant.goes_on c.in_default-next-2.not-Value
+    at_end _ _ _ c.loop-word.invariant.reached c.in_default.ensures.cases c.loop-word.invariant.goes_on c.in_default-next-2.not-Value
 
 pub returns-in_default-next-2-clause-plain : goal.returns-in_default-next-2-clause-plain
 returns-in_default-next-2-clause-plain c =
@@ -51,18 +44,15 @@ returns-in_default-next-2-clause-plain c =
 pub returns-in_err-take-clause-fault : goal.returns-in_err-take-clause-fault
 returns-in_err-take-clause-fault c =
     let p = err_from_is_err_and c.from_residual.result c.from_residual.ensures.1 in
-    let split = rw c.in-Some.is at c.split_first.ensures.cases in
-    let faulty = rw c.in_err-take.was at c.take.ensures.fault in
-    let rejects = rw c.as_str.ensures.value at faulty in
-    rw (p.1, p.2) (fault_of_word _ _ _ _ _ _ c.loop-word.invariant.reached split.0 rejects)
+    let rejects = rw c.as_str.ensures.value at c.in_err-take.ensures.fault in
+    rw (p.1, p.2) (fault_of_word _ _ _ _ _ _ c.loop-word.invariant.reached c.in-Some.ensures.cases.0 rejects)
 
 pub returns-in_err-take-clause-named : goal.returns-in_err-take-clause-named
 returns-in_err-take-clause-named c = IfErr-weaker _ _ _ (names_some _) (returns-in_err-take-clause-fault c)
 
 pub returns-in-Value-clause-fault : goal.returns-in-Value-clause-fault
 returns-in-Value-clause-fault c =
-    let empty = rw c.in_default.is at c.split_first.ensures.cases in
-    fault_at_end _ _ _ _ c.word.result c.loop-word.invariant.reached empty c.in-Value.is c.word.ensures
+    fault_at_end _ _ _ _ c.word.result c.loop-word.invariant.reached c.in_default.ensures.cases c.in-Value.is c.word.ensures
 
 pub returns-in-Value-clause-named : goal.returns-in-Value-clause-named
 returns-in-Value-clause-named c = names_some _ (Wrong c.word.result Missing) (returns-in-Value-clause-fault c)

@@ -15,8 +15,8 @@ returns-clause-written g c = on_ok_weaker c.copy_to.result (λ written plain tex
   took = takes_asked (written plain text is);
 }) c.copy_to.ensures
 
-pub returns-then-options-clause-written : goal.returns-then-options-clause-written
-returns-then-options-clause-written g c = on_ok_weaker c.copy_directly.result (λ written plain text is. record {
+pub returns-then-has-clause-written : goal.returns-then-has-clause-written
+returns-then-has-clause-written g c = on_ok_weaker c.copy_directly.result (λ written plain text is. record {
   rotation = c.in_ok-rotation.rotation;
   word = c.rotation-item.result;
   directory = c.directory-item.result;

@@ -7,11 +7,10 @@ use Rattle.appender_replay.specs.Start.{start_of}
 use Rattle.appender_replay.specs.Headline.{account}
 use Rattle.appender_replay.specs.Replay.{with_replies}
 use Rattle.appender_replay.specs.Inside.Steps.{parts}
-use Rattle.appender_replay.proofs.Headlines.{headline}
+use Rattle.appender_replay.proofs.Headlines.{GoesFrom, goes_runs, headline, run_limit, whole_roller}
 use Rattle.appender_replay.proofs.Accounts.{core_is, stands}
-use Rattle.appender_replay.proofs.Runs.{Grounds, follows, other_names, one_reply_more}
+use Rattle.appender_replay.proofs.Runs.{Grounds, other_names, one_reply_more}
 use Rattle.appender_replay.proofs.Lines.{in_order, text_law}
-use Rattle.appender_replay.proofs.Wholes.{GoesFrom, goes_runs, whole_law}
 use Rattle.appender_replay.proofs.replay.whole.replay.Goals as goal
 
 pub loop-step-init : goal.loop-step-init
@@ -76,9 +75,7 @@ returns g c =
       failures_fit = g.met.S.Folder.failures_fit;
       noted_fit = g.met.S.Folder.noted_fit;
     } in
-    let runs = goes_runs g.S.Folder builder c.args.limit c.args.lossy c.args.start number room c.args.folder past last goes in
-    let rolls = follows _ _ _ _ _ _ _ _ _ _ (λ run. whole_law g.S.Folder builder c.args.limit c.args.lossy c.args.start number room c.args.folder past c.loop-step.roller grounds run) runs in
-    let head = headline g.S.Folder builder grounds c.args.limit c.args.lossy c.args.start number room c.args.folder past last goes rolls in
+    let head = headline g.S.Folder builder c.args.limit c.args.lossy c.args.start number room c.args.folder grounds past last goes in
     let start = start_of builder c.args.start number room in
     let so = stands g.S.Folder c.args.limit c.args.lossy builder start goes.first past last goes.leads in
     record {
@@ -91,7 +88,8 @@ returns g c =
         order = in_order c.args.limit builder start past head.replies;
         text = text_law c.args.limit builder start past head.replies;
       };
-      runs = runs;
-      roller = rolls;
+      runs = goes_runs g.S.Folder builder c.args.limit c.args.lossy c.args.start number room c.args.folder past last goes;
+      roller = whole_roller g.S.Folder builder c.args.limit c.args.lossy c.args.start number room c.args.folder grounds past last goes;
+      limit = run_limit builder start past;
       err = tt;
     }

@@ -1,7 +1,7 @@
 use Rattle.std.proofs.Common.{◌≡◌, ◌≤◌, length, take, vec_capacity}
 use Rattle.appender_replay.specs.Replay.{with_replies}
 use Rattle.appender_replay.specs.Inside.Steps.{parts}
-use Rattle.appender_replay.proofs.Wholes.{GoesFrom}
+use Rattle.appender_replay.proofs.Headlines.{GoesFrom}
 use Rattle.appender_replay.proofs.replay.whole.replay.Given as goal
 
 abbrev pub invariant-loop-step : goal.invariant-loop-step
