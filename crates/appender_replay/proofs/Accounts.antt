@@ -255,7 +255,7 @@ module _ {S F : Type 0} (kind : Ghosts S F) (limit : ℕ) (lossy : Bool) (c : Co
     most = so.most;
   }
   wrote left repeats m switch (Err error) co same is =
-      wrote_err m switch error (head.files_after_write a.rest (Err error) (head.files_after_check c m (length a.rest) switch a.files)) same (is_interruption error && nat_lt a.interrupted 100)
+      wrote_err m switch error (head.files_after_call false a.rest (Err error) (head.files_after_check c m (length a.rest) switch a.files)) same (is_interruption error && nat_lt a.interrupted 100)
       (subst (λ (k : Core). CoreOf k (after_error a (is_interruption error && nat_lt a.interrupted 100))) (sym is) (wrote_none left repeats a co (is_interruption error)))
 
   worked : (core : Core) (m : ℤ) (reply : Reply) → CoreOf core a → WorkDoes kind core m reply old new → Steps (Work m, reply)

@@ -1,5 +1,5 @@
 -- The schedule of a roller follows the account of its files.
-use Rattle.std.proofs.Common.{◌≡◌, inl, inr, length-append, ℕ, ◌+◌, ◌-◌, ◌<◌, ◌==◌, nat_lt, arith, length, ◌++◌, take, ℤ, Bool, true, false, not, ◌&&◌, cond, List, [], ◌∷◌, filter, Option, None, Some, Result, refl, ap, sym, ◌∙◌, subst}
+use Rattle.std.proofs.Common.{◌≡◌, inl, inr, length-append, ℕ, zero, suc, ◌+◌, ◌-◌, ◌<◌, ◌==◌, nat_lt, arith, length, ◌++◌, take, ℤ, Bool, true, false, not, ◌&&◌, cond, List, [], ◌∷◌, filter, Option, None, Some, Result, refl, ap, sym, ◌∙◌, subst}
 use Rattle.std.specs.Prelude.{if◌then◌else◌, ◌↔◌, unwrap_or}
 use Rattle.std.specs.Int.{int_max}
 use Rattle.std.specs.declared.io.Error.{Error}
@@ -18,8 +18,12 @@ use Rattle.appender_rolling.specs.declared.rolling.Switch.{Switch}
 use Rattle.appender_rolling.specs.declared.rolling.Switch.TheVariants.{None as Stayed, Opened as Switched, Failed as SwitchFailed}
 use Rattle.appender_replay.specs.Start.{Start}
 use Rattle.appender_replay.specs.Run.{file_key, greatest}
-use Rattle.appender_replay.specs.Headline.{Files, counted, bytes_taken, due_file, later_moment, open_stamp, files_at_opening, files_after_try, files_after_check, files_after_write}
+use Rattle.appender_replay.specs.Headline.{Files, counted, bytes_taken, due_file, later_moment, open_stamp, files_at_opening, files_after_try, files_after_check, files_after_call}
 use Rattle.appender_replay.proofs.Periods.{Laws, IsLater, IsLaterKey, moves, later_differs, same_key_is_same, later_key_differs}
+
+pub nothing_of : (n : ℕ) → ◌≡◌ {A = List ℕ} (take n []) []
+nothing_of zero = refl
+nothing_of (suc n) = refl
 
 -- ---- the latest moment
 
@@ -173,7 +177,7 @@ module _ {S F : Type 0} (c : Config) (laws : Laws c.rotation) where
   tried : (f : Files) (m : ℤ) (ok : Bool) (s : Stamp) (old new : Rolling S F) → RollerIs c f old → IsStamp c s → period_of c.rotation s.moment ≡ period_of c.rotation (later_moment f.latest m)
       → (at : Stamp) → at ≡ s → new.config ≡ old.config → new.last ≡ at → new.boundary ≡ next_of old.config.rotation at.moment → new.room ≡ old.config.max_bytes
       → (if ok then Some s else open_stamp (f.newest ∷ f.earlier)) ≡ Some new.opened
-      → RollerIs c (record f { latest = later_moment f.latest m; newest = record { stamp = s; opened = ok; writes = [] }; earlier = f.newest ∷ f.earlier; held = 0 }) new
+      → RollerIs c (record f { latest = later_moment f.latest m; newest = record { stamp = s; opened = ok; calls = [] }; earlier = f.newest ∷ f.earlier; held = 0 }) new
   tried f m ok s old new so is_stamp period at it config last boundary room opened = record {
     config_is = config ∙ so.config_is;
     opened_is = opened;
@@ -235,11 +239,11 @@ module _ {S F : Type 0} (c : Config) (laws : Laws c.rotation) where
   }
 
   -- a write
-  pub roller_writes : (kind : Ghosts S F) (f : Files) (bytes : List ℕ) (answer : Result ℕ Error) (shown : Result ℕ ErrorKind) (old new : Rolling S F) → written_count shown ≡ written_count answer → Writes kind bytes answer old new → RollerIs c f old → RollerIs c (files_after_write bytes shown f) new
-  roller_writes kind f bytes answer shown old new count writes so =
+  pub roller_writes : (kind : Ghosts S F) (f : Files) (flush : Bool) (bytes : List ℕ) (answer : Result ℕ Error) (shown : Result ℕ ErrorKind) (old new : Rolling S F) → written_count shown ≡ written_count answer → Writes kind bytes answer old new → RollerIs c f old → RollerIs c (files_after_call flush bytes shown f) new
+  roller_writes kind f flush bytes answer shown old new count writes so =
       let size : length (take (written_count shown) bytes) ≡ written_count answer = ap (λ (n : ℕ). length (take n bytes)) count ∙ length-take-le (written_count answer) bytes writes.bound in
-      let longer : length (bytes_taken f.newest.writes ++ take (written_count shown) bytes) ≡ length (bytes_taken f.newest.writes) + length (take (written_count shown) bytes) = length-append (bytes_taken f.newest.writes) (take (written_count shown) bytes) in
-      roller_stays kind f (files_after_write bytes shown f) old new writes.stays refl refl refl (omega (arith, size, longer, writes.room, so.room_is)) so
+      let longer : length (bytes_taken f.newest.calls ++ take (written_count shown) bytes) ≡ length (bytes_taken f.newest.calls) + length (take (written_count shown) bytes) = length-append (bytes_taken f.newest.calls) (take (written_count shown) bytes) in
+      roller_stays kind f (files_after_call flush bytes shown f) old new writes.stays refl refl refl (omega (arith, size, longer, writes.room, so.room_is)) so
 
   -- the opening
   pub roller_begins : (start : Start) (now : Rolling S F) → now.config ≡ c → IsStamp c start.stamp → now.opened ≡ start.stamp → now.last ≡ start.stamp → now.boundary ≡ next_of c.rotation start.stamp.moment → now.room ≡ c.max_bytes - start.held

@@ -14,7 +14,7 @@ use Rattle.appender_rolling.specs.declared.rolling.setup.Stamp.{Stamp}
 use Rattle.appender_rolling.specs.Kept.{KeepsBodies, AddsNoFile, AddsNoOtherFile, HadFile, OpeningPartsKeepBodies}
 use Rattle.appender_rolling.specs.Opening.{file_name_of, IsRefusalEffect}
 use Rattle.appender_rolling.specs.Roller.{written_count}
-use Rattle.appender_replay.specs.Headline.{FileWrite, Try, bytes_taken, failures_in}
+use Rattle.appender_replay.specs.Headline.{FileCall, Try, bytes_taken, failures_in}
 use Rattle.appender_replay.specs.Run.{Attempt, WrittenAttempt, FileKey, file_key, is_same_key, try_of, open_body, is_number, bytes_to_body, bytes_under, Carried, Succeeded, OnlyAttemptsChange, EachOf, OpenDistinctBodies, ContainsItsBytes, CarriesItsNumber, HasItsName, NamesItsBody, LeavesSurvivors, FileLaw}
 use Rattle.appender_replay.proofs.NamesLeft.{leads_to}
 use Rattle.appender_replay.proofs.NamesLead.{leaves}
@@ -73,7 +73,7 @@ IsRising c [] = Unit {0}
 IsRising c ((a, writes) ∷ earlier) = EachOf (λ e. IsLaterKey (file_key c e.stamp) (file_key c a.stamp)) earlier × IsRising c earlier
 
 -- the latest moment was in the period of this stamp at the write
-abbrev pub WasIn : Config → Stamp → FileWrite → Type 0
+abbrev pub WasIn : Config → Stamp → FileCall → Type 0
 WasIn c s w = period_of c.rotation w.latest ≡ period_of c.rotation s.moment
 
 abbrev pub EachInPeriod : Config → List WrittenAttempt → Type 0
@@ -82,19 +82,19 @@ EachInPeriod c ((a, writes) ∷ earlier) = All (WasIn c a.stamp) writes × EachI
 
 module _ (c : Config) where
   -- the writes under a key are all or none
-  all_or_none : (s : Stamp) (key : FileKey) (writes : List FileWrite) → All (WasIn c s) writes
-      → filter (λ (w : FileWrite). is_same_key (period_of c.rotation w.latest, s.number) key) writes ≡ (if is_same_key (file_key c s) key then writes else [])
+  all_or_none : (s : Stamp) (key : FileKey) (writes : List FileCall) → All (WasIn c s) writes
+      → filter (λ (w : FileCall). is_same_key (period_of c.rotation w.latest, s.number) key) writes ≡ (if is_same_key (file_key c s) key then writes else [])
   all_or_none s key [] at = by (is_same_key (file_key c s) key)
     where
-      by : (t : Bool) → ◌≡◌ {A = List FileWrite} [] (if t then [] else [])
+      by : (t : Bool) → ◌≡◌ {A = List FileCall} [] (if t then [] else [])
       by true = refl
       by false = refl
   all_or_none s key (w ∷ writes) at =
       let here : is_same_key (period_of c.rotation w.latest, s.number) key ≡ is_same_key (file_key c s) key = ap (λ (p : Option ℤ). is_same_key (p, s.number) key) (All-head (WasIn c s) w writes at) in
-      by (is_same_key (period_of c.rotation w.latest, s.number) key) (is_same_key (file_key c s) key) here (filter (λ (v : FileWrite). is_same_key (period_of c.rotation v.latest, s.number) key) writes) (all_or_none s key writes (All-tail (WasIn c s) w writes at))
+      by (is_same_key (period_of c.rotation w.latest, s.number) key) (is_same_key (file_key c s) key) here (filter (λ (v : FileCall). is_same_key (period_of c.rotation v.latest, s.number) key) writes) (all_or_none s key writes (All-tail (WasIn c s) w writes at))
     where
-      by : (t u : Bool) → t ≡ u → (rest : List FileWrite) → rest ≡ (if u then writes else []) → cond t (w ∷ rest) rest ≡ (if u then w ∷ writes else [])
-      by true true e rest so = ap (λ (ws : List FileWrite). w ∷ ws) so
+      by : (t u : Bool) → t ≡ u → (rest : List FileCall) → rest ≡ (if u then writes else []) → cond t (w ∷ rest) rest ≡ (if u then w ∷ writes else [])
+      by true true e rest so = ap (λ (ws : List FileCall). w ∷ ws) so
       by false false e rest so = so
       by true false e rest so = absurd (let same : true ≡ false = e in cc)
       by false true e rest so = absurd (let same : false ≡ true = e in cc)
@@ -124,7 +124,7 @@ module _ (c : Config) where
       own b is =
           let none : bytes_to_body b earlier ≡ [] = bytes_other b earlier (each_map (λ e. (x : ℕ) → a.body ≡ Some x → e.body ≡ Some x → ⊥) (NoneOpened b) earlier (λ e f same. f b is same) apart.0) in
           let mine : is_number b (open_body ((a, writes) ∷ earlier)) ≡ true = ap (is_number b) (here ∙ is) ∙ (let t : (b == b) ≡ true = grind arith in t) in
-          let key : filter (λ (w : FileWrite). is_same_key (period_of c.rotation w.latest, a.stamp.number) (file_key c a.stamp)) writes ≡ writes =
+          let key : filter (λ (w : FileCall). is_same_key (period_of c.rotation w.latest, a.stamp.number) (file_key c a.stamp)) writes ≡ writes =
           all_or_none a.stamp (file_key c a.stamp) writes at.0 ∙ ap (λ (t : Bool). if t then writes else []) (same_key_is_same (file_key c a.stamp)) in
           rw (none, mine, under_earlier (file_key c a.stamp) earlier rising.0 at.1, key) refl
 
@@ -158,7 +158,7 @@ pub record IsOwner (c : Config) (first now : Content) (a : Attempt) : Type 0 whe
 -- What is known of the files after a newest try and those before it, and that this was seen of each.
 pub record FilesSoFar (c : Config) (newest : Try) (tries : List Try) (first now : Content) (b : ℕ) (Seen : Attempt → Type 0) : Type 0 where
   pub attempt : Attempt
-  pub writes : List FileWrite
+  pub writes : List FileCall
   pub earlier : List WrittenAttempt
   pub newest_is : try_of (attempt, writes) ≡ newest
   pub earlier_are : map try_of earlier ≡ tries
@@ -214,15 +214,15 @@ module _ (c : Config) (first : Content) where
           stamps = each_map (IsOwner c first last) (λ a. IsStamp c a.stamp) attempts (λ a o. o.in_range) so.owners;
         }
 
-    -- ---- a write
+    -- ---- a write, or a flush
 
     with_piece : (t : Bool) (had before ws piece : List ℕ) → (had ++ (before ++ (if t then ws else []))) ++ (if t then piece else []) ≡ had ++ (before ++ (if t then ws ++ piece else []))
     with_piece true had before ws piece = append_assoc had (before ++ ws) piece ∙ ap (λ (xs : List ℕ). had ++ xs) (append_assoc before ws piece)
     with_piece false had before ws piece = append-nil (had ++ (before ++ []))
 
-    pub a_write : (now : Content) (b : ℕ) (Seen : Attempt → Type 0) (w : FileWrite) → period_of c.rotation w.latest ≡ period_of c.rotation newest.stamp.moment → FilesSoFar c newest tries first now b Seen
-        → FilesSoFar c (record newest { writes = w ∷ newest.writes }) tries first (after_append now b (take (written_count w.answer) w.bytes)) b Seen
-    a_write now b Seen w at so =
+    pub a_call : (now : Content) (b : ℕ) (Seen : Attempt → Type 0) (w : FileCall) → period_of c.rotation w.latest ≡ period_of c.rotation newest.stamp.moment → FilesSoFar c newest tries first now b Seen
+        → FilesSoFar c (record newest { calls = w ∷ newest.calls }) tries first (after_append now b (take (written_count w.answer) w.bytes)) b Seen
+    a_call now b Seen w at so =
         let piece : List ℕ = take (written_count w.answer) w.bytes in
         let open_now : Option ℕ = open_body ((so.attempt, so.writes) ∷ so.earlier) in
         let carried : now ≡ after_append so.attempt.after b (bytes_taken so.writes) = subst (λ (o : Option ℕ). Carried o (bytes_taken so.writes) so.attempt.after now) so.open_is so.leads.2 in
@@ -230,7 +230,7 @@ module _ (c : Config) (first : Content) where
           attempt = so.attempt;
           writes = w ∷ so.writes;
           earlier = so.earlier;
-          newest_is = ap (λ (t : Try). record t { writes = w ∷ t.writes }) so.newest_is;
+          newest_is = ap (λ (t : Try). record t { calls = w ∷ t.calls }) so.newest_is;
           earlier_are = so.earlier_are;
           leads = (
             so.leads.0,
@@ -312,7 +312,7 @@ module _ (c : Config) (first : Content) where
     pub files_begin : (s : Stamp) (x : ℕ) (after : Content) (noted_before noted_after : NotedCounts) (Seen : Attempt → Type 0) → IsStamp c s
         → Succeeds c (record { stamp = s; body = Some x; before = first; after = after; noted_before = noted_before; noted_after = noted_after }) x
         → Seen (record { stamp = s; body = Some x; before = first; after = after; noted_before = noted_before; noted_after = noted_after })
-        → FilesSoFar c (record { stamp = s; opened = true; writes = [] }) [] first after x Seen
+        → FilesSoFar c (record { stamp = s; opened = true; calls = [] }) [] first after x Seen
     files_begin s x after noted_before noted_after Seen is_stamp d seen =
         let a : Attempt = record { stamp = s; body = Some x; before = first; after = after; noted_before = noted_before; noted_after = noted_after } in
         let keeps = keeps_parts a x d.did in
@@ -354,7 +354,7 @@ module _ (c : Config) (first : Content) where
 
       -- one that fails
       pub a_failure : IsRefusalEffect c (file_name_of c s) old new → Seen (record { stamp = s; body = None; before = old; after = new; noted_before = noted_old; noted_after = noted_new })
-          → FilesSoFar c (record { stamp = s; opened = false; writes = [] }) (newest ∷ tries) first new b Seen
+          → FilesSoFar c (record { stamp = s; opened = false; calls = [] }) (newest ∷ tries) first new b Seen
       a_failure little seen =
           let keeps = parts.refusal c (file_name_of c s) old new little in
           let never : (x : ℕ) → ◌≡◌ {A = Option ℕ} None (Some x) → ⊥ = λ x is. (let both : ◌≡◌ {A = Option ℕ} None (Some x) = is in cc) in
@@ -388,7 +388,7 @@ module _ (c : Config) (first : Content) where
       -- one that succeeds
       pub a_success : (x : ℕ) → Succeeds c (record { stamp = s; body = Some x; before = old; after = new; noted_before = noted_old; noted_after = noted_new }) x
           → Seen (record { stamp = s; body = Some x; before = old; after = new; noted_before = noted_old; noted_after = noted_new })
-          → FilesSoFar c (record { stamp = s; opened = true; writes = [] }) (newest ∷ tries) first new x Seen
+          → FilesSoFar c (record { stamp = s; opened = true; calls = [] }) (newest ∷ tries) first new x Seen
       a_success x d seen =
           let a : Attempt = record { stamp = s; body = Some x; before = old; after = new; noted_before = noted_old; noted_after = noted_new } in
           let keeps = keeps_parts a x d.did in

@@ -1,5 +1,5 @@
 -- The headlines of runs: each reply is the one that the account demands, and the folder keeps what the account says.
-use Rattle.std.proofs.Common.{◌≡◌, ◌∙◌, ℕ, ℤ, ◌≤◌, Bool, List, [], ◌∷◌, length, filter, filter_map, Result, refl, ap, sym, subst}
+use Rattle.std.proofs.Common.{◌≡◌, ◌∙◌, ℕ, ℤ, ◌≤◌, Bool, false, List, [], ◌∷◌, length, take, filter, filter_map, Result, refl, ap, sym, subst}
 use Rattle.std.specs.declared.io.Error.{Error}
 use Rattle.std.specs.declared.io.ErrorKind.{ErrorKind}
 use Rattle.appender_names.specs.Rotation.{is_moment}
@@ -13,7 +13,7 @@ use Rattle.appender_replay.specs.Replay.{RollStepWithReply, RollDoes, RollStepDo
 use Rattle.appender_replay.specs.Record.{StepWithReply, RollerDoes, WorkerDoes, read_in}
 use Rattle.appender_replay.specs.Inside.Steps.{Parts}
 use Rattle.appender_replay.specs.Headline as head
-use Rattle.appender_replay.specs.Headline.{RunAccount, Files, Headline, account, by_kind, later_moment}
+use Rattle.appender_replay.specs.Headline.{RunAccount, Files, Headline, account, by_kind, of_no_byte, later_moment}
 use Rattle.appender_replay.specs.RollHeadline.{RollHeadline, RollReplies, RollFollows, roll_account}
 use Rattle.appender_replay.specs.declared.replay.RollStep.TheVariants.{See, Put, Write, Flush}
 use Rattle.appender_replay.specs.declared.replay.RollReply.TheVariants.{Saw, Put as DidPut, Wrote as RollWrote, Flushed as RollFlushed}
@@ -21,7 +21,7 @@ use Rattle.appender_replay.specs.declared.replay.whole.Step.TheVariants.{Offer, 
 use Rattle.appender_replay.specs.declared.replay.whole.Reply.TheVariants.{Accepted, Shut as DidShut, Wrote, Flushed}
 use Rattle.appender_replay.proofs.Clocks.{RollerIs, check_latest, latest_more, switches_if_due}
 use Rattle.appender_replay.proofs.Runs.{Grounds, StepsTo, run_roller, follows, count_by_kind, steps_check, steps_put, steps_write, steps_flush, steps_nothing}
-use Rattle.appender_replay.proofs.Bounds.{limit_begins, limit_checks, limit_puts, limit_stays}
+use Rattle.appender_replay.proofs.Bounds.{limit_begins, limit_checks, limit_puts, limit_stays, limit_flushes}
 use Rattle.appender_replay.proofs.Accounts.{SwitchesIfDue, Leads, steps, stands, rolls}
 use Rattle.appender_replay.proofs.Keeping.{keeps}
 
@@ -43,23 +43,23 @@ module _ (c : Config) (start : Start) where
   roll_limit [] all = limit_begins c start
   roll_limit ((See m, Saw switch) ∷ past) all = limit_checks c m 0 switch (roll_account c start past) (roll_limit past all)
   roll_limit ((Put m bytes, DidPut switch answer) ∷ past) all = limit_puts c m bytes.items switch answer (roll_account c start past) (roll_limit past all)
-  roll_limit ((Write bytes, RollWrote answer) ∷ past) all = limit_stays c bytes.items answer (roll_account c start past) all.0 (roll_limit past all.1)
-  roll_limit ((Flush, RollFlushed answer) ∷ past) all = roll_limit past all
+  roll_limit ((Write bytes, RollWrote answer) ∷ past) all = limit_stays c false bytes.items answer (roll_account c start past) (ap (λ (n : ℕ). take n bytes.items) all.0) (roll_limit past all.1)
+  roll_limit ((Flush, RollFlushed answer) ∷ past) all = limit_flushes c (of_no_byte answer) (roll_account c start past) (roll_limit past all)
   roll_limit ((See m, _) ∷ past) all = roll_limit past all
   roll_limit ((Put m bytes, _) ∷ past) all = roll_limit past all
   roll_limit ((Write bytes, _) ∷ past) all = roll_limit past all
   roll_limit ((Flush, _) ∷ past) all = roll_limit past all
 
   module _ {S F : Type 0} (kind : Ghosts S F) (grounds : Grounds kind c) where
-    roll_steps : (folder : S) (past : List RollStepWithReply) (t : RollStepWithReply) (old new : Rolling S F) → RollDoes kind past t old new → StepsTo kind c grounds folder (roll_account c start past) (roll_account c start (t ∷ past)) old new
-    roll_steps folder past (See m, Saw switch) old new checks = steps_check kind c grounds folder (roll_account c start past) m 0 switch old new checks
-    roll_steps folder past (Put m bytes, DidPut switch shown) old new (answer, is, puts) = steps_put kind c grounds folder (roll_account c start past) m bytes.items switch shown answer old new is puts
-    roll_steps folder past (Write bytes, RollWrote shown) old new (answer, is, writes) = steps_write kind c grounds folder (roll_account c start past) bytes.items shown answer old new is writes
-    roll_steps folder past (Flush, RollFlushed shown) old new (answer, is, flushes) = steps_flush kind c grounds folder (roll_account c start past) shown answer old new is flushes
-    roll_steps folder past (See m, _) old new does = absurd does
-    roll_steps folder past (Put m bytes, _) old new does = absurd does
-    roll_steps folder past (Write bytes, _) old new does = absurd does
-    roll_steps folder past (Flush, _) old new does = absurd does
+    roll_steps : (folder listed : S) (past : List RollStepWithReply) (t : RollStepWithReply) (old new : Rolling S F) → RollDoes kind past t old new → StepsTo kind c grounds folder listed (roll_account c start past) (roll_account c start (t ∷ past)) old new
+    roll_steps folder listed past (See m, Saw switch) old new checks = steps_check kind c grounds folder listed (roll_account c start past) m 0 switch old new checks
+    roll_steps folder listed past (Put m bytes, DidPut switch shown) old new (answer, is, puts) = steps_put kind c grounds folder listed (roll_account c start past) m bytes.items switch shown answer old new is puts
+    roll_steps folder listed past (Write bytes, RollWrote shown) old new (answer, is, writes) = steps_write kind c grounds folder listed (roll_account c start past) bytes.items shown answer old new is writes
+    roll_steps folder listed past (Flush, RollFlushed shown) old new (answer, is, flushes) = steps_flush kind c grounds folder listed (roll_account c start past) shown answer old new is flushes
+    roll_steps folder listed past (See m, _) old new does = absurd does
+    roll_steps folder listed past (Put m bytes, _) old new does = absurd does
+    roll_steps folder listed past (Write bytes, _) old new does = absurd does
+    roll_steps folder listed past (Flush, _) old new does = absurd does
 
     bound : (bytes : List ℕ) (shown : Result ℕ ErrorKind) (answer : Result ℕ Error) (old new : Rolling S F) → shown ≡ by_kind answer → Writes kind bytes answer old new → written_count shown ≤ length bytes
     bound bytes shown answer old new is writes = subst (λ (n : ℕ). n ≤ length bytes) (sym (count_by_kind answer shown is)) writes.bound
@@ -112,18 +112,18 @@ module _ (c : Config) (start : Start) where
   pub run_limit : (past : List StepWithReply) → KeepsToLimit c (account c start past).files
   run_limit [] = limit_begins c start
   run_limit ((Work m, Wrote switch answer) ∷ past) = let a : RunAccount = account c start past in limit_puts c m a.rest switch answer a.files (run_limit past)
-  run_limit ((Work m, Flushed answer) ∷ past) = run_limit past
+  run_limit ((Work m, Flushed answer) ∷ past) = limit_flushes c (of_no_byte answer) (account c start past).files (run_limit past)
   run_limit ((Offer label line, Accepted k) ∷ past) = run_limit past
   run_limit ((Shut, DidShut Sent) ∷ past) = run_limit past
   run_limit ((s, r) ∷ past) = run_limit past
 
   module _ {S F : Type 0} (kind : Ghosts S F) (grounds : Grounds kind c) where
-    run_steps : (folder : S) (past : List StepWithReply) (t : StepWithReply) (old new : Rolling S F) → WorkerDoes kind c start past t old new → StepsTo kind c grounds folder (account c start past).files (account c start (t ∷ past)).files old new
-    run_steps folder past (Work m, Wrote switch shown) old new (answer, is, puts) = steps_put kind c grounds folder (account c start past).files m (account c start past).rest switch shown answer old new is puts
-    run_steps folder past (Work m, Flushed shown) old new (answer, is, flushes) = steps_flush kind c grounds folder (account c start past).files shown answer old new is flushes
-    run_steps folder past (Offer label line, Accepted k) old new same = steps_nothing kind c grounds folder (account c start past).files old new same
-    run_steps folder past (Shut, DidShut Sent) old new same = steps_nothing kind c grounds folder (account c start past).files old new same
-    run_steps folder past (s, r) old new same = steps_nothing kind c grounds folder (account c start past).files old new same
+    run_steps : (folder listed : S) (past : List StepWithReply) (t : StepWithReply) (old new : Rolling S F) → WorkerDoes kind c start past t old new → StepsTo kind c grounds folder listed (account c start past).files (account c start (t ∷ past)).files old new
+    run_steps folder listed past (Work m, Wrote switch shown) old new (answer, is, puts) = steps_put kind c grounds folder listed (account c start past).files m (account c start past).rest switch shown answer old new is puts
+    run_steps folder listed past (Work m, Flushed shown) old new (answer, is, flushes) = steps_flush kind c grounds folder listed (account c start past).files shown answer old new is flushes
+    run_steps folder listed past (Offer label line, Accepted k) old new same = steps_nothing kind c grounds folder listed (account c start past).files old new same
+    run_steps folder listed past (Shut, DidShut Sent) old new same = steps_nothing kind c grounds folder listed (account c start past).files old new same
+    run_steps folder listed past (s, r) old new same = steps_nothing kind c grounds folder listed (account c start past).files old new same
 
     due_of : (a : RunAccount) (t : StepWithReply) (old new : Rolling S F) → RollerIs c a.files old → RollerDoes kind a.rest t old new → SwitchesIfDue c a t
     due_of a (Work m, Wrote switch shown) old new so (answer, is, puts) = switches_if_due c grounds.laws kind a.files m (length a.rest) switch old puts.between so puts.looks

@@ -1,30 +1,25 @@
 -- What a folder contains and counts after a run, by the files of its account.
-use Rattle.std.proofs.Common.{◌≡◌, ◌∙◌, ◌⊎◌, ℕ, ℤ, zero, ◌+◌, ◌≤◌, ◌-◌, min, Bool, true, false, List, [], ◌∷◌, ◌++◌, length, get_or, map, Option, None, Some, is_some, Result, Ok, Err, MatchResult, Vec, IsTrue, inl, inr, refl, ap, sym, subst, arith}
-use Rattle.std.specs.Prelude.{if◌then◌else◌, ◌==◌, IsOk}
+use Rattle.std.proofs.Common.{◌≡◌, ◌∙◌, ◌⊎◌, ℕ, ℤ, zero, ◌+◌, ◌≤◌, ◌-◌, min, Bool, true, false, List, [], ◌∷◌, ◌++◌, length, get_or, map, Option, None, Some, is_some, IsTrue, inl, inr, refl, ap, sym, subst, arith}
+use Rattle.std.specs.Prelude.{if◌then◌else◌, ◌==◌}
 use Rattle.std.specs.Option.{option_map_or}
 use Rattle.std.specs.FinMap as fin
 use Rattle.std.proofs.lemmas.List.Elements.{All-contains_itself}
-use Rattle.std.specs.declared.alloc.Global.{Global}
-use Rattle.std.specs.declared.io.Error.{Error}
 use Rattle.appender_store.specs.Content.{Content, Entry, File, IsSound, OpensBody, after_make_folder, body_at}
-use Rattle.appender_store.specs.Folder.{NotedCounts, NotedList, listed_row, next_count}
-use Rattle.appender_store.specs.Notes.{CountsRise, Notes}
+use Rattle.appender_store.specs.Folder.{NotedCounts, next_count}
+use Rattle.appender_store.specs.Notes.{CountsRise}
 use Rattle.appender_store.proofs.Rising.{rises_on}
 use Rattle.appender_store.specs.declared.store.Folder.{Ghosts}
-use Rattle.appender_store.specs.declared.store.Listed.{Listed}
 use Rattle.appender_retain.specs.Rank.{LogFiles}
 use Rattle.appender_retain.specs.Pruning.{IsQuiet}
 use Rattle.appender_retain.specs.Survival.{name_survives}
 use Rattle.appender_rolling.specs.Config.{Config, is_limited, log_files_of, max_before, max_after}
-use Rattle.appender_store.specs.declared.store.Kind.{Kind}
-use Rattle.appender_rolling.specs.Opening.{file_name_of, IsFirstNumber, IsTaken, IsListed, HasEntry, ListsNumbers, OpensFile}
+use Rattle.appender_rolling.specs.Opening.{file_name_of, OpensFile}
 use Rattle.appender_rolling.specs.Roller.{Rolling}
 use Rattle.appender_rolling.proofs.Rising.{finds_rise, opens_rise, absent_finds, absent_opens}
 use Rattle.appender_replay.specs.Start.{Start, start_of}
 use Rattle.appender_replay.specs.Run.{Attempt, WrittenAttempt, try_of, EachOf}
 use Rattle.appender_replay.specs.Replay.{RunsFrom, IsSeen}
 use Rattle.appender_replay.specs.Headline.{Try, Files, FolderFollows, IsHeld, NamesAfterTries, RetentionSucceeded, failures_in, files_at_opening, open_stamp, written_to_name}
-use Rattle.appender_replay.proofs.NamesLeft.{none_of}
 use Rattle.appender_replay.proofs.NamesLead.{PrunesAll, LeavesAll, names_lead, others_stay}
 use Rattle.appender_replay.proofs.FilesStay.{all_kept, written_lead, open_file_leads}
 use Rattle.appender_replay.proofs.Files.{each_map, law_so_far}
@@ -45,7 +40,7 @@ each_opened ((a, writes) ∷ earlier) none = by (is_some a.body) none (each_open
     by false none before = absurd (omega (arith, none))
 
 module _ {S F T : Type 0} (kind : Ghosts S F) (c : Config) (grounds : Grounds kind c) (does : List T → T → Rolling S F → Rolling S F → Type 0) (account : List T → Files) (moment : ℤ) (number room : ℕ) (folder : S)
-    (steps : (past : List T) (t : T) (old new : Rolling S F) → does past t old new → StepsTo kind c grounds folder (account past) (account (t ∷ past)) old new)
+    (steps : (listed : S) (past : List T) (t : T) (old new : Rolling S F) → does past t old new → StepsTo kind c grounds folder listed (account past) (account (t ∷ past)) old new)
     (account_begins : account [] ≡ files_at_opening (start_of c moment number room)) (past : List T) (last : Rolling S F) (run : RunsFrom kind does c moment number room folder past last) where
   abbrev start : Start
   start = start_of c moment number room
@@ -53,7 +48,7 @@ module _ {S F T : Type 0} (kind : Ghosts S F) (c : Config) (grounds : Grounds ki
   abbrev tries : List Try
   tries = (account past).newest ∷ (account past).earlier
 
-  so : Known kind c grounds folder (IsSeen kind does run.opens.listed past run.first last run.runs) (account past) last
+  so : Known kind c grounds folder run.opens.listed (IsSeen kind does run.opens.listed past run.first last run.runs) (account past) last
   so = known_of kind c grounds does account moment number room folder steps account_begins past last run
 
   rises : CountsRise kind run.first.folder last.folder
@@ -139,42 +134,6 @@ module _ {S F T : Type 0} (kind : Ghosts S F) (c : Config) (grounds : Grounds ki
           }))
     ]
 
-  -- ---- the first number
-
-  -- it is by what the folder had, or its listing failed
-  first_number : IsTrue kind.is_known → is_limited c ≡ true → IsFirstNumber c moment (HasEntry (kind.content folder)) number
-      ⊎ ((number ≡ 0) × ((kind.content folder).there ≡ true) × (next_count (kind.noted folder).lists ≤ (kind.noted last.folder).lists))
-  first_number is_known limited = rw (← run.number_is) (by l.answer (kind.content folder).there refl l.number_is l.number_in)
-    where
-      l : ListsNumbers kind c moment folder run.opens.number run.opens.listed
-      l = run.opens.finds.calls limited
-
-      none : (kind.content folder).there ≡ false → IsFirstNumber c moment (HasEntry (kind.content folder)) 0
-      none absent = record {
-        at_most = omega arith;
-        above = λ name which k there in_it. absurd (empty name which there);
-        least = inl refl;
-      }
-        where
-          no_entry : (name : List ℕ) (which : Kind) → HasEntry (kind.content folder) name which → ⊥
-          no_entry name which (e, is, kind_is) = let both : ◌≡◌ {A = Option Entry} None (Some e) = sym (none_of _ ((grounds.sound folder is_known).absent absent name)) ∙ is in cc
-
-          empty : (name : List ℕ) (which : Kind) → IsTaken c (HasEntry (kind.content folder)) name which → ⊥
-          empty name which (inl there) = no_entry name which there
-          empty name which (inr (archive, its, on, other, there, ends)) = no_entry archive its there
-
-      by : (answer : Result (Vec Listed Global) Error) (there : Bool) → (kind.content folder).there ≡ there
-          → MatchResult answer (λ all. IsFirstNumber c moment (IsListed (map listed_row all.items)) run.opens.number × (run.opens.listed ≡ l.listed)) (λ fault. (run.opens.number ≡ 0) × Notes kind l.listed (NotedList fault) run.opens.listed)
-          → (IsOk answer → IsTrue kind.is_known → IsFirstNumber c moment (HasEntry (kind.content folder)) run.opens.number)
-          → IsFirstNumber c moment (HasEntry (kind.content folder)) run.opens.number
-          ⊎ ((run.opens.number ≡ 0) × ((kind.content folder).there ≡ true) × (next_count (kind.noted folder).lists ≤ (kind.noted last.folder).lists))
-      by (Ok all) there is number_is number_in = inl (number_in refl is_known)
-      by (Err fault) false is number_is number_in = inl (rw number_is.0 (none is))
-      by (Err fault) true is number_is number_in =
-          let noted : (kind.noted run.opens.listed).lists ≡ next_count (kind.noted folder).lists = ap (λ (n : NotedCounts). n.lists) number_is.1.noted ∙ ap (λ (n : NotedCounts). next_count n.lists) l.noted in
-          let opened = opens_rise kind grounds.failures_fit grounds.noted_fit c _ run.opens.listed run.first.file run.first.folder run.opens.opens in
-          inr (number_is.0, is, omega (arith, noted, opened.lists, rises.lists))
-
   -- ---- what the first file held
 
   abbrev first_name : List ℕ
@@ -248,9 +207,10 @@ module _ {S F T : Type 0} (kind : Ghosts S F) (c : Config) (grounds : Grounds ki
   keeps = record {
     failed = so.counts.opens;
     faults = so.counts.failures;
-    calls = so.calls;
+    listed = run.opens.listed;
+    finds = rw (← run.number_is) run.opens.finds;
+    calls = (last.file, so.calls);
     anew = λ afresh. omega (arith, run.room_is, run.opens.room.anew afresh);
-    unnumbered = λ unlimited. sym run.number_is ∙ (run.opens.finds.none unlimited).0;
     content = λ is_known.
         let first : Content = kind.content folder in
         let now : Content = kind.content last.folder in
@@ -261,7 +221,7 @@ module _ {S F T : Type 0} (kind : Ghosts S F) (c : Config) (grounds : Grounds ki
           held = λ continues. held is_known continues;
           bytes = λ name b t at. law.bodies b
               ∙ ap (λ (xs : List ℕ). body_at first b ++ xs) (text_same c now name b t at law.attempts law.under_its_name law.names_its_body ∙ ap (written_to_name c name) are);
-          others = λ name others not_link. others_stay grounds.maps c name not_link tries law.attempts first now law.leads (rw are (All-contains_itself tries)) (rw are others);
+          others = λ name others not_link. others_stay grounds.maps c tries law.attempts first now law.leads (rw are (All-contains_itself tries)) name others not_link;
           kept = λ none. (all_kept grounds.maps c none law.attempts first now law.leads).0;
           written = λ none name some. written_lead grounds.maps c now.names name law.attempts (all_kept grounds.maps c none law.attempts first now law.leads).1 (λ nothing. some (sym (ap (written_to_name c name) are) ∙ nothing));
           open_file = λ fine s is. open_file_leads grounds.maps c law.attempts first now law.leads (fails fine) s (ap open_stamp are ∙ is);
@@ -271,6 +231,5 @@ module _ {S F T : Type 0} (kind : Ghosts S F) (c : Config) (grounds : Grounds ki
                 | inr succeeded ↦ prunes_all is_known succeeded
               ]) law.are_seen in
               subst (λ (ts : List Try). NamesAfterTries c (length first.bodies) ts first.names now.names) are (names_lead grounds.maps c grounds.parts law.attempts first now law.leads (leaves law.attempts (fails tried) prunes));
-          number = λ limited. first_number is_known limited;
         };
   }

@@ -13,13 +13,14 @@ use Rattle.appender_rolling.specs.declared.rolling.setup.Stamp.{Stamp}
 use Rattle.appender_rolling.specs.declared.rolling.Switch.{Switch}
 use Rattle.appender_rolling.specs.declared.rolling.Switch.TheVariants.{None as Stayed, Opened as Switched, Failed as SwitchFailed}
 use Rattle.appender_replay.specs.Start.{Start}
-use Rattle.appender_replay.specs.Headline.{RunAccount, Files, Replies, Follows, account, account_after, account_after_write, account_take_reply, bytes_taken, writes_of, due_file, later_moment, files_after_try, files_after_check}
+use Rattle.appender_replay.specs.Headline.{RunAccount, Files, Replies, Follows, account, account_after, account_after_write, account_take_reply, bytes_taken, of_no_byte, due_file, later_moment, files_after_try, files_after_check}
 use Rattle.appender_replay.specs.Record.{StepWithReply, WrittenLine, accepted_labels, handed_labels, taken_line, line_after_write, written_by, written_lines, text_of_lines, whole_lines}
-use Rattle.appender_replay.specs.Whole.{IsDone, AreDone, IsBegun, HandsInOrder, TextLaw}
+use Rattle.appender_replay.specs.Whole.{calls_of, IsDone, AreDone, IsBegun, HandsInOrder, TextLaw}
 use Rattle.appender_replay.specs.declared.replay.whole.Step.TheVariants.{Offer, Shut, Work}
 use Rattle.appender_replay.specs.declared.replay.whole.Reply.{Reply}
-use Rattle.appender_replay.specs.declared.replay.whole.Reply.TheVariants.{Accepted, Shut as DidShut, Took, TookShutdown, TookGone, TookEmpty, Wrote, Ended}
+use Rattle.appender_replay.specs.declared.replay.whole.Reply.TheVariants.{Accepted, Shut as DidShut, Took, TookShutdown, TookGone, TookEmpty, Wrote, Flushed, Ended}
 use Rattle.appender_queue.specs.declared.queue.Shut.TheVariants.{Sent}
+use Rattle.appender_replay.proofs.Clocks.{nothing_of}
 use Rattle.appender_replay.proofs.Accounts.{finds_line, after_error}
 
 -- ---- beginnings
@@ -173,7 +174,7 @@ same_lines a m switch (Err kind) (w ∷ earlier) = refl
 -- ---- what all writes took
 
 abbrev text_of : Files → List ℕ
-text_of f = bytes_taken (writes_of (f.newest ∷ f.earlier))
+text_of f = bytes_taken (calls_of (f.newest ∷ f.earlier))
 
 -- what a step wrote of the rest of the line in hand
 abbrev piece_of : List ℕ → StepWithReply → List ℕ
@@ -191,6 +192,7 @@ check_text c m len switch f = by (due_file c f m len) switch
 
 text_more : (c : Config) (a : RunAccount) (t : StepWithReply) → text_of (account_after c a t).files ≡ text_of a.files ++ piece_of a.rest t
 text_more c a (Work m, Wrote switch answer) = ap (λ (xs : List ℕ). xs ++ take (written_count answer) a.rest) (check_text c m (length a.rest) switch a.files)
+text_more c a (Work m, Flushed answer) = ap (λ (xs : List ℕ). text_of a.files ++ xs) (nothing_of (written_count (of_no_byte answer)))
 text_more c a (Offer label line, Accepted k) = sym (append-nil (text_of a.files))
 text_more c a (Shut, DidShut Sent) = sym (append-nil (text_of a.files))
 text_more c a (s, r) = sym (append-nil (text_of a.files))

@@ -1,22 +1,22 @@
 -- The names that the attempts of a run leave, one after another.
-use Rattle.std.proofs.Common.{◌≡◌, ◌≢◌, ◌∙◌, ◌⊎◌, ℕ, ℤ, ◌<◌, ◌≤◌, nat_le, Bool, true, false, ◌||◌, List, [], ◌∷◌, ◌++◌, length, map, All, Any, Contains, Option, None, Some, is_some, inl, inr, refl, sym, ap, subst, arith}
-use Rattle.std.specs.Prelude.{if◌then◌else◌, ◌==◌, MatchOption}
-use Rattle.std.specs.Option.{option_map_or, option_and_then}
+use Rattle.std.proofs.Common.{◌≡◌, ◌≢◌, ◌∙◌, ◌⊎◌, ℕ, suc, ℤ, ◌<◌, ◌≤◌, nat_le, Bool, true, false, List, [], ◌∷◌, ◌++◌, length, map, All, Any, Contains, Option, None, Some, is_some, inl, inr, refl, sym, ap, subst, arith}
+use Rattle.std.specs.Prelude.{if◌then◌else◌, MatchOption}
 use Rattle.std.specs.FinMap as fin
 use Rattle.std.proofs.lemmas.List.{length-set}
-use Rattle.std.proofs.lemmas.List.Elements.{All-head, All-tail}
+use Rattle.std.proofs.lemmas.List.Elements.{All-head, All-tail, All-nil, All-cons, All-contains}
+use Rattle.std.proofs.lemmas.Slice.Eq.{bytes_eq-Decides}
+use Rattle.std.specs.Str.{bytes_eq}
 use Rattle.appender_store.specs.Content.{Content, NameMap, Entry, File, Link, OpensBody, IsSound, IsLink, after_make_folder, body_at}
-use Rattle.appender_store.specs.Folder.{entry_row}
 use Rattle.appender_store.specs.NameLaws.{NameLaws}
 use Rattle.appender_retain.specs.Pruning.{IsQuiet}
-use Rattle.appender_retain.specs.Rank.{LogFiles, Rank, rank_of}
-use Rattle.appender_retain.specs.Survival.{RemovesOnlyOld, KeepsSurvivors, name_rank, name_survives}
+use Rattle.appender_retain.specs.Rank.{LogFiles}
+use Rattle.appender_retain.specs.Survival.{RemovesOnlyOld, KeepsSurvivors, name_survives}
 use Rattle.appender_rolling.specs.Config.{Config, log_files_of, max_before, max_after}
 use Rattle.appender_rolling.specs.Kept.{OpeningPartsKeepBodies}
 use Rattle.appender_rolling.specs.declared.rolling.setup.Stamp.{Stamp}
 use Rattle.appender_rolling.specs.Opening.{file_name_of, IsRefusalEffect, MayRemoveLink, MayRemoveNew}
 use Rattle.appender_replay.specs.Run.{Attempt, WrittenAttempt, try_of, open_body, Carried, OnlyAttemptsChange, Succeeded, AttemptDoes, EachOf}
-use Rattle.appender_replay.specs.Headline.{FileWrite, Try, bytes_taken, NamesAfterOpening, NamesAfterFailure, NamesAfterTries, kept_entry}
+use Rattle.appender_replay.specs.Headline.{Try, IsOld, bytes_taken, NamesAfterOpening, NamesAfterFailure, NamesAfterTries, kept_entry}
 use Rattle.appender_replay.proofs.NamesLeft.{linked_name, nothing_survives, nothing_survives_last, unlimited_keep, either_leaves, left_by, leads_to, removed_name, opened_other, freed_other, unremoved_other, tried_other, tried_file}
 
 pub carried_names : (o : Option ℕ) (bytes : List ℕ) (old new : Content) → Carried o bytes old new → new.names ≡ old.names
@@ -271,7 +271,7 @@ module _ (maps : NameLaws) (c : Config) where
       grown x lt = leads_bodies parts c earlier first a.before leads.0 x (more x lt)
 
       by : (o : Option ℕ) → a.body ≡ o → MatchOption o (IsRefusalEffect c (file_name_of c a.stamp) a.before a.after) (Succeeded c a) → (is_some o ≡ true) ⊎ (max_before c ≡ 0)
-          → NamesAfterTries c n (map try_of earlier) first.names a.before.names → NamesAfterTries c n (record { stamp = a.stamp; opened = is_some o; writes = writes } ∷ map try_of earlier) first.names last.names
+          → NamesAfterTries c n (map try_of earlier) first.names a.before.names → NamesAfterTries c n (record { stamp = a.stamp; opened = is_some o; calls = writes } ∷ map try_of earlier) first.names last.names
       by None is little (inl some) before = absurd (let both : false ≡ true = some in cc)
       by None is little (inr none) before =
           (a.before.names, before, subst (λ (m : NameMap). NamesAfterFailure c n a.stamp a.before.names m) (sym names) (fails n a.stamp none a.before a.after little grown))
@@ -284,85 +284,122 @@ module _ (maps : NameLaws) (c : Config) where
 
   -- ---- other names
 
-  module _ (name : List ℕ) (not_link : name ≢ c.link) (tries : List Try) where
-    -- what was a candidate when one of these files was opened
-    abbrev WasOld : Option Entry → Type 0
-    WasOld o = Any (λ (t : Try). is_some (option_and_then (λ (e : Entry). rank_of (log_files_of c (Some (file_name_of c t.stamp))) (0, entry_row (name, e))) o) ≡ true) tries
+  -- what retention takes before the opening or after it, it takes with the maximum
+  falls_before : (log : LogFiles) (names : NameMap) (name : List ℕ) → name_survives log (max_before c) names name ≡ false → name_survives log c.max_files names name ≡ false
+  falls_before log names name = by c.by_name
+    where
+      by : (t : Bool) → name_survives log (if t then 0 else c.max_files) names name ≡ false → name_survives log c.max_files names name ≡ false
+      by true falls = absurd (let both : true ≡ false = falls in cc)
+      by false falls = falls
 
-    -- a name leads to what it led to, or it was a candidate's and is removed
-    abbrev pub MayGo : NameMap → NameMap → Type 0
-    MayGo old new = (fin.get new name ≡ fin.get old name) ⊎ ((fin.get new name ≡ None) × (c.max_files ≢ 0) × WasOld (fin.get old name))
+  falls_after : (log : LogFiles) (names : NameMap) (name : List ℕ) → name_survives log (max_after c) names name ≡ false → name_survives log c.max_files names name ≡ false
+  falls_after log names name = by c.by_name
+    where
+      by : (t : Bool) → name_survives log (if t then c.max_files else 0) names name ≡ false → name_survives log c.max_files names name ≡ false
+      by true falls = falls
+      by false falls = absurd (let both : true ≡ false = falls in cc)
 
-    may_go_on : (first between last : NameMap) → MayGo first between → MayGo between last → MayGo first last
-    may_go_on first between last (inl one) (inl two) = inl (two ∙ one)
-    may_go_on first between last (inl one) (inr two) = inr (two.0, two.1, subst WasOld one two.2)
-    may_go_on first between last (inr one) (inl two) = inr (two ∙ one.0, one.1, one.2)
-    may_go_on first between last (inr one) (inr two) = inr (two.0, one.1, one.2)
+  -- a name leads to what it led to, or it is removed and did not survive
+  abbrev MayGo : Stamp → List ℕ → NameMap → NameMap → Type 0
+  MayGo s name old new = (fin.get new name ≡ fin.get old name) ⊎ ((fin.get new name ≡ None) × (name_survives (log_files_of c (Some (file_name_of c s))) c.max_files old name ≡ false))
 
-    then_same : (first between last : NameMap) → MayGo first between → fin.get last name ≡ fin.get between name → MayGo first last
-    then_same first between last may same = may_go_on first between last may (inl same)
+  module _ (s : Stamp) (name : List ℕ) (not_own : name ≢ file_name_of c s) (not_link : name ≢ c.link) where
+    abbrev file : List ℕ
+    file = file_name_of c s
 
-    candidate : (z : Bool) (o : Option Rank) (f : Rank → Bool) → (z || option_map_or f o true) ≡ false → (z ≡ false) × (is_some o ≡ true)
-    candidate true o f e = absurd (let both : true ≡ false = e in cc)
-    candidate false None f e = absurd (let both : true ≡ false = e in cc)
-    candidate false (Some a) f e = (refl, refl)
+    then_same : (old between new : NameMap) → MayGo s name old between → fin.get new name ≡ fin.get between name → MayGo s name old new
+    then_same old between new (inl same) is = inl (is ∙ same)
+    then_same old between new (inr gone) is = inr (is ∙ gone.0, gone.1)
 
-    before_set : max_before c ≢ 0 → c.max_files ≢ 0
-    before_set some none = some (none_before none)
+    pruned_may : (old new : Content) → RemovesOnlyOld (log_files_of c (Some file)) (max_before c) old new → MayGo s name old.names new.names
+    pruned_may old new only = elim (only.names name) [ inl same ↦ inl same | inr gone ↦ inr (gone.0, falls_before (log_files_of c (Some file)) old.names name gone.1) ]
 
-    after_set : max_after c ≢ 0 → c.max_files ≢ 0
-    after_set some none = some (none_after none)
+    little_may : (old new : Content) → IsRefusalEffect c file old new → MayGo s name old.names new.names
+    little_may old new little = then_same old.names little.pruned.names new.names (pruned_may old little.pruned little.only_old) (elim little.rest [
+      | inl same ↦ ap (λ (d : Content). fin.get d.names name) same
+      | inr (inl same) ↦ ap (λ (d : Content). fin.get d.names name) same
+      | inr (inr (unlinked, b, left, opens, frees, removes)) ↦
+          unremoved_other maps c file old left new name removes not_own ∙ freed_other maps c.link unlinked left name frees not_link
+          ∙ opened_other maps file (after_make_folder little.pruned) unlinked b name opens not_own
+    ])
 
-    pruned_may : (t : Try) → Contains tries t → (max : ℕ) (old new : Content) → (max ≢ 0 → c.max_files ≢ 0) → RemovesOnlyOld (log_files_of c (Some (file_name_of c t.stamp))) max old new → MayGo old.names new.names
-    pruned_may t at max old new is_set only = elim (only.names name) [
-      | inl same ↦ inl same
-      | inr gone ↦
-          let was = candidate (max == 0) (name_rank (log_files_of c (Some (file_name_of c t.stamp))) old.names name) _ gone.1 in
-          let set : c.max_files ≢ 0 = is_set (λ e. let zero : (max == 0) ≡ true = grind arith in let both : true ≡ false = sym zero ∙ was.0 in cc) in
-          inr (gone.0, set, (at.0, t, at.1, at.2, was.1))
-    ]
+    succeeded_may : (a : Attempt) (b : ℕ) → s ≡ a.stamp → Succeeded c a b → MayGo s name a.before.names a.after.names
+    succeeded_may a b is did =
+        let own : List ℕ = file_name_of c a.stamp in
+        let log : LogFiles = log_files_of c (Some own) in
+        let apart : name ≢ own = λ same. not_own (same ∙ ap (file_name_of c) (sym is)) in
+        let linked : fin.get did.linked.names name ≡ fin.get did.pruned.names name =
+        tried_other maps c own did.unlinked did.linked name did.links (λ same. absurd (not_link same)) ∙ opened_other maps own (after_make_folder did.pruned) did.unlinked b name did.opens apart in
+        let only_old : RemovesOnlyOld (log_files_of c (Some file)) (max_before c) a.before did.pruned = subst (λ (x : Stamp). RemovesOnlyOld (log_files_of c (Some (file_name_of c x))) (max_before c) a.before did.pruned) (sym is) did.only_old in
+        elim (did.only_old_last.names name) [
+          | inl same ↦ then_same a.before.names did.pruned.names a.after.names (pruned_may a.before did.pruned only_old) (same ∙ linked)
+          | inr gone ↦ inr (
+            gone.0,
+            subst (λ (x : Stamp). name_survives (log_files_of c (Some (file_name_of c x))) c.max_files a.before.names name ≡ false) (sym is)
+                (falls_after log a.before.names name (sym (did.spares.same name) ∙ gone.1)),
+          )
+        ]
 
-    module _ (t : Try) (at : Contains tries t) (not_own : name ≢ file_name_of c t.stamp) where
-      abbrev file : List ℕ
-      file = file_name_of c t.stamp
+  tried_may : (a : Attempt) (name : List ℕ) → AttemptDoes c a → name ≢ file_name_of c a.stamp → name ≢ c.link → MayGo a.stamp name a.before.names a.after.names
+  tried_may a name did not_own not_link = by a.body did
+    where
+      by : (o : Option ℕ) → MatchOption o (IsRefusalEffect c (file_name_of c a.stamp) a.before a.after) (Succeeded c a) → MayGo a.stamp name a.before.names a.after.names
+      by None did = little_may a.stamp name not_own not_link a.before a.after did
+      by (Some b) did = succeeded_may a.stamp name not_own not_link a b refl did
 
-      opened_may : (old pruned unlinked : Content) (b : ℕ) → RemovesOnlyOld (log_files_of c (Some file)) (max_before c) old pruned → OpensBody file (after_make_folder pruned) unlinked b → MayGo old.names unlinked.names
-      opened_may old pruned unlinked b only opens =
-          then_same old.names pruned.names unlinked.names (pruned_may t at (max_before c) old pruned before_set only) (opened_other maps file (after_make_folder pruned) unlinked b name opens not_own)
+  module _ (tries : List Try) where
+    abbrev IsOther : List ℕ → Try → Type 0
+    IsOther name t = name ≢ file_name_of c t.stamp
 
-      little_may : (old new : Content) → IsRefusalEffect c file old new → MayGo old.names new.names
-      little_may old new little = elim little.rest [
-        | inl same ↦ then_same old.names little.pruned.names new.names (pruned_may t at (max_before c) old little.pruned before_set little.only_old) (ap (λ (d : Content). fin.get d.names name) same)
-        | inr (inl same) ↦ then_same old.names little.pruned.names new.names (pruned_may t at (max_before c) old little.pruned before_set little.only_old) (ap (λ (d : Content). fin.get d.names name) same)
-        | inr (inr (unlinked, b, left, opens, frees, removes)) ↦
-            then_same old.names unlinked.names new.names (opened_may old little.pruned unlinked b little.only_old opens)
-            (unremoved_other maps c file old left new name removes not_own ∙ freed_other maps c.link unlinked left name frees not_link)
-      ]
-
-      succeeded_may : (a : Attempt) (b : ℕ) → a.stamp ≡ t.stamp → Succeeded c a b → MayGo a.before.names a.after.names
-      succeeded_may a b is did =
-          may_go_on a.before.names did.linked.names a.after.names
-          (then_same a.before.names did.unlinked.names did.linked.names
-          (opened_may a.before did.pruned did.unlinked b (subst (λ (x : Stamp). RemovesOnlyOld (log_files_of c (Some (file_name_of c x))) (max_before c) a.before did.pruned) is did.only_old) (subst (λ (x : Stamp). OpensBody (file_name_of c x) (after_make_folder did.pruned) did.unlinked b) is did.opens))
-          (tried_other maps c (file_name_of c a.stamp) did.unlinked did.linked name did.links (λ same. absurd (not_link same))))
-          (pruned_may t at (max_after c) did.linked a.after after_set (subst (λ (x : Stamp). RemovesOnlyOld (log_files_of c (Some (file_name_of c x))) (max_after c) did.linked a.after) is did.only_old_last))
-
-    tried_may : (a : Attempt) (writes : List FileWrite) → AttemptDoes c a → Contains tries (try_of (a, writes)) → name ≢ file_name_of c a.stamp → MayGo a.before.names a.after.names
-    tried_may a writes did at not_own = by a.body did
+    -- the name of some try's file, or of none
+    some_file : (name : List ℕ) (ts : List Try) → Any (λ (t : Try). name ≡ file_name_of c t.stamp) ts ⊎ All (IsOther name) ts
+    some_file name [] = inr (All-nil (IsOther name))
+    some_file name (t ∷ ts) = by (bytes_eq name (file_name_of c t.stamp)) refl (some_file name ts)
       where
-        by : (o : Option ℕ) → MatchOption o (IsRefusalEffect c (file_name_of c a.stamp) a.before a.after) (Succeeded c a) → MayGo a.before.names a.after.names
-        by None did = little_may (try_of (a, writes)) at not_own a.before a.after did
-        by (Some b) did = succeeded_may (try_of (a, writes)) at not_own a b refl did
+        by : (d : Bool) → bytes_eq name (file_name_of c t.stamp) ≡ d → Any (λ (t : Try). name ≡ file_name_of c t.stamp) ts ⊎ All (IsOther name) ts → Any (λ (t : Try). name ≡ file_name_of c t.stamp) (t ∷ ts) ⊎ All (IsOther name) (t ∷ ts)
+        by true e rest = inl (0, t, omega arith, refl, (bytes_eq-Decides name (file_name_of c t.stamp)).0 e)
+        by false e (inl (k, found, lt, at, same)) = inl (suc k, found, omega (arith, lt), at, same)
+        by false e (inr all) = inr (All-cons (IsOther name) t ts (λ same. (let both : true ≡ false = sym ((bytes_eq-Decides name (file_name_of c t.stamp)).1 same) ∙ e in cc)) all)
 
-    abbrev IsOther : Try → Type 0
-    IsOther t = name ≢ file_name_of c t.stamp
+    abbrev MayGoOf : NameMap → NameMap → List ℕ → Type 0
+    MayGoOf first last name = (fin.get last name ≡ fin.get first name) ⊎ ((fin.get last name ≡ None) × Any (IsOld c tries first name) tries)
 
-    pub others_stay : (attempts : List WrittenAttempt) (first last : Content) → OnlyAttemptsChange c attempts first last → All (Contains tries) (map try_of attempts) → All IsOther (map try_of attempts) → MayGo first.names last.names
-    others_stay [] first last leads all others = inl (ap (λ (d : Content). fin.get d.names name) leads)
-    others_stay ((a, writes) ∷ earlier) first last leads all others =
+    -- what a folder has after some attempts it had at first, or has from the run
+    had : (first now : NameMap) → ((name : List ℕ) → All (IsOther name) tries → name ≢ c.link → MayGoOf first now name)
+        → (n : List ℕ) → (fin.get now n ≡ fin.get first n) ⊎ (fin.get now n ≡ None) ⊎ Any (λ (e : Try). n ≡ file_name_of c e.stamp) tries ⊎ (n ≡ c.link)
+    had first now stay n = by (bytes_eq n c.link) refl (some_file n tries)
+      where
+        by : (d : Bool) → bytes_eq n c.link ≡ d → Any (λ (t : Try). n ≡ file_name_of c t.stamp) tries ⊎ All (IsOther n) tries
+            → (fin.get now n ≡ fin.get first n) ⊎ (fin.get now n ≡ None) ⊎ Any (λ (e : Try). n ≡ file_name_of c e.stamp) tries ⊎ (n ≡ c.link)
+        by true e which = inr (inr (inr ((bytes_eq-Decides n c.link).0 e)))
+        by false e (inl some) = inr (inr (inl some))
+        by false e (inr all) = elim (stay n all (λ same. (let both : true ≡ false = sym ((bytes_eq-Decides n c.link).1 same) ∙ e in cc))) [ inl same ↦ inl same | inr gone ↦ inr (inl gone.0) ]
+
+    pub others_stay : (attempts : List WrittenAttempt) (first last : Content) → OnlyAttemptsChange c attempts first last → All (Contains tries) (map try_of attempts)
+        → (name : List ℕ) → All (IsOther name) tries → name ≢ c.link → MayGoOf first.names last.names name
+    others_stay [] first last leads all name others not_link = inl (ap (λ (d : Content). fin.get d.names name) leads)
+    others_stay ((a, writes) ∷ earlier) first last leads all name others not_link =
         let t : Try = try_of (a, writes) in
-        let ts : List Try = map try_of earlier in
-        then_same first.names a.after.names last.names
-        (may_go_on first.names a.before.names a.after.names (others_stay earlier first a.before leads.0 (All-tail (Contains tries) t ts all) (All-tail IsOther t ts others))
-        (tried_may a writes leads.1 (All-head (Contains tries) t ts all) (All-head IsOther t ts others)))
-        (ap (λ (m : NameMap). fin.get m name) (carried_names (open_body ((a, writes) ∷ earlier)) (bytes_taken writes) a.after last leads.2))
+        let at : Contains tries t = All-head (Contains tries) t (map try_of earlier) all in
+        let before = others_stay earlier first a.before leads.0 (All-tail (Contains tries) t (map try_of earlier) all) in
+        let names : last.names ≡ a.after.names = carried_names (open_body ((a, writes) ∷ earlier)) (bytes_taken writes) a.after last leads.2 in
+        elim (tried_may a name leads.1 (All-contains (IsOther name) tries t others at) not_link) [
+          | inl same ↦ elim (before name others not_link) [
+            | inl kept ↦ inl (ap (λ (m : NameMap). fin.get m name) names ∙ same ∙ kept)
+            | inr gone ↦ inr (ap (λ (m : NameMap). fin.get m name) names ∙ same ∙ gone.0, gone.1)
+          ]
+          | inr gone ↦ inr (
+            ap (λ (m : NameMap). fin.get m name) names ∙ gone.0,
+            (
+              at.0,
+              t,
+              at.1,
+              at.2,
+              record {
+                names = a.before.names;
+                had = had first.names a.before.names before;
+                falls = gone.1;
+              },
+            ),
+          )
+        ]

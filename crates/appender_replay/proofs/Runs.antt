@@ -1,8 +1,9 @@
 -- A run of steps over a roller keeps to the account of its files, and the folder to the laws of the files.
 use Rattle.std.proofs.lemmas.Int.{ints}
-use Rattle.std.proofs.Common.{◌≡◌, ◌≢◌, ◌^◌, ◌+◌, ◌<◌, ◌≤◌, Bool, ℕ, ℤ, true, false, inl, inr, List, [], ◌∷◌, ◌++◌, length, take, filter, filter_map, Option, None, Some, Result, Ok, Err, IsTrue, arith, refl, ap, sym, ◌∙◌, subst}
+use Rattle.std.proofs.Common.{◌≡◌, ◌≢◌, ◌^◌, ◌+◌, ◌<◌, ◌≤◌, Bool, ℕ, ℤ, true, false, inl, inr, List, [], ◌∷◌, ◌++◌, length, length-append, take, filter, filter_map, Option, None, Some, Result, Ok, Err, IsTrue, arith, refl, ap, sym, ◌∙◌, subst}
 use Rattle.std.specs.declared.io.Error.{Error}
 use Rattle.std.specs.declared.io.ErrorKind.{ErrorKind}
+use Rattle.std.specs.declared.io.ErrorKind.TheVariants.{OutOfMemory}
 use Rattle.appender_names.specs.Name.{NamesArePeriods, greatest_number}
 use Rattle.appender_names.specs.Rotation.{is_moment, period_of, period_of_kind}
 use Rattle.appender_names.specs.declared.rotation.RotationKind.{RotationKind}
@@ -27,12 +28,12 @@ use Rattle.appender_rolling.proofs.Rising.{looks_rise, writes_rise, flushes_rise
 use Rattle.appender_replay.specs.Start.{Start, start_of}
 use Rattle.appender_replay.specs.Run.{Attempt, file_key, greatest}
 use Rattle.appender_replay.specs.Replay.{RollerFollows, LeadsTo, RunsFrom, IsStepOf, IsSeen, SawAttempt, SawOpening, with_replies_onto}
-use Rattle.appender_replay.specs.Headline.{Files, CallsLead, begins, appends, by_kind, due_file, later_moment, faults_in, failures_in, writes_of, files_at_opening, files_after_try, files_after_check, files_after_write}
+use Rattle.appender_replay.specs.Headline.{Files, CallsLead, begins, by_kind, of_no_byte, bytes_taken, due_file, later_moment, faults_in, failures_in, files_at_opening, files_after_try, files_after_check, files_after_call}
 use Rattle.appender_replay.proofs.Periods.{Laws, IsLaterKey}
-use Rattle.appender_replay.proofs.Clocks.{RollerIs, Comes, Stays, Goes, comes, roller_checks, roller_writes, roller_stays, roller_begins, same_stamp, is_fresh, none_is_some}
-use Rattle.appender_replay.proofs.Files.{OtherNames, FilesSoFar, Succeeds, a_failure, a_success, a_write, files_begin, law_so_far}
+use Rattle.appender_replay.proofs.Clocks.{nothing_of, RollerIs, Comes, Stays, Goes, comes, roller_checks, roller_writes, roller_stays, roller_begins, same_stamp, is_fresh, none_is_some}
+use Rattle.appender_replay.proofs.Files.{OtherNames, FilesSoFar, Succeeds, a_failure, a_success, a_call, files_begin, law_so_far}
 use Rattle.appender_replay.proofs.Counting.{Counted, counted_on, counted_as, finds_counted, opens_counted, looks_counted, writes_counted, flushes_counted}
-use Rattle.appender_replay.proofs.FolderCalls.{finds_go, opens_go, looks_go, flushes_go, calls_append}
+use Rattle.appender_replay.proofs.FolderCalls.{opens_go, switches_go, failure_goes, write_goes, flush_goes}
 
 -- What a run rests on: the laws of periods, of names and of openings, that a content that is known is sound, and that counts have 64 bits.
 pub record Grounds {S F : Type 0} (kind : Ghosts S F) (config : Config) : Type 0 where
@@ -44,20 +45,33 @@ pub record Grounds {S F : Type 0} (kind : Ghosts S F) (config : Config) : Type 0
   pub failures_fit : (folder : S) → kind.failures folder < 2 ^ 64
   pub noted_fit : (folder : S) → AreNotedCounts (kind.noted folder)
 
+no_byte_faults : (shown : Result (Unit {0}) ErrorKind) → faults_in (of_no_byte shown) ≡ faults_in shown
+no_byte_faults (Ok u) = refl
+no_byte_faults (Err kind) = by kind
+  where
+    by : (kind : ErrorKind) → faults_in {T = ℕ} (Err kind) ≡ faults_in {T = Unit {0}} (Err kind)
+    by OutOfMemory = refl
+    by kind = refl
+
+no_byte_kind : (answer : Result (Unit {0}) Error) → of_no_byte (by_kind answer) ≡ by_kind (of_no_byte answer)
+no_byte_kind (Ok u) = refl
+no_byte_kind (Err fault) = refl
+
 pub count_by_kind : (answer : Result ℕ Error) (shown : Result ℕ ErrorKind) → shown ≡ by_kind answer → written_count shown ≡ written_count answer
 count_by_kind (Ok n) shown e = ap written_count e
 count_by_kind (Err fault) shown e = ap written_count e
 
-module _ {S F : Type 0} (kind : Ghosts S F) (c : Config) (grounds : Grounds kind c) (folder : S) where
+module _ {S F : Type 0} (kind : Ghosts S F) (c : Config) (grounds : Grounds kind c) (folder listed : S) where
   abbrev Counts : ℕ → ℕ → S → S → Type 0
   Counts = Counted kind grounds.failures_fit grounds.noted_fit
 
-  -- What is known of a roller after this account, over a folder that was this at first, if so much was seen of each attempt.
+  -- What is known of a roller after this account, over a folder that was this at first, and that after the first number was found, if so much was
+  -- seen of each attempt.
   pub record Known (Seen : Attempt → Type 0) (f : Files) (now : Rolling S F) : Type 0 where
     pub roller : RollerIs c f now
     pub files : IsTrue kind.is_known → FilesSoFar c f.newest f.earlier (kind.content folder) (kind.content now.folder) (kind.body now.file) Seen
     pub counts : Counts (failures_in (f.newest ∷ f.earlier)) f.faults folder now.folder
-    pub calls : CallsLead kind folder (writes_of (f.newest ∷ f.earlier)) now.folder
+    pub calls : CallsLead kind c listed (f.newest ∷ f.earlier) (Some now.file) now.folder
 
   same_roller : (Seen : Attempt → Type 0) (f : Files) (old new : Rolling S F) → new ≡ old → Known Seen f old → Known Seen f new
   same_roller Seen f old new same so = subst (λ (r : Rolling S F). Known Seen f r) (sym same) so
@@ -135,7 +149,7 @@ module _ {S F : Type 0} (kind : Ghosts S F) (c : Config) (grounds : Grounds kind
           files = λ is_known. a_success c (kind.content folder) grounds.parts grounds.maps grounds.others f.newest f.earlier (kind.content old.folder) (kind.body old.file) Seen (so.files is_known) s is_stamp later (kind.content new.folder) (kind.noted old.folder) (kind.noted new.folder)
               (kind.body new.file) (succeeds s old.folder checks.ready new.folder new.file is_known opens checks.content checks.quiet) (saw (attempted s old.folder new.folder new.file) (seen_at s (checks.last ∙ it) later (Some (kind.body new.file))));
           counts = counted_as kind grounds.failures_fit grounds.noted_fit _ _ _ _ folder new.folder (omega arith) (omega arith) (counted_on kind grounds.failures_fit grounds.noted_fit (failures_in (f.newest ∷ f.earlier)) f.faults 0 0 folder old.folder new.folder so.counts (looks_counted kind grounds.failures_fit grounds.noted_fit m len Switched old new checks));
-          calls = looks_go kind grounds.failures_fit folder m len Switched old new checks (writes_of (f.newest ∷ f.earlier)) so.calls;
+          calls = switches_go kind grounds.failures_fit c listed s m len old new so.roller.config_is checks it (f.newest ∷ f.earlier) (Some old.file) so.calls;
         }
     looked m len SwitchFailed o (Goes s some is_stamp period later) checks saw =
         let it : checks.at_stamp ≡ s = same_stamp checks.at_stamp s (sym checks.cause ∙ some) in
@@ -146,7 +160,7 @@ module _ {S F : Type 0} (kind : Ghosts S F) (c : Config) (grounds : Grounds kind
               rw checks.file (a_failure c (kind.content folder) grounds.parts grounds.maps grounds.others f.newest f.earlier (kind.content old.folder) (kind.body old.file) Seen (so.files is_known) s is_stamp later (kind.content new.folder) (kind.noted old.folder) (kind.noted new.folder)
               little (saw _ (seen_at s (checks.last ∙ it) later None)));
           counts = counted_as kind grounds.failures_fit grounds.noted_fit _ _ _ _ folder new.folder (omega arith) (omega arith) (counted_on kind grounds.failures_fit grounds.noted_fit (failures_in (f.newest ∷ f.earlier)) f.faults 1 0 folder old.folder new.folder so.counts (looks_counted kind grounds.failures_fit grounds.noted_fit m len SwitchFailed old new checks));
-          calls = looks_go kind grounds.failures_fit folder m len SwitchFailed old new checks (writes_of (f.newest ∷ f.earlier)) so.calls;
+          calls = rw checks.file (failure_goes kind grounds.failures_fit c listed s m len old new so.roller.config_is checks it (f.newest ∷ f.earlier) (Some old.file) so.calls);
         }
 
     -- a check of the clock
@@ -155,28 +169,34 @@ module _ {S F : Type 0} (kind : Ghosts S F) (c : Config) (grounds : Grounds kind
 
     -- ---- writes and flushes
 
-    wrote : (bytes : List ℕ) (shown : Result ℕ ErrorKind) (answer : Result ℕ Error) → shown ≡ by_kind answer → Writes kind bytes answer old new → Known Seen (files_after_write bytes shown f) new
+    wrote : (bytes : List ℕ) (shown : Result ℕ ErrorKind) (answer : Result ℕ Error) → shown ≡ by_kind answer → Writes kind bytes answer old new → Known Seen (files_after_call false bytes shown f) new
     wrote bytes shown answer is writes =
         let count = count_by_kind answer shown is in
         record {
-          roller = roller_writes c grounds.laws kind f bytes answer shown old new count writes so.roller;
+          roller = roller_writes c grounds.laws kind f false bytes answer shown old new count writes so.roller;
           files = λ is_known.
               let content : kind.content new.folder ≡ after_append (kind.content old.folder) (kind.body old.file) (take (written_count shown) bytes) =
               writes.content is_known ∙ ap (λ (n : ℕ). after_append (kind.content old.folder) (kind.body old.file) (take n bytes)) (sym count) in
-              rw (content, writes.stays.file) (a_write c (kind.content folder) f.newest f.earlier (kind.content old.folder) (kind.body old.file) Seen (record { latest = f.latest; bytes = bytes; answer = shown }) (sym so.roller.period_is) (so.files is_known));
+              rw (content, writes.stays.file) (a_call c (kind.content folder) f.newest f.earlier (kind.content old.folder) (kind.body old.file) Seen (record { latest = f.latest; flush = false; bytes = bytes; answer = shown }) (sym so.roller.period_is) (so.files is_known));
           counts = counted_as kind grounds.failures_fit grounds.noted_fit _ _ _ _ folder new.folder (omega arith) (ap (λ (r : Result ℕ ErrorKind). f.faults + faults_in r) (sym is))
               (counted_on kind grounds.failures_fit grounds.noted_fit (failures_in (f.newest ∷ f.earlier)) f.faults 0 (faults_in (by_kind answer)) folder old.folder new.folder so.counts (writes_counted kind grounds.failures_fit grounds.noted_fit bytes answer old new writes));
-          calls = appends (writes_of (f.newest ∷ f.earlier)) (record { latest = f.latest; bytes = bytes; answer = shown }) old.folder new.folder so.calls (calls_append kind grounds.failures_fit folder bytes shown answer old new is writes);
+          calls = write_goes kind grounds.failures_fit c listed f.latest bytes shown answer old new is writes f.newest f.earlier so.calls;
         }
 
-    flushed : (shown : Result (Unit {0}) ErrorKind) (answer : Result (Unit {0}) Error) → shown ≡ by_kind answer → Flushes kind answer old new → Known Seen (record f { faults = f.faults + faults_in shown }) new
-    flushed shown answer is flushes = record {
-      roller = roller_stays c grounds.laws kind f (record f { faults = f.faults + faults_in shown }) old new flushes.stays refl refl refl (omega (arith, flushes.room, so.roller.room_is)) so.roller;
-      files = λ is_known. rw (flushes.content, flushes.stays.file) (so.files is_known);
-      counts = counted_as kind grounds.failures_fit grounds.noted_fit _ _ _ _ folder new.folder (omega arith) (ap (λ (r : Result (Unit {0}) ErrorKind). f.faults + faults_in r) (sym is))
-          (counted_on kind grounds.failures_fit grounds.noted_fit (failures_in (f.newest ∷ f.earlier)) f.faults 0 (faults_in (by_kind answer)) folder old.folder new.folder so.counts (flushes_counted kind grounds.failures_fit grounds.noted_fit answer old new flushes));
-      calls = flushes_go kind grounds.failures_fit folder answer old new flushes (writes_of (f.newest ∷ f.earlier)) so.calls;
-    }
+    flushed : (shown : Result (Unit {0}) ErrorKind) (answer : Result (Unit {0}) Error) → shown ≡ by_kind answer → Flushes kind answer old new → Known Seen (files_after_call true [] (of_no_byte shown) f) new
+    flushed shown answer is flushes =
+        let none : ◌≡◌ {A = List ℕ} (take (written_count (of_no_byte shown)) []) [] = nothing_of (written_count (of_no_byte shown)) in
+        record {
+          roller = roller_stays c grounds.laws kind f (files_after_call true [] (of_no_byte shown) f) old new flushes.stays refl refl refl
+              (omega (arith, flushes.room, so.roller.room_is, length-append (bytes_taken f.newest.calls) (take (written_count (of_no_byte shown)) []), ap length none)) so.roller;
+          files = λ is_known.
+              let content : kind.content new.folder ≡ after_append (kind.content old.folder) (kind.body old.file) (take (written_count (of_no_byte shown)) []) =
+              flushes.content ∙ sym (after_append_nothing (kind.content old.folder) (kind.body old.file)) ∙ ap (after_append (kind.content old.folder) (kind.body old.file)) (sym none) in
+              rw (content, flushes.stays.file) (a_call c (kind.content folder) f.newest f.earlier (kind.content old.folder) (kind.body old.file) Seen (record { latest = f.latest; flush = true; bytes = []; answer = of_no_byte shown }) (sym so.roller.period_is) (so.files is_known));
+          counts = counted_as kind grounds.failures_fit grounds.noted_fit _ _ _ _ folder new.folder (omega arith) (ap (λ (n : ℕ). f.faults + n) (ap (λ (r : Result (Unit {0}) ErrorKind). faults_in r) (sym is) ∙ sym (no_byte_faults shown)))
+              (counted_on kind grounds.failures_fit grounds.noted_fit (failures_in (f.newest ∷ f.earlier)) f.faults 0 (faults_in (by_kind answer)) folder old.folder new.folder so.counts (flushes_counted kind grounds.failures_fit grounds.noted_fit answer old new flushes));
+          calls = flush_goes kind grounds.failures_fit c listed f.latest (of_no_byte shown) answer old new (ap of_no_byte is ∙ no_byte_kind answer) flushes f.newest f.earlier so.calls;
+        }
 
   -- ---- one step
 
@@ -206,7 +226,7 @@ module _ {S F : Type 0} (kind : Ghosts S F) (c : Config) (grounds : Grounds kind
     rises = looks_rise kind grounds.failures_fit grounds.noted_fit m len switch old new checks;
   }
 
-  pub steps_write : (f : Files) (bytes : List ℕ) (shown : Result ℕ ErrorKind) (answer : Result ℕ Error) (old new : Rolling S F) → shown ≡ by_kind answer → Writes kind bytes answer old new → StepsTo f (files_after_write bytes shown f) old new
+  pub steps_write : (f : Files) (bytes : List ℕ) (shown : Result ℕ ErrorKind) (answer : Result ℕ Error) (old new : Rolling S F) → shown ≡ by_kind answer → Writes kind bytes answer old new → StepsTo f (files_after_call false bytes shown f) old new
   steps_write f bytes shown answer old new is writes = record {
     goes = λ Seen so saw. wrote Seen f old new so bytes shown answer is writes;
     notes = λ so same. writes.stays.noted;
@@ -214,7 +234,7 @@ module _ {S F : Type 0} (kind : Ghosts S F) (c : Config) (grounds : Grounds kind
   }
 
   pub steps_put : (f : Files) (m : ℤ) (bytes : List ℕ) (switch : Switch) (shown : Result ℕ ErrorKind) (answer : Result ℕ Error) (old new : Rolling S F) → shown ≡ by_kind answer → Puts kind m bytes switch answer old new
-      → StepsTo f (files_after_write bytes shown (files_after_check c m (length bytes) switch f)) old new
+      → StepsTo f (files_after_call false bytes shown (files_after_check c m (length bytes) switch f)) old new
   steps_put f m bytes switch shown answer old new is puts = record {
     goes = λ Seen so saw. wrote Seen (files_after_check c m (length bytes) switch f) puts.between new (checked Seen f old puts.between so m (length bytes) switch puts.looks (λ a s. saw a (record {
       made = puts.writes.stays.last ∙ s.made;
@@ -232,7 +252,7 @@ module _ {S F : Type 0} (kind : Ghosts S F) (c : Config) (grounds : Grounds kind
     rises = rises_on kind old.folder puts.between.folder new.folder (looks_rise kind grounds.failures_fit grounds.noted_fit m (length bytes) switch old puts.between puts.looks) (writes_rise kind grounds.failures_fit grounds.noted_fit bytes answer puts.between new puts.writes);
   }
 
-  pub steps_flush : (f : Files) (shown : Result (Unit {0}) ErrorKind) (answer : Result (Unit {0}) Error) (old new : Rolling S F) → shown ≡ by_kind answer → Flushes kind answer old new → StepsTo f (record f { faults = f.faults + faults_in shown }) old new
+  pub steps_flush : (f : Files) (shown : Result (Unit {0}) ErrorKind) (answer : Result (Unit {0}) Error) (old new : Rolling S F) → shown ≡ by_kind answer → Flushes kind answer old new → StepsTo f (files_after_call true [] (of_no_byte shown) f) old new
   steps_flush f shown answer old new is flushes = record {
     goes = λ Seen so saw. flushed Seen f old new so shown answer is flushes;
     notes = λ so same. flushes.stays.noted;
@@ -250,13 +270,13 @@ module _ {S F : Type 0} (kind : Ghosts S F) (c : Config) (grounds : Grounds kind
 
 -- Runs of steps of any kind, each of which leads from its account to the next.
 module _ {S F T : Type 0} (kind : Ghosts S F) (c : Config) (grounds : Grounds kind c) (does : List T → T → Rolling S F → Rolling S F → Type 0) (account : List T → Files) (moment : ℤ) (number room : ℕ) (folder : S)
-    (steps : (past : List T) (t : T) (old new : Rolling S F) → does past t old new → StepsTo kind c grounds folder (account past) (account (t ∷ past)) old new)
+    (steps : (listed : S) (past : List T) (t : T) (old new : Rolling S F) → does past t old new → StepsTo kind c grounds folder listed (account past) (account (t ∷ past)) old new)
     (account_begins : account [] ≡ files_at_opening (start_of c moment number room)) where
   abbrev start : Start
   start = start_of c moment number room
 
   module _ (first : Rolling S F) (o : OpensRoller kind c moment folder first) (number_is : o.number ≡ number) (room_is : first.room ≡ room) where
-    opening_known : (Seen : Attempt → Type 0) → ((a : Attempt) → SawOpening kind o.listed first a → Seen a) → Known kind c grounds folder Seen (files_at_opening start) first
+    opening_known : (Seen : Attempt → Type 0) → ((a : Attempt) → SawOpening kind o.listed first a → Seen a) → Known kind c grounds folder o.listed Seen (files_at_opening start) first
     opening_known Seen saw =
         let same : stamp moment o.number ≡ start.stamp = rw number_is refl in
         let is_stamp : IsStamp c start.stamp = record { in_range = o.may_open.in_range; number_is = rw (← number_is) o.finds.number_is } in
@@ -265,20 +285,20 @@ module _ {S F T : Type 0} (kind : Ghosts S F) (c : Config) (grounds : Grounds ki
           roller = roller_begins c grounds.laws start first o.config_is is_stamp (o.opened ∙ same) (o.last ∙ same) o.boundary (omega (arith, room_is, o.room.at_most));
           files = λ is_known. subst (λ (d : Content). FilesSoFar c (files_at_opening start).newest [] d (kind.content first.folder) (kind.body first.file) Seen) o.finds.content
               (files_begin c (kind.content o.listed) grounds.parts grounds.maps start.stamp (kind.body first.file) (kind.content first.folder) (kind.noted o.listed) (kind.noted first.folder) Seen is_stamp
-              (succeeds kind c grounds folder start.stamp o.listed first.folder first.folder first.file is_known opens refl (λ quiet. quiet))
+              (succeeds kind c grounds folder o.listed start.stamp o.listed first.folder first.folder first.file is_known opens refl (λ quiet. quiet))
               (saw _ (record { made = o.last ∙ same; before = refl; noted_before = refl; after = refl; noted_after = refl })));
           counts = counted_as kind grounds.failures_fit grounds.noted_fit _ _ _ _ folder first.folder (omega arith) (omega arith) (counted_on kind grounds.failures_fit grounds.noted_fit 0 0 0 0 folder o.listed first.folder
               (finds_counted kind grounds.failures_fit grounds.noted_fit c moment folder o.number o.listed o.finds) (opens_counted kind grounds.failures_fit grounds.noted_fit c _ o.listed first.file first.folder o.opens));
-          calls = opens_go kind grounds.failures_fit folder c _ o.listed first.file first.folder o.opens [] (finds_go kind grounds.failures_fit folder c moment folder o.number o.listed o.finds [] begins);
+          calls = opens_go kind grounds.failures_fit c o.listed start.stamp o.listed first.file first.folder opens [] None begins;
         }
 
     -- what is known after these steps, if so much is seen at the opening and at each step
     pub run_known : (Seen : Attempt → Type 0) → ((a : Attempt) → SawOpening kind o.listed first a → Seen a) → (past : List T) (last : Rolling S F) (runs : LeadsTo does past first last)
-        → ((old new : Rolling S F) → IsStepOf does past first last runs old new → (a : Attempt) → SawAttempt kind old new a → Seen a) → Known kind c grounds folder Seen (account past) last
+        → ((old new : Rolling S F) → IsStepOf does past first last runs old new → (a : Attempt) → SawAttempt kind old new a → Seen a) → Known kind c grounds folder o.listed Seen (account past) last
     run_known Seen opening [] last runs saw =
-        subst (λ (f : Files). Known kind c grounds folder Seen f last) (sym account_begins) (same_roller kind c grounds folder Seen (files_at_opening start) first last runs (opening_known Seen opening))
+        subst (λ (f : Files). Known kind c grounds folder o.listed Seen f last) (sym account_begins) (same_roller kind c grounds folder o.listed Seen (files_at_opening start) first last runs (opening_known Seen opening))
     run_known Seen opening (t ∷ past) last (old, runs, is) saw =
-        (steps past t old last is).goes Seen (run_known Seen opening past old runs (λ x y at a s. saw x y (inr at) a s)) (λ a s. saw old last (inl (refl, refl)) a s)
+        (steps o.listed past t old last is).goes Seen (run_known Seen opening past old runs (λ x y at a s. saw x y (inr at) a s)) (λ a s. saw old last (inl (refl, refl)) a s)
 
     -- of the roller alone
     pub run_roller : (past : List T) (last : Rolling S F) → LeadsTo does past first last → RollerIs c (account past) last
@@ -289,29 +309,29 @@ module _ {S F T : Type 0} (kind : Ghosts S F) (c : Config) (grounds : Grounds ki
     run_notes (t ∷ past) last (old, runs, is) x y (inr before) same = run_notes past old runs x y before same
     run_notes (t ∷ past) last (old, runs, is) x y (inl here) same =
         ap (λ (r : Rolling S F). kind.noted r.folder) here.1
-        ∙ (steps past t old last is).notes (run_roller past old runs) (sym (ap (λ (r : Rolling S F). r.last) here.1) ∙ same ∙ ap (λ (r : Rolling S F). r.last) here.0)
+        ∙ (steps o.listed past t old last is).notes (run_roller past old runs) (sym (ap (λ (r : Rolling S F). r.last) here.1) ∙ same ∙ ap (λ (r : Rolling S F). r.last) here.0)
         ∙ sym (ap (λ (r : Rolling S F). kind.noted r.folder) here.0)
 
     -- no count fell: over all steps, and before, at and after each of them
     pub run_rises : (past : List T) (last : Rolling S F) → LeadsTo does past first last → CountsRise kind first.folder last.folder
     run_rises [] last runs = same_rises kind first.folder last.folder (ap (λ (r : Rolling S F). r.folder) runs)
-    run_rises (t ∷ past) last (old, runs, is) = rises_on kind first.folder old.folder last.folder (run_rises past old runs) (steps past t old last is).rises
+    run_rises (t ∷ past) last (old, runs, is) = rises_on kind first.folder old.folder last.folder (run_rises past old runs) (steps o.listed past t old last is).rises
 
     pub step_rises : (past : List T) (last : Rolling S F) (runs : LeadsTo does past first last) (x y : Rolling S F) → IsStepOf does past first last runs x y
         → CountsRise kind first.folder x.folder × CountsRise kind x.folder y.folder × CountsRise kind y.folder last.folder
     step_rises [] last runs x y at = absurd at
     step_rises (t ∷ past) last (old, runs, is) x y (inr before) =
         let so = step_rises past old runs x y before in
-        (so.0, so.1, rises_on kind y.folder old.folder last.folder so.2 (steps past t old last is).rises)
+        (so.0, so.1, rises_on kind y.folder old.folder last.folder so.2 (steps o.listed past t old last is).rises)
     step_rises (t ∷ past) last (old, runs, is) x y (inl here) = (
       subst (λ (r : Rolling S F). CountsRise kind first.folder r.folder) (sym here.0) (run_rises past old runs),
-      subst (λ (r : Rolling S F). CountsRise kind r.folder y.folder) (sym here.0) (subst (λ (r : Rolling S F). CountsRise kind old.folder r.folder) (sym here.1) (steps past t old last is).rises),
+      subst (λ (r : Rolling S F). CountsRise kind r.folder y.folder) (sym here.0) (subst (λ (r : Rolling S F). CountsRise kind old.folder r.folder) (sym here.1) (steps o.listed past t old last is).rises),
       same_rises kind y.folder last.folder (sym (ap (λ (r : Rolling S F). r.folder) here.1)),
     )
 
   -- what is known of a run
   pub known_of : (past : List T) (last : Rolling S F) (run : RunsFrom kind does c moment number room folder past last)
-      → Known kind c grounds folder (IsSeen kind does run.opens.listed past run.first last run.runs) (account past) last
+      → Known kind c grounds folder run.opens.listed (IsSeen kind does run.opens.listed past run.first last run.runs) (account past) last
   known_of past last run = run_known run.first run.opens run.number_is run.room_is (IsSeen kind does run.opens.listed past run.first last run.runs) (λ a s. inl s) past last run.runs (λ x y at a s. inr (x, y, at, s))
 
   -- what a run says of its roller

@@ -14,15 +14,16 @@ use Rattle.std.specs.declared.io.Error.{Error}
 use Rattle.std.specs.declared.io.ErrorKind.{ErrorKind}
 use Rattle.std.specs.declared.io.ErrorKind.TheVariants.{OutOfMemory}
 use Rattle.appender_names.specs.declared.error.InitError.{InitError}
+use Rattle.appender_names.specs.declared.error.InitError.TheVariants.{Directory, File as NoFile, Symlink, Memory}
 use Rattle.appender_names.specs.Rotation.{is_moment, period_of, is_same_start}
-use Rattle.appender_store.specs.Content.{Content, NameMap, Entry, File, Link, IsFile, IsLink, ForbidsList, body_at}
+use Rattle.appender_store.specs.Content.{Content, NameMap, Entry, File, Link, IsFile, IsLink, ForbidsList, ForbidsOpen, body_at}
 use Rattle.appender_store.specs.declared.store.Folder.{Ghosts}
-use Rattle.appender_store.specs.Folder.{HasCause, NotedCounts, NoticeMessage, NotedList, NotedRemove, NotedFlush, NotedOpen, next_count}
+use Rattle.appender_store.specs.Folder.{HasCause, NotedCounts, NoticeMessage, NotedList, NotedRemove, NotedFlush, NotedOpen}
 use Rattle.appender_store.specs.Notes.{Notes}
 use Rattle.appender_store.specs.declared.store.Listed.{Listed}
-use Rattle.appender_retain.specs.Survival.{name_rank, name_survives}
+use Rattle.appender_retain.specs.Survival.{name_survives}
 use Rattle.appender_rolling.specs.Config.{Config, is_limited, max_before, log_files_of}
-use Rattle.appender_rolling.specs.Opening.{file_name_of, IsFirstNumber, HasEntry}
+use Rattle.appender_rolling.specs.Opening.{file_name_of, FindsNumber}
 use Rattle.appender_rolling.specs.Roller.{written_count}
 use Rattle.appender_rolling.specs.declared.rolling.setup.Stamp.{Stamp}
 use Rattle.appender_worker.specs.CoreReplies.{is_interruption}
@@ -36,17 +37,18 @@ use Rattle.appender_replay.specs.declared.replay.whole.Step.TheVariants.{Offer, 
 use Rattle.appender_replay.specs.declared.replay.whole.Reply.{Reply}
 use Rattle.appender_replay.specs.declared.replay.whole.Reply.TheVariants.{Accepted, Full, Closed, NoMemory, Shut as DidShut, Senders, Took, TookShutdown, TookGone, TookEmpty, Wrote, Flushed, Ended}
 
--- one write: the latest moment then, the bytes, and the answer
-pub record FileWrite : Type 0 where
+-- One write of the open file, or a flush, which has no bytes: the latest moment then, the bytes, and the answer.
+pub record FileCall : Type 0 where
   pub latest : ℤ
+  pub flush : Bool
   pub bytes : List ℕ
   pub answer : Result ℕ ErrorKind
 
--- A try to open a file: its stamp, and whether it succeeded; and the writes from then until the next one, the newest first.
+-- A try to open a file: its stamp, and whether it succeeded; and the writes and flushes from then until the next one, the newest first.
 pub record Try : Type 0 where
   pub stamp : Stamp
   pub opened : Bool
-  pub writes : List FileWrite
+  pub calls : List FileCall
 
 -- The files: the latest moment that was read; the newest try, and those before it, the newest first, of which the last is the opening; how many bytes
 -- that the first file held count, until the next try; how many writes and flushes failed, but for want of memory.
@@ -76,16 +78,16 @@ pub record RunAccount : Type 0 where
 
 -- after the opening of the first file
 abbrev pub files_at_opening : Start → Files
-files_at_opening s = record { latest = s.stamp.moment; newest = record { stamp = s.stamp; opened = true; writes = [] }; earlier = []; held = s.held; faults = 0 }
+files_at_opening s = record { latest = s.stamp.moment; newest = record { stamp = s.stamp; opened = true; calls = [] }; earlier = []; held = s.held; faults = 0 }
 
 -- what writes took, the oldest first
-abbrev pub bytes_taken : List FileWrite → List ℕ
+abbrev pub bytes_taken : List FileCall → List ℕ
 bytes_taken [] = []
-bytes_taken (w ∷ earlier) = bytes_taken earlier ++ take (written_count w.answer) w.bytes
+bytes_taken (e ∷ earlier) = bytes_taken earlier ++ take (written_count e.answer) e.bytes
 
 -- the bytes that count since the newest try
 abbrev pub counted : Files → ℕ
-counted f = f.held + length (bytes_taken f.newest.writes)
+counted f = f.held + length (bytes_taken f.newest.calls)
 
 -- ---- the reply to a step
 
@@ -137,8 +139,8 @@ Replies limit c a (Work m, reply) = (a.rest ≡ []) × (a.flushes ≡ 0) × (rep
 -- after a try for this stamp, if there was one
 abbrev pub files_after_try : Option Stamp → Switch → Files → Files
 files_after_try None switch f = f
-files_after_try (Some s) Switched f = record f { newest = record { stamp = s; opened = true; writes = [] }; earlier = f.newest ∷ f.earlier; held = 0 }
-files_after_try (Some s) switch f = record f { newest = record { stamp = s; opened = false; writes = [] }; earlier = f.newest ∷ f.earlier; held = 0 }
+files_after_try (Some s) Switched f = record f { newest = record { stamp = s; opened = true; calls = [] }; earlier = f.newest ∷ f.earlier; held = 0 }
+files_after_try (Some s) switch f = record f { newest = record { stamp = s; opened = false; calls = [] }; earlier = f.newest ∷ f.earlier; held = 0 }
 
 -- a check of the clock at m, with this number of bytes to write
 abbrev pub files_after_check : Config → ℤ → ℕ → Switch → Files → Files
@@ -149,10 +151,15 @@ faults_in (Ok x) = 0
 faults_in (Err OutOfMemory) = 0
 faults_in (Err kind) = 1
 
--- a write of these bytes to the open file
-abbrev pub files_after_write : List ℕ → Result ℕ ErrorKind → Files → Files
-files_after_write bytes answer f =
-    record f { newest = record f.newest { writes = record { latest = f.latest; bytes = bytes; answer = answer } ∷ f.newest.writes }; faults = f.faults + faults_in answer }
+-- a flush's answer as that of a write of no byte
+abbrev pub of_no_byte : {E : Type 0} → Result (Unit {0}) E → Result ℕ E
+of_no_byte (Ok u) = Ok 0
+of_no_byte (Err e) = Err e
+
+-- a write of these bytes to the open file, or a flush
+abbrev pub files_after_call : Bool → List ℕ → Result ℕ ErrorKind → Files → Files
+files_after_call flush bytes answer f =
+    record f { newest = record f.newest { calls = record { latest = f.latest; flush = flush; bytes = bytes; answer = answer } ∷ f.newest.calls }; faults = f.faults + faults_in answer }
 
 -- a line is given up at a write of no byte, at the 101st interruption and at any other error
 abbrev pub account_after_write : Result ℕ ErrorKind → RunAccount → RunAccount
@@ -168,8 +175,8 @@ account_after c a (Work m, Took ticket) = record a { handed = a.handed + 1; rest
 account_after c a (Work m, TookShutdown) = record a { closed = true; idle = false; flushes = 2 }
 account_after c a (Work m, TookGone) = record a { closed = true; idle = false; flushes = 2 }
 account_after c a (Work m, TookEmpty) = record a { idle = not a.whole; flushes = if a.whole then 1 else 0 }
-account_after c a (Work m, Flushed answer) = record a { whole = false; flushes = a.flushes - 1; files = record a.files { faults = a.files.faults + faults_in answer } }
-account_after c a (Work m, Wrote switch answer) = record (account_after_write answer a) { files = files_after_write a.rest answer (files_after_check c m (length a.rest) switch a.files) }
+account_after c a (Work m, Flushed answer) = record a { whole = false; flushes = a.flushes - 1; files = files_after_call true [] (of_no_byte answer) a.files }
+account_after c a (Work m, Wrote switch answer) = record (account_after_write answer a) { files = files_after_call false a.rest answer (files_after_check c m (length a.rest) switch a.files) }
 account_after c a t = a
 
 -- a run: its steps with their replies, the newest first
@@ -182,11 +189,6 @@ Follows limit c start [] = Unit {0}
 Follows limit c start (t ∷ past) = Follows limit c start past × Replies limit c (account c start past) t
 
 -- ---- the folder
-
--- all writes of these tries, the newest first
-abbrev pub writes_of : List Try → List FileWrite
-writes_of [] = []
-writes_of (t ∷ earlier) = t.writes ++ writes_of earlier
 
 -- how many failed
 abbrev pub failures_in : List Try → ℕ
@@ -202,7 +204,7 @@ open_stamp (t ∷ earlier) = if t.opened then Some t.stamp else open_stamp earli
 abbrev pub written_to_name : Config → List ℕ → List Try → List ℕ
 written_to_name c name [] = []
 written_to_name c name (t ∷ earlier) = written_to_name c name earlier
-    ++ (if option_map_or (λ (s : Stamp). bytes_eq (file_name_of c s) name) (open_stamp (t ∷ earlier)) false then bytes_taken t.writes else [])
+    ++ (if option_map_or (λ (s : Stamp). bytes_eq (file_name_of c s) name) (open_stamp (t ∷ earlier)) false then bytes_taken t.calls else [])
 
 -- What retention leaves under a name when this file is opened. By name, the file that is opened is none of those that it counts, and so stays.
 abbrev pub kept_entry : Config → Stamp → NameMap → List ℕ → Option Entry
@@ -246,15 +248,21 @@ IsHeld c start first =
     × ((fin.get first.names (file_name_of c start.stamp) ≡ None)
     ⊎ (name_survives (log_files_of c (Some (file_name_of c start.stamp))) (max_before c) first.names (file_name_of c start.stamp) ≡ false)))
 
+-- The name was that of a log file that does not survive where the file of this try was opened, among names that the folder had at first, and those
+-- of the run.
+pub record IsOld (c : Config) (tries : List Try) (first : NameMap) (name : List ℕ) (t : Try) : Type 0 where
+  pub names : NameMap
+  pub had : (n : List ℕ) → (fin.get names n ≡ fin.get first n) ⊎ (fin.get names n ≡ None) ⊎ Any (λ e. n ≡ file_name_of c e.stamp) tries ⊎ (n ≡ c.link)
+  pub falls : name_survives (log_files_of c (Some (file_name_of c t.stamp))) c.max_files names name ≡ false
+
 -- What a folder with known content contains after a run with these tries, the newest first.
 pub record Contains (c : Config) (start : Start) (tries : List Try) (first last : Content) (noted_first noted_last : NotedCounts) : Type 0 where
   -- A file holds what it held at first, which is nothing if it is new, and then exactly what was written while it was the open one.
   pub bytes : (name : List ℕ) (b : ℕ) (t : Option ℤ) → fin.get last.names name ≡ Some (File b t) → body_at last b ≡ body_at first b ++ written_to_name c name tries
-  -- Whatever fails, no other name changes, except that log files may be removed if there is a maximum of them. By name each of these has a
-  -- period and number before those of some try's file (`is_before_opened`).
+  -- Whatever fails, no other name changes, except that log files may be removed that do not survive: if there is a maximum of them, and so many
+  -- rank above. By name each of these has a period and number before those of some try's file (`is_before_opened`).
   pub others : (name : List ℕ) → All (λ t. name ≢ file_name_of c t.stamp) tries → name ≢ c.link
-      → (fin.get last.names name ≡ fin.get first.names name) ⊎ ((fin.get last.names name ≡ None) × (c.max_files ≢ 0)
-      × Any (λ t. is_some (name_rank (log_files_of c (Some (file_name_of c t.stamp))) first.names name) ≡ true) tries)
+      → (fin.get last.names name ≡ fin.get first.names name) ⊎ ((fin.get last.names name ≡ None) × Any (IsOld c tries first.names name) tries)
   -- Without a maximum each file that was there at first has its name, whatever fails, and so has each to which bytes were written.
   pub kept : c.max_files ≡ 0 → (name : List ℕ) (b : ℕ) (t : Option ℤ) → fin.get first.names name ≡ Some (File b t) → fin.get last.names name ≡ Some (File b t)
   pub written : c.max_files ≡ 0 → (name : List ℕ) → written_to_name c name tries ≢ [] → IsFile (fin.get last.names name)
@@ -266,10 +274,6 @@ pub record Contains (c : Config) (start : Start) (tries : List Try) (first last 
       → NamesAfterTries c (length first.bodies) tries first.names last.names
   -- If the log continues its last file, what the first file held counts.
   pub held : c.continues ≡ true → IsHeld c start first
-  -- With a limit of bytes the first number is the next after those that the folder had in that period, or that of the file that is continued. If the
-  -- listing that finds it failed, List was noted, and it is 0.
-  pub number : is_limited c ≡ true → IsFirstNumber c start.stamp.moment (HasEntry first) start.stamp.number
-      ⊎ ((start.stamp.number ≡ 0) × (first.there ≡ true) × (next_count noted_first.lists ≤ noted_last.lists))
 
 -- ---- the calls of the folder
 
@@ -293,10 +297,11 @@ module _ {S F : Type 0} (kind : Ghosts S F) where
   abbrev pub NotesNothing : S → S → Type 0
   NotesNothing old new = (kind.noted new ≡ kind.noted old) × (kind.failures old ≤ kind.failures new)
 
-  -- an append of these bytes
-  abbrev pub CallsAppend : List ℕ → Result ℕ ErrorKind → S → S → Type 0
-  CallsAppend bytes shown old new = (file : F) × (after : F) × (answer : Result ℕ Error)
-      × (shown ≡ by_kind answer) × kind.append_gives old file bytes answer new after × NotesNothing old new
+  -- a write of the file, or a flush, which changes its handle
+  abbrev pub CallsFile : FileCall → F → S → F → S → Type 0
+  CallsFile e file old after new = MatchBool e.flush
+      ((answer : Result (Unit {0}) Error) × (e.answer ≡ by_kind (of_no_byte answer)) × kind.flush_gives old file answer new after)
+      ((answer : Result ℕ Error) × (e.answer ≡ by_kind answer) × kind.append_gives old file e.bytes answer new after)
 
   -- The call from one folder to the other failed with the fault of this notice. List is also noted if there was no memory to choose what is removed.
   abbrev pub HasFault : S → S → NoticeMessage → Type 0
@@ -310,23 +315,48 @@ module _ {S F : Type 0} (kind : Ghosts S F) where
   abbrev pub NotesFault : S → S → S → Type 0
   NotesFault old failed new = (notice : NoticeMessage) × HasFault old failed notice × Notes kind failed notice new
 
-  -- All calls since the first folder, one after another, that lead to this one. The appends are these writes. A notice is of a call or of a try.
-  pub data CallsLead (first : S) : List FileWrite → S → Type 0 where
-    begins : CallsLead first [] first
-    calls : (w : List FileWrite) (s t : S) → CallsLead first w s → Calls s t → NotesNothing s t → CallsLead first w t
-    appends : (w : List FileWrite) (e : FileWrite) (s t : S) → CallsLead first w s → CallsAppend e.bytes e.answer s t →
-        CallsLead first (e ∷ w) t
-    notes : (w : List FileWrite) (s t u : S) → CallsLead first w s → Calls s t → NotesNothing s t → NotesFault s t u → CallsLead first w u
-    notes_try : (w : List FileWrite) (s t : S) (error : InitError) → CallsLead first w s → Notes kind s (NotedOpen error) t → CallsLead first w t
+  -- The call from one folder to the other by which a try for this stamp failed, or there was no memory before one. A link that is not made also
+  -- fails with known content where something has its name.
+  abbrev pub FailsByCall : Config → Stamp → S → S → InitError → Type 0
+  FailsByCall c m old new (Directory fault) =
+      kind.make_folder_gives old (Err fault) new × HasCause {T = Unit {0}} kind.is_known ⊥ (kind.failures old) (kind.failures new) (Err fault)
+  FailsByCall c m old new (NoFile fault) =
+      kind.open_gives old (file_name_of c m) (Err fault) new × HasCause {T = F} kind.is_known (ForbidsOpen (file_name_of c m) (kind.content old)) (kind.failures old) (kind.failures new) (Err fault)
+  FailsByCall c m old new (Symlink fault) =
+      (c.link_optional ≡ false) × kind.make_link_gives old c.link (file_name_of c m) (Err fault) new × HasCause {T = Unit {0}} kind.is_known (Unit {0}) (kind.failures old) (kind.failures new) (Err fault)
+  FailsByCall c m old new Memory = new ≡ old
+  FailsByCall c m old new error = ⊥
 
--- The folder after a run: it noted each try that failed, and counted each write and each flush that failed. Why a try failed is in the
--- clause `runs` of `replay` (`KeepsFile` of `appender_rolling`).
+  -- the last calls of a try that failed: this one, and then at most the removal of a file that it made
+  pub record FailsTry (c : Config) (m : Stamp) (error : InitError) (old new : S) : Type 0 where
+    pub failed : S
+    pub reason : FailsByCall c m old failed error
+    pub quiet : NotesNothing old failed
+    pub after : (new ≡ failed) ⊎ ((answer : Result (Unit {0}) Error) × kind.remove_gives failed (file_name_of c m) answer new × NotesNothing failed new)
+
+  -- All calls since the first folder, one after another, which lead by these tries to this handle of the open file and to this folder. A try that
+  -- succeeded opened the file of its name, and writes and flushes are of the newest that was opened. A notice is of a call or of a try.
+  pub data CallsLead (c : Config) (first : S) : List Try → Option F → S → Type 0 where
+    begins : CallsLead c first [] None first
+    calls : (ts : List Try) (h : Option F) (s t : S) → CallsLead c first ts h s → Calls s t → NotesNothing s t → CallsLead c first ts h t
+    notes : (ts : List Try) (h : Option F) (s t u : S) → CallsLead c first ts h s → Calls s t → NotesNothing s t → NotesFault s t u → CallsLead c first ts h u
+    opens : (ts : List Try) (h : Option F) (s t : S) (m : Stamp) (file : F) → CallsLead c first ts h s → kind.open_gives s (file_name_of c m) (Ok file) t → NotesNothing s t
+        → CallsLead c first (record { stamp = m; opened = true; calls = [] } ∷ ts) (Some file) t
+    fails : (ts : List Try) (h : Option F) (s t u : S) (m : Stamp) (error : InitError) → CallsLead c first ts h s → FailsTry c m error s t → Notes kind t (NotedOpen error) u
+        → CallsLead c first (record { stamp = m; opened = false; calls = [] } ∷ ts) h u
+    uses : (t : Try) (ts : List Try) (file after : F) (s u : S) (e : FileCall) → CallsLead c first (t ∷ ts) (Some file) s → CallsFile e file s after u → NotesNothing s u
+        → CallsLead c first (record t { calls = e ∷ t.calls } ∷ ts) (Some after) u
+
+-- The folder after a run: it noted each try that failed, and counted each write and each flush that failed.
 pub record FolderFollows {S F : Type 0} (kind : Ghosts S F) (c : Config) (start : Start) (f : Files) (first last : S) : Type 0 where
   pub failed : (kind.noted last).opens ≡ min ((kind.noted first).opens + failures_in (f.newest ∷ f.earlier)) (2 ^ 64 - 1)
   pub faults : min (kind.failures first + f.faults) (2 ^ 64 - 1) ≤ kind.failures last
+  -- With a limit of bytes the folder is listed, and the first number is the next after those that it had in that period, or that of the file that is
+  -- continued. If the listing failed, that was noted, and it is 0. Without a limit no call is made, and it is 0.
+  pub listed : S
+  pub finds : FindsNumber kind c start.stamp.moment first start.stamp.number listed
   -- Nothing else was called. So its relation of appends says why a write took nothing, and each List or Remove that was noted has a cause.
-  pub calls : CallsLead kind first (writes_of (f.newest ∷ f.earlier)) last
-  pub unnumbered : is_limited c ≡ false → start.stamp.number ≡ 0
+  pub calls : (file : F) × CallsLead kind c listed (f.newest ∷ f.earlier) (Some file) last
   pub anew : c.continues ≡ false → start.held ≡ 0
   pub content : IsTrue kind.is_known → Contains c start (f.newest ∷ f.earlier) (kind.content first) (kind.content last) (kind.noted first) (kind.noted last)
 

@@ -1,11 +1,11 @@
 -- The headline of a run of a roller without a queue, over the same account of the files.
-use Rattle.std.specs.Prelude.{◌≡◌, ◌↔◌, ℕ, ◌+◌, ◌≤◌, ℤ, List, [], ◌∷◌, length, None}
+use Rattle.std.specs.Prelude.{◌≡◌, ◌↔◌, ℕ, ◌≤◌, ℤ, true, false, List, [], ◌∷◌, length, None}
 use Rattle.appender_store.specs.declared.store.Folder.{Ghosts}
 use Rattle.appender_rolling.specs.Config.{Config}
 use Rattle.appender_rolling.specs.Roller.{written_count}
 use Rattle.appender_rolling.specs.declared.rolling.Switch.TheVariants.{None as Stayed}
 use Rattle.appender_replay.specs.Start.{Start, start_of}
-use Rattle.appender_replay.specs.Headline.{Files, FolderFollows, files_at_opening, due_file, files_after_check, files_after_write, faults_in}
+use Rattle.appender_replay.specs.Headline.{Files, FolderFollows, files_at_opening, due_file, files_after_check, files_after_call, of_no_byte}
 use Rattle.appender_replay.specs.declared.replay.RollStep.{RollStep}
 use Rattle.appender_replay.specs.declared.replay.RollStep.TheVariants.{See, Put, Write, Flush}
 use Rattle.appender_replay.specs.declared.replay.RollReply.{RollReply}
@@ -22,9 +22,9 @@ RollReplies c f t = ⊥
 
 abbrev pub roll_after : Config → Files → RollStep × RollReply → Files
 roll_after c f (See m, Saw switch) = files_after_check c m 0 switch f
-roll_after c f (Put m bytes, DidPut switch answer) = files_after_write bytes.items answer (files_after_check c m (length bytes.items) switch f)
-roll_after c f (Write bytes, Wrote answer) = files_after_write bytes.items answer f
-roll_after c f (Flush, Flushed answer) = record f { faults = f.faults + faults_in answer }
+roll_after c f (Put m bytes, DidPut switch answer) = files_after_call false bytes.items answer (files_after_check c m (length bytes.items) switch f)
+roll_after c f (Write bytes, Wrote answer) = files_after_call false bytes.items answer f
+roll_after c f (Flush, Flushed answer) = files_after_call true [] (of_no_byte answer) f
 roll_after c f t = f
 
 abbrev pub roll_account : Config → Start → List (RollStep × RollReply) → Files

@@ -11,7 +11,7 @@ use Rattle.appender_rolling.specs.Config.{Config, log_files_of, is_limited, IsSt
 use Rattle.appender_rolling.specs.Roller.{written_count}
 use Rattle.appender_rolling.specs.declared.rolling.setup.Stamp.{Stamp}
 use Rattle.appender_rolling.specs.Opening.{file_name_of, MayChangeLink, IsRefusalEffect, SparesOpened}
-use Rattle.appender_replay.specs.Headline.{FileWrite, Try, Files, NamesAfterOpening, bytes_taken, failures_in}
+use Rattle.appender_replay.specs.Headline.{FileCall, Try, Files, NamesAfterOpening, bytes_taken, failures_in}
 
 -- the greatest of them
 abbrev pub greatest : ℤ → List ℤ → ℤ
@@ -30,8 +30,8 @@ is_same_key a b = is_same_start a.0 b.0 && (a.1 == b.1)
 
 -- From a try to the next, writes take no more than the limit, or one took all. A file with the greatest number has no limit.
 abbrev pub IsWithinLimit : Config → Try → Type 0
-IsWithinLimit c t = t.stamp.number < 999999 → (length (bytes_taken t.writes) ≤ c.max_bytes)
-    ⊎ (length (filter (λ (w : FileWrite). nat_lt 0 (length (take (written_count w.answer) w.bytes))) t.writes) ≡ 1)
+IsWithinLimit c t = t.stamp.number < 999999 → (length (bytes_taken t.calls) ≤ c.max_bytes)
+    ⊎ (length (filter (λ (w : FileCall). nat_lt 0 (length (take (written_count w.answer) w.bytes))) t.calls) ≡ 1)
 
 abbrev pub KeepsToLimit : Config → Files → Type 0
 KeepsToLimit c f = is_limited c ≡ true → All (IsWithinLimit c) (f.newest ∷ f.earlier)
@@ -50,10 +50,10 @@ pub record Attempt : Type 0 where
 
 -- with the writes until the next one, the newest first
 abbrev pub WrittenAttempt : Type 0
-WrittenAttempt = Attempt × List FileWrite
+WrittenAttempt = Attempt × List FileCall
 
 abbrev pub try_of : WrittenAttempt → Try
-try_of (a, writes) = record { stamp = a.stamp; opened = is_some a.body; writes = writes }
+try_of (a, writes) = record { stamp = a.stamp; opened = is_some a.body; calls = writes }
 
 -- What an attempt that opened a body did. It removed only log files that don't survive, and, if it noted neither List nor
 -- Remove, all of them: by name last, else first. In the folder, which is there now, it opened the file of its moment's name, and let the link
@@ -100,7 +100,7 @@ bytes_to_body b ((a, writes) ∷ earlier) = bytes_to_body b earlier ++ (if is_nu
 abbrev pub bytes_under : Config → FileKey → List WrittenAttempt → List ℕ
 bytes_under c key [] = []
 bytes_under c key ((a, writes) ∷ earlier) =
-    bytes_under c key earlier ++ bytes_taken (filter (λ (w : FileWrite). is_same_key (period_of c.rotation w.latest, a.stamp.number) key) writes)
+    bytes_under c key earlier ++ bytes_taken (filter (λ (w : FileCall). is_same_key (period_of c.rotation w.latest, a.stamp.number) key) writes)
 
 -- ---- the law of the files
 

@@ -1,10 +1,10 @@
 -- What follows of a whole run: which lines were handed, and what the worker wrote of them.
-use Rattle.std.specs.Prelude.{◌≡◌, ◌⊎◌, ℕ, ◌<◌, ◌≤◌, List, [], ◌∷◌, Bool, true, All, length, take}
+use Rattle.std.specs.Prelude.{◌≡◌, ◌⊎◌, ℕ, ◌<◌, ◌≤◌, List, [], ◌∷◌, ◌++◌, Bool, true, All, length, take}
 use Rattle.appender_worker.specs.Core.{Core}
 use Rattle.appender_queue.specs.Queue.{Queue}
 use Rattle.appender_rolling.specs.Config.{Config}
 use Rattle.appender_replay.specs.Start.{Start}
-use Rattle.appender_replay.specs.Headline.{Follows, account, bytes_taken, writes_of}
+use Rattle.appender_replay.specs.Headline.{Follows, account, FileCall, Try, bytes_taken}
 use Rattle.appender_replay.specs.Record.{StepWithReply, WrittenLine, refusals, account_queue, account_core, accepted_labels, handed_labels, written_lines, text_of_lines, whole_lines}
 
 -- ---- the worker's text
@@ -25,6 +25,11 @@ pub record IsBegun (w : WrittenLine) : Type 0 where
 
 -- ---- a run
 
+-- all writes and flushes of these tries, the newest first
+abbrev pub calls_of : List Try → List FileCall
+calls_of [] = []
+calls_of (t ∷ earlier) = t.calls ++ calls_of earlier
+
 module _ (c : Config) (start : Start) (past : List StepWithReply) where
   -- The handed lines are the first of the accepted ones, those of each label in its order too.
   pub record HandsInOrder : Type 0 where
@@ -35,7 +40,7 @@ module _ (c : Config) (start : Start) (past : List StepWithReply) where
   -- or is still in hand.
   pub record TextLaw : Type 0 where
     pub lines : whole_lines (written_lines c start past) ≡ take (account c start past).handed (account c start past).accepted
-    pub text : bytes_taken (writes_of ((account c start past).files.newest ∷ (account c start past).files.earlier)) ≡ text_of_lines (written_lines c start past)
+    pub text : bytes_taken (calls_of ((account c start past).files.newest ∷ (account c start past).files.earlier)) ≡ text_of_lines (written_lines c start past)
     pub begun : All IsBegun (written_lines c start past)
     pub done : AreDone (account c start past).rest (written_lines c start past)
 

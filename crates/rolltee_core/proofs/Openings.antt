@@ -1,6 +1,8 @@
 -- A log that was opened, with its last file or with the next one.
-use Rattle.std.proofs.Common.{◌≡◌, false, inl, inr, subst, Result, Ok, Err, IfOk}
+use Rattle.std.proofs.Common.{◌≡◌, ◌≢◌, false, inl, inr, subst, Result, Ok, Err, IfOk}
+use Rattle.std.specs.IoError.{error_kind}
 use Rattle.std.specs.declared.io.Error.{Error}
+use Rattle.std.specs.declared.io.ErrorKind.TheVariants.{OutOfMemory, Interrupted}
 use Rattle.appender_names.specs.declared.error.InitError.{InitError}
 use Rattle.appender_names.specs.declared.error.InitError.TheVariants.{File as FileRefused}
 use Rattle.appender_store.specs.declared.store.Folder.{Ghosts}
@@ -14,13 +16,14 @@ pub opens_last : {S F C : Type 0} {kind : Ghosts S F} {time : Readings C} {confi
 opens_last {folder = folder} {clock = clock} opens = inl (folder, clock, opens)
 
 pub opens_next : {S F C : Type 0} {kind : Ghosts S F} {time : Readings C} {config : Config} {folder left : S} {clock same : C} {error : InitError} {fault : Error}
-    {new : Appending S F C} → error ≡ FileRefused fault → OpensNone kind time config folder clock error left same
+    {new : Appending S F C} → error ≡ FileRefused fault → (error_kind fault ≢ OutOfMemory) × (error_kind fault ≢ Interrupted) → OpensNone kind time config folder clock error left same
     → OpensNow kind time (record config { continues = false }) left same new → OpensLog kind time config new
-opens_next {kind = kind} {time = time} {config = config} {folder = folder} {left = left} {clock = clock} {same = same} {fault = fault} is refused opens =
+opens_next {kind = kind} {time = time} {config = config} {folder = folder} {left = left} {clock = clock} {same = same} {fault = fault} is lasts refused opens =
     inr (record {
       folder = folder;
       clock = clock;
       fault = fault;
+      lasts = lasts;
       left = left;
       same = same;
       refused = subst (λ e. OpensNone kind time config folder clock e left same) is refused;

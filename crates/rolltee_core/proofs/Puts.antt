@@ -7,7 +7,7 @@ use Rattle.rolltee_core.specs.Log.{LogState, PutsBytes, PutsNone, TakesPiece, is
 
 module _ {S F C : Type 0} (kind : Ghosts S F) (time : Readings C) where
   puts_same : (bytes : List ℕ) (answer : Result ℕ Error) (old mid : LogState S F C) → PutsBytes kind time bytes answer old mid → PutsBytes kind time bytes answer old (record mid { flushed = false })
-  puts_same bytes answer old mid p = record { looked = p.looked; owed = p.owed; looks = p.looks; ended = p.ended; ends = p.ends; appends = p.appends }
+  puts_same bytes answer old mid p = record { looked = p.looked; owed = p.owed; looks = p.looks; ended = p.ended; ends = p.ends; appends = p.appends; paid = p.paid }
 
   none_same : (bytes : List ℕ) (error : Error) (old mid : LogState S F C) → PutsNone kind time bytes error old mid → PutsNone kind time bytes error old (record mid { flushed = false })
   none_same bytes error old mid (inl same) = inl same

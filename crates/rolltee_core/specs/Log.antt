@@ -1,7 +1,9 @@
 -- The log of a run. `kind` has the ghost members of a kind of folder, and `time` those of a kind of clock.
 use Rattle.std.specs.Prelude.{◌≡◌, ◌≢◌, ◌⊎◌, ℕ, ℤ, ◌+◌, List, [], ◌∷◌, length, take, Ok, Err, Result, Bool, true, false, ◌&&◌, ◌==◌, if◌then◌else◌, not, nat_lt, IsTrue}
 use Rattle.std.specs.Io.BufRead.{ends_with_byte}
+use Rattle.std.specs.IoError.{error_kind}
 use Rattle.std.specs.declared.io.Error.{Error}
+use Rattle.std.specs.declared.io.ErrorKind.TheVariants.{OutOfMemory, Interrupted}
 use Rattle.appender_names.specs.declared.error.InitError.TheVariants.{File as FileRefused}
 use Rattle.appender_names.specs.declared.rotation.Rotation.{Rotation}
 use Rattle.appender_store.specs.Content.{body_at}
@@ -56,11 +58,12 @@ newline_length false = 0
 
 -- ---- openings
 
--- The file that the configuration leads to was refused, and the log was opened with the next one.
+-- The file that the configuration leads to was refused, for more than want of memory or an interruption, and the log was opened with the next one.
 pub record OpensNext {S F C : Type 0} (kind : Ghosts S F) (time : Readings C) (config : Config) (new : Appending S F C) : Type 0 where
   pub folder : S
   pub clock : C
   pub fault : Error
+  pub lasts : (error_kind fault ≢ OutOfMemory) × (error_kind fault ≢ Interrupted)
   pub left : S
   pub same : C
   pub refused : OpensNone kind time config folder clock (FileRefused fault) left same
@@ -120,7 +123,7 @@ FindsFile kind time old found = (found ≡ old) ⊎ ((old.short ≡ false) × (f
 -- The log is the one of before, or the rest of a line was due, and the log was opened again in place of writing it.
 abbrev pub IsSameOrLosesRest : {S F C : Type 0} → Ghosts S F → Readings C → LogState S F C → LogState S F C → Type 0
 IsSameOrLosesRest kind time old new =
-    ((new.log ≡ old.log) × (new.anew ≡ old.anew))
+    ((new.log ≡ old.log) × (new.anew ≡ old.anew) × (new.owed ≡ old.owed))
     ⊎ ((old.short ≡ true) × (new.anew ≡ true) × OpensAnew kind time old.config old.log new.log)
 
 -- a newline was added if one was to be, and else nothing
@@ -158,7 +161,7 @@ pub record FindsLog {S F C : Type 0} (kind : Ghosts S F) (time : Readings C) (le
       ChecksOnce kind time len found.log found.owed looked owed
       ⊎ ((old.short ≡ true) × (looked ≡ found.log) × (owed ≡ found.owed))
 
--- The bytes were added with this answer by one append, after that check, and before them a newline if one was to be written.
+-- The bytes were added with this answer by one append, after that check, and before them a newline if one was to be written. None is then.
 pub record PutsBytes {S F C : Type 0} (kind : Ghosts S F) (time : Readings C) (bytes : List ℕ) (answer : Result ℕ Error) (old new : LogState S F C) : Type 0 where
   pub looked : Appending S F C
   pub owed : Bool
@@ -166,13 +169,14 @@ pub record PutsBytes {S F C : Type 0} (kind : Ghosts S F) (time : Readings C) (b
   pub ended : Appending S F C
   pub ends : EndsOwed kind owed looked ended
   pub appends : AppendsNow kind bytes answer ended new.log
+  pub paid : new.owed ≡ false
 
 -- None of the bytes was added: the log was not opened again, or was opened again in place of that, or a newline was not added before them,
 -- or their append failed.
 abbrev pub PutsNone : {S F C : Type 0} → Ghosts S F → Readings C → List ℕ → Error → LogState S F C → LogState S F C → Type 0
 PutsNone {S} {F} {C} kind time bytes error old new =
     IsSameOrLosesRest kind time old new
-    ⊎ ((looked : Appending S F C) × FindsLog kind time (length bytes) old looked true new.anew × EndsNoPart kind looked new.log)
+    ⊎ ((looked : Appending S F C) × FindsLog kind time (length bytes) old looked true new.anew × EndsNoPart kind looked new.log × (new.owed ≡ true))
     ⊎ PutsBytes kind time bytes (Err error) old new
 
 -- the bytes that a write took, by its answer
@@ -190,5 +194,5 @@ pub record TakesPiece {S F C : Type 0} (kind : Ghosts S F) (time : Readings C) (
       ⊎ ((taken ≡ []) × (bytes : List ℕ) × (error : Error) × PutsNone kind time bytes error old new
       × (new.short ≡ true → old.short ≡ true) × (new.flushed ≡ false))
       ⊎ ((taken ≡ []) × (answer : Result Unit Error) × FlushesNow kind answer old.log new.log
-      × (new.short ≡ old.short) × (new.anew ≡ old.anew) × (new.flushed ≡ true → answer ≡ Ok tt))
+      × (new.short ≡ old.short) × (new.owed ≡ old.owed) × (new.anew ≡ old.anew) × (new.flushed ≡ true → answer ≡ Ok tt))
       ⊎ ((taken ≡ []) × (new.log ≡ old.log) × (new.short ≡ false) × (new.anew ≡ old.anew) × (new.flushed ≡ false))

@@ -205,7 +205,8 @@ impl<S: Folder, C: Clock, W: FileCheck<S>, O: Opens<S, C>> FileLog<S, C, W, O> {
     fn end_part(&mut self) -> io::Result<()>
         ensures ends { OnOk result (EndsOwed S.Folder self.old.owed self.old.log self.new.log) }
         ensures stays { OnErr result (EndsNoPart S.Folder self.old.log self.new.log) }
-        ensures owed { OnErr result (self.old.owed ≡ true) }
+        ensures owed { OnErr result ((self.old.owed ≡ true) × (self.new.owed ≡ true)) }
+        ensures paid { OnOk result (self.new.owed ≡ false) }
         ensures config { self.new.config ≡ self.old.config }
         ensures short { self.new.short ≡ true → self.old.short ≡ true }
         ensures anew { self.new.anew ≡ self.old.anew }
@@ -226,6 +227,7 @@ impl<S: Folder, C: Clock, W: FileCheck<S>, O: Opens<S, C>> FileLog<S, C, W, O> {
         ensures config { self.new.config ≡ self.old.config }
         ensures short { IfOk result (λ n. self.new.short ≡ is_part bytes.now n) }
         ensures still_short { IsErr result → self.new.short ≡ self.old.short }
+        ensures owed { self.new.owed ≡ self.old.owed }
         ensures anew { self.new.anew ≡ self.old.anew }
     {
         let answer = self.log.append(bytes);

@@ -1,5 +1,5 @@
 -- Wrong runs. The headline by itself refuses each of them.
-use Rattle.std.specs.Prelude.{Bool, false, None, ◌≡◌, ◌≢◌, IsTrue, ℕ, ◌-◌, ◌^◌, ◌<◌, ℤ, pos, true, List, [], ◌∷◌, Option, Some, Ok, Vec}
+use Rattle.std.specs.Prelude.{Bool, false, None, ◌≡◌, ◌≢◌, IsTrue, ℕ, ◌+◌, ◌-◌, ◌^◌, ◌<◌, ℤ, pos, true, List, [], ◌∷◌, Option, Some, Ok, Vec}
 use Rattle.std.specs.declared.alloc.Global.{Global}
 use Rattle.std.specs.FinMap as fin
 use Rattle.appender_names.specs.Name.{IsNumberIn}
@@ -16,7 +16,7 @@ use Rattle.appender_rolling.specs.Opening.{file_name_of, HasEntry}
 use Rattle.appender_replay.specs.Headline.{Headline, kept_entry}
 use Rattle.appender_replay.specs.Record.{StepWithReply}
 use Rattle.appender_replay.specs.declared.replay.whole.Step.TheVariants.{Offer, Shut, Work}
-use Rattle.appender_replay.specs.declared.replay.whole.Reply.TheVariants.{Accepted, Shut as DidShut, Took, Wrote}
+use Rattle.appender_replay.specs.declared.replay.whole.Reply.TheVariants.{Accepted, Shut as DidShut, Took, TookEmpty, Wrote, Flushed}
 
 -- one file for all time, whose name is `a`, with a maximum of files
 abbrev pub one_file : ℕ → Config
@@ -111,6 +111,11 @@ ReusesNumber {S} {F} kind = (limit room : ℕ) (past : List StepWithReply) (firs
 abbrev pub TakesNothing : {S F : Type 0} → Ghosts S F → (S → MemoryState) → Type 0
 TakesNothing {S} {F} kind state = (line : Vec ℕ Global) → line.items ≡ 120 ∷ 121 ∷ [] → (limit room : ℕ) (first last : S) → (state first).shortened ≡ fin.empty
     → Headline kind limit (one_file 0) (pos 0) 0 room ((Work (pos 0), Wrote Stayed (Ok 0)) ∷ (Work (pos 0), Took 1) ∷ (Offer 0 line, Accepted 1) ∷ []) first last → ⊥
+
+-- The line `xy` is written and flushed, and the folder had fewer than three calls: that which opens the file, the write and the flush.
+abbrev pub FlushesNothing : {S F : Type 0} → Ghosts S F → (S → MemoryState) → Type 0
+FlushesNothing {S} {F} kind state = (line : Vec ℕ Global) (limit room : ℕ) (first last : S) → (state last).calls < 2 ^ 64 - 1 → (state last).calls < (state first).calls + 3
+    → Headline kind limit (one_file 0) (pos 0) 0 room ((Work (pos 0), Flushed (Ok tt)) ∷ (Work (pos 0), TookEmpty) ∷ one_line_run line) first last → ⊥
 
 -- Remove is noted, though no call failed.
 abbrev pub NotesNoFault : {S F : Type 0} → Ghosts S F → Type 0

@@ -1,6 +1,6 @@
 // Wrong runs that the headline refuses, whichever other clauses there are.
 ghost use Rattle.appender_store.specs.MemoryView.{state_of};
-ghost use Rattle.appender_replay.specs.Inside.Refused.{WritesTwice, LosesByte, WritesOutOfOrder, TakesOutOfOrder, ShutdownTakesNoPlace, NeverPrunes, FollowsClockBack, ChangesOtherNames, LosesFile, ReusesNumber, TakesNothing, NotesNoFault, RemovesLaterFile, RemovesAtFailure, LacksLink, LinksElsewhere};
+ghost use Rattle.appender_replay.specs.Inside.Refused.{WritesTwice, LosesByte, WritesOutOfOrder, TakesOutOfOrder, ShutdownTakesNoPlace, NeverPrunes, FollowsClockBack, ChangesOtherNames, LosesFile, ReusesNumber, TakesNothing, FlushesNothing, NotesNoFault, RemovesLaterFile, RemovesAtFailure, LacksLink, LinksElsewhere};
 
 use appender_names::laws::names_are_periods;
 use appender_store::store::{Folder, MemoryFolder};
@@ -18,6 +18,7 @@ fn headline_refuses<S: Folder>()
     ensures loses_file { LosesFile S.Folder }
     ensures reuses_number { ReusesNumber S.Folder }
     ensures takes_nothing { TakesNothing ⟦<MemoryFolder as Folder>⟧ state_of }
+    ensures flushes_nothing { FlushesNothing ⟦<MemoryFolder as Folder>⟧ state_of }
     ensures notes_no_fault { NotesNoFault ⟦<MemoryFolder as Folder>⟧ }
     ensures removes_later_file { RemovesLaterFile S.Folder }
     ensures removes_at_failure { RemovesAtFailure S.Folder }

@@ -6,7 +6,7 @@ use Rattle.std.specs.declared.io.Error.{Error}
 use Rattle.std.specs.declared.io.ErrorKind.{ErrorKind}
 use Rattle.std.specs.declared.io.ErrorKind.TheVariants.{OutOfMemory, NotFound}
 use Rattle.appender_store.specs.Content.{Entry, File, Link, Folder}
-use Rattle.appender_store.specs.Folder.{IsOneMore, next_count}
+use Rattle.appender_store.specs.Folder.{IsOneMore, NoticeMessage, next_count}
 use Rattle.appender_store.specs.MemoryState.{MemoryState, is_named, remove_refusal}
 use Rattle.appender_store.specs.MemoryView.{state_of}
 use Rattle.appender_store.specs.contracts.store.memory.MemoryFolderFolder.TheImpl.{ghosts}
@@ -14,18 +14,21 @@ use Rattle.appender_store.specs.declared.store.memory.MemoryFolder.{MemoryFolder
 use Rattle.appender_rolling.specs.Config.{naming_of}
 use Rattle.appender_replay.specs.Headline.{Calls, Lists, Removes, Opens, MakesFolder, RemovesLink, MakesLink, Flushes}
 use Rattle.appender_replay.specs.Inside.Refused.{hourly}
-use Rattle.appender_replay.proofs.Refusals.{writes_twice, loses_byte, writes_out_of_order, takes_out_of_order, shutdown_takes_no_place, never_prunes, follows_clock_back, changes_other_names, loses_file, reuses_number, takes_nothing, notes_no_fault, removes_later_file, removes_at_failure, lacks_link, links_elsewhere}
+use Rattle.appender_replay.proofs.Refusals.{IsCall, flushes_nothing, writes_twice, loses_byte, writes_out_of_order, takes_out_of_order, shutdown_takes_no_place, never_prunes, follows_clock_back, changes_other_names, loses_file, reuses_number, takes_nothing, notes_no_fault, removes_later_file, removes_at_failure, lacks_link, links_elsewhere}
 use Rattle.appender_replay.proofs.replay.refused.headline_refuses.Goals as goal
 
--- no call changes the limits of appends
-limits_stay : (old new : MemoryFolder) → Calls ghosts old new → (state_of new).shortened ≡ (state_of old).shortened
-limits_stay old new (Lists answer gives) = gives.shortened
-limits_stay old new (Removes name answer gives) = gives.called.shortened
-limits_stay old new (Opens name answer gives) = gives.called.shortened
-limits_stay old new (MakesFolder answer gives) = gives.called.shortened
-limits_stay old new (RemovesLink link answer gives) = gives.called.shortened
-limits_stay old new (MakesLink link target answer gives) = gives.shortened
-limits_stay old new (Flushes file after answer gives) = gives.called.shortened
+-- each call counts, and changes no limit of appends
+counts : (old new : MemoryFolder) → Calls ghosts old new → IsCall ghosts state_of old new
+counts old new (Lists answer gives) = (gives.calls, gives.shortened)
+counts old new (Removes name answer gives) = (gives.called.calls, gives.called.shortened)
+counts old new (Opens name answer gives) = (gives.called.calls, gives.called.shortened)
+counts old new (MakesFolder answer gives) = (gives.called.calls, gives.called.shortened)
+counts old new (RemovesLink link answer gives) = (gives.called.calls, gives.called.shortened)
+counts old new (MakesLink link target answer gives) = (gives.calls, gives.shortened)
+counts old new (Flushes file after answer gives) = (gives.called.calls, gives.called.shortened)
+
+noting : (old new : MemoryFolder) (notice : NoticeMessage) → ghosts.note_gives old notice new → ((state_of new).calls ≡ (state_of old).calls) × ((state_of new).shortened ≡ (state_of old).shortened)
+noting old new notice gives = (ap (λ (s : MemoryState). s.calls) gives, ap (λ (s : MemoryState). s.shortened) gives)
 
 -- a removal that fails by itself counts a failure, and no other needs memory
 removal_counts : (old new : MemoryFolder) (name : List ℕ) (fault : Error) → ghosts.remove_gives old name (Err fault) new → IsOneMore (ghosts.failures old) (ghosts.failures new) ⊎ (error_kind fault ≢ OutOfMemory)
@@ -56,7 +59,8 @@ returns g c = record {
   changes_other_names = changes_other_names g.S.Folder;
   loses_file = loses_file g.S.Folder;
   reuses_number = reuses_number g.S.Folder;
-  takes_nothing = takes_nothing ghosts state_of limits_stay (λ old new notice gives. ap (λ (s : MemoryState). s.shortened) gives) (λ old new file after bytes answer gives. gives);
+  takes_nothing = takes_nothing ghosts state_of counts noting (λ old new file after bytes answer gives. gives);
+  flushes_nothing = flushes_nothing ghosts state_of counts noting (λ old new file after bytes answer gives. gives);
   notes_no_fault = notes_no_fault ghosts removal_counts;
   removes_later_file = removes_later_file g.S.Folder (c.names_are_periods.ensures (naming_of hourly));
   removes_at_failure = removes_at_failure g.S.Folder;

@@ -18,6 +18,7 @@ returns-clause-puts g c =
       ended = c.end_part.new.self.log;
       ends = c.in_ok-end_part.ensures.ends;
       appends = c.append.ensures.appends;
+      paid = c.append.ensures.owed ∙ c.in_ok-end_part.ensures.paid;
     } in on_ok c.append.result puts
 
 pub returns-clause-fails : goal.returns-clause-fails
@@ -33,6 +34,7 @@ returns-clause-fails g c = if_err c.append.result (λ error is. inr (inr (record
   ended = c.end_part.new.self.log;
   ends = c.in_ok-end_part.ensures.ends;
   appends = subst (λ answer. AppendsNow g.S.Folder c.args.bytes.now answer c.end_part.new.self.log c.append.new.self.log) is c.append.ensures.appends;
+  paid = c.append.ensures.owed ∙ c.in_ok-end_part.ensures.paid;
 })))
 
 pub returns-in_err-end_part-clause-fails : goal.returns-in_err-end_part-clause-fails
@@ -45,6 +47,7 @@ returns-in_err-end_part-clause-fails g c =
     } in
     if_err c.from_residual-in_err-end_part.result (λ error is. inr (inl (
       c.check_clock.new.self.log,
-      subst (λ owed. FindsLog g.S.Folder g.C.Clock (length c.args.bytes.now) c.args.self.now c.check_clock.new.self.log owed c.end_part.new.self.anew) c.in_err-end_part.ensures.owed finds,
+      subst (λ owed. FindsLog g.S.Folder g.C.Clock (length c.args.bytes.now) c.args.self.now c.check_clock.new.self.log owed c.end_part.new.self.anew) c.in_err-end_part.ensures.owed.0 finds,
       c.in_err-end_part.ensures.stays,
+      c.in_err-end_part.ensures.owed.1,
     )))
