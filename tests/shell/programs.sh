@@ -267,7 +267,7 @@ run "$rolltee" --keep 1 hourly "$work/others" app < "$lines"
 check 'rolltee --keep 1: files of others stay' '0||app-access.2020-02-01-10 app.2020-02-01 app.2020-02-01-10.gz app.H app.conf apple' \
   "$(told)$(ls "$work/others" | sed "s/^app\.$(date -u +%Y-%m)-..-..$/app.H/" | paste -s -d ' ')"
 # A line that is longer than the limit has a file of its own.
-printf 'a\nb\nc\nd\nlonger\ne\n' | run "$rolltee" --keep 3 --max-bytes 4 weekly "$work/longer" app
+printf 'a\nb\nc\nd\nlonger\ne\n' | run "$rolltee" --whole-lines --keep 3 --max-bytes 4 weekly "$work/longer" app
 check 'rolltee --max-bytes, a longer line' '4 7 2' "$(stat -c %s "$work"/longer/* | paste -s -d ' ')"
 # A part of a line that another run left is ended if that is asked for.
 for direct in '' ' --direct'; do

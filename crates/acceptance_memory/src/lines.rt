@@ -72,6 +72,37 @@ static BATCH_RUNS: [BatchRun; 14] = [
     (2, &["a\n", "longer\n", "b\n"], &[Accept(2), Accept(3), Fail(StorageFull)], (2, 1), "a\nlonb\n", 4, Some(StorageFull)),
 ];
 
+// Is interrupted 60 times, and then takes one byte.
+#[derive(Drop)]
+struct Stutters {
+    interruptions: u32,
+}
+
+impl Write for Stutters {
+    fn write(&mut self, buf: &[u8]) -> io::Result<usize> {
+        if self.interruptions < 60 {
+            self.interruptions += 1;
+            return Err(io::Error::from(Interrupted));
+        }
+        self.interruptions = 0;
+        Ok(buf.len().min(1))
+    }
+
+    fn flush(&mut self) -> io::Result<()> {
+        Ok(())
+    }
+}
+
+// Interruptions count for a line, whatever of it was taken between them.
+#[test]
+fn a_line_is_interrupted_a_hundred_times_in_all(rt: HostRuntime) {
+    let mut writer = Stutters { interruptions: 0 };
+    expect_eq(&rt, run_line(&mut writer, b"x").is_ok(), true);
+    let fault = run_line(&mut writer, b"xy").err();
+    let told = fault.map(|fault| (fault.taken, fault.error.kind()));
+    expect_eq(&rt, told, Some((1, Interrupted)));
+}
+
 fn kind_of<T: Drop>(answer: io::Result<T>) -> Option<ErrorKind> {
     answer.err().map(|error| error.kind())
 }
@@ -124,6 +155,18 @@ fn lines_are_written_together(rt: HostRuntime) {
 }
 
 static MANY: [&str; 1025] = ["a\n"; 1025];
+
+static REFUSALS: [Act; 1025] = [Fail(Other); 1025];
+
+// Each line that is lost counts.
+#[test]
+fn all_of_many_lines_are_lost(rt: HostRuntime) {
+    let mut writer = FaultyWriter::new(rt.alloc(), &REFUSALS);
+    let made = BatchWriter::new(rt.alloc(), &mut writer, 0);
+    let (mut batch, counts) = made.expect(&rt, "memory");
+    expect_eq(&rt, write_each(&mut batch, &MANY), Some(Other));
+    expect_eq(&rt, counts_of(&counts), (0, 1025));
+}
 
 // Lines of 100 bytes.
 #[rattlefmt::skip]

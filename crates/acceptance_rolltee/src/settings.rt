@@ -48,12 +48,15 @@ fn lines_get_times(rt: HostRuntime) -> Result<(), Fail> {
         let echoed = output.copy()?;
         log.expect(echoed.as_slice());
         let mut without = Vec::new(rt.alloc());
+        let mut has_fraction = false;
         for line in echoed.as_slice().split(|byte| *byte == b'\n') {
             without.extend_from_slice(after_time(line).expect(&rt, "a time"))?;
+            has_fraction = has_fraction || line.get(19..26) != Some(b".000000".as_slice());
             without.push(b'\n')?;
         }
         without.pop();
         assert!(rt; without == text, "each line is after its time");
+        assert!(rt; has_fraction, "a time within a second");
     }
     Ok(())
 }
