@@ -1,5 +1,5 @@
 -- An appender: a roller that a clock is read for. `kind` has the ghost members of a kind of folder, and `time` those of a kind of clock.
-use Rattle.std.specs.Prelude.{◌≡◌, ◌⊎◌, ℕ, ℤ, Bool, true, false, List, Result, is_some}
+use Rattle.std.specs.Prelude.{◌≡◌, ◌⊎◌, ℕ, ℤ, Bool, true, false, List, length, Result, is_some}
 use Rattle.std.specs.declared.io.Error.{Error}
 use Rattle.appender_names.specs.declared.error.InitError.{InitError}
 use Rattle.appender_names.specs.declared.error.InitError.TheVariants.{Memory}
@@ -8,7 +8,7 @@ use Rattle.appender_store.specs.declared.store.Folder.{Ghosts}
 use Rattle.appender_runtime.specs.declared.clock.Clock.{Ghosts as Readings}
 use Rattle.appender_rolling.specs.declared.rolling.Switch.{Switch}
 use Rattle.appender_rolling.specs.Config.{Config, defaults, is_limited}
-use Rattle.appender_rolling.specs.Roller.{Rolling, Scheduled, OpenFile, rolling_of, OpensRoller, OpensNoRoller, Writes, Puts, Flushes, is_due, next_stamp}
+use Rattle.appender_rolling.specs.Roller.{Rolling, Scheduled, OpenFile, rolling_of, OpensRoller, OpensNoRoller, ChecksClock, Writes, WritesAll, Puts, Flushes, is_due, next_stamp}
 
 -- only these are set
 abbrev pub plain_config : Rotation → List ℕ → Config
@@ -30,6 +30,16 @@ pub record PutsNow {S F C : Type 0} (kind : Ghosts S F) (time : Readings C) (byt
 -- the same by a write, which doesn't return the switch
 abbrev pub WritesNow : {S F C : Type 0} → Ghosts S F → Readings C → List ℕ → Result ℕ Error → Appending S F C → Appending S F C → Type 0
 WritesNow kind time bytes answer old new = (switch : Switch) × PutsNow kind time bytes switch answer old new
+
+-- The clock was read, and checked for all of the bytes at the moment that it returned. Then they were written to the open file.
+pub record WritesAllNow {S F C : Type 0} (kind : Ghosts S F) (time : Readings C) (bytes : List ℕ) (answer : Result (Unit {0}) Error) (old new : Appending S F C) : Type 0 where
+  pub moment : ℤ
+  pub reading : time.now_gives old.clock moment
+  pub switch : Switch
+  pub between : Rolling S F
+  pub looks : ChecksClock kind moment (length bytes) switch old.roller between
+  pub writes : WritesAll kind bytes answer between new.roller
+  pub clock : new.clock ≡ old.clock
 
 -- the bytes were added to the open file by one append, and the clock not read
 pub record AppendsNow {S F C : Type 0} (kind : Ghosts S F) (bytes : List ℕ) (answer : Result ℕ Error) (old new : Appending S F C) : Type 0 where

@@ -161,6 +161,7 @@ impl<S: Folder> Roller<S> {
         ensures content { IsTrue (S.Folder).is_known → (S.Folder).content self.new.folder
             ≡ after_append ((S.Folder).content self.old.folder) ((S.Folder).body self.old.file) (take (written_count result) bytes.now) }
         ensures stays { KeepsOpenFile S.Folder self.old self.new }
+        ensures there { IsTrue (S.Folder).is_known → (S.Folder).body self.new.file < length ((S.Folder).content self.new.folder).bodies }
     {
         self.log.write(bytes)
     }
@@ -174,6 +175,7 @@ impl<S: Folder> Roller<S> {
         ensures failed { result.0 ≡ Switch.Failed → self.new.opened ≡ self.old.opened }
         ensures boundary { result.0 ≢ Switch.None → self.new.boundary ≡ next_of self.old.config.rotation self.new.last.moment }
         ensures taken { written_count result.1 ≤ length bytes.now }
+        ensures there { IsTrue (S.Folder).is_known → (S.Folder).body self.new.file < length ((S.Folder).content self.new.folder).bodies }
     {
         let switch = self
             .schedule
@@ -237,7 +239,8 @@ impl<S: Folder> Roller<S> {
 
     /// Returns the open file.
     pub fn open_file(&self) -> &S::File
-        ensures { result.now ≡ self.now.file }
+        ensures file { result.now ≡ self.now.file }
+        ensures there { IsTrue (S.Folder).is_known → (S.Folder).body self.now.file < length ((S.Folder).content self.now.folder).bodies }
     {
         &self.log.file
     }
@@ -259,7 +262,7 @@ impl<S: Folder> Roller<S> {
 }
 
 impl<S: Folder> Write for Roller<S> {
-    ghost use Rattle.std.specs.Prelude.{None, OnOk};
+    ghost use Rattle.std.specs.Prelude.{◌<◌, None, OnOk, IsTrue, length};
     ghost use Rattle.std.specs.Io.{WritesAtMost};
     ghost use Rattle.std.specs.Io.KnownBytes.{Appends, WriteAppends};
     ghost use Rattle.appender_rolling.specs.Roller.{Writes, WritesAll, Flushes};
@@ -278,8 +281,12 @@ impl<S: Folder> Write for Roller<S> {
     fn write_all(&mut self, bytes: &[u8]) -> io::Result<()>
         ensures bytes { OnOk result (Appends None None bytes.now) }
         ensures appends { WritesAll S.Folder bytes.now result self.old self.new }
+        ensures there { IsTrue (S.Folder).is_known → (S.Folder).body self.new.file < length ((S.Folder).content self.new.folder).bodies }
     {
-        self.log.write_all(bytes)
+        let written = self.log.write_all(bytes);
+        // For its clause `there`.
+        self.open_file();
+        written
     }
 
     fn flush(&mut self) -> io::Result<()>

@@ -3,6 +3,7 @@ use crate::access_log::AccessLog;
 use crate::audit_sink::{Source, audit};
 use crate::handlers::{handle, log_request};
 use crate::logger::{log_reads, open_log};
+use crate::one_line::{greet, log_all, log_last};
 use crate::supervisor::{Captured, Copied, capture, copy};
 use appender_log::start;
 use bytes::{BufMut, Bytes};
@@ -16,7 +17,8 @@ use std::process::Abort;
 use std::test::Fail;
 use std::{fs, io};
 use tracing_appender::non_blocking::{Closing, Losses, NonBlockingBuilder};
-use tracing_appender::rolling::{FileAppender, never};
+use tracing_appender::rolling::{Builder, FileAppender, ManualClock, never};
+use tracing_appender::store::MemoryFolder;
 
 const DONE: Closing = Closing::Done { left: 0 };
 
@@ -208,5 +210,28 @@ fn the_audit_has_each_line_once(rt: HostRuntime) -> Result<(), Fail> {
     let mut one = Vec::new(rt.alloc());
     one.push(source(rt.alloc(), b"a")?)?;
     assert!(rt; audit(rt, Full::new(), one).is_ok());
+    Ok(())
+}
+
+#[test]
+fn a_line_that_the_log_has(rt: HostRuntime) -> Result<(), Fail> {
+    // Call 1 opens the file. Calls 2 and 4 take one byte, and call 5 takes the rest.
+    let mut folder = MemoryFolder::new(rt.alloc());
+    folder.short_append(2, 1)?;
+    folder.short_append(4, 1)?;
+    let mut log = Builder::new()
+        .open_in(rt.alloc(), folder, ManualClock::new(0))
+        .map_err(|(error, _, _)| io::Error::from(error))?;
+    assert!(rt; log_last(&mut log, b"a\n").is_err());
+    log_last(&mut log, b"b\n")?;
+    log_all(&mut log, b"c\n")?;
+    let (folder, _) = log.into_parts();
+    assert_eq!(rt;
+        folder.bytes("1970-01-01").expect(&rt, "a file"),
+        b"ab\nc\n".as_slice()
+    );
+    assert!(rt; greet(rt, open(rt, "greeting")?)?.is_some());
+    expect_log(&rt, "greeting", "hello");
+    assert!(rt; greet(rt, Full::new())?.is_none());
     Ok(())
 }

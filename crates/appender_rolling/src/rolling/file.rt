@@ -42,7 +42,7 @@ impl<S: Folder, C: Clock> Model for RollingFile<S, C> {
 }
 
 impl<S: Folder, C: Clock> RollingFile<S, C> {
-    ghost use Rattle.std.specs.Prelude.{◌≡◌, ◌≢◌, ◌≤◌, Some, is_some, length};
+    ghost use Rattle.std.specs.Prelude.{◌≡◌, ◌≢◌, ◌<◌, ◌≤◌, IsTrue, Some, is_some, length};
     ghost use Rattle.appender_rolling.specs.Appender.{AppendsNow, PutsNow};
     ghost use Rattle.appender_rolling.specs.Opening.{file_name_of};
     ghost use Rattle.appender_rolling.specs.Roller.{ChecksClock, ChecksClockOnly, KeepsOpenFile, written_count, next_stamp};
@@ -55,6 +55,7 @@ impl<S: Folder, C: Clock> RollingFile<S, C> {
         ensures opened { result.0 ≡ Switch.Opened → self.new.roller.opened ≡ self.new.roller.last }
         ensures failed { result.0 ≡ Switch.Failed → self.new.roller.opened ≡ self.old.roller.opened }
         ensures taken { written_count result.1 ≤ length bytes.now }
+        ensures there { IsTrue (S.Folder).is_known → (S.Folder).body self.new.roller.file < length ((S.Folder).content self.new.roller.folder).bodies }
         ensures clock { self.new.clock ≡ self.old.clock }
     {
         let moment = self.clock.now();
@@ -114,6 +115,7 @@ impl<S: Folder, C: Clock> RollingFile<S, C> {
         ensures call { AppendsNow S.Folder bytes.now result self.old self.new }
         ensures taken { written_count result ≤ length bytes.now }
         ensures stays { KeepsOpenFile S.Folder self.old.roller self.new.roller }
+        ensures there { IsTrue (S.Folder).is_known → (S.Folder).body self.new.roller.file < length ((S.Folder).content self.new.roller.folder).bodies }
     {
         self.roller.write(bytes)
     }
@@ -127,7 +129,8 @@ impl<S: Folder, C: Clock> RollingFile<S, C> {
 
     /// Returns the open file.
     pub fn open_file(&self) -> &S::File
-        ensures { result.now ≡ self.now.roller.file }
+        ensures file { result.now ≡ self.now.roller.file }
+        ensures there { IsTrue (S.Folder).is_known → (S.Folder).body self.now.roller.file < length ((S.Folder).content self.now.roller.folder).bodies }
     {
         self.roller.open_file()
     }
@@ -149,19 +152,31 @@ impl<S: Folder, C: Clock> RollingFile<S, C> {
 }
 
 impl<S: Folder, C: Clock> Write for RollingFile<S, C> {
-    ghost use Rattle.std.specs.Prelude.{None};
+    ghost use Rattle.std.specs.Prelude.{◌<◌, None, OnOk, IsTrue, length};
     ghost use Rattle.std.specs.Io.{WritesAtMost};
-    ghost use Rattle.std.specs.Io.KnownBytes.{WriteAppends};
-    ghost use Rattle.appender_rolling.specs.Appender.{WritesNow, FlushesNow};
+    ghost use Rattle.std.specs.Io.KnownBytes.{Appends, WriteAppends};
+    ghost use Rattle.appender_rolling.specs.Appender.{WritesNow, WritesAllNow, FlushesNow};
 
-    /// Does what `put` does, and so reads the clock once. `write_all` repeats it for what was not taken, so that
-    /// its pieces may be in two files.
+    /// Does what `put` does, and so reads the clock once.
     fn write(&mut self, bytes: &[u8]) -> io::Result<usize>
         ensures bound { WritesAtMost result bytes.now }
         ensures bytes { WriteAppends None None result bytes.now }
         ensures put { WritesNow S.Folder C.Clock bytes.now result self.old self.new }
+        ensures there { IsTrue (S.Folder).is_known → (S.Folder).body self.new.roller.file < length ((S.Folder).content self.new.roller.folder).bodies }
     {
         self.put(bytes).1
+    }
+
+    /// Checks the clock once, for all of the bytes. Then adds them to the open file, as `Roller::write_all` does, so that
+    /// they are in one file.
+    fn write_all(&mut self, bytes: &[u8]) -> io::Result<()>
+        ensures bytes { OnOk result (Appends None None bytes.now) }
+        ensures appends { WritesAllNow S.Folder C.Clock bytes.now result self.old self.new }
+        ensures there { IsTrue (S.Folder).is_known → (S.Folder).body self.new.roller.file < length ((S.Folder).content self.new.roller.folder).bodies }
+    {
+        let moment = self.clock.now();
+        self.roller.check_clock(moment, bytes.len());
+        self.roller.write_all(bytes)
     }
 
     /// Flushes the open file, and reads no clock.

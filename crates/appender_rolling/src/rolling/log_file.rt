@@ -1,5 +1,5 @@
 // An open log file in its folder.
-ghost use Rattle.std.specs.Prelude.{◌≤◌, length, IfOk};
+ghost use Rattle.std.specs.Prelude.{◌<◌, ◌≤◌, length, IfOk, IsTrue};
 ghost use Rattle.appender_rolling.specs.Roller.{Writes, WritesAll, Flushes, OfAnySchedule};
 
 use appender_store::store::Folder;
@@ -32,6 +32,7 @@ impl<S: Folder> LogFile<S> {
     pub(super) fn write(&mut self, bytes: &[u8]) -> io::Result<usize>
         ensures writes { OfAnySchedule (Writes S.Folder bytes.now result) self.old self.new }
         ensures bound { IfOk result (λ taken. taken ≤ length bytes.now) }
+        ensures there { IsTrue S.is_known → S.body self.new.file < length (S.content self.new.folder).bodies }
     {
         let written = self.folder.append(&mut self.file, bytes);
         if let Ok(taken) = &written {

@@ -24,4 +24,5 @@ returns g c =
       failed = failed_of_put g.S.Folder c.args.moment c.args.bytes.now answer old new switch puts;
       boundary = boundary_of_put g.S.Folder c.args.moment c.args.bytes.now answer old new switch puts;
       taken = puts.writes.bound;
+      there = c.write-written.ensures.there;
     })

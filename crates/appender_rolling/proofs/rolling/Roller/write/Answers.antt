@@ -10,4 +10,5 @@ returns g c =
       taken = writes.bound;
       content = writes.content;
       stays = writes.stays;
+      there = c.write.ensures.there;
     })
