@@ -558,18 +558,19 @@ check 'rolltee, a folder that is replaced by a file: the log' $'[two\nthree]' "$
 
 # Something else has the link's name: it stays, and files begin and go, at a start and during a run. It is said once, until
 # there is a link again.
-while IFS='|' read -r name words; do
+while IFS='|' read -r name kind seen words; do
   mkdir "$work/linked"
-  echo mine > "$work/linked/$name"
+  if [ "$kind" = folder ]; then mkdir "$work/linked/$name"; else echo mine > "$work/linked/$name"; fi
   seq 2 > "$work/linked/app.2020-02-01.000000"
   for start in 1 2; do run "$rolltee" --keep 1 --max-bytes 1K --link cur daily "$work/linked" app < "$lines"; done
-  check "rolltee, $name is a file" "0||@cur $words" "$(told)"
-  check "rolltee, $name is a file: the folder" '1 [mine]' \
-    "$(find "$work/linked" -name 'app.*' | wc -l) $(content "$work/linked/$name")"
+  check "rolltee, $name is a $kind" "0||@cur $words" "$(told)"
+  check "rolltee, $name is a $kind: the folder" "1 $seen" \
+    "$(find "$work/linked" -name 'app.*' | wc -l) $(find "$work/linked/$name" -maxdepth 0 -printf '%y, ')$(content "$work/linked/$name")"
   rm -r "$work/linked"
 done << 'END'
-cur|is no symbolic link, and stays
-.cur.new|can't be made: the name for the new link is in use
+cur|file|f, [mine]|is no symbolic link, and stays
+cur|folder|d, no file|is no symbolic link, and stays
+.cur.new|file|f, [mine]|can't be made: the name for the new link is in use
 END
 mkdir "$work/linked"
 for direct in '' ' --direct'; do

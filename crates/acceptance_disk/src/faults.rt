@@ -18,7 +18,15 @@ const SYNCED: Settings = Settings {
     ..PLAIN
 };
 
+const CONTINUED: Settings = Settings {
+    max_bytes: 9,
+    continues: true,
+    ..PLAIN
+};
+
 const KEPT: &[DiskStep] = &[File("other.txt", "kept")];
+
+const NUMBER_0: &str = "app.2020-02-01-10.000000";
 
 // The logs of two hours, a file that is no log, and a folder.
 #[rattlefmt::skip]
@@ -28,7 +36,7 @@ const OLD_LOGS: &[DiskStep] = &[
 
 // Runs without a link, on a disk that holds other files.
 #[rattlefmt::skip]
-static WRITES: [Row<'static>; 8] = [
+static WRITES: [Row<'static>; 11] = [
     // A disk that is full takes what there is room for, and more once there is room again.
     (PLAIN, KEPT, NOTHING, &[Room(4), Put(START, "one"), Put(START, "two"), Put(START, "three"), Put(START, ""), Flush,
         Room(9), Put(START, "four")],
@@ -61,6 +69,15 @@ static WRITES: [Row<'static>; 8] = [
         ("open\nnone ok 3\nok\nerr\nerr\nopened ok 3\nopened ok 5\n",
         "app.2020-02-01-10 one\napp.2020-02-01-11 two\napp.2020-02-01-12 three\n",
         "Couldn't flush previous writer: permission denied\nfailures 3\n")),
+    // An interrupted append is reported, and not repeated.
+    (PLAIN, &[Fault(DiskFault::Kind(ErrorKind::Interrupted))], (Event::Fails, &[3]), &[Put(START, "one")],
+        ("open\nnone err\n", "app.2020-02-01-10 \n", "failures 1\n")),
+    // What a continued file holds counts. The listing is four calls, and the opening four. A length that can't be seen is the
+    // limit.
+    (CONTINUED, &[File(NUMBER_0, "abc")], NOTHING, &[Put(START, "one")],
+        ("open\nnone ok 3\n", "app.2020-02-01-10.000000 abcone\n", "failures 0\n")),
+    (CONTINUED, &[File(NUMBER_0, "abc")], (Event::Fails, &[9]), &[Put(START, "one")],
+        ("open\nopened ok 3\n", "app.2020-02-01-10.000000 abc\napp.2020-02-01-10.000001 one\n", "failures 0\n")),
 ];
 
 const OPENED: &str = "open\nnone ok 3\nopened ok 3\nnone ok 5\nopened ok 4\n";

@@ -1,14 +1,15 @@
 // Openings by a runtime and a path, and the clock of a runtime.
 
-use crate::disk::{Call, Disk, FOLDER};
+use crate::disk::{Call, Disk, DiskFault, Event, FOLDER};
 use crate::expect::{AllocAndAbort, expect_eq, expect_eq_of};
 use crate::fake::Fake;
-use crate::runs::{LINKED, START, hourly_log};
-use std::io::Write;
+use crate::runs::{LINKED, PLAIN, START, folder_of, hourly_log};
+use std::io::{ErrorKind, Write};
 use std::process::Abort;
+use std::sync::Wait;
 use std::time::Duration;
 use tracing_appender::rolling::{
-    Clock, FileAppender, InitError, SystemClock, daily, hourly, minutely, never, weekly,
+    Clock, FileAppender, InitError, MakeWriter, SystemClock, daily, hourly, minutely, never, weekly,
 };
 
 // The moment, whether the folder is there, the calls that fail; the text of the error.
@@ -120,4 +121,30 @@ fn the_system_clock_rounds_down(rt: HostRuntime) {
         disk.time.set(Some(time));
         expect_time(&rt, &disk, (*moment, *whole));
     }
+}
+
+// Writes to a log that threads share, whose opening is two calls. The first append is interrupted, and not repeated.
+fn write_interrupted<R: AllocAndAbort + Wait + Copy + Drop>(rt: &R, by_writer: bool) {
+    let disk = Disk::new(rt.alloc());
+    disk.set_seconds(START);
+    disk.fault.set(DiskFault::Kind(ErrorKind::Interrupted));
+    disk.event.set((3, Event::Fails));
+    let (folder, clock) = (folder_of(rt, &disk), SystemClock::new(Fake::new(&disk)));
+    let Ok(mut log) = hourly_log(rt, &PLAIN).build_in(*rt, rt.alloc(), folder, clock) else {
+        rt.panic("an appender");
+    };
+    let written = if by_writer {
+        log.make_writer().expect(rt, "a writer").write(b"one")
+    } else {
+        log.write(b"one")
+    };
+    let fault = written.err().map(|fault| fault.kind());
+    expect_eq_of(rt, by_writer, fault, Some(ErrorKind::Interrupted));
+    expect_eq_of(rt, by_writer, disk.calls(), 3);
+}
+
+#[test]
+fn an_interrupted_append_is_made_once(rt: HostRuntime) {
+    write_interrupted(&rt, false);
+    write_interrupted(&rt, true);
 }

@@ -1,7 +1,7 @@
 // What other processes do to the folder of a log, and what a log file's owner may do with it.
 
-use crate::disk::{Event, Kind};
-use crate::runs::DiskStep::{Dir, File, HideBytes, Link, Put};
+use crate::disk::{Call, Event, Kind};
+use crate::runs::DiskStep::{Dir, Fail, File, HideBytes, Link, Put};
 use crate::runs::{
     DiskStep, ELEVEN, LINKED, LOG, NOTHING, PLAIN, Row, START, Settings, check_runs,
 };
@@ -45,7 +45,7 @@ const REPLACED: (&str, &str, &str) =
 // (6, 7), and one looks for a link (8). Then that is made by one call if nothing has the name (9), else by a look (10), a
 // link under the spare name (11), and the renaming (12).
 #[rattlefmt::skip]
-static LINKS: [Row<'static>; 13] = [
+static LINKS: [Row<'static>; 14] = [
     (LINKED, &[], NOTHING, TWO_LINES, REPLACED),
     // Another process made the link, to the same file or to another one.
     (LINKED, &[], (Event::Comes(LATEST, Kind::Link, NEXT), &[10]), TWO_LINES, REPLACED),
@@ -68,6 +68,9 @@ static LINKS: [Row<'static>; 13] = [
         (LINK_REFUSED, "app.2020-02-01-10 \nlatest.log q\n", "failures 2\n")),
     (BY_NAME, &[File(LATEST, "q")], (Event::Comes(LOG, Kind::File, ""), &[2]), &[],
         (LINK_REFUSED, "app.2020-02-01-10 \nlatest.log q\n", "failures 2\n")),
+    (BY_NAME, &[File(NEXT, "")], NOTHING, &[Put(START, "one"), Fail(Some(Call::Symlink)), Put(ELEVEN, "two")], (FAILED,
+        "app.2020-02-01-10 onetwo\napp.2020-02-01-11 \nlatest.log -> app.2020-02-01-10\n",
+        "Couldn't create writer for logs: failed to create symlink to latest log file: permission denied\nfailures 2\n")),
 ];
 
 // The opening of a free name looks (1) and makes the file (2). That of a file looks (1), opens it (2), and looks at

@@ -33,6 +33,10 @@ pub(crate) struct Settings {
     pub(crate) by_name: bool,
     /// Whether each flush syncs.
     pub(crate) syncs: bool,
+    /// How many bytes a file holds; 0 is no limit.
+    pub(crate) max_bytes: u64,
+    /// Whether the opening continues the last file.
+    pub(crate) continues: bool,
 }
 
 pub(crate) const PLAIN: Settings = Settings {
@@ -40,6 +44,8 @@ pub(crate) const PLAIN: Settings = Settings {
     link: "",
     by_name: false,
     syncs: false,
+    max_bytes: 0,
+    continues: false,
 };
 
 pub(crate) const LINKED: Settings = Settings {
@@ -234,7 +240,9 @@ pub(crate) fn hourly_log(rt: &impl AllocAndAbort, settings: &Settings) -> Builde
     let builder = Builder::new()
         .rotation(Rotation::HOURLY)
         .max_log_files(settings.max)
-        .log_files_by_name(settings.by_name);
+        .log_files_by_name(settings.by_name)
+        .max_file_bytes(settings.max_bytes)
+        .continue_last_file(settings.continues);
     let builder = builder.filename_prefix(rt.alloc(), "app");
     let builder = builder.expect(rt, "memory");
     let builder = builder.latest_symlink(rt.alloc(), settings.link);

@@ -11,9 +11,12 @@ use Entry::{Dir, File, Link};
 use appender_folder::folder::DirFolder;
 use appender_store::store::{Folder, Kind, Listed};
 use std::cell::Cell;
+use std::fs::Metadata;
 use std::io::ErrorKind;
+use std::os::unix::fs::PermissionsExt;
 use std::process::Abort;
 use std::rt::Env;
+use std::time::UNIX_EPOCH;
 use std::{env, fs, io};
 
 // A call of a folder by a name.
@@ -99,8 +102,8 @@ fn link_long<S: Folder>(
     link_to(rt, folder, directory, name.as_str(), "two");
 }
 
-// Checks one entry of a listing.
-fn expect_entry(rt: &impl Abort, entry: &Listed, tells_creation: bool) {
+// Checks one entry of a listing. Its creation is that of the file system, in nanoseconds.
+fn expect_entry(rt: &impl FilesAndAbort, directory: &str, entry: &Listed) {
     let name = entry.name.as_deref();
     let wanted = match name {
         Some("file") => Kind::File,
@@ -109,22 +112,22 @@ fn expect_entry(rt: &impl Abort, entry: &Listed, tells_creation: bool) {
         _ => rt.panic("another name"),
     };
     expect_eq_of(rt, name, entry.kind, wanted);
-    expect_eq_of(rt, name, entry.created.is_some(), tells_creation);
-    // Later than 2020-02-01 in nanoseconds, and not in seconds.
-    let is_late = match entry.created {
-        Some(moment) => moment > 1_580_515_200_000_000_000,
-        None => true,
-    };
-    expect_eq_of(rt, name, is_late, true);
+    let path = at(rt, directory, name.unwrap_or(""));
+    let metadata = fs::symlink_metadata(rt, path).expect(rt, "metadata");
+    expect_eq_of(rt, name, entry.created, creation_of(&metadata));
+}
+
+fn creation_of(metadata: &Metadata) -> Option<i128> {
+    let since = metadata.created().ok()?.duration_since(UNIX_EPOCH).ok()?;
+    i128::try_from(since.as_nanos()).ok()
 }
 
 // What each entry of a folder of every kind is listed as.
 fn expect_kinds<S: Folder>(rt: &impl FilesAndAbort, folder: &mut S, directory: &str) {
-    let metadata = fs::metadata(rt, directory).expect(rt, "a directory");
     let listed = folder.list().expect(rt, "a listing");
     expect_eq(rt, listed.len(), 4);
     for entry in &listed {
-        expect_entry(rt, entry, metadata.created().is_ok());
+        expect_entry(rt, directory, entry);
     }
 }
 
@@ -157,6 +160,8 @@ enum Step {
     NoList(ErrorKind),
     // This number of calls have failed.
     Failed(u64),
+    // A file has these permission bits.
+    Mode(&'static str, u32),
     // The directory has exactly these entries.
     Holds(&'static [Entry<'static>]),
 }
@@ -180,6 +185,10 @@ fn take<S: Folder>(rt: &impl FilesAndAbort, folder: &mut S, directory: &str, ste
         Step::Kinds => expect_kinds(rt, folder, directory),
         Step::NoList(wanted) => expect_eq(rt, kind_of_error(folder.list()), Some(wanted)),
         Step::Failed(wanted) => expect_eq_of(rt, directory, folder.failures(), wanted),
+        Step::Mode(name, bits) => {
+            let metadata = fs::metadata(rt, at(rt, directory, name)).expect(rt, "metadata");
+            expect_eq_of(rt, name, metadata.permissions().mode() & 0o777, bits);
+        }
         Step::Holds(entries) => expect_entries(rt, directory, entries),
     }
 }
@@ -200,7 +209,7 @@ const MIXED: &[Entry<'static>] = &[
 
 // The folder's entry of the directory, or the directory itself, and the steps.
 #[rattlefmt::skip]
-static CASES: [(&str, &[Step]); 7] = [
+static CASES: [(&str, &[Step]); 8] = [
     // Names that are not those of entries of `inside`.
     ("inside", &[Step::Fill(&[File("outside", "kept"), Link("link", "outside"), Dir("inside")]),
         Step::Refused(&[Open, Remove, RemoveLink, MakeLink],
@@ -223,6 +232,8 @@ static CASES: [(&str, &[Step]); 7] = [
     ("", &[Step::Fill(&[File("other", "kept")]), Step::HardLink("other", "log"),
         Step::Refused(&[Open], &["log"], ErrorKind::AlreadyExists), Step::Failed(1), Step::Remove("other"),
         Step::Append("log", "x"), Step::Holds(&[File("log", "keptx")])]),
+    // No umask clears these bits of a new file.
+    ("", &[Step::Append("new", "x"), Step::Mode("new", 0o600)]),
     // A file has the folder's name.
     ("plain", &[Step::Fill(&[File("plain", "text")]), Step::NoFolder, Step::Holds(&[File("plain", "text")])]),
     // An empty folder, one of every kind of entry, and one that is absent.
@@ -230,14 +241,17 @@ static CASES: [(&str, &[Step]); 7] = [
         Step::Failed(1)]),
 ];
 
-// Takes the steps of each case in a fresh directory.
+// Takes the steps of each case in a fresh directory, with a folder whose new files have these permission bits.
 fn take_cases(rt: &impl FilesAndAbort, path: io::Result<String>) {
     let directory = fresh(rt, path);
     let directory = directory.as_str();
     for (entry, steps) in &CASES {
-        renew(rt, directory);
-        let folder = folder_at(rt, at(rt, directory, entry).as_str());
-        take_all(rt, folder, directory, steps);
+        for syncs in [false, true] {
+            renew(rt, directory);
+            let folder = folder_at(rt, at(rt, directory, entry).as_str()).mode(0o600);
+            let folder = if syncs { folder.synced() } else { folder };
+            take_all(rt, folder, directory, steps);
+        }
     }
     clear(rt, directory);
 }

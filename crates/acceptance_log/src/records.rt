@@ -175,19 +175,26 @@ fn expect_each_escaped<R: Host>(rt: R) {
     }
 }
 
-// A message of 5,000 bytes.
-fn expect_long<R: Host>(rt: R) {
+// A character 100,000 times.
+fn long_of<R: Host>(rt: R, character: &str) -> String {
     let mut long = String::new(rt.alloc());
-    for _ in 0..5000u32 {
-        long.push('x').expect(&rt, "memory");
+    for _ in 0..100_000u32 {
+        long.push_str(character).expect(&rt, "memory");
     }
-    expect_line(rt, long.as_str(), long.as_str());
+    long
+}
+
+// A long message of this character, and its form in a line.
+fn expect_long<R: Host>(rt: R, character: &str, wanted: &str) {
+    let (message, wanted) = (long_of(rt, character), long_of(rt, wanted));
+    expect_line(rt, message.as_str(), wanted.as_str());
 }
 
 #[test]
 fn a_record_is_one_line_whatever_its_message(rt: HostRuntime) {
     expect_each_escaped(rt);
-    expect_long(rt);
+    expect_long(rt, "x", "x");
+    expect_long(rt, "\n", "\\n");
 }
 
 // What the tests ask of their runtime.

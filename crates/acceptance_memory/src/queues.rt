@@ -45,6 +45,8 @@ fn every_place_of_a_long_queue_takes_lines(rt: HostRuntime) {
 fn a_closed_queue_returns_its_line(rt: HostRuntime) {
     let refused = LineQueue::new(rt.alloc(), usize::MAX, true);
     expect_eq(&rt, refused.is_err(), true);
+    let many = LineQueue::with_places(rt.alloc(), 1, true, 100_000);
+    expect_eq(&rt, many.is_ok(), true);
     let mut queue = queue_of(&rt, 1);
     expect_eq(&rt, &offer(&rt, &mut queue, 1), &Ok(1));
     take_number(&rt, &mut queue, 1);

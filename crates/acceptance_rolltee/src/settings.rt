@@ -123,21 +123,29 @@ fn fresh(rt: &HostRuntime, name: &str) -> io::Result<String> {
     Ok(path)
 }
 
-// A file that ends with a newline; the folder where the check reads it, its name, and what is seen. What has no name can't be compared,
-// and what isn't in that folder can't be read. One more flush fails each time, which the folder notes.
+// A file that ends with a newline; the folder where the check reads it, its name, whether another such file gets that, and what is
+// seen. What has no name can't be compared, and what isn't in that folder can't be read. One more flush fails each time, which the
+// folder notes.
 #[test]
 fn what_a_check_cannot_see_is_no_whole_file(rt: HostRuntime) -> Result<(), Fail> {
     let directory = fresh(&rt, "seen")?;
     let directory = directory.as_str();
     let mut folder = DirFolder::new(rt, directory)?;
     folder.make_folder()?;
+    env::set_current_dir(&rt, directory)?;
     let mut file = folder.open("app")?;
     folder.append(&mut file, b"a\n")?;
-    for (path, name, ends_line, is_found, unsynced) in [
-        (directory, "app", true, true, 1),
-        ("/nowhere", "app", false, true, 2),
-        (directory, "a/b", false, false, 3),
+    for (path, name, is_replaced, ends_line, is_found, unsynced) in [
+        (directory, "app", false, true, true, 1),
+        ("", "app", false, true, true, 2),
+        ("/nowhere", "app", false, false, true, 3),
+        (directory, "a/b", false, false, false, 4),
+        (directory, "app", true, false, false, 5),
     ] {
+        if is_replaced {
+            fs::write(&rt, "other", "b\n")?;
+            fs::rename(&rt, "other", "app")?;
+        }
         let check = DirCheck::new(rt, &Builder::new(), path, "", &Options::new(rt.alloc()))?;
         expect_eq(&rt, check.ends_line(&folder, &file, name), ends_line);
         expect_eq(&rt, check.finds(&folder, &file, name, 2), is_found);

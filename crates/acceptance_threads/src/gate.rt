@@ -246,7 +246,7 @@ impl Seen {
 }
 
 // Looks until the number is as great, for ten seconds at most, and returns whether it is.
-fn reaches<R: Clock + Copy>(rt: R, number: &AtomicUsize, least: usize) -> bool {
+pub(crate) fn reaches<R: Clock + Copy>(rt: R, number: &AtomicUsize, least: usize) -> bool {
     for _ in 0..LOOKS {
         if number.load(SeqCst) >= least {
             return true;

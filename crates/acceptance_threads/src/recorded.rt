@@ -14,7 +14,7 @@ use std::time::Duration;
 struct Sends<R: Host> {
     rt: R,
     seen: Arc<Seen, Global>,
-    lines: [&'static [u8]; 4],
+    lines: &'static [&'static [u8]],
     queued: usize,
     dropped: usize,
 }
@@ -25,7 +25,7 @@ impl<R: Host> RecordedWork for Sends<R> {
     fn run<S: LineSender + Drop>(&mut self, mut sender: S) -> S
         ensures { Unit {0} }
     {
-        for line in self.lines {
+        for line in self.lines.iter().copied() {
             if let Ok(Sent::Queued(_)) = sender.write_line(line) {
                 self.queued = self.queued.saturating_add(1);
             }
@@ -38,7 +38,7 @@ impl<R: Host> RecordedWork for Sends<R> {
 
 struct Row {
     queue: Queue,
-    lines: [&'static [u8]; 4],
+    lines: &'static [&'static [u8]],
     // How many milliseconds the worker has for its end.
     most: Option<u64>,
     queued: usize,
@@ -51,21 +51,30 @@ struct Row {
 // An empty line makes no write. A worker that does not end in time keeps its writer.
 #[rattlefmt::skip]
 static ROWS: [Row; 2] = [
-    Row { queue: Queue::Waiting(2), lines: [b"a", b"refused", b"", b"b"], most: None,
+    Row { queue: Queue::Waiting(2), lines: &[b"a", b"refused", b"", b"b"], most: None,
         queued: 4, dropped: 0, given_up: Some(1), text: b"a|b|" },
-    Row { queue: Queue::Lossy(1), lines: [b"held", b"a", b"b", b"c"], most: Some(20),
+    Row { queue: Queue::Lossy(1), lines: &[b"held", b"a", b"b", b"c"], most: Some(20),
         queued: 2, dropped: 2, given_up: None, text: b"held|a|" },
 ];
 
-fn check<R: Host + Abort>(rt: R, row: &Row) -> io::Result<()> {
-    let (gate, seen) = new_gate(rt, None)?;
-    let work = Sends {
+// A work that sends these lines.
+fn work_of<R: Host>(
+    rt: R,
+    seen: &Arc<Seen, Global>,
+    lines: &'static [&'static [u8]],
+) -> io::Result<Sends<R>> {
+    Ok(Sends {
         rt,
-        seen: Arc::try_clone(&seen)?,
-        lines: row.lines,
+        seen: Arc::try_clone(seen)?,
+        lines,
         queued: 0,
         dropped: 0,
-    };
+    })
+}
+
+fn check<R: Host + Abort>(rt: R, row: &Row) -> io::Result<()> {
+    let (gate, seen) = new_gate(rt, None)?;
+    let work = work_of(rt, &seen, row.lines)?;
     let most = row.most.map(Duration::from_millis);
     let ran = row
         .queue
@@ -90,4 +99,28 @@ fn a_writer_comes_back_if_its_worker_ends(rt: HostRuntime) -> io::Result<()> {
         check(rt, row)?;
     }
     Ok(())
+}
+
+static HELD: [&[u8]; 60] = [b"h"; 60];
+
+// The queue is full once the worker has a line in hand. Lines go on as the gate is opened.
+fn fill<R: Host + Abort>(rt: R) -> io::Result<()> {
+    let (gate, seen) = new_gate(rt, None)?;
+    let work = work_of(rt, &seen, &HELD)?;
+    let most = Some(Duration::from_millis(20));
+    let ran = Queue::Lossy(40)
+        .builder(rt.alloc())?
+        .run_lines(rt, rt.alloc(), gate, work, most)?;
+    expect_eq(&rt, "queued", ran.work.queued, 41);
+    expect_eq(&rt, "dropped", ran.work.dropped, 19);
+    for _ in 0..41u32 {
+        seen.opens();
+    }
+    expect_eq(&rt, "lines", seen.come(rt, 41), true);
+    Ok(())
+}
+
+#[test]
+fn a_work_has_the_queue_that_was_asked_for(rt: HostRuntime) -> io::Result<()> {
+    fill(rt)
 }

@@ -22,6 +22,8 @@ pub(crate) enum Step {
     IsRefused(&'static [u8]),
     /// This number of short lines are queued.
     Fills(usize),
+    /// This number of short lines are dropped.
+    Overfills(usize),
     /// A line of this length is queued and written whole, and its buffer is kept for the next one.
     WritesLong(usize),
     /// Each sender is moved to a thread that writes this number of lines.
@@ -163,7 +165,8 @@ impl<R: Host + Abort> Stage<R> {
             Step::IsQueued(line) => self.sends(senders, line, Ok(true)),
             Step::IsDropped(line) => self.sends(senders, line, Ok(false)),
             Step::IsRefused(line) => self.sends(senders, line, Err(ErrorKind::Other)),
-            Step::Fills(count) => self.fills(senders, count),
+            Step::Fills(count) => self.fills(senders, count, true),
+            Step::Overfills(count) => self.fills(senders, count, false),
             Step::WritesLong(length) => self.writes_long(senders, length),
             Step::WriteInThreads(lines) => self.writes_in_threads(senders, lines),
             Step::DropsSender => drop(senders.pop()),
@@ -215,9 +218,9 @@ impl<R: Host + Abort> Stage<R> {
         }
     }
 
-    fn fills<T: AnySender>(&mut self, senders: &mut Vec<T>, count: usize) {
+    fn fills<T: AnySender>(&mut self, senders: &mut Vec<T>, count: usize, is_queued: bool) {
         for _ in 0..count {
-            self.sends(senders, b"a", Ok(true));
+            self.sends(senders, b"a", Ok(is_queued));
         }
     }
 

@@ -4,7 +4,7 @@ use crate::stage::GuardEnd::{Closes, Drops, Stays};
 use crate::stage::Queue::{Default, Lossy, Named, Waiting};
 use crate::stage::Step::{
     Come, DropsSender, Fills, FlushesCome, HasEnded, IsDropped, IsHeld, IsQueued, IsRefused, Opens,
-    WriteInThreads, WritesLong,
+    Overfills, WriteInThreads, WritesLong,
 };
 use crate::stage::Story;
 use crate::{counted, plain};
@@ -38,9 +38,12 @@ fn play_by_all<R: Host + Abort>(rt: R, files: HostRuntime, stories: &[Story]) {
 
 // Lines of open queues.
 #[rattlefmt::skip]
-static LINES: [Story; 11] = [
+static LINES: [Story; 12] = [
     Story { title: "dropped lines are those of all senders", queue: Lossy(1), senders: 2,
         steps: &[IsQueued(b"held"), IsHeld, IsQueued(b"a"), IsDropped(b"b"), IsDropped(b"c"), IsDropped(b"d")],
+        guard: Stays, later: &[Opens], came: Lines(b"held|a|") },
+    Story { title: "all dropped lines are counted", queue: Lossy(1), senders: 1,
+        steps: &[IsQueued(b"held"), IsHeld, IsQueued(b"a"), Overfills(1001)],
         guard: Stays, later: &[Opens], came: Lines(b"held|a|") },
     Story { title: "an empty line takes a place and is not written", queue: Lossy(1), senders: 1,
         steps: &[IsQueued(b"held"), IsHeld, IsQueued(b""), IsDropped(b""), IsDropped(b"c")],

@@ -1,11 +1,15 @@
 // Work with counted senders, and its account.
 use crate::expect::{expect_account, expect_eq, expect_shown, put};
-use crate::gate::new_gate;
+use crate::gate::{new_gate, reaches};
 use crate::stage::Queue;
 use appender_non_blocking::non_blocking::{CountedWork, Host, LineSender, Sent};
+use std::alloc::Global;
 use std::io;
 use std::io::ErrorKind;
 use std::process::Abort;
+use std::sync::Arc;
+use std::sync::atomic::AtomicUsize;
+use std::sync::atomic::Ordering::SeqCst;
 
 // Writes this number of lines, and counts its runs and the lines that were queued.
 #[derive(Clone, Copy, PartialEq, Eq, Debug)]
@@ -67,7 +71,50 @@ fn run<R: Host + Abort>(rt: R, count: u64, lines: u64) -> io::Result<()> {
 fn work_of_threads_has_an_account(rt: HostRuntime) -> io::Result<()> {
     run(rt, 0, 0)?;
     run(rt, 1, 0)?;
-    run(rt, 5, 10)
+    run(rt, 5, 10)?;
+    run(rt, 100, 4950)
+}
+
+// Waits for another work to begin.
+#[derive(Drop)]
+struct Meets<R: Host> {
+    rt: R,
+    begun: Arc<AtomicUsize, Global>,
+    met: bool,
+}
+
+impl<R: Host> CountedWork for Meets<R> {
+    ghost does = { λ _ _ _ _. Unit {0} };
+
+    fn run<L: LineSender>(&mut self, _sender: &mut L)
+        ensures { Unit {0} }
+    {
+        self.begun.fetch_add(1, SeqCst);
+        self.met = reaches(self.rt, &self.begun, 2);
+    }
+}
+
+fn meet<R: Host + Abort>(rt: R) -> io::Result<()> {
+    let begun = Arc::new(rt.alloc(), AtomicUsize::new(0))?;
+    let mut works = Vec::new(rt.alloc());
+    for _ in 0..2u32 {
+        let begun = Arc::try_clone(&begun)?;
+        let met = false;
+        put(&rt, &mut works, Meets { rt, begun, met });
+    }
+    let (gate, _) = new_gate(rt, None)?;
+    let ran = Queue::Waiting(4)
+        .builder(rt.alloc())?
+        .run_counted(rt, rt.alloc(), gate, works)?;
+    for work in ran.works.as_slice() {
+        expect_eq(&rt, "met", work.met, true);
+    }
+    Ok(())
+}
+
+#[test]
+fn works_run_side_by_side(rt: HostRuntime) -> io::Result<()> {
+    meet(rt)
 }
 
 // There is no memory for such a queue.
