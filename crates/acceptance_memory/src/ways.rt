@@ -240,6 +240,8 @@ fn a_call_reads_the_clock_once_at_most(rt: HostRuntime) {
     expect_reads(&rt, &clock, 1);
     expect_eq(&rt, log.write(b"a").is_ok(), true);
     expect_reads(&rt, &clock, 1);
+    expect_eq(&rt, log.write_all(b"ab").is_ok(), true);
+    expect_reads(&rt, &clock, 1);
     expect_eq(&rt, log.moment(), 3600);
     expect_reads(&rt, &clock, 1);
     expect_eq(&rt, (log.due(3600), log.see(3600)), (false, Switch::None));

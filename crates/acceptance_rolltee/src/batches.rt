@@ -13,6 +13,7 @@ use tracing_appender::non_blocking::Host;
 #[derive(Drop)]
 struct Failing<R: Wait> {
     room: usize,
+    kind: io::ErrorKind,
     failed: bool,
     text: Text<R>,
 }
@@ -26,7 +27,7 @@ impl<R: Wait> TestLog for Failing<R> {
         };
         if taken == 0 && !self.failed {
             self.failed = true;
-            return Err(io::Error::from(io::ErrorKind::OutOfMemory));
+            return Err(io::Error::from(self.kind));
         }
         self.text.add(&buf[..taken])?;
         self.room = self.room.saturating_sub(taken);
@@ -60,26 +61,28 @@ fn cut_at(alloc: Global, place: usize) -> Result<Vec<u8>, AllocError> {
 // Runs the program over a log that fails at this byte.
 fn check_fault_at<R: Host + Abort>(
     rt: R,
-    place: usize,
+    room: usize,
+    kind: io::ErrorKind,
     line: &str,
-    told: &str,
+    told: (u8, &str),
+    wanted: &[u8],
 ) -> Result<(), Fail> {
     let text = Text::new(rt)?;
     let log = Failing {
-        room: place,
+        room,
+        kind,
         failed: false,
         text: text.share()?,
     };
     let mut input = TEXT;
-    check_log(rt, log, line, &mut input, (1, told));
-    let wanted = cut_at(rt.alloc(), place)?;
-    text.expect(wanted.as_slice());
+    check_log(rt, log, line, &mut input, told);
+    text.expect(wanted);
     Ok(())
 }
 
 static CUT: &str = "@lines not written whole: 1\n";
 
-// However the lines are gathered, a fault cuts the line in which it is, and no other one.
+// However the lines are gathered, a fault cuts the line in which it is, and no other one. An interruption cuts none.
 #[test]
 fn a_fault_cuts_one_line(rt: HostRuntime) -> Result<(), Fail> {
     for (line, told) in [
@@ -92,7 +95,10 @@ fn a_fault_cuts_one_line(rt: HostRuntime) -> Result<(), Fail> {
         ("hourly dir app --direct --no-wait --max-bytes 64", CUT),
     ] {
         for place in 0..TEXT.len() {
-            check_fault_at(rt, place, line, told)?;
+            let cut = cut_at(rt.alloc(), place)?;
+            let (no_memory, again) = (io::ErrorKind::OutOfMemory, io::ErrorKind::Interrupted);
+            check_fault_at(rt, place, no_memory, line, (1, told), cut.as_slice())?;
+            check_fault_at(rt, place, again, line, (0, ""), TEXT)?;
         }
     }
     Ok(())

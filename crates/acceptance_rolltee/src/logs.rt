@@ -6,7 +6,6 @@ use program_io::options::Options;
 use rolltee_core::losses::TeeLosses;
 use rolltee_core::tee::{Fault, Logs, TeeLog};
 use std::alloc::{AllocError, Global};
-use std::cell::RefCell;
 use std::io;
 use std::io::Write;
 use std::process::Abort;
@@ -124,24 +123,20 @@ impl<R: Wait> Write for Text<R> {
     }
 }
 
-/// Opens a log once. Every other opening fails for want of memory.
+/// Opens this log. If it is none, the opening fails for want of memory.
 #[derive(Drop)]
 pub(crate) struct OneLog<L: Drop> {
-    log: RefCell<Option<L>>,
+    log: Option<L>,
 }
 
 impl<L: Drop> OneLog<L> {
     pub(crate) fn new(log: L) -> OneLog<L> {
-        OneLog {
-            log: RefCell::new(Some(log)),
-        }
+        OneLog { log: Some(log) }
     }
 
     /// Opens none.
     pub(crate) fn none() -> OneLog<L> {
-        OneLog {
-            log: RefCell::new(None),
-        }
+        OneLog { log: None }
     }
 }
 
@@ -152,6 +147,12 @@ pub(crate) struct Given<L: Drop> {
 }
 
 impl<L: TestLog + Drop> TeeLog for Given<L> {
+    ghost opens = { λ _ _ _ _ _. Unit {0} };
+
+    ghost takes = { λ _ _ _. Unit {0} };
+
+    ghost is_kept = { λ _. Unit {0} };
+
     fn put(&mut self, bytes: &[u8]) -> io::Result<usize> {
         self.log.put(bytes)
     }
@@ -164,7 +165,7 @@ impl<L: TestLog + Drop> TeeLog for Given<L> {
         self.log.give_up();
     }
 
-    fn losses(&self) -> TeeLosses {
+    fn close(self) -> TeeLosses {
         self.log.losses()
     }
 }
@@ -172,12 +173,8 @@ impl<L: TestLog + Drop> TeeLog for Given<L> {
 impl<L: TestLog + Send + Drop + 'static> Logs for OneLog<L> {
     type Log = Given<L>;
 
-    fn open_log(&self, _: Rotation, _: &str, _: &str, _: &Options) -> Result<Given<L>, Fault> {
-        let log = match self.log.try_borrow_mut() {
-            Ok(mut log) => log.take(),
-            Err(_) => None,
-        };
-        match log {
+    fn open_log(self, _: Rotation, _: &str, _: &str, _: &Options) -> Result<Given<L>, Fault> {
+        match self.log {
             Some(log) => Ok(Given { log }),
             None => Err(Fault::Open(InitError::Memory)),
         }

@@ -113,7 +113,7 @@ fn an_input_halts(rt: HostRuntime) -> Result<(), Fail> {
 }
 
 // Runs the program without options, and compares its status and what it reports.
-fn check_plain<R: Host + Abort, L: Logs>(rt: R, logs: &L, line: &str, told: (u8, &str)) {
+fn check_plain<R: Host + Abort, L: Logs>(rt: R, logs: L, line: &str, told: (u8, &str)) {
     let words = words_of(rt.alloc(), line).expect(&rt, "memory");
     let mut errors = Vec::new(rt.alloc());
     let mut input = b"a\n".as_slice();
@@ -133,11 +133,11 @@ fn prints_its_usage(rt: HostRuntime) {
         "Never dir app",
     ] {
         let usage = "usage: rolltee ROTATION DIR PREFIX\n";
-        check_plain(rt, &OneLog::new(Taking::ALL), line, (2, usage));
+        check_plain(rt, OneLog::new(Taking::ALL), line, (2, usage));
     }
-    let logs = OneLog::new(Taking::ALL);
-    check_plain(rt, &logs, "weekly dir app", (0, ""));
-    check_plain(rt, &logs, "never dir app", (1, "out of memory\n"));
+    check_plain(rt, OneLog::new(Taking::ALL), "weekly dir app", (0, ""));
+    let none: OneLog<Taking> = OneLog::none();
+    check_plain(rt, none, "never dir app", (1, "out of memory\n"));
 }
 
 // Lines that the log takes whole, and of which it takes nothing or a beginning.
@@ -241,7 +241,7 @@ fn reports_why_no_log_is_opened(rt: HostRuntime) {
         let mut input = b"a\n".as_slice();
         check(
             rt,
-            &logs,
+            logs,
             line,
             &mut input,
             io::sink(),

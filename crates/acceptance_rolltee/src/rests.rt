@@ -66,7 +66,13 @@ struct SceneOpener<'a> {
 }
 
 impl<'a> Opens<MemoryFolder, &'a Scene> for SceneOpener<'a> {
+    ghost use Rattle.std.specs.Prelude.{[]};
+
     ghost config = { λ opener. opener.settings };
+
+    ghost directory = { λ _. [] };
+
+    ghost is_at = { λ _ _. Unit {0} };
 
     fn open(&self) -> Result<RollingFile<MemoryFolder, &'a Scene>, InitError> {
         let openings = self.scene.openings.get();
@@ -381,7 +387,7 @@ fn check_losses(
     for _ in 0..flushes {
         let _ = log.flush_all();
     }
-    let losses = log.losses();
+    let losses = log.close();
     expect_eq(rt, (losses.gone, losses.unsynced), wanted);
 }
 

@@ -30,7 +30,7 @@ pub(crate) fn request_of<R: AllocGlobal + Abort>(rt: &R, line: &str) -> (Options
 /// Runs the program with this command line, and returns its status and what it reports.
 pub(crate) fn run<R: Host + Abort, L: Logs, I: Read, O: Write + Drop>(
     rt: R,
-    logs: &L,
+    logs: L,
     line: &str,
     input: &mut I,
     output: O,
@@ -38,14 +38,17 @@ pub(crate) fn run<R: Host + Abort, L: Logs, I: Read, O: Write + Drop>(
     let (options, arguments) = request_of(&rt, line);
     let mut errors = Vec::new(rt.alloc());
     let arguments = arguments.as_slice();
-    let status = tee_with(rt, logs, &options, arguments, input, output, &mut errors);
+    let status = match tee_with(rt, logs, &options, arguments, input, output, &mut errors) {
+        Ok(_) => 0,
+        Err(status) => status,
+    };
     (status, errors)
 }
 
 /// The same, and compares its status and what it reports, in which `@` is the title of the log.
 pub(crate) fn check<R: Host + Abort, L: Logs, I: Read, O: Write + Drop>(
     rt: R,
-    logs: &L,
+    logs: L,
     line: &str,
     input: &mut I,
     output: O,
@@ -82,5 +85,5 @@ pub(crate) fn check_log<R: Host + Abort, L: TestLog + Send + Drop + 'static, I: 
     input: &mut I,
     told: (u8, &str),
 ) {
-    check(rt, &OneLog::new(log), line, input, io::sink(), told);
+    check(rt, OneLog::new(log), line, input, io::sink(), told);
 }

@@ -5,12 +5,13 @@ use crate::logs::{OneLog, Text};
 use crate::run::{check, request_of};
 use program_io::options::Options;
 use rolltee_core::check::{DirCheck, FileCheck};
-use rolltee_core::feed::{Feed, FeedSink};
+use rolltee_core::feed::{Asked, Feed, FeedSink};
 use std::io::Write;
 use std::test::Fail;
+use std::time::Clock;
 use std::{env, fs, io, process};
 use tracing_appender::folder::DirFolder;
-use tracing_appender::rolling::Builder;
+use tracing_appender::rolling::{Builder, Rotation};
 use tracing_appender::store::{Folder, Notice};
 
 // Returns what follows the time before a line, if that is a time in UTC with microseconds.
@@ -44,7 +45,7 @@ fn lines_get_times(rt: HostRuntime) -> Result<(), Fail> {
         let (log, output) = (Text::new(rt)?, Text::new(rt)?);
         let logs = OneLog::new(log.share()?);
         let mut input = text.as_slice();
-        check(rt, &logs, line, &mut input, output.share()?, (0, ""));
+        check(rt, logs, line, &mut input, output.share()?, (0, ""));
         let echoed = output.copy()?;
         log.expect(echoed.as_slice());
         let mut without = Vec::new(rt.alloc());
@@ -81,10 +82,32 @@ impl Write for Closing {
     }
 }
 
-impl FeedSink for Closing {
-    fn send(&mut self, line: &[u8]) -> io::Result<()> {
-        self.write_all(line)
+// A queue that takes nothing.
+#[derive(Drop)]
+struct Full;
+
+impl FeedSink for Full {
+    ghost use Rattle.std.specs.Prelude.{[]};
+
+    ghost sent = { λ _. [] };
+
+    fn send(&mut self, _text: &[u8]) -> io::Result<()> {
+        Err(io::Error::from(io::ErrorKind::OutOfMemory))
     }
+}
+
+// Whatever was asked for, of an output whose bytes are not known.
+#[derive(Drop)]
+struct Anything;
+
+impl Asked for Anything {
+    ghost use Rattle.std.specs.Prelude.{[], None};
+
+    ghost asked = { λ _ _ _ _. Unit {0} };
+
+    ghost printed = { None };
+
+    ghost first = { [] };
 }
 
 // The log gets all lines, though the output does not. The lines that it doesn't get are counted.
@@ -97,20 +120,33 @@ fn the_log_continues_without_an_output(rt: HostRuntime) -> Result<(), Fail> {
         let log = Text::new(rt)?;
         let logs = OneLog::new(log.share()?);
         let mut input = b"a\nb\nc".as_slice();
-        check(rt, &logs, line, &mut input, Closing { writes }, (1, told));
+        check(rt, logs, line, &mut input, Closing { writes }, (1, told));
         log.expect(b"a\nb\nc");
     }
     Ok(())
+}
+
+// A feed to a full queue. Something was asked for with its options: here this rotation.
+fn feed_of<R: Clock + AllocGlobal + Eprint>(
+    rt: R,
+    rotation: Rotation,
+    options: &Options,
+    output: Closing,
+) -> Feed<R, Full, Closing, Anything> {
+    let _ = rotation;
+    let feed = Feed::<R, Full, Closing, Anything>::new(rt, Full, options, output);
+    feed
 }
 
 // A line that is not queued is not echoed.
 #[test]
 fn a_line_is_queued_before_it_is_echoed(rt: HostRuntime) {
     let (options, _) = request_of(&rt, "--echo");
-    let (queue, output) = (Closing { writes: 0 }, Closing { writes: 0 });
-    let mut feed = Feed::new(rt, queue, &options, output);
+    let output = Closing { writes: 0 };
+    let mut feed = feed_of(rt, Rotation::NEVER, &options, output);
     expect_eq(&rt, feed.write(b"a\n").is_err(), true);
-    expect_eq(&rt, feed.unechoed(), 0);
+    let (_, _, unechoed) = feed.into_parts();
+    expect_eq(&rt, unechoed, 0);
 }
 
 // Returns the path of a folder of this test's own, which doesn't exist.

@@ -239,7 +239,7 @@ fn run_gated<R: Host + Abort>(
         left: text,
         gate: gate.clone()?,
     };
-    let (status, errors) = run(rt, &OneLog::new(log), line, &mut input, io::sink());
+    let (status, errors) = run(rt, OneLog::new(log), line, &mut input, io::sink());
     Ok((status, errors, gate.longest.load(SeqCst)))
 }
 

@@ -71,7 +71,11 @@ fn run<R: Host + Abort>(rt: R, count: u64, lines: u64) -> io::Result<()> {
 fn work_of_threads_has_an_account(rt: HostRuntime) -> io::Result<()> {
     run(rt, 0, 0)?;
     run(rt, 1, 0)?;
-    run(rt, 5, 10)?;
+    run(rt, 5, 10)
+}
+
+#[test]
+fn work_of_a_hundred_threads_has_an_account(rt: HostRuntime) -> io::Result<()> {
     run(rt, 100, 4950)
 }
 
@@ -128,7 +132,7 @@ fn run_nothing<R: Host + Abort>(rt: R) -> io::Result<()> {
     expect_eq(
         &rt,
         "works",
-        unstarted.works.as_slice(),
+        unstarted.work.as_slice(),
         works(rt, 3, false).as_slice(),
     );
     expect_shown(&rt, &unstarted, "Unstarted { .. }");

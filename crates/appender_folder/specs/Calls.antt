@@ -1,5 +1,6 @@
 -- What the calls of a folder of the file system count.
-use Rattle.std.specs.Prelude.{◌≡◌, ℕ, Bool, List, [], Result, MatchResult, OnOk, false}
+use Rattle.std.specs.Prelude.{◌≡◌, ℕ, Bool, List, [], ◌∷◌, ◌++◌, if◌then◌else◌, Result, MatchResult, OnOk, false}
+use Rattle.std.specs.Io.BufRead.{ends_with_byte}
 use Rattle.std.specs.FinMap as map
 use Rattle.std.specs.declared.io.Error.{Error}
 use Rattle.appender_names.specs.Name.{IsEntry}
@@ -7,9 +8,15 @@ use Rattle.appender_store.specs.Content.{Content}
 use Rattle.appender_store.specs.Folder.{next_count}
 use Rattle.appender_store.specs.declared.store.notices.NoticeCounts.{NoticeCounts}
 
--- What is seen of a folder of the file system: whether the last opening that succeeded made its file, how many calls of it failed,
--- and how often each kind of notice was noted.
+-- the path of a folder with a slash at its end; an empty path is the current directory
+abbrev pub base_path : List ℕ → List ℕ
+base_path [] = 46 ∷ 47 ∷ []
+base_path (x ∷ xs) = if ends_with_byte 47 (x ∷ xs) then x ∷ xs else (x ∷ xs) ++ (47 ∷ [])
+
+-- What is seen of a folder of the file system: its path, whether the last opening that succeeded made its file, how many calls of it
+-- failed, and how often each kind of notice was noted.
 pub record DirFolderState : Type 0 where
+  pub path : List ℕ
   pub made_file : Bool
   pub failures : ℕ
   pub noted : NoticeCounts

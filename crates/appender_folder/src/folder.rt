@@ -1,6 +1,7 @@
 //! A folder of the file system, as an appender writes to it.
+ghost use Rattle.std.specs.Prelude.{◌≡◌, string_bytes, IfOk};
 ghost use Rattle.std.specs.Io.KnownBytes.{Keeps};
-ghost use Rattle.appender_folder.specs.Calls.{CountsFailure};
+ghost use Rattle.appender_folder.specs.Calls.{base_path, CountsFailure};
 
 mod entries;
 mod files;
@@ -10,7 +11,7 @@ use appender_store::store::{Folder, Listed, Notice, NoticeCounts, NoticeKind};
 use entries::list_entries;
 use files::{is_named, open_plain, remove_plain};
 use links::{check_link, make_link};
-use std::alloc::AllocError;
+use std::alloc::{AllocError, Global};
 use std::fs::OpenFile;
 use std::io::{ErrorKind, Write};
 use std::marker::Model;
@@ -49,11 +50,26 @@ pub struct DirFolder<R = HostRuntime> {
 }
 
 impl<R> Model for DirFolder<R> {
+    ghost use Rattle.std.specs.Prelude.{string_bytes};
     ghost use Rattle.appender_folder.specs.Calls.{DirFolderState};
 
     ghost Value = { DirFolderState };
 
-    ghost view = { λ f. record { made_file = f.made_file; failures = f.failures; noted = f.noted } };
+    ghost view = { λ f. record { path = string_bytes f.path; made_file = f.made_file; failures = f.failures; noted = f.noted } };
+}
+
+// Returns the path of a folder with a slash at its end.
+fn base_of(alloc: Global, path: &str) -> Result<String, AllocError>
+    ensures { IfOk result (λ base. string_bytes base ≡ base_path path.now) }
+{
+    if path.is_empty() {
+        return String::from_str(alloc, "./");
+    }
+    let mut base = String::from_str(alloc, path)?;
+    if !path.ends_with('/') {
+        base.push('/')?;
+    }
+    Ok(base)
 }
 
 impl<R: FilesHost> DirFolder<R> {
@@ -64,17 +80,12 @@ impl<R: FilesHost> DirFolder<R> {
     /// Returns the folder at a path, which need not exist; an empty path is the current directory. Nothing
     /// is read or made.
     pub fn new(rt: R, path: &str) -> Result<DirFolder<R>, AllocError>
+        ensures path { IfOk result (λ folder. folder.path ≡ base_path path.now) }
         ensures failures { IfOk result (λ folder. folder.failures ≡ 0) }
         ensures notices { IfOk result (λ folder. notice_counts_of folder.noted ≡
             record { lists = 0; removes = 0; flushes = 0; opens = 0 }) }
     {
-        let mut base = String::from_str(rt.alloc(), path)?;
-        if base.is_empty() {
-            base.push('.')?;
-        }
-        if !base.ends_with('/') {
-            base.push('/')?;
-        }
+        let base = base_of(rt.alloc(), path)?;
         let title = String::new(rt.alloc());
         Ok(DirFolder {
             rt,

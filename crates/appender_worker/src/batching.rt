@@ -131,6 +131,23 @@ impl<W: LineSink + Drop> BatchWriter<W> {
         &self.writer
     }
 
+    /// Returns the writer. The lines that wait are not written.
+    pub fn into_inner(self) -> W
+        ensures { result ≡ self.writer }
+    {
+        let BatchWriter {
+            writer,
+            capacity: _,
+            bytes: _bytes,
+            lengths: _lengths,
+            taken: _,
+            lost: _,
+            fault: _fault,
+            shared: _shared,
+        } = self;
+        writer
+    }
+
     /// Returns the number of lines that the writer did not take whole.
     pub fn lost(&self) -> u64
         ensures { result ≡ self.now.lost }

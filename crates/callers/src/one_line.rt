@@ -52,7 +52,9 @@ pub fn greet<R: Host, W: Write + Send + Drop + 'static>(rt: R, log: W) -> io::Re
 {
     worker_laws::lines_not_given_up_are_whole();
     let hello = Hello { queued: false };
-    let ran = NonBlockingBuilder::default().run_lines(rt, rt.alloc(), log, hello, None)?;
+    let ran = NonBlockingBuilder::default()
+        .run_lines(rt, rt.alloc(), log, hello, None)
+        .map_err(|unstarted| unstarted.error)?;
     if !ran.work.queued {
         return Ok(None);
     }

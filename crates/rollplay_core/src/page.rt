@@ -39,9 +39,9 @@ impl fmt::Display for SwitchWord {
 
 // The number of bytes that were taken, or the failure.
 #[derive(Clone, Copy)]
-struct Taken<'a>(&'a Result<usize, io::ErrorKind>);
+struct Count<'a>(&'a Result<usize, io::ErrorKind>);
 
-impl fmt::Display for Taken<'_> {
+impl fmt::Display for Count<'_> {
     ghost use Rattle.std.specs.Prelude.{Some};
     ghost use Rattle.rollplay_core.specs.Page.{count_words};
 
@@ -127,8 +127,8 @@ fn print_reply(page: &mut Vec<u8>, reply: &RollReply) -> io::Result<()>
 {
     match reply {
         RollReply::Saw(switch) => writeln!(page, "{}", SwitchWord(*switch)),
-        RollReply::Put(switch, taken) => writeln!(page, "{} {}", SwitchWord(*switch), Taken(taken)),
-        RollReply::Wrote(taken) => writeln!(page, "{}", Taken(taken)),
+        RollReply::Put(switch, taken) => writeln!(page, "{} {}", SwitchWord(*switch), Count(taken)),
+        RollReply::Wrote(taken) => writeln!(page, "{}", Count(taken)),
         RollReply::Flushed(Ok(())) => writeln!(page, "ok"),
         RollReply::Flushed(Err(_)) => writeln!(page, "err"),
     }
@@ -154,7 +154,7 @@ fn print_queue_reply(page: &mut Vec<u8>, reply: &Reply) -> io::Result<()>
         Reply::Senders(count) => return writeln!(page, "senders {count}"),
         Reply::Took(ticket) => return writeln!(page, "took {ticket}"),
         Reply::Wrote(switch, taken) => {
-            return writeln!(page, "wrote {} {}", SwitchWord(*switch), Taken(taken));
+            return writeln!(page, "wrote {} {}", SwitchWord(*switch), Count(taken));
         }
         Reply::Full | Reply::Shut(Shut::Full) => "full",
         Reply::Closed | Reply::Shut(Shut::Closed) => "closed",

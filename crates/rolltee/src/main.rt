@@ -74,15 +74,19 @@ fn run<R: Host>(rt: R, host: &HostRuntime, words: &[String]) -> u8 {
         Ok(Request::Version) => print(&mut output, VERSION, 1),
         Ok(Request::Run(options, arguments)) => {
             let arguments = arguments.as_slice();
-            tee::tee_with(
+            let ended = tee::tee_with(
                 rt,
-                host,
+                *host,
                 &options,
                 arguments,
                 &mut host.stdin(),
                 output,
                 &mut errors,
-            )
+            );
+            match ended {
+                Ok(_) => 0,
+                Err(status) => status,
+            }
         }
         Err(fault) => tee::report_fault(&Fault::from(fault), PROGRAM, &mut errors),
     }

@@ -12,15 +12,14 @@ use Rattle.appender_rolling.specs.Config.{Config}
 use Rattle.rolltee_core.specs.Log.{OpensLog}
 
 pub opens_last : {S F C : Type 0} {kind : Ghosts S F} {time : Readings C} {config : Config} {folder : S} {clock : C} {new : Appending S F C}
-    → OpensNow kind time config folder clock new → OpensLog kind time config new
-opens_last {folder = folder} {clock = clock} opens = inl (folder, clock, opens)
+    → OpensNow kind time config folder clock new → OpensLog kind time config folder new
+opens_last {clock = clock} opens = inl (clock, opens)
 
 pub opens_next : {S F C : Type 0} {kind : Ghosts S F} {time : Readings C} {config : Config} {folder left : S} {clock same : C} {error : InitError} {fault : Error}
     {new : Appending S F C} → error ≡ FileRefused fault → (error_kind fault ≢ OutOfMemory) × (error_kind fault ≢ Interrupted) → OpensNone kind time config folder clock error left same
-    → OpensNow kind time (record config { continues = false }) left same new → OpensLog kind time config new
+    → OpensNow kind time (record config { continues = false }) left same new → OpensLog kind time config folder new
 opens_next {kind = kind} {time = time} {config = config} {folder = folder} {left = left} {clock = clock} {same = same} {fault = fault} is lasts refused opens =
     inr (record {
-      folder = folder;
       clock = clock;
       fault = fault;
       lasts = lasts;

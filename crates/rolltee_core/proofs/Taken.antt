@@ -1,6 +1,8 @@
 -- What a log took, and what a batch passed on.
 use Rattle.std.proofs.Common.{◌≡◌, ◌≢◌, ℕ, zero, suc, ◌+◌, ◌<◌, List, [], ◌∷◌, ◌++◌, Bool, true, false, cond, length, map, flat_map, count_by, ap, sym, refl, ◌∙◌, subst, arith, append_assoc, append-nil, max, if◌then◌else◌, ◌==◌}
-use Rattle.std.specs.Prelude.{Option, None, Some, Result}
+use Rattle.std.specs.Prelude.{Option, None, Some, Result, String, string_bytes}
+use Rattle.std.specs.declared.alloc.Global.{Global}
+use Rattle.appender_names.specs.RotationText.{rotation_word}
 use Rattle.std.specs.List.{FoldsTo, concat}
 use Rattle.std.specs.Io.KnownBytes.{Appends, Keeps, prepend_known}
 use Rattle.std.specs.Io.Buffered.{reader_buffer, reader_capacity, reader_inner, reader_remaining}
@@ -17,7 +19,12 @@ use Rattle.appender_worker.proofs.Served.{whole_lines, served_whole}
 use Rattle.appender_non_blocking.specs.SentLines.{SentLines, new_sender}
 use Rattle.appender_names.specs.declared.rotation.Rotation.{Rotation}
 use Rattle.program_io.specs.declared.options.Options.{Options}
-use Rattle.rolltee_core.specs.Taken.{AskedFor, IsCopied, WasOpened, PassesLine, TakesPieces, TookText}
+use Rattle.rolltee_core.specs.declared.losses.TeeLosses.{TeeLosses}
+use Rattle.program_io.specs.Options.{has_option, AreDefaults}
+use Rattle.program_io.specs.declared.options.OptionName.TheVariants.{Timestamps}
+use Rattle.rolltee_core.specs.Feed.{Feeding, FeedsLines, IsFed, IsTextOf}
+use Rattle.rolltee_core.specs.Taken.{AsAsked, AskedFor, FeedsAsAsked, IsCopied, LogsText, WasOpened, PassesLine, TakesPieces, TookInput, TookText}
+use Rattle.rolltee_core.proofs.Sent.{fed_lines}
 
 folds_on : {P A : Type 0} (step : P → A → P → Type 0) (p : P) (xs : List A) (q : P) (x : A) (r : P) → FoldsTo step p xs q → step q x r → FoldsTo step p (xs ++ x ∷ []) r
 folds_on step p [] q x r before last = (r, subst (λ s. step s x r) (sym before) last, refl)
@@ -117,14 +124,15 @@ all_taken {W} {is_opened} {takes} {is_kept} {given} {log} {waiting} all none too
     let same : log ≡ given = sym (all ∙ ap (λ t. log ++ t) none ∙ append-nil log) in
     subst (λ t. TookText is_opened takes is_kept t) same took
 
--- a log took the whole input
-pub all_logged : {W : Type 0} {is_opened : W → Type 0} {takes : W → List ℕ → W → Type 0} {is_kept : W → Type 0} {remaining : Option (List ℕ)} {timestamps lossy : Bool} {ended : SentLines} {dropped given_up : ℕ} {given : List ℕ}
-    → IsCopied remaining timestamps (new_sender lossy 0) ended dropped → ServesLines (Some []) (Some given) ended.lines given_up → TookText is_opened takes is_kept given
-    → dropped ≡ 0 → given_up ≡ 0 → timestamps ≡ false → (text : List ℕ) → remaining ≡ Some text → TookText is_opened takes is_kept text
-all_logged {W} {is_opened} {takes} {is_kept} {remaining} {timestamps} {lossy} {ended} {dropped} {given_up} {given} copied served took none whole plain text is =
-    let given_is : given ≡ text =
-    served_whole (Some []) (Some given) ended.lines (subst (λ n. ServesLines (Some []) (Some given) ended.lines n) whole served) ∙ copied.lines plain none text is in
-    subst (λ t. TookText is_opened takes is_kept t) given_is took
+-- a log took the lines of the whole input
+pub all_logged : {W : Type 0} {opens : Rotation → List ℕ → List ℕ → Options → W → Type 0} {asked : Rotation → List ℕ → List ℕ → Options → Type 0} {takes : W → List ℕ → W → Type 0} {is_kept : W → Type 0}
+    {before after remaining : Option (List ℕ)} {lossy : Bool} {ended : SentLines} {losses : TeeLosses} {given_up : ℕ} {given : List ℕ}
+    → IsCopied asked before after remaining (new_sender lossy 0) ended losses → ServesLines (Some []) (Some given) ended.lines given_up → TookText (WasOpened opens asked) takes is_kept given
+    → losses.dropped ≡ 0 → losses.unechoed ≡ 0 → given_up ≡ 0 → (text : List ℕ) → remaining ≡ Some text → TookInput opens asked takes is_kept before after text
+all_logged {W} {opens} {asked} {takes} {is_kept} {ended = ended} {given = given} copied served took none echoed whole text is =
+    let sent = copied.sent none echoed text is in
+    let given_is : given ≡ sent.0 = served_whole (Some []) (Some given) ended.lines (subst (λ n. ServesLines (Some []) (Some given) ended.lines n) whole served) ∙ sent.2 in
+    (sent.0, sent.1, subst (λ t. TookText (WasOpened opens asked) takes is_kept t) given_is took)
 
 pub max_none : (m n : ℕ) → max m n ≡ 0 → (m ≡ 0) × (n ≡ 0)
 max_none m n e = (omega (arith, e), omega (arith, e))
@@ -135,14 +143,55 @@ pub reader_new : {T A : Type 0} (remaining : T → Option (List ℕ)) (r : BufRe
 reader_new remaining r text capacity empty is =
     ap (λ n. if n == 0 then None else prepend_known (reader_buffer r) (remaining r.inner)) capacity ∙ ap (λ b. prepend_known b (remaining r.inner)) empty ∙ ap (λ t. prepend_known [] t) is
 
+-- what is so for what was asked for, if that was these alone
+pub as_asked : {is : Rotation → List ℕ → List ℕ → Options → Type 0} {rotation : Rotation} {directory prefix : List ℕ} {options : Options}
+    → AsAsked is (AskedFor rotation directory prefix options) → is rotation directory prefix options
+as_asked {is} o =
+    let r = subst (λ x. is x o.1 o.2 o.3) o.4.0 o.5 in
+    let d = subst (λ x. is _ x o.2 o.3) o.4.1 r in
+    let p = subst (λ x. is _ _ x o.3) o.4.2 d in
+    subst (λ x. is _ _ _ x) o.4.3 p
+
 -- a log that was opened by what was asked for alone
 pub takes_asked : {W : Type 0} {opens : Rotation → List ℕ → List ℕ → Options → W → Type 0} {takes : W → List ℕ → W → Type 0} {is_kept : W → Type 0} {text : List ℕ} {rotation : Rotation} {directory prefix : List ℕ} {options : Options}
     → TookText (WasOpened opens (AskedFor rotation directory prefix options)) takes is_kept text → TookText (opens rotation directory prefix options) takes is_kept text
-takes_asked {W} {opens} t =
-    let o = t.took.opened in
-    let log = t.took.first in
-    let r = subst (λ x. opens x o.1 o.2 o.3 log) o.4.0 o.5 in
-    let d = subst (λ x. opens _ x o.2 o.3 log) o.4.1 r in
-    let p = subst (λ x. opens _ _ x o.3 log) o.4.2 d in
-    let q = subst (λ x. opens _ _ _ x log) o.4.3 p in
-    record { last = t.last; pieces = t.pieces; took = record { first = log; opened = q; took = t.took.took }; text_is = t.text_is; kept = t.kept }
+takes_asked t = record {
+  last = t.last;
+  pieces = t.pieces;
+  took = record { first = t.took.first; opened = as_asked t.took.opened; took = t.took.took };
+  text_is = t.text_is;
+  kept = t.kept;
+}
+
+-- a log that was opened by three words and the options took the lines of the input
+pub logs_input : {W : Type 0} {opens : Rotation → List ℕ → List ℕ → Options → W → Type 0} {takes : W → List ℕ → W → Type 0} {is_kept : W → Type 0} {before after : Option (List ℕ)} {text : List ℕ} {rotation : Rotation} {options : Options}
+    {arguments : List (String Global)} (word directory prefix : String Global) → arguments ≡ word ∷ directory ∷ prefix ∷ [] → string_bytes word ≡ rotation_word rotation
+    → TookInput opens (AskedFor rotation (string_bytes directory) (string_bytes prefix) options) takes is_kept before after text
+    → (lines : List ℕ) × FeedsLines options before after text lines × LogsText opens options takes is_kept arguments lines
+logs_input {rotation = rotation} word directory prefix words named t =
+    (t.0, as_asked t.1, record { rotation = rotation; word = word; directory = directory; prefix = prefix; words = words; named = named; took = takes_asked t.2 })
+
+-- what a feed sent and echoed of all pieces
+pub feeds_all : {Q O : Type 0} {sent : Q → List ℕ} {contents : O → Option (List ℕ)} {first : List ℕ} {before : Option (List ℕ)} {asked : Rotation → List ℕ → List ℕ → Options → Type 0}
+    (f : Feeding Q O) → AsAsked (λ _ _ _ options. IsFed sent contents first before options f) asked → f.echoing.unechoed ≡ 0 → {text : List ℕ} {after : Option (List ℕ)}
+    → f.given ≡ text → contents f.echoing.output ≡ after → (lines : List ℕ) × FeedsAsAsked asked before after text lines × (sent f.echoing.sink ≡ first ++ lines)
+feeds_all {sent = sent} {contents = contents} {first = first} {before = before} f fed all {text} {after} given_is after_is =
+    let is = fed.5 in (
+      is.lines,
+      (
+        fed.0,
+        fed.1,
+        fed.2,
+        fed.3,
+        fed.4,
+        subst (λ t. FeedsLines fed.3 before after t is.lines) given_is
+            (subst (λ o. FeedsLines fed.3 before o f.given is.lines) after_is (fed_lines sent contents first before fed.3 f is all)),
+      ),
+      is.sent_is,
+    )
+
+-- without options the lines are the text
+pub plain_lines : {options : Options} {before after : Option (List ℕ)} {text lines : List ℕ} → AreDefaults options → FeedsLines options before after text lines → lines ≡ text
+plain_lines {options} {text = text} {lines = lines} plain feeds =
+    let none : has_option Timestamps options ≡ false = rw plain refl in
+    subst (λ b. IsTextOf b true text lines) none feeds.timed

@@ -7,12 +7,7 @@ use Rattle.std.proofs.lemmas.Bool.Decides.{nat_tests}
 use Rattle.std.specs.Io.{StopsAt}
 use Rattle.std.specs.Io.BufRead.{ends_with_byte}
 use Rattle.jiff_core.specs.declared.civil.datetime.DateTime.{DateTime}
-use Rattle.rolltee_core.specs.Feed.{IsTimed, line_count, stamp_text}
-
--- whether the byte after these begins a line
-abbrev pub begins_after : Bool → List ℕ → Bool
-begins_after begins [] = begins
-begins_after begins (x ∷ xs) = begins_after (x == 10) xs
+use Rattle.rolltee_core.specs.Feed.{IsTimed, IsTextOf, begins_after, line_count, stamp_text}
 
 pub timed_on : (begins : Bool) (xs ys text more : List ℕ) → IsTimed begins xs text → IsTimed (begins_after begins xs) ys more → IsTimed begins (xs ++ ys) (text ++ more)
 timed_on false [] ys text more none next = subst (λ t. IsTimed false ys (t ++ more)) (sym none) next
@@ -20,6 +15,19 @@ timed_on true [] ys text more none next = subst (λ t. IsTimed true ys (t ++ mor
 timed_on false (x ∷ xs) ys text more first next = (first.0 ++ more, ap (λ t. t ++ more) first.1, timed_on (x == 10) xs ys first.0 more first.2 next)
 timed_on true (x ∷ xs) ys text more first next =
     (first.0, first.1 ++ more, ap (λ t. t ++ more) first.2 ∙ append_assoc (stamp_text first.0) (x ∷ first.1) more, timed_on (x == 10) xs ys first.1 more first.3 next)
+
+-- with times or without
+pub text_on : (t begins : Bool) (xs ys text more : List ℕ) → IsTextOf t begins xs text → IsTextOf t (begins_after begins xs) ys more → IsTextOf t begins (xs ++ ys) (text ++ more)
+text_on false begins xs ys text more first next = ap (λ z. z ++ more) first ∙ ap (λ z. xs ++ z) next
+text_on true begins xs ys text more first next = timed_on begins xs ys text more first next
+
+pub begins_on : (begins : Bool) (xs ys : List ℕ) → begins_after begins (xs ++ ys) ≡ begins_after (begins_after begins xs) ys
+begins_on begins [] ys = refl
+begins_on begins (x ∷ xs) ys = begins_on (x == 10) xs ys
+
+pub text_none : (t : Bool) → IsTextOf t true [] []
+text_none false = refl
+text_none true = refl
 
 pub counts_on : (begins : Bool) (xs ys : List ℕ) → line_count begins (xs ++ ys) ≡ line_count begins xs + line_count (begins_after begins xs) ys
 counts_on false [] ys = omega arith
@@ -75,6 +83,15 @@ ends_later x y ys =
     let place : length (x ∷ y ∷ ys) - 1 ≡ suc (length (y ∷ ys) - 1) = omega arith in
     let same : get_or (x ∷ y ∷ ys) (length (x ∷ y ∷ ys) - 1) 0 ≡ get_or (y ∷ ys) (length (y ∷ ys) - 1) 0 = ap (λ k. get_or (x ∷ y ∷ ys) k 0) place in
     grind (arith, nat_tests)
+
+-- the last byte says whether a line begins
+last_ends : (begins : Bool) (x : ℕ) (xs : List ℕ) → begins_after begins (x ∷ xs) ≡ ends_with_byte 10 (x ∷ xs)
+last_ends begins x [] = refl
+last_ends begins x (y ∷ ys) = last_ends (x == 10) y ys ∙ sym (ends_later x y ys)
+
+pub begins_ends : (begins : Bool) (xs : List ℕ) → (length xs == 0) ≡ false → begins_after begins xs ≡ ends_with_byte 10 xs
+begins_ends begins [] some = absurd (let never : true ≡ false = some in cc)
+begins_ends begins (x ∷ xs) some = last_ends begins x xs
 
 -- after a newline a line begins
 pub begins_after_end : (begins : Bool) (xs : List ℕ) → ends_with_byte 10 xs ≡ true → begins_after begins xs ≡ true

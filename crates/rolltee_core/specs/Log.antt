@@ -1,5 +1,5 @@
 -- The log of a run. `kind` has the ghost members of a kind of folder, and `time` those of a kind of clock.
-use Rattle.std.specs.Prelude.{◌≡◌, ◌≢◌, ◌⊎◌, ℕ, ℤ, ◌+◌, List, [], ◌∷◌, length, take, Ok, Err, Result, Bool, true, false, ◌&&◌, ◌==◌, if◌then◌else◌, not, nat_lt, IsTrue}
+use Rattle.std.specs.Prelude.{◌≡◌, ◌≢◌, ◌≤◌, ◌<◌, ◌⊎◌, ℕ, ℤ, ◌+◌, IsErr, List, [], ◌∷◌, length, take, Ok, Err, Result, Bool, true, false, ◌&&◌, ◌==◌, if◌then◌else◌, not, nat_lt, IsTrue}
 use Rattle.std.specs.Io.BufRead.{ends_with_byte}
 use Rattle.std.specs.IoError.{error_kind}
 use Rattle.std.specs.declared.io.Error.{Error}
@@ -11,7 +11,7 @@ use Rattle.appender_store.specs.declared.store.Folder.{Ghosts}
 use Rattle.appender_rolling.specs.declared.rolling.Switch.{Switch}
 use Rattle.appender_rolling.specs.declared.rolling.Switch.TheVariants.{Opened as Switched}
 use Rattle.appender_runtime.specs.declared.clock.Clock.{Ghosts as Readings}
-use Rattle.appender_rolling.specs.Appender.{Appending, AppendsNow, FlushesNow, OpensNow, OpensInSomeFolder, OpensNone}
+use Rattle.appender_rolling.specs.Appender.{Appending, AppendsNow, FlushesNow, OpensNow, OpensNone}
 use Rattle.appender_rolling.specs.Config.{Config}
 use Rattle.appender_rolling.specs.Roller.{ChecksClock}
 use Rattle.program_io.specs.Options.{number_of, text_of}
@@ -59,8 +59,7 @@ newline_length false = 0
 -- ---- openings
 
 -- The file that the configuration leads to was refused, for more than want of memory or an interruption, and the log was opened with the next one.
-pub record OpensNext {S F C : Type 0} (kind : Ghosts S F) (time : Readings C) (config : Config) (new : Appending S F C) : Type 0 where
-  pub folder : S
+pub record OpensNext {S F C : Type 0} (kind : Ghosts S F) (time : Readings C) (config : Config) (folder : S) (new : Appending S F C) : Type 0 where
   pub clock : C
   pub fault : Error
   pub lasts : (error_kind fault ≢ OutOfMemory) × (error_kind fault ≢ Interrupted)
@@ -69,9 +68,9 @@ pub record OpensNext {S F C : Type 0} (kind : Ghosts S F) (time : Readings C) (c
   pub refused : OpensNone kind time config folder clock (FileRefused fault) left same
   pub opens : OpensNow kind time (record config { continues = false }) left same new
 
--- a log was opened, with its last file if it continues that and may open it
-abbrev pub OpensLog : {S F C : Type 0} → Ghosts S F → Readings C → Config → Appending S F C → Type 0
-OpensLog kind time config new = OpensInSomeFolder kind time config new ⊎ OpensNext kind time config new
+-- a log was opened in a folder, with its last file if it continues that and may open it
+abbrev pub OpensLog : {S F C : Type 0} → Ghosts S F → Readings C → Config → S → Appending S F C → Type 0
+OpensLog {C = C} kind time config folder new = ((clock : C) × OpensNow kind time config folder clock new) ⊎ OpensNext kind time config folder new
 
 -- the open file was flushed
 abbrev pub LetsGo : {S F C : Type 0} → Ghosts S F → Appending S F C → Appending S F C → Type 0
@@ -79,7 +78,8 @@ LetsGo kind old new = (answer : Result (Unit {0}) Error) × FlushesNow kind answ
 
 -- A log was opened in place of another, whose open file was flushed before.
 pub record OpensAnew {S F C : Type 0} (kind : Ghosts S F) (time : Readings C) (config : Config) (old new : Appending S F C) : Type 0 where
-  pub opens : OpensLog kind time config new
+  pub folder : S
+  pub opens : OpensLog kind time config folder new
   pub closed : Appending S F C
   pub flushes : LetsGo kind old closed
 
@@ -98,20 +98,26 @@ pub record LogState (S F C : Type 0) : Type 0 where
   pub anew : Bool
   -- whether its last call was a flush that succeeded
   pub flushed : Bool
+  -- how many flushes failed, those at a switch aside
+  pub failed : ℕ
 
--- a log was opened, and nothing was done with it yet
-pub record IsNewLog {S F C : Type 0} (kind : Ghosts S F) (time : Readings C) (asked : Config) (new : LogState S F C) : Type 0 where
-  pub opens : OpensLog kind time asked new.log
+-- a log was opened in such a folder, and nothing was done with it yet
+pub record IsNewLog {S F C : Type 0} (kind : Ghosts S F) (time : Readings C) (is_at : S → Type 0) (asked : Config) (new : LogState S F C) : Type 0 where
+  pub folder : S
+  pub at : is_at folder
+  pub opens : OpensLog kind time asked folder new.log
   pub config : new.config ≡ asked
   pub whole : new.cut ≡ false → EndsWhole kind new.log
   pub short : new.short ≡ false
   pub anew : new.anew ≡ false
   pub flushed : new.flushed ≡ false
+  pub failed : new.failed ≡ 0
 
--- The log was never opened again, its last call was a flush that succeeded, and no flush at a switch failed.
+-- The log was never opened again, its last call was a flush that succeeded, and no flush failed, at a switch neither.
 pub record IsKept {S F C : Type 0} (kind : Ghosts S F) (l : LogState S F C) : Type 0 where
   pub never_anew : l.anew ≡ false
   pub flushed : l.flushed ≡ true
+  pub none_failed : l.failed ≡ 0
   pub noted : (kind.noted l.log.roller.folder).flushes ≡ 0
 
 -- ---- writes
@@ -188,11 +194,12 @@ taken_of (Err error) bytes = []
 -- flushed or a line was given up. The rest of a line is due only after a write that took a part of one.
 pub record TakesPiece {S F C : Type 0} (kind : Ghosts S F) (time : Readings C) (old : LogState S F C) (taken : List ℕ) (new : LogState S F C) : Type 0 where
   pub config : new.config ≡ old.config
+  pub failed : old.failed ≤ new.failed
   pub call :
       ((bytes : List ℕ) × (n : ℕ) × (taken ≡ take n bytes) × PutsBytes kind time bytes (Ok n) old new
       × (new.short ≡ is_part bytes n) × (new.flushed ≡ false))
       ⊎ ((taken ≡ []) × (bytes : List ℕ) × (error : Error) × PutsNone kind time bytes error old new
       × (new.short ≡ true → old.short ≡ true) × (new.flushed ≡ false))
       ⊎ ((taken ≡ []) × (answer : Result Unit Error) × FlushesNow kind answer old.log new.log
-      × (new.short ≡ old.short) × (new.owed ≡ old.owed) × (new.anew ≡ old.anew) × (new.flushed ≡ true → answer ≡ Ok tt))
+      × (new.short ≡ old.short) × (new.owed ≡ old.owed) × (new.anew ≡ old.anew) × (new.flushed ≡ true → answer ≡ Ok tt) × (IsErr answer → 0 < new.failed))
       ⊎ ((taken ≡ []) × (new.log ≡ old.log) × (new.short ≡ false) × (new.anew ≡ old.anew) × (new.flushed ≡ false))

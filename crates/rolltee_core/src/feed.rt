@@ -1,14 +1,18 @@
 //! The way of an input's lines to a queue or a log: times before them, and a copy to standard output.
-ghost use Rattle.std.specs.Prelude.{◌≡◌, ◌≢◌, ◌<◌, ◌≤◌, ◌-◌, ◌+◌, ◌^◌, ◌⊎◌, ◌++◌, ◌∷◌, cond, min, max, ℕ, List, [], Option, All, not, length, take, true, false, None, Some, IfOk, OnOk, OnErr, MatchResult};
+ghost use Rattle.std.specs.Prelude.{◌≡◌, ◌≢◌, ◌<◌, ◌≤◌, ◌-◌, ◌+◌, ◌^◌, ◌⊎◌, ◌++◌, ◌∷◌, cond, min, max, ℕ, List, [], All, not, length, take, true, false, Some, IfOk, OnOk, OnErr, MatchResult};
 ghost use Rattle.std.specs.List.{concat};
 ghost use Rattle.std.specs.Io.{WritesAtMost};
 ghost use Rattle.std.specs.Io.BufRead.{ends_with_byte};
-ghost use Rattle.std.specs.Io.KnownBytes.{Appends, Keeps, WriteAppends};
+ghost use Rattle.std.specs.Io.KnownBytes.{Keeps, WriteAppends};
 ghost use Rattle.program_io.specs.Options.{has_option};
 ghost use Rattle.program_io.specs.declared.options.OptionName.{OptionName};
+ghost use Rattle.appender_names.specs.declared.rotation.Rotation.{Rotation};
 ghost use Rattle.jiff_core.specs.declared.civil.datetime.DateTime.{DateTime};
-ghost use Rattle.rolltee_core.specs.Feed.{line_count, stamp_text, Echoes, IsTextOf, IsTimed, Sends, KeepsOptions, fed_in};
+ghost use Rattle.rolltee_core.specs.Feed.{begins_after, line_count, stamp_text, Echoes, IsFed, IsTextOf, IsTimed, Sends};
+ghost use Rattle.rolltee_core.specs.Taken.{AsAsked};
 
+use crate::file_log::ends_line;
+pub use crate::waiting::Asked;
 use jiff_core::Timestamp;
 use jiff_fmt::temporal::DateTimePrinter;
 use line_history::{Recorded, Tape};
@@ -17,26 +21,26 @@ use program_io::options::{OptionName, Options};
 use program_io::report::report;
 use std::alloc::{AllocError, Global};
 use std::io::Write;
-use std::marker::Model;
+use std::marker::{Model, PhantomData};
 use std::sync::Wait;
 use std::time::{Clock, Duration};
-use std::{io, mem, thread};
+use std::{io, thread};
 use tracing_appender::non_blocking::LineSender;
 use tracing_appender::worker::LineCounts;
 
 /// What a feed sends lines to: a queue, or a log.
 pub trait FeedSink {
-    /// The bytes of the lines that were sent, if they are known.
-    ghost sent: { Self → Option (List ℕ) } = { λ _. None };
+    /// The bytes of the lines that were sent.
+    ghost sent: { Self → List ℕ };
 
     /// Sends whole lines, or a part of a long line. A lossy queue may drop them. After an error they were not sent.
     fn send(&mut self, text: &[u8]) -> io::Result<()>
-        ensures { MatchResult result (λ _. Appends (sent self.old) (sent self.new) text.now)
-            (λ _. Keeps (sent self.old) (sent self.new)) };
+        ensures { MatchResult result (λ _. sent self.new ≡ sent self.old ++ text.now)
+            (λ _. sent self.new ≡ sent self.old) };
 
     /// Flushes what was sent, if no other thread does.
     fn flush(&mut self)
-        ensures { Keeps (sent self.old) (sent self.new) }
+        ensures { sent self.new ≡ sent self.old }
     {}
 }
 
@@ -237,7 +241,7 @@ impl<'a, R: Wait + Clock + Eprint + Drop, S: LineSender + Drop> SenderQueue<'a, 
 }
 
 impl<'a, R: Wait + Clock + Eprint + Drop, S: LineSender + Drop> FeedSink for SenderQueue<'a, R, S> {
-    ghost sent = { λ q. Some (concat q.offered) };
+    ghost sent = { λ q. concat q.offered };
 
     /// Queues a line. If 16 MiB wait, a lossy queue drops it, and another waits before until they are written.
     fn send(&mut self, line: &[u8]) -> io::Result<()> {
@@ -259,73 +263,34 @@ fn left<S: LineSender>(sender: &S, counts: &LineCounts, sent: u64) -> u64 {
         .saturating_sub(done)
 }
 
-/// Sends the pieces of an input, each line after a time if that is asked for, and writes them to the output.
+// Sends texts, and writes them to the output if that is asked for.
 #[derive(Drop)]
-pub struct Feed<R, Q, O> {
+struct Echo<R, Q, O> {
     rt: R,
     sink: Q,
-    // Whether each line begins with the time at which it was read.
-    timestamps: bool,
     // Whether each line is also written to the output.
     echo: bool,
-    // The buffer for lines and their times.
-    stamped: Vec<u8>,
-    // Whether the last piece ended within a line, so that the next one goes on with it.
-    within: bool,
     // Where each line is also written, until that fails.
     output: O,
     // The number of lines that were not written whole there.
     unechoed: u64,
 }
 
-impl<R, Q, O> Model for Feed<R, Q, O> {
-    ghost use Rattle.rolltee_core.specs.Feed.{Feeding};
+impl<R, Q, O> Model for Echo<R, Q, O> {
+    ghost use Rattle.rolltee_core.specs.Feed.{Echoing};
 
-    ghost Value = { Feeding Q O };
+    ghost Value = { Echoing Q O };
 
-    ghost view = { λ f. record { sink = f.sink; output = f.output; timestamps = f.timestamps; echo = f.echo; within = f.within; unechoed = f.unechoed } };
+    ghost view = { λ e. record { sink = e.sink; output = e.output; echo = e.echo; unechoed = e.unechoed } };
 }
 
-impl<R: Drop, Q, O: Drop> Feed<R, Q, O> {
-    /// Returns what the lines were sent to.
-    pub fn into_sink(self) -> Q
-        ensures { result ≡ self.sink }
-    {
-        self.sink
-    }
-}
-
-impl<R, Q, O> Feed<R, Q, O> {
-    /// Returns the number of lines that were not written whole to the output.
-    pub fn unechoed(&self) -> u64 {
-        self.unechoed
-    }
-}
-
-impl<R: Clock + AllocGlobal + Eprint, Q: FeedSink, O: Write> Feed<R, Q, O> {
-    /// Returns a feed. What is done with each line is in the options.
-    pub fn new(rt: R, sink: Q, options: &Options, output: O) -> Feed<R, Q, O>
-        ensures { result ≡ record { sink = sink; output = output; timestamps = has_option OptionName.Timestamps options.now; echo = has_option OptionName.Echo options.now; within = false; unechoed = 0 } }
-    {
-        let stamped = Vec::new(rt.alloc());
-        Feed {
-            rt,
-            sink,
-            timestamps: options.has(OptionName::Timestamps),
-            echo: options.has(OptionName::Echo),
-            stamped,
-            within: false,
-            output,
-            unechoed: 0,
-        }
-    }
-
+impl<R: Eprint, Q: FeedSink, O: Write> Echo<R, Q, O> {
     // Sends a text, and writes it to the output if that is asked for.
     fn send(&mut self, text: &[u8]) -> io::Result<()>
         ensures sent { OnOk result (Sends Q.sent O.contents text.now self.old self.new) }
-        ensures not_sent { OnErr result (Keeps (Q.sent self.old.sink) (Q.sent self.new.sink)) }
-        ensures options { KeepsOptions self.old self.new }
-        ensures within { self.new.within ≡ self.old.within }
+        ensures not_sent { OnErr result ((Q.sent self.new.sink ≡ Q.sent self.old.sink)
+            × (self.new ≡ record self.old { sink = self.new.sink })) }
+        ensures echo { self.new.echo ≡ self.old.echo }
     {
         self.sink.send(text)?;
         self.echo_text(text);
@@ -350,55 +315,150 @@ impl<R: Clock + AllocGlobal + Eprint, Q: FeedSink, O: Write> Feed<R, Q, O> {
         }
         self.unechoed = add_lines(self.unechoed, text);
     }
+}
 
-    // Sends a piece with a time before each line that begins in it.
-    fn send_stamped(&mut self, piece: &[u8], begins: bool) -> io::Result<()>
-        ensures sent { OnOk result ((text : List ℕ) × IsTimed begins piece.now text
-            × Sends Q.sent O.contents text self.old self.new) }
-        ensures not_sent { OnErr result (Keeps (Q.sent self.old.sink) (Q.sent self.new.sink)) }
-        ensures options { KeepsOptions self.old self.new }
-        ensures within { self.new.within ≡ self.old.within }
+/// Sends the pieces of an input, each line after a time if that is asked for, and writes them to the output.
+#[derive(Drop)]
+pub struct Feed<R, Q: FeedSink, O: Write, N: Asked> {
+    echo: Echo<R, Q, O>,
+    // Whether each line begins with the time at which it was read.
+    timestamps: bool,
+    // The buffer for lines and their times.
+    stamped: Vec<u8>,
+    // Whether the last piece ended within a line, so that the next one goes on with it.
+    within: bool,
+    // The pieces.
+    given: Tape,
+    asked: PhantomData<N>,
+}
+
+impl<R, Q: FeedSink, O: Write, N: Asked> Model for Feed<R, Q, O, N> {
+    ghost use Rattle.std.specs.List.{concat};
+    ghost use Rattle.rolltee_core.specs.Feed.{Feeding, IsFed};
+    ghost use Rattle.rolltee_core.specs.Taken.{AsAsked};
+
+    ghost Value = { Feeding Q O };
+
+    ghost view = { λ f. record { echoing = f.echo; timestamps = f.timestamps; within = f.within; given = concat f.given.lines } };
+
+    ghost invariant = { λ f. AsAsked (λ _ _ _ options. IsFed Q.sent O.contents N.first N.printed options (record { echoing = f.echo; timestamps = f.timestamps; within = f.within; given = concat f.given.lines })) N.asked };
+}
+
+impl<R: Drop, Q: FeedSink + Drop, O: Write + Drop, N: Asked> Feed<R, Q, O, N> {
+    /// Returns what the lines were sent to, the output, and the number of lines that were not written whole to that.
+    pub fn into_parts(self) -> (Q, O, u64)
+        ensures parts { (result.0 ≡ self.echoing.sink) × (result.1 ≡ self.echoing.output) × (result.2 ≡ self.echoing.unechoed) }
+        ensures fed { AsAsked (λ _ _ _ options. IsFed Q.sent O.contents N.first N.printed options self) N.asked }
     {
-        let mut stamped = mem::replace(&mut self.stamped, Vec::new(self.rt.alloc()));
-        let printer = DateTimePrinter::new().precision(Some(6));
-        let time = printer.timestamp_text(now(&self.rt));
-        stamp(&mut stamped, time.as_str().as_bytes(), piece, begins)?;
-        let sent = self.send(stamped.as_slice());
-        self.stamped = stamped;
-        sent
+        let Feed {
+            echo,
+            timestamps: _,
+            stamped: _stamped,
+            within: _,
+            given: _given,
+            asked: _,
+        } = self;
+        let Echo {
+            rt: _rt,
+            sink,
+            echo: _,
+            output,
+            unechoed,
+        } = echo;
+        (sink, output, unechoed)
     }
 }
 
-impl<R: Clock + AllocGlobal + Eprint, Q: FeedSink, O: Write> Write for Feed<R, Q, O> {
-    ghost contents = { λ f. fed_in Q.sent f };
+impl<R: Clock + AllocGlobal + Eprint, Q: FeedSink, O: Write, N: Asked> Feed<R, Q, O, N> {
+    /// Returns a feed. What is done with each line is in the options.
+    pub fn new(rt: R, sink: Q, options: &Options, output: O) -> Feed<R, Q, O, N>
+        requires first { N.first ≡ Q.sent sink }
+        requires printed { N.printed ≡ O.contents output }
+        requires asked { (rotation : Rotation) × (directory : List ℕ) × (prefix : List ℕ) × N.asked rotation directory prefix options.now }
+        ensures { result ≡ record {
+          echoing = record { sink = sink; output = output; echo = has_option OptionName.Echo options.now; unechoed = 0 };
+          timestamps = has_option OptionName.Timestamps options.now;
+          within = false;
+          given = [];
+        } }
+    {
+        let stamped = Vec::new(rt.alloc());
+        let echo = Echo {
+            rt,
+            sink,
+            echo: options.has(OptionName::Echo),
+            output,
+            unechoed: 0,
+        };
+        Feed {
+            echo,
+            timestamps: options.has(OptionName::Timestamps),
+            stamped,
+            within: false,
+            given: Tape::of(&()),
+            asked: PhantomData,
+        }
+    }
+}
+
+impl<R: Clock + AllocGlobal + Eprint, Q: FeedSink, O: Write, N: Asked> Write for Feed<R, Q, O, N> {
+    ghost contents = { λ f. Some f.given };
 
     /// Sends one piece of an input: lines, or a part of a long line. Errors are those of the sink.
     fn write(&mut self, piece: &[u8]) -> io::Result<usize>
         ensures bound { WritesAtMost result piece.now }
-        ensures bytes { WriteAppends (fed_in Q.sent self.old) (fed_in Q.sent self.new) result piece.now }
+        ensures bytes { WriteAppends (Some self.old.given) (Some self.new.given) result piece.now }
         ensures whole { IfOk result (λ n. n ≡ length piece.now) }
         ensures sent { OnOk result ((text : List ℕ)
             × IsTextOf self.old.timestamps (not self.old.within) piece.now text
-            × Sends Q.sent O.contents text self.old self.new) }
-        ensures options { KeepsOptions self.old self.new }
-        ensures within { self.new.within ≡ not (ends_with_byte 10 piece.now) }
+            × Sends Q.sent O.contents text self.old.echoing self.new.echoing) }
+        ensures within { MatchResult result (λ _. self.new.within ≡ not (begins_after (not self.old.within) piece.now))
+            (λ _. self.new.within ≡ self.old.within) }
+        ensures options { (self.new.timestamps ≡ self.old.timestamps) × (self.new.echoing.echo ≡ self.old.echoing.echo) }
     {
-        let begins = !self.within;
-        self.within = piece.last() != Some(&b'\n');
         if self.timestamps {
-            self.send_stamped(piece, begins)?;
+            stamp_now(&self.echo.rt, &mut self.stamped, piece, !self.within)?;
+            self.echo.send(self.stamped.as_slice())?;
         } else {
-            self.send(piece)?;
+            self.echo.send(piece)?;
         }
+        self.given.note(piece);
+        self.within = is_within(self.within, piece);
         Ok(piece.len())
     }
 
     /// Flushes what was sent, if no other thread does.
-    #[tactic(auto, using(crate::proofs::Sent::fed_kept))]
-    fn flush(&mut self) -> io::Result<()> {
-        self.sink.flush();
+    fn flush(&mut self) -> io::Result<()>
+        ensures bytes { Keeps (Some self.old.given) (Some self.new.given) }
+    {
+        self.echo.sink.flush();
         Ok(())
     }
+}
+
+// Returns whether what follows this piece goes on with a line, as the piece itself does if this is `within` one.
+fn is_within(within: bool, piece: &[u8]) -> bool
+    ensures { result ≡ not (begins_after (not within) piece.now) }
+{
+    if piece.is_empty() {
+        within
+    } else {
+        !ends_line(piece)
+    }
+}
+
+// Puts a piece into `stamped`, in place of what that contained, with the time before each line that begins in it.
+fn stamp_now<R: Clock>(
+    rt: &R,
+    stamped: &mut Vec<u8>,
+    piece: &[u8],
+    begins: bool,
+) -> Result<(), AllocError>
+    ensures { OnOk result (IsTimed begins piece.now stamped.new.items) }
+{
+    let printer = DateTimePrinter::new().precision(Some(6));
+    let time = printer.timestamp_text(now(rt));
+    stamp(stamped, time.as_str().as_bytes(), piece, begins)
 }
 
 // Puts a piece into `stamped`, in place of what that contained, with this time and a space before each line that begins in it.

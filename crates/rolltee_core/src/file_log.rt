@@ -16,16 +16,23 @@ use tracing_appender::store::Folder;
 
 /// Opens one log, each time it is asked to.
 pub trait Opens<S: Folder, C: Clock>: Drop {
-    ghost use Rattle.std.specs.Prelude.{IfOk};
+    ghost use Rattle.std.specs.Prelude.{ℕ, List, IfOk};
     ghost use Rattle.appender_rolling.specs.Config.{Config};
     ghost use Rattle.rolltee_core.specs.Log.{OpensLog};
 
     /// The configuration of the log.
     ghost config: { Self → Config };
 
+    /// The path of its folder.
+    ghost directory: { Self → List ℕ };
+
+    /// Whether a folder is the one at a path.
+    ghost is_at: { List ℕ → S → Type 0 };
+
     /// Opens the log at the moment of its clock. Errors are those of `Builder::open_in`.
     fn open(&self) -> Result<RollingFile<S, C>, InitError>
-        ensures { IfOk result (OpensLog S.Folder C.Clock (config self.now)) };
+        ensures { IfOk result (λ log. (folder : S) × is_at (directory self.now) folder
+            × OpensLog S.Folder C.Clock (config self.now) folder log) };
 }
 
 /// A log that looks for its open file before each write and at each flush. If that was removed, renamed, replaced or
@@ -71,20 +78,21 @@ impl<S: Folder, C: Clock, W: FileCheck<S>, O: Opens<S, C>> Model for FileLog<S, 
       owed = l.owed;
       anew = l.anew;
       flushed = l.flushed;
+      failed = l.unsynced;
     } };
 
     ghost invariant = { λ l. l.cut ≡ false → EndsWhole S.Folder l.log };
 }
 
 impl<S: Folder, C: Clock, W: FileCheck<S>, O: Opens<S, C>> FileLog<S, C, W, O> {
-    ghost use Rattle.std.specs.Prelude.{◌≡◌, false, true, length, IfOk, IfErr, IsErr, OnOk, OnErr};
+    ghost use Rattle.std.specs.Prelude.{◌≡◌, ◌≤◌, ◌<◌, false, true, length, IfOk, IfErr, IsErr, OnOk, OnErr};
     ghost use Rattle.std.specs.Io.{WritesAtMost};
     ghost use Rattle.appender_rolling.specs.Appender.{Appending, AppendsNow, FlushesNow};
     ghost use Rattle.rolltee_core.specs.Log.{EndsNoPart, EndsOwed, FindsFile, IsNewLog, IsSameOrLosesRest, LetsGo, MayCheckOnce, PutsBytes, PutsNone};
 
     /// Opens the log.
     pub fn new(opener: O, mut check: W, whole_lines: bool) -> Result<FileLog<S, C, W, O>, InitError>
-        ensures { IfOk result (λ opened. IsNewLog S.Folder C.Clock (O.config opener) opened) }
+        ensures { IfOk result (IsNewLog S.Folder C.Clock (O.is_at (O.directory opener)) (O.config opener)) }
     {
         let log = opener.open()?;
         check.look_beside(log.folder(), log.open_name());
@@ -119,6 +127,7 @@ impl<S: Folder, C: Clock, W: FileCheck<S>, O: Opens<S, C>> FileLog<S, C, W, O> {
         ensures found { OnOk result (FindsFile S.Folder C.Clock self.old self.new) }
         ensures lost { OnErr result (IsSameOrLosesRest S.Folder C.Clock self.old self.new) }
         ensures config { self.new.config ≡ self.old.config }
+        ensures failed { self.old.failed ≤ self.new.failed }
         ensures short { self.new.short ≡ true → self.old.short ≡ true }
     {
         self.compare();
@@ -159,6 +168,7 @@ impl<S: Folder, C: Clock, W: FileCheck<S>, O: Opens<S, C>> FileLog<S, C, W, O> {
         ensures log { self.new.log ≡ log }
         ensures flushes { (closed : Appending S S.File C) × LetsGo S.Folder self.old.log closed }
         ensures config { self.new.config ≡ self.old.config }
+        ensures failed { self.old.failed ≤ self.new.failed }
         ensures short { self.new.short ≡ false }
         ensures anew { self.new.anew ≡ true }
     {
@@ -182,6 +192,7 @@ impl<S: Folder, C: Clock, W: FileCheck<S>, O: Opens<S, C>> FileLog<S, C, W, O> {
     fn check_clock(&mut self, bytes: &[u8])
         ensures looks { MayCheckOnce S.Folder C.Clock (length bytes.now) self.old self.new }
         ensures config { self.new.config ≡ self.old.config }
+        ensures failed { self.new.failed ≡ self.old.failed }
         ensures short { self.new.short ≡ self.old.short }
         ensures anew { self.new.anew ≡ self.old.anew }
     {
@@ -208,6 +219,7 @@ impl<S: Folder, C: Clock, W: FileCheck<S>, O: Opens<S, C>> FileLog<S, C, W, O> {
         ensures owed { OnErr result ((self.old.owed ≡ true) × (self.new.owed ≡ true)) }
         ensures paid { OnOk result (self.new.owed ≡ false) }
         ensures config { self.new.config ≡ self.old.config }
+        ensures failed { self.new.failed ≡ self.old.failed }
         ensures short { self.new.short ≡ true → self.old.short ≡ true }
         ensures anew { self.new.anew ≡ self.old.anew }
     {
@@ -225,6 +237,7 @@ impl<S: Folder, C: Clock, W: FileCheck<S>, O: Opens<S, C>> FileLog<S, C, W, O> {
         ensures bound { WritesAtMost result bytes.now }
         ensures appends { AppendsNow S.Folder bytes.now result self.old.log self.new.log }
         ensures config { self.new.config ≡ self.old.config }
+        ensures failed { self.new.failed ≡ self.old.failed }
         ensures short { IfOk result (λ n. self.new.short ≡ is_part bytes.now n) }
         ensures still_short { IsErr result → self.new.short ≡ self.old.short }
         ensures owed { self.new.owed ≡ self.old.owed }
@@ -245,6 +258,7 @@ impl<S: Folder, C: Clock, W: FileCheck<S>, O: Opens<S, C>> FileLog<S, C, W, O> {
         ensures puts { OnOk result (PutsBytes S.Folder C.Clock bytes.now result self.old self.new) }
         ensures fails { IfErr result (λ error. PutsNone S.Folder C.Clock bytes.now error self.old self.new) }
         ensures config { self.new.config ≡ self.old.config }
+        ensures failed { self.old.failed ≤ self.new.failed }
         ensures short { IfOk result (λ n. self.new.short ≡ is_part bytes.now n) }
         ensures still_short { IsErr result → self.new.short ≡ true → self.old.short ≡ true }
     {
@@ -257,7 +271,9 @@ impl<S: Folder, C: Clock, W: FileCheck<S>, O: Opens<S, C>> FileLog<S, C, W, O> {
     // Flushes the open file, and looks for it.
     fn flush(&mut self) -> io::Result<()>
         ensures flushes { FlushesNow S.Folder result self.old.log self.new.log }
-        ensures same { self.new ≡ record self.old { log = self.new.log } }
+        ensures same { self.new ≡ record self.old { log = self.new.log; failed = self.new.failed } }
+        ensures failed { self.old.failed ≤ self.new.failed }
+        ensures counted { IsErr result → 0 < self.new.failed }
     {
         let flushed = self.log.flush();
         if flushed.is_err() {
@@ -272,7 +288,7 @@ impl<S: Folder, C: Clock, W: FileCheck<S>, O: Opens<S, C>> TeeLog for FileLog<S,
     ghost use Rattle.std.specs.Prelude.{◌≡◌};
     ghost use Rattle.rolltee_core.specs.Log.{IsKept, IsNewLog, TakesPiece, config_of};
 
-    ghost opens = { λ rotation _ prefix options opened. IsNewLog S.Folder C.Clock (config_of rotation prefix options) opened };
+    ghost opens = { λ rotation directory prefix options opened. IsNewLog S.Folder C.Clock (O.is_at directory) (config_of rotation prefix options) opened };
 
     ghost takes = { λ old taken new. TakesPiece S.Folder C.Clock old taken new };
 
@@ -296,7 +312,7 @@ impl<S: Folder, C: Clock, W: FileCheck<S>, O: Opens<S, C>> TeeLog for FileLog<S,
         self.flushed = false;
     }
 
-    fn losses(&self) -> TeeLosses {
+    fn close(self) -> TeeLosses {
         let noted = self.check.unsynced(self.log.folder());
         TeeLosses {
             gone: at_least_one(self.gone, self.anew),
@@ -308,7 +324,7 @@ impl<S: Folder, C: Clock, W: FileCheck<S>, O: Opens<S, C>> TeeLog for FileLog<S,
 
 // Opens the log again.
 fn open_again<S: Folder, C: Clock, O: Opens<S, C>>(opener: &O) -> io::Result<RollingFile<S, C>>
-    ensures { IfOk result (OpensLog S.Folder C.Clock (O.config opener.now)) }
+    ensures { IfOk result (λ log. (folder : S) × OpensLog S.Folder C.Clock (O.config opener.now) folder log) }
 {
     match opener.open() {
         Ok(log) => Ok(log),
@@ -350,7 +366,7 @@ fn is_short_after(short: bool, bytes: &[u8], answer: &io::Result<usize>) -> bool
 }
 
 // Returns whether there is a newline at the end.
-fn ends_line(bytes: &[u8]) -> bool
+pub(crate) fn ends_line(bytes: &[u8]) -> bool
     ensures { result ≡ ends_with_byte 10 bytes.now }
 {
     let length = bytes.len();

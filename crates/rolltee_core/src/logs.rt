@@ -1,5 +1,5 @@
 //! The log of a run, and its opening in the file system, with the options that are asked for.
-ghost use Rattle.std.specs.Prelude.{◌≡◌, [], ℕ, List, IfOk};
+ghost use Rattle.std.specs.Prelude.{◌≡◌, [], ℕ, List, IfOk, string_bytes};
 ghost use Rattle.std.specs.Io.{WritesAtMost};
 ghost use Rattle.rolltee_core.specs.Log.{config_of, taken_of, undotted};
 ghost use Rattle.rolltee_core.specs.Losses.{HasLostNothing};
@@ -22,16 +22,16 @@ use tracing_appender::folder::{DirFolder, FilesHost};
 use tracing_appender::rolling::{Builder, InitError, RollingFile, Rotation, SystemClock};
 
 /// A log of lines. Where a contract is proved for any log, only a call can meet a clause on `opens`, `takes` or `is_kept`. So such a
-/// clause says that the call was made.
+/// clause says that the call was made. A log that was closed takes no more.
 pub trait TeeLog {
     /// Whether the log was opened with this rotation, this folder, this beginning of the names and these options.
-    ghost opens: { Rotation → List ℕ → List ℕ → Options → Self → Type 0 } = { λ _ _ _ _ _. Unit {0} };
+    ghost opens: { Rotation → List ℕ → List ℕ → Options → Self → Type 0 };
 
     /// Whether one call took exactly these bytes, between these two states.
-    ghost takes: { Self → List ℕ → Self → Type 0 } = { λ _ _ _. Unit {0} };
+    ghost takes: { Self → List ℕ → Self → Type 0 };
 
-    /// Whether nothing that was written is known to be lost.
-    ghost is_kept: { Self → Type 0 } = { λ _. Unit {0} };
+    /// Whether a log was closed, and nothing that was written to it is known to be lost.
+    ghost is_kept: { Self → Type 0 };
 
     /// Writes the first of some bytes, and returns how many. After an error none of them was written.
     fn put(&mut self, bytes: &[u8]) -> io::Result<usize>
@@ -46,14 +46,20 @@ pub trait TeeLog {
     fn give_up(&mut self)
         ensures { takes self.old [] self.new };
 
-    /// Returns how many files were not found again, and how many flushes failed, the last call of the log among them if it was
-    /// none that succeeded.
-    fn losses(&self) -> TeeLosses
-        ensures { HasLostNothing result → is_kept self.now };
+    /// Closes the log. Returns how many files were not found again, and how many flushes failed, the last call before this among them
+    /// if it was no flush that succeeded.
+    fn close(self) -> TeeLosses
+        ensures { HasLostNothing result → is_kept self };
 }
 
 /// A log that takes everything.
 impl TeeLog for io::Sink {
+    ghost opens = { λ _ _ _ _ _. Unit {0} };
+
+    ghost takes = { λ _ _ _. Unit {0} };
+
+    ghost is_kept = { λ _. Unit {0} };
+
     fn put(&mut self, bytes: &[u8]) -> io::Result<usize> {
         Ok(bytes.len())
     }
@@ -64,20 +70,20 @@ impl TeeLog for io::Sink {
 
     fn give_up(&mut self) {}
 
-    fn losses(&self) -> TeeLosses {
+    fn close(self) -> TeeLosses {
         TeeLosses::NONE
     }
 }
 
-/// Opens logs: those of the file system, or a test's own.
-pub trait Logs {
+/// Opens a log: one of the file system, or a test's own.
+pub trait Logs: Drop {
     /// A log.
     type Log: TeeLog + Send + Drop + 'static;
 
     /// Opens a log of this rotation in this folder. The names of its files begin with `prefix`. `Fault::Open`, `Fault::Locked` if
     /// another process may remove its files, or `Fault::Input` if the standard input is read from its open file.
     fn open_log(
-        &self,
+        self,
         rotation: Rotation,
         directory: &str,
         prefix: &str,
@@ -90,7 +96,7 @@ impl Logs for HostRuntime {
     type Log = DirLog<HostRuntime>;
 
     fn open_log(
-        &self,
+        self,
         rotation: Rotation,
         directory: &str,
         prefix: &str,
@@ -100,15 +106,15 @@ impl Logs for HostRuntime {
         let title = title(self.alloc(), directory, prefix).map_err(InitError::from)?;
         let title = title.as_str();
         let lock = if options.has(OptionName::Keep) {
-            prepare_dir(self, &settings, directory, options.text(OptionName::Link))?;
-            lock_log(self, directory, prefix, title)?
+            prepare_dir(&self, &settings, directory, options.text(OptionName::Link))?;
+            lock_log(&self, directory, prefix, title)?
         } else {
             None
         };
-        let check = DirCheck::new(*self, &settings, directory, title, options)?;
-        let opener = DirOpener::new(*self, settings, directory, title, options, lock)?;
+        let check = DirCheck::new(self, &settings, directory, title, options)?;
+        let opener = DirOpener::new(self, settings, directory, title, options, lock)?;
         let log = FileLog::new(opener, check, options.has(OptionName::WholeLines))?;
-        if is_input(self, log.open_file()) {
+        if is_input(&self, log.open_file()) {
             return Err(Fault::Input);
         }
         Ok(log)
@@ -150,7 +156,7 @@ impl<R: AllocGlobal + Drop> DirOpener<R> {
         options: &Options,
         lock: Option<File>,
     ) -> Result<DirOpener<R>, InitError>
-        ensures { IfOk result (λ opener. opener.settings ≡ settings) }
+        ensures { IfOk result (λ opener. (opener.settings ≡ settings) × (string_bytes opener.directory ≡ directory.now)) }
     {
         let alloc = rt.alloc();
         let link = String::from_str(alloc, options.text(OptionName::Link))?;
@@ -167,7 +173,14 @@ impl<R: AllocGlobal + Drop> DirOpener<R> {
 }
 
 impl<R: FilesHost + std::time::Clock> Opens<DirFolder<R>, SystemClock<R>> for DirOpener<R> {
+    ghost use Rattle.std.specs.Prelude.{◌≡◌, string_bytes};
+    ghost use Rattle.tracing_appender.specs.Calls.{base_path};
+
     ghost config = { λ opener. opener.settings };
+
+    ghost directory = { λ opener. string_bytes opener.directory };
+
+    ghost is_at = { λ directory folder. folder.path ≡ base_path directory };
 
     fn open(&self) -> Result<RollingFile<DirFolder<R>, SystemClock<R>>, InitError> {
         let directory = self.directory.as_str();

@@ -51,7 +51,7 @@ pub fn open_dir<R: FilesHost + time::Clock>(
     link: &str,
     folder: DirFolder<R>,
 ) -> Result<RollingFile<DirFolder<R>, SystemClock<R>>, InitError>
-    ensures { IfOk result (OpensLog ⟦<DirFolder<R> as Folder>⟧ ⟦<SystemClock<R> as Clock>⟧ settings.now) }
+    ensures { IfOk result (OpensLog ⟦<DirFolder<R> as Folder>⟧ ⟦<SystemClock<R> as Clock>⟧ settings.now folder) }
 {
     prepare_dir(rt, settings, directory, link)?;
     let clock = SystemClock::new(rt.clone()?);
@@ -65,7 +65,7 @@ fn open_log<S: Folder, C: Clock>(
     folder: S,
     clock: C,
 ) -> Result<RollingFile<S, C>, InitError>
-    ensures { IfOk result (OpensLog S.Folder C.Clock settings.now) }
+    ensures { IfOk result (OpensLog S.Folder C.Clock settings.now folder) }
 {
     match settings.open_in(alloc, folder, clock) {
         Ok(log) => Ok(log),

@@ -1,22 +1,23 @@
 //! Lines from an input to a rolling log, through a non-blocking writer or directly.
-ghost use Rattle.std.specs.Prelude.{◌≡◌, ◌≢◌, ◌≤◌, ℕ, List, [], ◌++◌, length, false, Some, None, Ok, Err, IfOk, IfSome, OnOk, string_bytes};
+ghost use Rattle.std.specs.Prelude.{◌≡◌, ◌≢◌, ◌≤◌, ℕ, List, [], length, Some, Ok, Err, IfOk, IfErr, IfSome, OnOk, string_bytes};
 ghost use Rattle.std.specs.List.{concat};
 ghost use Rattle.std.specs.Io.KnownBytes.{Keeps};
 ghost use Rattle.std.specs.IoError.{error_kind};
-ghost use Rattle.program_io.specs.Options.{has_option, AreDefaults};
-ghost use Rattle.program_io.specs.declared.options.OptionName.{OptionName};
+ghost use Rattle.program_io.specs.Options.{AreDefaults};
 ghost use Rattle.program_io.specs.declared.options.Options.{Options};
-ghost use Rattle.rolltee_core.specs.Losses.{HasLostNothing};
-ghost use Rattle.rolltee_core.specs.Taken.{IsCopied, WasOpened, LogsText, TookText};
+ghost use Rattle.rolltee_core.specs.Feed.{FeedsLines};
+ghost use Rattle.rolltee_core.specs.Taken.{IsCopied, WasOpened, LogsText, TookInput};
 ghost use Rattle.rolltee_core.specs.Fault.{tee_status, tee_fault_unless_memory, tee_fault_words, HasNoFolder, NamesNoRotation, is_titled_fault, ExplainsTeeFault, ReportsLine, ReportsTeeFault};
+ghost use Rattle.appender_non_blocking.specs.Work.{RunsLines};
 ghost use Rattle.appender_names.specs.RotationText.{IsNoRotation, rotation_word};
+ghost use Rattle.appender_names.specs.declared.rotation.Rotation.{Rotation};
 
 use crate::feed::{Feed, FeedSink, SenderQueue};
 pub use crate::logs::{Logs, TeeLog};
 use crate::losses::TeeLosses;
 use crate::reason::reason;
 use crate::title::{Titled, title};
-use crate::waiting::{Asked, LogPlace, Opened};
+use crate::waiting::{Asked, LogPlace, OpenedLog};
 use crate::writers::{DirectWriter, TeeWriter};
 use program_io::blocking::{BlockingInput, Ready};
 use program_io::options::{OptionError, OptionFault, OptionName, Options};
@@ -26,7 +27,8 @@ use std::alloc::{AllocError, Global};
 use std::io;
 use std::io::{BufRead, BufReader, ErrorKind, Read, Write};
 use std::marker::{Brand, Model, PhantomData};
-use std::time::Duration;
+use std::sync::Wait;
+use std::time::{Clock, Duration};
 use thiserror::Error;
 use tracing_appender::non_blocking::{
     Host, LineSender, NonBlockingBuilder, Ran, RecordedWork, Written,
@@ -207,14 +209,14 @@ impl From<CopyFault> for Fault {
     }
 }
 
-/// Writes each line of `input` to a log that `logs` opens, and waits while that is full. The three arguments are its
+/// Writes each line of `input` to the log that `logs` opens, and waits while that is full. The three arguments are its
 /// rotation, its folder and the beginning of its files' names. The first fault goes to `errors`, whose own faults are
 /// ignored; the lines read before it are written, as long as that takes. Returns the status of the process. 0: all
 /// was written. 1: no log was opened, also if memory was refused for that, no thread made, the input not read or a line
 /// not written whole. 2: the arguments aren't of that form. 3: memory was refused elsewhere.
 pub fn tee<R: Host, L: Logs, I: Read, E: Write>(
     rt: R,
-    logs: &L,
+    logs: L,
     arguments: &[String],
     input: &mut I,
     errors: &mut E,
@@ -230,36 +232,37 @@ pub fn tee<R: Host, L: Logs, I: Read, E: Write>(
 {
     let options = Options::new(rt.alloc());
     match copy_through(rt, logs, &options, arguments, input, io::sink()) {
-        Ok(()) => 0,
+        Ok(_) => 0,
         Err(fault) => report_fault(&fault, "", errors),
     }
 }
 
-/// Does what `tee` does, with options. If they ask for it, each line is also written to `output`. The status is also 1 if a
-/// line was dropped or not written whole to `output`, or a log file was not found again. It is 2 if the rotation does not
-/// allow an option. What `errors` get begins with the title of the log, `rolltee: DIR/PREFIX: `, or is a line of `tee` with one
-/// after it that says what is meant.
+/// Does what `tee` does, with options. If they ask for it, each line begins with a time, and is also written to `output`. Returns that
+/// if all was written: the status is 0. Else returns the status. It is also 1 if a line was dropped or not written whole to `output`, or
+/// a log file was not found again, and 2 if the rotation does not allow an option. What `errors` get begins with the title of the log,
+/// `rolltee: DIR/PREFIX: `, or is a line of `tee` with one after it that says what is meant.
 pub fn tee_with<R: Host, L: Logs, I: Read, O: Write + Drop, E: Write>(
     rt: R,
-    logs: &L,
+    logs: L,
     options: &Options,
     arguments: &[String],
     input: &mut I,
     output: O,
     errors: &mut E,
-) -> u8
-    ensures status { result ≤ 3 }
-    ensures usage { length arguments.now ≢ 3 → result ≡ 2 }
-    ensures no_rotation { NamesNoRotation arguments.now → result ≡ 2 }
-    ensures no_folder { HasNoFolder arguments.now → result ≡ 2 }
-    ensures silent { result ≡ 0 → Keeps (E.contents errors.old) (E.contents errors.new) }
-    ensures reported { 1 ≤ result → (fault : Fault) × ExplainsTeeFault fault result (E.contents errors.old) (E.contents errors.new) }
-    ensures written { result ≡ 0 → has_option OptionName.Timestamps options.now ≡ false → (text : List ℕ) → I.remaining input.old ≡ Some text →
-        LogsText L.Log.opens options.now L.Log.takes L.Log.is_kept arguments.now text }
+) -> Result<O, u8>
+    ensures status { IfErr result (λ status. (1 ≤ status) × (status ≤ 3)) }
+    ensures usage { length arguments.now ≢ 3 → result ≡ Err 2 }
+    ensures no_rotation { NamesNoRotation arguments.now → result ≡ Err 2 }
+    ensures no_folder { HasNoFolder arguments.now → result ≡ Err 2 }
+    ensures silent { OnOk result (Keeps (E.contents errors.old) (E.contents errors.new)) }
+    ensures reported { IfErr result (λ status. (fault : Fault) × ExplainsTeeFault fault status (E.contents errors.old) (E.contents errors.new)) }
+    ensures written { IfOk result (λ echoed. (text : List ℕ) → I.remaining input.old ≡ Some text →
+        (lines : List ℕ) × FeedsLines options.now (O.contents output) (O.contents echoed) text lines
+        × LogsText L.Log.opens options.now L.Log.takes L.Log.is_kept arguments.now lines) }
 {
     match copy_through(rt, logs, options, arguments, input, output) {
-        Ok(()) => 0,
-        Err(fault) => explain(rt.alloc(), &fault, options, arguments, errors),
+        Ok(echoed) => Ok(echoed),
+        Err(fault) => Err(explain(rt.alloc(), &fault, options, arguments, errors)),
     }
 }
 
@@ -314,20 +317,21 @@ fn report_line<E: Write>(fault: &Fault, errors: &mut E) -> u8
     fault.status()
 }
 
-// Copies the input, and returns nothing if all of it was written.
+// Copies the input, and returns the output if all of it was written.
 fn copy_through<R: Host, L: Logs, I: Read, O: Write + Drop>(
     rt: R,
-    logs: &L,
+    logs: L,
     options: &Options,
     arguments: &[String],
     input: &mut I,
     output: O,
-) -> Result<(), Fault>
+) -> Result<O, Fault>
     ensures usage { length arguments.now ≢ 3 → result ≡ Err Fault.Usage }
     ensures no_rotation { NamesNoRotation arguments.now → result ≡ Err Fault.Usage }
     ensures no_folder { HasNoFolder arguments.now → result ≡ Err Fault.Usage }
-    ensures written { OnOk result (has_option OptionName.Timestamps options.now ≡ false → (text : List ℕ) → I.remaining input.old ≡ Some text →
-        LogsText L.Log.opens options.now L.Log.takes L.Log.is_kept arguments.now text) }
+    ensures written { IfOk result (λ echoed. (text : List ℕ) → I.remaining input.old ≡ Some text →
+        (lines : List ℕ) × FeedsLines options.now (O.contents output) (O.contents echoed) text lines
+        × LogsText L.Log.opens options.now L.Log.takes L.Log.is_kept arguments.now lines) }
 {
     let [rotation, directory, prefix] = arguments else {
         return Err(Fault::Usage);
@@ -346,42 +350,43 @@ fn copy_through<R: Host, L: Logs, I: Read, O: Write + Drop>(
     )
 }
 
-// What a log is opened by.
+// What a log is opened by, and where its lines are echoed.
 #[derive(Drop)]
-struct LogOpening<'a, L: Logs, N: Asked> {
-    logs: &'a L,
+struct LogOpening<'a, L: Logs, O: Write, N: Asked> {
+    logs: L,
     rotation: Rotation,
     directory: &'a str,
     prefix: &'a str,
     options: &'a Options,
-    opening: PhantomData<N>,
+    output: O,
+    asked: PhantomData<N>,
 }
 
-impl<'a, L: Logs, N: Asked> Model for LogOpening<'a, L, N> {
-    ghost use Rattle.program_io.specs.Options.{AreDefaults};
-    ghost use Rattle.program_io.specs.declared.options.Options.{Options};
+impl<'a, L: Logs, O: Write, N: Asked> Model for LogOpening<'a, L, O, N> {
+    ghost use Rattle.std.specs.Prelude.{◌≡◌};
 
-    ghost Value = { Options };
+    ghost Value = { Unit {0} };
 
-    ghost view = { λ o. o.options.now };
+    ghost view = { λ _. tt };
 
-    ghost invariant = { λ o. N.asked o.rotation o.directory.now o.prefix.now o.options.now };
+    ghost invariant = { λ r. N.asked r.rotation r.directory.now r.prefix.now r.options.now × (N.printed ≡ O.contents r.output) };
 }
 
 // The same, if `N` says by what the log is opened.
 fn copy_to<N: Asked + Send + 'static, R: Host, L: Logs, I: Read, O: Write + Drop>(
     rt: R,
-    logs: &L,
+    logs: L,
     rotation: Rotation,
     directory: &String,
     prefix: &String,
     options: &Options,
     input: &mut I,
     output: O,
-) -> Result<(), Fault>
-    requires { N.asked rotation (string_bytes directory.now) (string_bytes prefix.now) options.now }
-    ensures { OnOk result (has_option OptionName.Timestamps options.now ≡ false → (text : List ℕ) → I.remaining input.old ≡ Some text →
-        TookText (WasOpened L.Log.opens N.asked) L.Log.takes L.Log.is_kept text) }
+) -> Result<O, Fault>
+    requires asked { N.asked rotation (string_bytes directory.now) (string_bytes prefix.now) options.now }
+    requires printed { N.printed ≡ O.contents output }
+    ensures { IfOk result (λ echoed. (text : List ℕ) → I.remaining input.old ≡ Some text →
+        TookInput L.Log.opens N.asked L.Log.takes L.Log.is_kept N.printed (O.contents echoed) text) }
 {
     let (directory, prefix) = (directory.as_str(), prefix.as_str());
     let input = BufReader::new(rt.alloc(), BlockingInput::new(rt, input))?;
@@ -395,59 +400,78 @@ fn copy_to<N: Asked + Send + 'static, R: Host, L: Logs, I: Read, O: Write + Drop
         !options.has(OptionName::NoWait),
         options.number(OptionName::MaxBytes),
     )?;
-    let opening = LogOpening {
+    let opening = LogOpening::<L, O, N> {
         logs,
         rotation,
         directory,
         prefix,
         options,
-        opening: PhantomData,
+        output,
+        asked: PhantomData,
     };
     let work = TeeWork {
         titled,
-        opening,
+        opening: Some(opening),
         place,
         counts,
         input,
-        output,
-        outcome: Ok(TeeLosses::NONE),
+        outcome: Err(Fault::Thread),
     };
     let builder = NonBlockingBuilder::default()
         .lossy(options.has(OptionName::Lossy))
         .buffered_lines_limit(limit);
     let most = Some(Duration::from_millis(END_MILLIS));
-    let Ran { work, written } = match builder.run_lines(rt, rt.alloc(), writer, work, most) {
+    let Ran { work, written } = match run_work(rt, builder, writer, work, most) {
         Ok(ran) => ran,
         Err(error) => return Err(Fault::Thread.unless_memory(error.kind())),
     };
-    let sent = work.outcome?;
+    let (sent, output) = work.outcome?;
     let Some(Written { writer, given_up }) = written else {
         return Err(Fault::Pending);
     };
-    let found = writer.losses();
+    let found = writer.close();
     let lost = TeeLosses {
         unwritten: sent.unwritten.max(given_up).max(found.unwritten),
         dropped: sent.dropped,
         unechoed: sent.unechoed,
         ..found
     };
-    all_written(lost, options.is_plain())
+    all_written(lost, options.is_plain())?;
+    Ok(output)
+}
+
+// Runs a work whose lines a worker writes. A work that was not run is dropped.
+fn run_work<K: RecordedWork + Drop, W: Write + Send + Drop + 'static, R: Host>(
+    rt: R,
+    builder: NonBlockingBuilder,
+    writer: W,
+    work: K,
+    most: Option<Duration>,
+) -> io::Result<Ran<K, W>>
+    ensures { IfOk result (λ ran. RunsLines K.does W.contents builder.lossy work writer ran) }
+{
+    match builder.run_lines(rt, rt.alloc(), writer, work, most) {
+        Ok(ran) => Ok(ran),
+        Err(unstarted) => Err(unstarted.error),
+    }
 }
 
 // The same in this thread, without a queue: what was read is written before more is read.
 fn copy_directly<N: Asked + Send + 'static, R: Host, L: Logs, I: Read, O: Write + Drop>(
     rt: R,
-    logs: &L,
+    logs: L,
     rotation: Rotation,
     directory: &String,
     prefix: &String,
     options: &Options,
     input: &mut I,
     output: O,
-) -> Result<(), Fault>
-    requires { N.asked rotation (string_bytes directory.now) (string_bytes prefix.now) options.now }
-    ensures { OnOk result (has_option OptionName.Timestamps options.now ≡ false → (text : List ℕ) → I.remaining input.old ≡ Some text →
-        TookText (WasOpened L.Log.opens N.asked) L.Log.takes L.Log.is_kept text) }
+) -> Result<O, Fault>
+    requires asked { N.asked rotation (string_bytes directory.now) (string_bytes prefix.now) options.now }
+    requires printed { N.printed ≡ O.contents output }
+    requires first { N.first ≡ [] }
+    ensures { IfOk result (λ echoed. (text : List ℕ) → I.remaining input.old ≡ Some text →
+        TookInput L.Log.opens N.asked L.Log.takes L.Log.is_kept N.printed (O.contents echoed) text) }
 {
     let (directory, prefix) = (directory.as_str(), prefix.as_str());
     let mut input = BufReader::new(rt.alloc(), BlockingInput::new(rt, input))?;
@@ -458,36 +482,38 @@ fn copy_directly<N: Asked + Send + 'static, R: Host, L: Logs, I: Read, O: Write 
         options.number(OptionName::MaxBytes),
     )?;
     let log = logs.open_log(rotation, directory, prefix, options)?;
-    let opened = Opened::new(log);
+    let opened = OpenedLog::new(log);
     place.put(&rt, opened);
-    let mut feed = Feed::new(titled, writer, options, output);
+    let mut feed = Feed::<Titled<R>, DirectWriter<Titled<R>, L::Log, N>, O, N>::new(
+        titled, writer, options, output,
+    );
     let copied = copy_pieces(rt.alloc(), &mut input, &mut feed, Split::Blocks);
-    let unechoed = feed.unechoed();
-    let mut writer = feed.into_sink();
+    let (mut writer, output, unechoed) = feed.into_parts();
     writer.flush();
     copied?;
-    let found = writer.losses();
+    let found = writer.close();
     let lost = TeeLosses { unechoed, ..found };
-    all_written(lost, options.is_plain())
+    all_written(lost, options.is_plain())?;
+    Ok(output)
 }
 
 // Opens the log, and copies the input to it.
 #[derive(Drop)]
-struct TeeWork<'a, R, L: Logs, I, O, N: Asked> {
+struct TeeWork<'a, R, L: Logs, I, O: Write, N: Asked> {
     titled: Titled<R>,
-    opening: LogOpening<'a, L, N>,
+    // Is there until the work is run.
+    opening: Option<LogOpening<'a, L, O, N>>,
     place: LogPlace<L::Log, N>,
     counts: LineCounts,
     input: I,
-    output: O,
-    // What was lost until the end of the input.
-    outcome: Result<TeeLosses, Fault>,
+    // What was lost until the end of the input, and the output. Until the work is run, there is no thread.
+    outcome: Result<(TeeLosses, O), Fault>,
 }
 
-impl<'a, R: Host, L: Logs, I: BufRead + Ready, O: Write, N: Asked> RecordedWork
+impl<'a, R: Host, L: Logs, I: BufRead + Ready, O: Write + Drop, N: Asked> RecordedWork
     for TeeWork<'a, R, L, I, O, N> {
     ghost does = { λ old start new ended.
-        IfOk new.outcome (λ lost. IsCopied (I.remaining old.input) (has_option OptionName.Timestamps old.opening) start ended lost.dropped) };
+        IfOk new.outcome (λ copied. IsCopied N.asked N.printed (O.contents copied.1) (I.remaining old.input) start ended copied.0) };
 
     // The log is opened last, so a start that fails for want of memory or of a thread makes no file. The lines that were
     // read are waited for also after a fault, and only then counted: the worker's end is waited for a second only, which
@@ -499,42 +525,74 @@ impl<'a, R: Host, L: Logs, I: BufRead + Ready, O: Write, N: Asked> RecordedWork
             place,
             counts,
             input,
-            output,
             outcome,
         } = self;
-        let (directory, prefix) = (opening.directory, opening.prefix);
-        let log = match opening
-            .logs
-            .open_log(opening.rotation, directory, prefix, opening.options)
-        {
-            Ok(log) => Opened::new(log),
+        let Some(opening) = opening.take() else {
+            *outcome = Err(Fault::Thread);
+            return sender;
+        };
+        let LogOpening {
+            logs,
+            rotation,
+            directory,
+            prefix,
+            options,
+            output,
+            asked: _,
+        } = opening;
+        let log = match logs.open_log(rotation, directory, prefix, options) {
+            Ok(log) => OpenedLog::new(log),
             Err(fault) => {
                 *outcome = Err(fault);
                 return sender;
             }
         };
-        let titled = &*titled;
         place.put(titled, log);
-        let lossy = opening.options.has(OptionName::Lossy);
-        let queue = SenderQueue::new(titled, sender, counts, lossy);
-        let mut feed = Feed::new(titled, queue, opening.options, output);
-        let copied = copy_pieces(titled.alloc(), input, &mut feed, Split::Lines);
-        let unechoed = feed.unechoed();
-        let mut queue = feed.into_sink();
-        queue.settle();
-        let unwritten = queue.lost();
-        let dropped = queue.dropped();
-        let sender = queue.into_sender();
-        *outcome = match copied {
-            Ok(()) => Ok(TeeLosses {
-                unwritten,
-                dropped,
-                unechoed,
-                ..TeeLosses::NONE
-            }),
-            Err(fault) => Err(Fault::from(fault)),
-        };
+        let (sender, ended) = send_lines::<Brand, R, S, I, O>(
+            titled, sender, counts, input, options, output,
+        );
+        *outcome = ended;
         sender
+    }
+}
+
+// Sends the lines of the input, and waits until the log took or lost them. Returns the sender, and what was lost with the output.
+fn send_lines<
+    N: Asked,
+    R: Wait + Clock + Eprint + AllocGlobal + Drop,
+    S: LineSender + Drop,
+    I: BufRead + Ready,
+    O: Write + Drop,
+>(
+    titled: &Titled<R>,
+    sender: S,
+    counts: &LineCounts,
+    input: &mut I,
+    options: &Options,
+    output: O,
+) -> (S, Result<(TeeLosses, O), Fault>)
+    requires asked { (rotation : Rotation) × (directory : List ℕ) × (prefix : List ℕ) × N.asked rotation directory prefix options.now }
+    requires printed { N.printed ≡ O.contents output }
+    requires first { N.first ≡ concat (S.sent sender).lines }
+    ensures { IfOk result.1 (λ copied. IsCopied N.asked N.printed (O.contents copied.1) (I.remaining input.old) (S.sent sender) (S.sent result.0) copied.0) }
+{
+    let queue = SenderQueue::new(titled, sender, counts, options.has(OptionName::Lossy));
+    let mut feed = Feed::<&Titled<R>, SenderQueue<&Titled<R>, S>, O, N>::new(
+        titled, queue, options, output,
+    );
+    let copied = copy_pieces(titled.alloc(), input, &mut feed, Split::Lines);
+    let (mut queue, output, unechoed) = feed.into_parts();
+    queue.settle();
+    let lost = TeeLosses {
+        unwritten: queue.lost(),
+        dropped: queue.dropped(),
+        unechoed,
+        ..TeeLosses::NONE
+    };
+    let sender = queue.into_sender();
+    match copied {
+        Ok(()) => (sender, Ok((lost, output))),
+        Err(fault) => (sender, Err(Fault::from(fault))),
     }
 }
 

@@ -19,25 +19,37 @@ use tracing_appender::waiting::{Faults, write_waiting};
 /// Says by what the log of a run is opened: its rotation, its folder, the beginning of its names, and the options. A function is
 /// generic in it, and a call passes `Brand` and picks what is said.
 pub trait Asked {
-    ghost use Rattle.std.specs.Prelude.{ℕ, List};
+    ghost use Rattle.std.specs.Prelude.{ℕ, List, Option};
     ghost use Rattle.appender_names.specs.declared.rotation.Rotation.{Rotation};
     ghost use Rattle.program_io.specs.declared.options.Options.{Options};
 
     ghost asked: { Rotation → List ℕ → List ℕ → Options → Type 0 };
+
+    /// What the output of the run held before, if that is known.
+    ghost printed: { Option (List ℕ) };
+
+    /// What the sink of its lines was sent before.
+    ghost first: { List ℕ };
 }
 
 impl Asked for Brand {
+    ghost use Rattle.std.specs.Prelude.{[], None};
+
     ghost asked = { λ _ _ _ _. ⊥ };
+
+    ghost printed = { None };
+
+    ghost first = { [] };
 }
 
 /// A log that was opened as it is said.
 #[derive(Drop)]
-pub struct Opened<W: TeeLog + Drop, N: Asked> {
+pub struct OpenedLog<W: TeeLog + Drop, N: Asked> {
     log: W,
     opening: PhantomData<N>,
 }
 
-impl<W: TeeLog + Drop, N: Asked> Model for Opened<W, N> {
+impl<W: TeeLog + Drop, N: Asked> Model for OpenedLog<W, N> {
     ghost use Rattle.rolltee_core.specs.Taken.{WasOpened};
 
     ghost Value = { W };
@@ -47,13 +59,13 @@ impl<W: TeeLog + Drop, N: Asked> Model for Opened<W, N> {
     ghost invariant = { λ o. WasOpened W.opens N.asked o.log };
 }
 
-impl<W: TeeLog + Drop, N: Asked> Opened<W, N> {
+impl<W: TeeLog + Drop, N: Asked> OpenedLog<W, N> {
     /// Returns this log, which was opened so.
-    pub fn new(log: W) -> Opened<W, N>
+    pub fn new(log: W) -> OpenedLog<W, N>
         requires { WasOpened W.opens N.asked log }
         ensures { result ≡ log }
     {
-        Opened {
+        OpenedLog {
             log,
             opening: PhantomData,
         }
@@ -82,10 +94,10 @@ impl<W: TeeLog + Drop, N: Asked> Model for NotedLog<W, N> {
 
 impl<W: TeeLog + Drop, N: Asked> NotedLog<W, N> {
     // Returns a log that took nothing yet.
-    fn new(opened: Opened<W, N>) -> NotedLog<W, N>
+    fn new(opened: OpenedLog<W, N>) -> NotedLog<W, N>
         ensures { result ≡ [] }
     {
-        let Opened { log, opening } = opened;
+        let OpenedLog { log, opening } = opened;
         NotedLog {
             log,
             taken: Tape::of(&()),
@@ -101,11 +113,16 @@ impl<W: TeeLog + Drop, N: Asked> NotedLog<W, N> {
         self.taken.note(b"");
     }
 
-    // Returns what the log lost.
-    fn losses(&self) -> TeeLosses
-        ensures { HasLostNothing result → TookText (WasOpened W.opens N.asked) W.takes W.is_kept self.now }
+    // Closes the log, and returns what it lost.
+    fn close(self) -> TeeLosses
+        ensures { HasLostNothing result → TookText (WasOpened W.opens N.asked) W.takes W.is_kept self }
     {
-        self.log.losses()
+        let NotedLog {
+            log,
+            taken: _taken,
+            opening: _,
+        } = self;
+        log.close()
     }
 }
 
@@ -143,7 +160,7 @@ pub struct WaitingLog<R, W: TeeLog + Drop, N: Asked> {
     waits: bool,
     // The log that was put into the place, after it was first looked for.
     log: Option<NotedLog<W, N>>,
-    place: Arc<Mutex<Option<Opened<W, N>>>, Global>,
+    place: Arc<Mutex<Option<OpenedLog<W, N>>>, Global>,
     // Whether it was reported that lines are lost.
     reported: bool,
 }
@@ -161,12 +178,12 @@ impl<R, W: TeeLog + Drop, N: Asked> Model for WaitingLog<R, W, N> {
 /// for want of memory or of a thread opens none.
 #[derive(Drop)]
 pub struct LogPlace<W: TeeLog + Drop, N: Asked> {
-    place: Arc<Mutex<Option<Opened<W, N>>>, Global>,
+    place: Arc<Mutex<Option<OpenedLog<W, N>>>, Global>,
 }
 
 impl<W: TeeLog + Drop, N: Asked> LogPlace<W, N> {
     /// Puts the log, before the first line is queued.
-    pub fn put<R: Wait>(&self, rt: &R, log: Opened<W, N>) {
+    pub fn put<R: Wait>(&self, rt: &R, log: OpenedLog<W, N>) {
         *self.place.lock(rt) = Some(log);
     }
 }
@@ -189,6 +206,26 @@ impl<R: AllocGlobal + Drop, W: TeeLog + Drop, N: Asked> WaitingLog<R, W, N> {
         };
         Ok((log, LogPlace { place: shared }))
     }
+
+    /// Closes the log, and returns what it lost. One that was never looked for was never flushed.
+    pub fn close(self) -> TeeLosses
+        ensures { HasLostNothing result → TookText (WasOpened W.opens N.asked) W.takes W.is_kept self }
+    {
+        let WaitingLog {
+            rt: _rt,
+            waits: _,
+            log,
+            place: _place,
+            reported: _,
+        } = self;
+        match log {
+            Some(log) => log.close(),
+            None => TeeLosses {
+                unsynced: 1,
+                ..TeeLosses::NONE
+            },
+        }
+    }
 }
 
 impl<R: Wait, W: TeeLog + Drop, N: Asked> WaitingLog<R, W, N> {
@@ -201,19 +238,6 @@ impl<R: Wait, W: TeeLog + Drop, N: Asked> WaitingLog<R, W, N> {
             if let Some(opened) = opened {
                 self.log = Some(NotedLog::new(opened));
             }
-        }
-    }
-
-    /// Returns what the log lost. One that was never looked for was never flushed.
-    pub fn losses(&self) -> TeeLosses
-        ensures { HasLostNothing result → TookText (WasOpened W.opens N.asked) W.takes W.is_kept self.now }
-    {
-        match &self.log {
-            Some(log) => log.losses(),
-            None => TeeLosses {
-                unsynced: 1,
-                ..TeeLosses::NONE
-            },
         }
     }
 }

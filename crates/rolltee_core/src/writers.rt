@@ -67,12 +67,13 @@ impl<R: Wait + Clock + Eprint + AllocGlobal + Drop, W: TeeLog + Drop, N: Asked> 
         Ok((TeeWriter { log, given }, place, counts))
     }
 
-    /// Returns what was lost. If that is nothing, the log took exactly the lines that the writer was given.
-    pub fn losses(&self) -> TeeLosses
-        ensures { HasLostNothing result → TookText (WasOpened W.opens N.asked) W.takes W.is_kept self.now }
+    /// Closes the log, and returns what was lost. If that is nothing, the log took exactly the lines that the writer was given.
+    pub fn close(self) -> TeeLosses
+        ensures { HasLostNothing result → TookText (WasOpened W.opens N.asked) W.takes W.is_kept self }
     {
-        let lost = self.log.get_ref().losses();
-        let unwritten = self.log.lost().max(self.log.waiting() as u64);
+        let TeeWriter { log, given: _given } = self;
+        let unwritten = log.lost().max(log.waiting() as u64);
+        let lost = log.into_inner().close();
         TeeLosses {
             unwritten: lost.unwritten.max(unwritten),
             ..lost
@@ -164,20 +165,26 @@ impl<R: Wait + Clock + Eprint + AllocGlobal + Drop, W: TeeLog + Drop, N: Asked> 
         Ok((writer, place))
     }
 
-    /// Returns what was lost. If that is nothing, the log took exactly the lines that the writer was given.
-    pub fn losses(&self) -> TeeLosses
-        ensures { HasLostNothing result → TookText (WasOpened W.opens N.asked) W.takes W.is_kept self.now }
+    /// The same as `TeeWriter::close`.
+    pub fn close(self) -> TeeLosses
+        ensures { HasLostNothing result → TookText (WasOpened W.opens N.asked) W.takes W.is_kept self }
     {
-        let lost = self.log.losses();
+        let DirectWriter {
+            log,
+            most: _,
+            lost: given_up,
+            given: _given,
+        } = self;
+        let lost = log.close();
         TeeLosses {
-            unwritten: lost.unwritten.max(self.lost),
+            unwritten: lost.unwritten.max(given_up),
             ..lost
         }
     }
 }
 
 impl<R: Wait + Clock + Eprint, W: TeeLog + Drop, N: Asked> FeedSink for DirectWriter<R, W, N> {
-    ghost sent = { λ given. Some given };
+    ghost sent = { λ given. given };
 
     fn send(&mut self, text: &[u8]) -> io::Result<()> {
         let lost = write_lines(&mut self.log, self.most, text);

@@ -1,12 +1,12 @@
 // A work in the caller's thread, whose lines a worker writes.
-ghost use Rattle.std.specs.Prelude.{◌≡◌, ◌+◌, ◌<◌, ℕ, IfOk, IsSome, None, map, slice_index, vec_len};
+ghost use Rattle.std.specs.Prelude.{◌≡◌, ◌+◌, ◌<◌, ℕ, IfErr, IfOk, IsSome, None, map, slice_index, vec_len};
 ghost use Rattle.appender_non_blocking.specs.Account.{IsBlankOf};
 ghost use Rattle.appender_non_blocking.specs.SentLines.{SentLines};
 ghost use Rattle.appender_non_blocking.specs.Work.{RunsLines};
 
 use super::builder::NonBlockingBuilder;
 use super::run::{Run, RunBlanks, RunNames, Written};
-use super::work::LineSender;
+use super::work::{LineSender, Unstarted};
 use appender_runtime::host::Host;
 use std::alloc::Global;
 use std::io;
@@ -37,7 +37,7 @@ pub struct Ran<K: Drop, W: Drop> {
 impl NonBlockingBuilder {
     /// Starts the worker, and runs the work in this thread with the one sender of its queue. Then waits until the worker has
     /// written the lines and flushed the writer, at most for `most` if that is given. So the caller gets the writer back, and
-    /// knows which lines it took. Errors are those of `finish`: then the work was not run.
+    /// knows which lines it took. Errors are those of `finish`: then the work was not run, and is returned.
     ///
     /// ```
     /// use std::io;
@@ -63,7 +63,9 @@ impl NonBlockingBuilder {
     /// // Returns whether the log took the whole line.
     /// pub fn greet<R: Host, W: Write + Send + Drop + 'static>(rt: R, log: W) -> io::Result<bool> {
     ///     let hello = Hello { queued: false };
-    ///     let ran = NonBlockingBuilder::default().run_lines(rt, rt.alloc(), log, hello, None)?;
+    ///     let ran = NonBlockingBuilder::default()
+    ///         .run_lines(rt, rt.alloc(), log, hello, None)
+    ///         .map_err(|unstarted| unstarted.error)?;
     ///     let whole = ran.written.is_some_and(|written| written.given_up == 0);
     ///     Ok(ran.work.queued && whole)
     /// }
@@ -75,12 +77,20 @@ impl NonBlockingBuilder {
         writer: W,
         work: K,
         most: Option<Duration>,
-    ) -> io::Result<Ran<K, W>>
+    ) -> Result<Ran<K, W>, Unstarted<K>>
         ensures ran { IfOk result (λ ran. RunsLines K.does W.contents self.lossy work writer ran) }
         ensures always { most ≡ None → IfOk result (λ ran. IsSome ran.written) }
+        ensures not_run { IfErr result (λ unstarted. unstarted.work ≡ work) }
     {
-        let blanks = RunBlanks::new(alloc, 1)?;
-        run_by::<Brand, Brand, Brand, K, W, R>(self, rt, alloc, writer, work, most, blanks)
+        match RunBlanks::new(alloc, 1) {
+            Ok(blanks) => {
+                run_by::<Brand, Brand, Brand, K, W, R>(self, rt, alloc, writer, work, most, blanks)
+            }
+            Err(error) => Err(Unstarted {
+                work,
+                error: io::Error::from(error),
+            }),
+        }
     }
 }
 
@@ -100,15 +110,19 @@ fn run_by<
     work: K,
     most: Option<Duration>,
     blanks: RunBlanks,
-) -> io::Result<Ran<K, W>>
+) -> Result<Ran<K, W>, Unstarted<K>>
     requires ledgers { IsBlankOf S.Ledger 1 blanks.shutdowns × IsBlankOf C.Ledger 1 blanks.closings }
     requires names { (i : ℕ) → i < vec_len blanks.histories → slice_index (map (λ b. b.name) blanks.histories.items) i ≡ L.name i }
     requires count { (vec_len blanks.histories ≡ L.senders + 1) × (L.senders ≡ 1) }
     requires first { L.first ≡ W.contents writer }
     ensures ran { IfOk result (λ ran. RunsLines K.does W.contents builder.lossy work writer ran) }
     ensures always { most ≡ None → IfOk result (λ ran. IsSome ran.written) }
+    ensures not_run { IfErr result (λ unstarted. unstarted.work ≡ work) }
 {
-    let (mut senders, run) = Run::<S, C, L, W>::start(builder, rt, alloc, writer, blanks)?;
+    let (mut senders, run) = match Run::<S, C, L, W>::start(builder, rt, alloc, writer, blanks) {
+        Ok(started) => started,
+        Err(error) => return Err(Unstarted { work, error }),
+    };
     let Some(sender) = senders.pop() else {
         unreachable!()
     };

@@ -89,11 +89,11 @@ pub struct RanAll<K: Drop, W: Drop> {
     pub written: Written<W>,
 }
 
-/// No work was run. All works are returned as they were.
+/// Nothing was run.
 #[derive(Drop)]
 pub struct Unstarted<K: Drop> {
-    /// The works.
-    pub works: Vec<K>,
+    /// What was to be run, as it was.
+    pub work: K,
     /// Why: an error of `NonBlockingBuilder::finish`.
     pub error: io::Error,
 }
@@ -136,16 +136,16 @@ impl NonBlockingBuilder {
         alloc: Global,
         writer: W,
         works: Vec<K>,
-    ) -> Result<RanAll<K, W>, Unstarted<K>>
+    ) -> Result<RanAll<K, W>, Unstarted<Vec<K>>>
         ensures ran { IfOk result (λ ran. RunsWorks K.CountedWork.does W.contents self.lossy works.items writer ran) }
-        ensures not_run { IfErr result (λ unstarted. unstarted.works ≡ works) }
+        ensures not_run { IfErr result (λ unstarted. unstarted.work ≡ works) }
     {
         match RunBlanks::new(alloc, works.len()) {
             Ok(blanks) => run_by::<Brand, Brand, Brand, K, W, R>(
                 self, rt, alloc, writer, works, blanks,
             ),
             Err(error) => Err(Unstarted {
-                works,
+                work: works,
                 error: io::Error::from(error),
             }),
         }
@@ -167,25 +167,25 @@ fn run_by<
     writer: W,
     works: Vec<K>,
     blanks: RunBlanks,
-) -> Result<RanAll<K, W>, Unstarted<K>>
+) -> Result<RanAll<K, W>, Unstarted<Vec<K>>>
     requires ledgers { IsBlankOf S.Ledger 1 blanks.shutdowns × IsBlankOf C.Ledger 1 blanks.closings }
     requires names { (i : ℕ) → i < vec_len blanks.histories → slice_index (map (λ b. b.name) blanks.histories.items) i ≡ L.name i }
     requires count { (vec_len blanks.histories ≡ L.senders + 1) × (L.senders ≡ vec_len works) }
     requires first { L.first ≡ W.contents writer }
     ensures ran { IfOk result (λ ran. RunsWorks K.CountedWork.does W.contents builder.lossy works.items writer ran) }
-    ensures not_run { IfErr result (λ unstarted. unstarted.works ≡ works) }
+    ensures not_run { IfErr result (λ unstarted. unstarted.work ≡ works) }
 {
     // All memory is allocated before the worker starts.
     let jobs = match Vec::with_capacity(alloc, works.len()) {
         Ok(jobs) => jobs,
         Err(error) => return Err(Unstarted {
-            works,
+            work: works,
             error: io::Error::from(error),
         }),
     };
     let (senders, run) = match Run::<S, C, L, W>::start(builder, rt, alloc, writer, blanks) {
         Ok(started) => started,
-        Err(error) => return Err(Unstarted { works, error }),
+        Err(error) => return Err(Unstarted { work: works, error }),
     };
     let (senders, works) = run_all(&rt, senders, works, jobs);
     match run.end(&rt, senders, None) {
@@ -300,11 +300,11 @@ fn part<L: Drop, K: Drop>(jobs: Vec<Job<L, K>>, senders: Vec<L>, works: Vec<K>) 
 }
 
 impl<K: Drop> From<Unstarted<K>> for io::Error {
-    /// Returns the error. The works are dropped.
+    /// Returns the error. The work is dropped.
     fn from(unstarted: Unstarted<K>) -> io::Error
         ensures { result ≡ unstarted.error }
     {
-        let Unstarted { works: _, error } = unstarted;
+        let Unstarted { work: _, error } = unstarted;
         error
     }
 }

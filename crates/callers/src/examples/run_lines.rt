@@ -23,7 +23,9 @@ impl RecordedWork for Hello {
 // Returns whether the log took the whole line.
 pub fn greet<R: Host, W: Write + Send + Drop + 'static>(rt: R, log: W) -> io::Result<bool> {
     let hello = Hello { queued: false };
-    let ran = NonBlockingBuilder::default().run_lines(rt, rt.alloc(), log, hello, None)?;
+    let ran = NonBlockingBuilder::default()
+        .run_lines(rt, rt.alloc(), log, hello, None)
+        .map_err(|unstarted| unstarted.error)?;
     let whole = ran.written.is_some_and(|written| written.given_up == 0);
     Ok(ran.work.queued && whole)
 }

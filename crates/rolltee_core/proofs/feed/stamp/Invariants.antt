@@ -1,6 +1,5 @@
 use Rattle.std.proofs.Common.{◌≡◌, ◌≢◌, ℕ, List, [], ◌++◌, length}
-use Rattle.rolltee_core.specs.Feed.{IsTimed}
-use Rattle.rolltee_core.proofs.Timed.{begins_after}
+use Rattle.rolltee_core.specs.Feed.{begins_after, IsTimed}
 use Rattle.rolltee_core.proofs.feed.stamp.Given as goal
 
 -- the text of what is done, and whether the rest begins a line

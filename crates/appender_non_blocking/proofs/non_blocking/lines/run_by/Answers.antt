@@ -12,7 +12,7 @@ pub returns-clause-ran : goal.returns-clause-ran
 returns-clause-ran g c =
     let lossy = c.args.builder.lossy in
     let ended = c.run.result in
-    let all = sym c.in-Some.ensures.items ∙ c.in_ok-senders.ensures ∙ ap (new_senders lossy) c.requires.count.1 in
+    let all = sym c.in-Some.ensures.items ∙ c.in-Ok.ensures ∙ ap (new_senders lossy) c.requires.count.1 in
     let one = same_from_push c.pop.new.self.items [] c.in-Some.sender (new_sender lossy 0) all in
     let back : c.push_reserved.new.self.items ≡ ended ∷ [] = c.push_reserved.ensures.items ∙ ap (λ zs. zs ++ ended ∷ []) one.0 in
     record {

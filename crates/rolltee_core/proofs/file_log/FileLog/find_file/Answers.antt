@@ -9,8 +9,9 @@ returns-clause-found g c =
       sym (ap (λ (l : LogState _ _ _). l.short) same) ∙ c.if-begun.false,
       c.replace.ensures.anew,
       record {
-        opens = subst (λ log. OpensLog g.S.Folder g.C.Clock c.args.self.now.config log) (sym c.replace.ensures.log)
-            (subst (λ config. OpensLog g.S.Folder g.C.Clock config c.in_ok-log.log) (ap (λ (l : LogState _ _ _). l.config) same) c.in_ok-log.ensures);
+        folder = c.in_ok-log.ensures.0;
+        opens = subst (λ log. OpensLog g.S.Folder g.C.Clock c.args.self.now.config c.in_ok-log.ensures.0 log) (sym c.replace.ensures.log)
+            (subst (λ config. OpensLog g.S.Folder g.C.Clock config c.in_ok-log.ensures.0 c.in_ok-log.log) (ap (λ (l : LogState _ _ _). l.config) same) c.in_ok-log.ensures.1);
         closed = c.replace.ensures.flushes.0;
         flushes = subst (λ log. LetsGo g.S.Folder log c.replace.ensures.flushes.0) (ap (λ (l : LogState _ _ _). l.log) c.compare.ensures) c.replace.ensures.flushes.1;
       },
@@ -23,8 +24,9 @@ returns-then-begun-clause-lost g c =
       sym (ap (λ (l : LogState _ _ _). l.short) same) ∙ c.if-begun.true,
       c.replace.ensures.anew,
       record {
-        opens = subst (λ log. OpensLog g.S.Folder g.C.Clock c.args.self.now.config log) (sym c.replace.ensures.log)
-            (subst (λ config. OpensLog g.S.Folder g.C.Clock config c.in_ok-log.log) (ap (λ (l : LogState _ _ _). l.config) same) c.in_ok-log.ensures);
+        folder = c.in_ok-log.ensures.0;
+        opens = subst (λ log. OpensLog g.S.Folder g.C.Clock c.args.self.now.config c.in_ok-log.ensures.0 log) (sym c.replace.ensures.log)
+            (subst (λ config. OpensLog g.S.Folder g.C.Clock config c.in_ok-log.ensures.0 c.in_ok-log.log) (ap (λ (l : LogState _ _ _). l.config) same) c.in_ok-log.ensures.1);
         closed = c.replace.ensures.flushes.0;
         flushes = subst (λ log. LetsGo g.S.Folder log c.replace.ensures.flushes.0) (ap (λ (l : LogState _ _ _). l.log) c.compare.ensures) c.replace.ensures.flushes.1;
       },

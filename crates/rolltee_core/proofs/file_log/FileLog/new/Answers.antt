@@ -7,10 +7,13 @@ invariant_of-result g c = λ cut. c.ends_whole-cut.ensures (is_so c.ends_whole-c
 
 pub returns : goal.returns
 returns g c = record {
-  opens = c.in_ok-log.ensures;
+  folder = c.in_ok-log.ensures.0;
+  at = c.in_ok-log.ensures.1;
+  opens = c.in_ok-log.ensures.2;
   config = refl;
   whole = λ cut. c.ends_whole-cut.ensures (is_so c.ends_whole-cut.result cut);
   short = refl;
   anew = refl;
   flushed = refl;
+  failed = refl;
 }
