@@ -35,8 +35,8 @@ HERE = pathlib.Path(__file__).resolve().parent
 CRATES = ["acceptance_schedules", "acceptance_threads", "acceptance_folders", "acceptance_log"]
 # Tests of this crate hold however slow threads are: time may pass also while a thread can go on.
 OF_SLOW_THREADS = "acceptance_schedules"
-# These write hundreds or thousands of lines, so that one schedule has tens of thousands of steps. Small tests of
-# that crate have the same threads, with two lines each.
+# These write hundreds or thousands of lines, so that one schedule has tens of thousands of steps, or have more threads than
+# the scheduler has place for. Small tests of that crate have the same threads, with two lines each.
 TOO_LONG = {
     "acceptance_threads": [
         "closing::a_guard_that_waits_leaves_no_sender_asleep",
@@ -47,6 +47,7 @@ TOO_LONG = {
         "stories::crowds_of_counted_senders_get_through",
         "stories::crowds_of_plain_senders_get_through",
         "stories::holds_of_several_lines",
+        "work::work_of_a_hundred_threads_has_an_account",
     ],
     "acceptance_folders": [
         "crowds::no_line_of_full_files_is_lost",
