@@ -238,9 +238,9 @@ never $lines app|failed to create log directory: File exists (os error 17)\\n@no
 END
 check 'rolltee, wrong options make no folder' no "$([ -e "$work/switch" ] && echo yes || echo no)"
 
-run "$rolltee" never "$work/names" app --suffix .log --link=latest < "$lines"
+run "$rolltee" never "$work/names" app --suffix ".${long:50}" --link=latest < "$lines"
 check 'rolltee --suffix --link' $'0||[one\ntwo]' "$(told)$(content "$work/names/latest")"
-check 'rolltee --suffix --link: names' $'app.log\nlatest' "$(ls "$work/names")"
+check 'rolltee --suffix --link: names' "app.${long:50}"$'\nlatest' "$(ls "$work/names")"
 # The last line has no newline.
 seq 3000 | head -c -1 > "$work/numbers"
 # More lines than wait, to a log of each rotation. If a minute ends meanwhile, they are written once more.

@@ -99,6 +99,10 @@ struct SceneCheck<'a> {
 }
 
 impl<'a> FileCheck<MemoryFolder> for SceneCheck<'a> {
+    ghost use Rattle.rolltee_core.specs.Log.{no_looks};
+
+    ghost looks = { no_looks };
+
     fn ends_line(&self, folder: &MemoryFolder, _: &MemoryFile, _: &str) -> bool {
         if folder.body(1).is_some() {
             return false;

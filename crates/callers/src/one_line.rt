@@ -1,18 +1,21 @@
 //! Callers that know of one line that their log has it. Their contracts need no proof file.
-ghost use Rattle.std.specs.Prelude.{◌≡◌, ◌++◌, ◌∷◌, [], ℕ, List, IsTrue, OnOk, IfOk, IfSome, codes, true};
+ghost use Rattle.std.specs.Prelude.{◌≡◌, ◌++◌, ◌∷◌, [], ℕ, List, IsTrue, Ok, OnOk, IfOk, IfSome, codes, length, true};
 ghost use Rattle.std.specs.Io.KnownBytes.{Appends};
+ghost use Rattle.tracing_appender.specs.Appender.{PutsNow};
 ghost use Rattle.tracing_appender.specs.Content.{body_at};
 
 use std::io;
 use std::io::{ErrorKind, Write};
 use tracing_appender::non_blocking::{Host, LineSender, NonBlockingBuilder, RecordedWork, Sent};
-use tracing_appender::rolling::{Clock, RollingFile};
+use tracing_appender::rolling::{Clock, RollingFile, Switch};
 use tracing_appender::store::Folder;
 use tracing_appender::worker_laws;
 
-/// Logs a line by one append. After `Ok` the open file ends with it, if the folder's content is known.
-pub fn log_last<S: Folder, C: Clock>(log: &mut RollingFile<S, C>, line: &[u8]) -> io::Result<()>
-    ensures { OnOk result (IsTrue S.is_known → (before : List ℕ)
+/// Logs a line by one append. After `Ok` that took all of it, and the open file ends with it, if the folder's content is known.
+pub fn log_line<S: Folder, C: Clock>(log: &mut RollingFile<S, C>, line: &[u8]) -> io::Result<()>
+    ensures once { OnOk result ((switch : Switch)
+        × PutsNow S.Folder C.Clock line.now switch (Ok (length line.now)) log.old log.new) }
+    ensures last { OnOk result (IsTrue S.is_known → (before : List ℕ)
         × (body_at (S.content log.new.roller.folder) (S.body log.new.roller.file) ≡ before ++ line.now)) }
 {
     let (_, put) = log.put(line);
@@ -23,7 +26,7 @@ pub fn log_last<S: Folder, C: Clock>(log: &mut RollingFile<S, C>, line: &[u8]) -
     }
 }
 
-/// Logs a line by as many appends as are needed. After `Ok` the open file ends with it, as after `log_last`.
+/// Logs a line by as many appends as are needed. After `Ok` the open file ends with it, as after `log_line`.
 pub fn log_all<S: Folder, C: Clock>(log: &mut RollingFile<S, C>, line: &[u8]) -> io::Result<()>
     ensures { OnOk result (IsTrue S.is_known → (before : List ℕ)
         × (body_at (S.content log.new.roller.folder) (S.body log.new.roller.file) ≡ before ++ line.now)) }

@@ -3,7 +3,7 @@ use crate::access_log::AccessLog;
 use crate::audit_sink::{Source, audit};
 use crate::handlers::{handle, log_request};
 use crate::logger::{log_reads, open_log};
-use crate::one_line::{greet, log_all, log_last};
+use crate::one_line::{greet, log_all, log_line};
 use crate::supervisor::{Captured, Copied, capture, copy};
 use appender_log::start;
 use bytes::{BufMut, Bytes};
@@ -222,8 +222,8 @@ fn a_line_that_the_log_has(rt: HostRuntime) -> Result<(), Fail> {
     let mut log = Builder::new()
         .open_in(rt.alloc(), folder, ManualClock::new(0))
         .map_err(|(error, _, _)| io::Error::from(error))?;
-    assert!(rt; log_last(&mut log, b"a\n").is_err());
-    log_last(&mut log, b"b\n")?;
+    assert!(rt; log_line(&mut log, b"a\n").is_err());
+    log_line(&mut log, b"b\n")?;
     log_all(&mut log, b"c\n")?;
     let (folder, _) = log.into_parts();
     assert_eq!(rt;

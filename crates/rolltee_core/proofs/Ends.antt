@@ -10,8 +10,7 @@ use Rattle.appender_store.specs.declared.store.Folder.{Ghosts}
 use Rattle.appender_store.proofs.Appends.{after_append_nothing}
 use Rattle.appender_rolling.specs.Appender.{Appending, AppendsNow}
 use Rattle.appender_rolling.specs.Roller.{written_count}
-use Rattle.rolltee_core.specs.Log.{EndsLine}
-use Rattle.rolltee_core.specs.Log.{EndsWhole}
+use Rattle.rolltee_core.specs.Log.{EndsLine, EndsWhole, cut_after}
 
 -- bytes that end with a newline do so after other bytes
 pub ends_after : (xs bytes : List ℕ) → ends_with_byte 10 bytes ≡ true → ends_with_byte 10 (xs ++ bytes) ≡ true
@@ -76,3 +75,8 @@ module _ {S F C : Type 0} (kind : Ghosts S F) where
 pub is_so : (b : Bool) → not b ≡ false → b ≡ true
 is_so true e = refl
 is_so false e = sym e
+
+-- What ends a file that ends with no part of a line, after bytes were added.
+pub added_whole : (cut : Bool) (added : List ℕ) → cut_after cut added ≡ false → ((cut ≡ false) × (added ≡ [])) ⊎ (ends_with_byte 10 added ≡ true)
+added_whole cut [] whole = inl (whole, refl)
+added_whole cut (byte ∷ bytes) whole = inr (is_so (ends_with_byte 10 (byte ∷ bytes)) whole)

@@ -2,7 +2,6 @@ pub mod Counts
 pub mod Ends
 pub mod Openings
 pub mod Outcome
-pub mod Puts
 pub mod Sent
 pub mod Taken
 pub mod Timed

@@ -1,14 +1,15 @@
 -- What holds whatever an outcome is, and of three words.
-use Rattle.std.proofs.Common.{◌≡◌, ◌≤◌, ◌<◌, List, [], ◌∷◌, length, OnOk, IfErr, refl, sym, ap, ◌∙◌, arith, slice_index_or}
+use Rattle.std.proofs.Common.{◌≡◌, ◌≤◌, ◌<◌, List, [], ◌∷◌, length, Bool, true, false, OnOk, refl, sym, ap, ◌∙◌, arith, slice_index_or}
 use Rattle.std.specs.Prelude.{Result, Ok, Err, IfOk, OnErr}
+use Rattle.std.specs.Result.{is_ok}
 
-pub on_ok : {A E : Type 0} → (outcome : Result A E) → {P : Type 0} → P → OnOk outcome P
-on_ok (Ok a) p = p
-on_ok (Err e) p = tt
+pub on_err : {A E : Type 0} → (outcome : Result A E) → {P : Type 0} → P → OnErr outcome P
+on_err (Ok a) p = tt
+on_err (Err e) p = p
 
-pub if_err : {A E : Type 0} → {P : E → Type 0} → (outcome : Result A E) → ((error : E) → outcome ≡ Err error → P error) → IfErr outcome P
-if_err (Ok a) each = tt
-if_err (Err error) each = each error refl
+pub ok_is : {E : Type 0} → (answer : Result (Unit {0}) E) → is_ok answer ≡ true → answer ≡ Ok tt
+ok_is (Ok done) good = refl
+ok_is (Err e) good = absurd (let never : false ≡ true = good in cc)
 
 pub ok_both : {A E : Type 0} (P Q : A → Type 0) (outcome : Result A E) → IfOk outcome P → IfOk outcome Q → IfOk outcome (λ a. P a × Q a)
 ok_both P Q (Ok a) p q = (p, q)

@@ -1,5 +1,5 @@
 -- The log of a run. `kind` has the ghost members of a kind of folder, and `time` those of a kind of clock.
-use Rattle.std.specs.Prelude.{◌≡◌, ◌≢◌, ◌≤◌, ◌<◌, ◌⊎◌, ℕ, ℤ, ◌+◌, IsErr, List, [], ◌∷◌, length, take, Ok, Err, Result, Bool, true, false, ◌&&◌, ◌==◌, if◌then◌else◌, not, nat_lt, IsTrue}
+use Rattle.std.specs.Prelude.{◌≡◌, ◌≢◌, ◌⊎◌, ℕ, ℤ, ◌+◌, ◌-◌, ◌^◌, min, IsErr, List, [], ◌∷◌, length, take, Ok, Err, Result, Bool, true, false, ◌&&◌, ◌||◌, ◌==◌, if◌then◌else◌, not, nat_lt, IsTrue}
 use Rattle.std.specs.Io.BufRead.{ends_with_byte}
 use Rattle.std.specs.IoError.{error_kind}
 use Rattle.std.specs.declared.io.Error.{Error}
@@ -13,7 +13,8 @@ use Rattle.appender_rolling.specs.declared.rolling.Switch.TheVariants.{Opened as
 use Rattle.appender_runtime.specs.declared.clock.Clock.{Ghosts as Readings}
 use Rattle.appender_rolling.specs.Appender.{Appending, AppendsNow, FlushesNow, OpensNow, OpensNone}
 use Rattle.appender_rolling.specs.Config.{Config}
-use Rattle.appender_rolling.specs.Roller.{ChecksClock}
+use Rattle.appender_rolling.specs.Opening.{file_name_of}
+use Rattle.appender_rolling.specs.Roller.{ChecksClock, written_count}
 use Rattle.program_io.specs.Options.{number_of, text_of}
 use Rattle.program_io.specs.declared.options.Options.{Options}
 use Rattle.program_io.specs.declared.options.OptionName.TheVariants.{Keep, MaxBytes, Suffix, Link}
@@ -72,28 +73,42 @@ pub record OpensNext {S F C : Type 0} (kind : Ghosts S F) (time : Readings C) (c
 abbrev pub OpensLog : {S F C : Type 0} → Ghosts S F → Readings C → Config → S → Appending S F C → Type 0
 OpensLog {C = C} kind time config folder new = ((clock : C) × OpensNow kind time config folder clock new) ⊎ OpensNext kind time config folder new
 
--- the open file was flushed
-abbrev pub LetsGo : {S F C : Type 0} → Ghosts S F → Appending S F C → Appending S F C → Type 0
-LetsGo kind old new = (answer : Result (Unit {0}) Error) × FlushesNow kind answer old new
+-- ---- the state of a log
 
--- A log was opened in place of another, whose open file was flushed before.
-pub record OpensAnew {S F C : Type 0} (kind : Ghosts S F) (time : Readings C) (config : Config) (old new : Appending S F C) : Type 0 where
-  pub folder : S
-  pub opens : OpensLog kind time config folder new
-  pub closed : Appending S F C
-  pub flushes : LetsGo kind old closed
+-- the name of the open file
+abbrev pub open_name : {S F C : Type 0} → Appending S F C → List ℕ
+open_name log = file_name_of log.roller.config log.roller.opened
+
+-- What a look at a file of a folder that has a name showed. Where a contract is proved for any check of files, only a look shows that.
+pub record Looks (S F : Type 0) : Type 1 where
+  -- whether the file ends with a line, as far as that can be seen
+  pub ends : S → F → List ℕ → Bool → Type 0
+  -- its length in bytes
+  pub length : F → ℕ → Type 0
+  -- whether its name leads to it, and it has at least this many bytes, as far as that can be seen
+  pub finds : S → F → List ℕ → ℕ → Bool → Type 0
+
+-- looks that show nothing
+abbrev pub no_looks : {S F : Type 0} → Looks S F
+no_looks = record { ends = λ _ _ _ _. Unit {0}; length = λ _ _. Unit {0}; finds = λ _ _ _ _ _. Unit {0} }
 
 -- A log, and what is known of it.
 pub record LogState (S F C : Type 0) : Type 0 where
   pub log : Appending S F C
   -- the configuration by which it is opened again
   pub config : Config
+  -- whether a part of a line is ended by a newline before the next line
+  pub whole_lines : Bool
   -- whether the open file may end with a part of a line
   pub cut : Bool
   -- whether the last write took a part of a line, whose rest belongs to the same file
   pub short : Bool
   -- whether a newline is to be written first
   pub owed : Bool
+  -- the open file's least length in bytes
+  pub length : ℕ
+  -- whether the last look did not find the open file
+  pub is_gone : Bool
   -- whether it was ever opened again
   pub anew : Bool
   -- whether its last call was a flush that succeeded
@@ -101,17 +116,31 @@ pub record LogState (S F C : Type 0) : Type 0 where
   -- how many flushes failed, those at a switch aside
   pub failed : ℕ
 
+-- the sum of two counts, or the greatest 64-bit number
+abbrev pub capped_sum : ℕ → ℕ → ℕ
+capped_sum n added = min (n + added) (2 ^ 64 - 1)
+
+-- the number of flushes that failed, after one with this answer
+abbrev pub failed_after : Result (Unit {0}) Error → ℕ → ℕ
+failed_after (Ok done) n = n
+failed_after (Err error) n = capped_sum n 1
+
+-- The open file was looked at. It is owed a newline if that is wanted and it was not seen to end with a line.
+pub record IsLookedAt {S F C : Type 0} (kind : Ghosts S F) (looks : Looks S F) (l : LogState S F C) : Type 0 where
+  pub seen : Bool
+  pub ends : looks.ends l.log.roller.folder l.log.roller.file (open_name l.log) seen
+  pub cut : l.cut ≡ not seen
+  pub owed : l.owed ≡ (l.whole_lines && not seen)
+  pub whole : l.cut ≡ false → EndsWhole kind l.log
+  pub length : looks.length l.log.roller.file l.length
+
 -- a log was opened in such a folder, and nothing was done with it yet
-pub record IsNewLog {S F C : Type 0} (kind : Ghosts S F) (time : Readings C) (is_at : S → Type 0) (asked : Config) (new : LogState S F C) : Type 0 where
+pub record IsNewLog {S F C : Type 0} (kind : Ghosts S F) (time : Readings C) (looks : Looks S F) (is_at : S → Type 0) (asked : Config) (whole_lines : Bool) (new : LogState S F C) : Type 0 where
   pub folder : S
   pub at : is_at folder
   pub opens : OpensLog kind time asked folder new.log
-  pub config : new.config ≡ asked
-  pub whole : new.cut ≡ false → EndsWhole kind new.log
-  pub short : new.short ≡ false
-  pub anew : new.anew ≡ false
-  pub flushed : new.flushed ≡ false
-  pub failed : new.failed ≡ 0
+  pub looked : IsLookedAt kind looks new
+  pub same : new ≡ record new { config = asked; whole_lines = whole_lines; short = false; is_gone = false; anew = false; flushed = false; failed = 0 }
 
 -- The log was never opened again, its last call was a flush that succeeded, and no flush failed, at a switch neither.
 pub record IsKept {S F C : Type 0} (kind : Ghosts S F) (l : LogState S F C) : Type 0 where
@@ -120,86 +149,115 @@ pub record IsKept {S F C : Type 0} (kind : Ghosts S F) (l : LogState S F C) : Ty
   pub none_failed : l.failed ≡ 0
   pub noted : (kind.noted l.log.roller.folder).flushes ≡ 0
 
--- ---- writes
+-- ---- its file
 
--- The log is the one of before, or was opened again, and the file of before was flushed. It was not opened again for the rest of a line.
-abbrev pub FindsFile : {S F C : Type 0} → Ghosts S F → Readings C → LogState S F C → LogState S F C → Type 0
-FindsFile kind time old found = (found ≡ old) ⊎ ((old.short ≡ false) × (found.anew ≡ true) × OpensAnew kind time old.config old.log found.log)
+-- The open file was looked for, unless the last look did not find it.
+abbrev pub LooksFor : {S F C : Type 0} → Looks S F → LogState S F C → LogState S F C → Type 0
+LooksFor looks old new =
+    ((old.is_gone ≡ true) × (new ≡ old))
+    ⊎ ((old.is_gone ≡ false) × (found : Bool) × looks.finds old.log.roller.folder old.log.roller.file (open_name old.log) old.length found × (new ≡ record old { is_gone = not found }))
 
--- The log is the one of before, or the rest of a line was due, and the log was opened again in place of writing it.
-abbrev pub IsSameOrLosesRest : {S F C : Type 0} → Ghosts S F → Readings C → LogState S F C → LogState S F C → Type 0
-IsSameOrLosesRest kind time old new =
-    ((new.log ≡ old.log) × (new.anew ≡ old.anew) × (new.owed ≡ old.owed))
-    ⊎ ((old.short ≡ true) × (new.anew ≡ true) × OpensAnew kind time old.config old.log new.log)
+-- The open file was flushed, and a log was opened in place of it.
+pub record OpensAnew {S F C : Type 0} (kind : Ghosts S F) (time : Readings C) (looks : Looks S F) (old new : LogState S F C) : Type 0 where
+  pub folder : S
+  pub opens : OpensLog kind time old.config folder new.log
+  pub looked : IsLookedAt kind looks new
+  pub closed : Appending S F C
+  pub answer : Result (Unit {0}) Error
+  pub flushes : FlushesNow kind answer old.log closed
+  pub failed : new.failed ≡ capped_sum (failed_after answer old.failed) (kind.noted closed.roller.folder).flushes
+  pub same : new ≡ record old { log = new.log; cut = new.cut; short = false; owed = new.owed; length = new.length; is_gone = false; anew = true; failed = new.failed }
 
--- a newline was added if one was to be, and else nothing
-abbrev pub EndsOwed : {S F C : Type 0} → Ghosts S F → Bool → Appending S F C → Appending S F C → Type 0
-EndsOwed kind true old new = AppendsNow kind (10 ∷ []) (Ok 1) old new
-EndsOwed kind false old new = new ≡ old
+-- The open file was found, or the log was opened again in place of it. It was not opened again for the rest of a line.
+abbrev pub FindsFile : {S F C : Type 0} → Ghosts S F → Readings C → Looks S F → LogState S F C → LogState S F C → Type 0
+FindsFile {S} {F} {C} kind time looks old found =
+    (looked : LogState S F C) × LooksFor looks old looked
+    × (((looked.is_gone ≡ false) × (found ≡ looked)) ⊎ ((looked.is_gone ≡ true) × (looked.short ≡ false) × OpensAnew kind time looks looked found))
 
--- a newline was not added
-abbrev pub EndsNoPart : {S F C : Type 0} → Ghosts S F → Appending S F C → Appending S F C → Type 0
-EndsNoPart kind old new = (answer : Result ℕ Error) × (answer ≢ Ok 1) × AppendsNow kind (10 ∷ []) answer old new
+-- The open file was not found, and the log not opened again, or opened again in place of writing the rest of a line.
+abbrev pub MissesFile : {S F C : Type 0} → Ghosts S F → Readings C → Looks S F → LogState S F C → LogState S F C → Type 0
+MissesFile {S} {F} {C} kind time looks old new =
+    (looked : LogState S F C) × LooksFor looks old looked × (looked.is_gone ≡ true)
+    × ((new ≡ looked) ⊎ ((looked.short ≡ true) × OpensAnew kind time looks looked new))
 
--- The clock was checked once, for this number of bytes, and a newline before them if one was to be written. Whether one is to be written
--- then changes only if a file began.
-pub record ChecksOnce {S F C : Type 0} (kind : Ghosts S F) (time : Readings C) (len : ℕ) (old : Appending S F C) (owes : Bool) (new : Appending S F C) (owed : Bool) : Type 0 where
+-- The clock was checked for this number of bytes, and a newline before them if one is owed. A file that began is looked at.
+pub record ChecksOnce {S F C : Type 0} (kind : Ghosts S F) (time : Readings C) (looks : Looks S F) (len : ℕ) (old new : LogState S F C) : Type 0 where
   pub moment : ℤ
-  pub reading : time.now_gives old.clock moment
+  pub reading : time.now_gives old.log.clock moment
   pub switch : Switch
-  pub looks : ChecksClock kind moment (len + newline_length owes) switch old.roller new.roller
-  pub clock : new.clock ≡ old.clock
-  pub same : switch ≢ Switched → owed ≡ owes
+  pub checks : ChecksClock kind moment (len + newline_length old.owed) switch old.log.roller new.log.roller
+  pub clock : new.log.clock ≡ old.log.clock
+  pub begun : switch ≡ Switched → IsLookedAt kind looks new
+  pub stays : switch ≢ Switched → (new.owed ≡ old.owed) × (new.length ≡ old.length)
+  pub same : new ≡ record old { log = new.log; cut = new.cut; owed = new.owed; length = new.length }
 
--- The same, or the bytes are the rest of a line.
-abbrev pub MayCheckOnce : {S F C : Type 0} → Ghosts S F → Readings C → ℕ → LogState S F C → LogState S F C → Type 0
-MayCheckOnce kind time len old new =
-    ChecksOnce kind time len old.log old.owed new.log new.owed
-    ⊎ ((old.short ≡ true) × (new ≡ old))
+-- The same, unless the bytes are the rest of a line.
+abbrev pub MayCheckOnce : {S F C : Type 0} → Ghosts S F → Readings C → Looks S F → ℕ → LogState S F C → LogState S F C → Type 0
+MayCheckOnce kind time looks len old new = ((old.short ≡ false) × ChecksOnce kind time looks len old new) ⊎ ((old.short ≡ true) × (new ≡ old))
 
--- The log was found, and the clock was checked once, unless the bytes are the rest of a line. It is known then whether a newline is to be
--- written first.
-pub record FindsLog {S F C : Type 0} (kind : Ghosts S F) (time : Readings C) (len : ℕ) (old : LogState S F C) (looked : Appending S F C) (owed anew : Bool) : Type 0 where
-  pub found : LogState S F C
-  pub is_found : FindsFile kind time old found
-  pub anew_is : anew ≡ found.anew
-  pub looks :
-      ChecksOnce kind time len found.log found.owed looked owed
-      ⊎ ((old.short ≡ true) × (looked ≡ found.log) × (owed ≡ found.owed))
+-- the file was found, and then the same
+abbrev pub FindsPlace : {S F C : Type 0} → Ghosts S F → Readings C → Looks S F → ℕ → LogState S F C → LogState S F C → Type 0
+FindsPlace {S} {F} {C} kind time looks len old new =
+    (found : LogState S F C) × FindsFile kind time looks old found × MayCheckOnce kind time looks len found new
 
--- The bytes were added with this answer by one append, after that check, and before them a newline if one was to be written. None is then.
-pub record PutsBytes {S F C : Type 0} (kind : Ghosts S F) (time : Readings C) (bytes : List ℕ) (answer : Result ℕ Error) (old new : LogState S F C) : Type 0 where
-  pub looked : Appending S F C
-  pub owed : Bool
-  pub looks : FindsLog kind time (length bytes) old looked owed new.anew
-  pub ended : Appending S F C
-  pub ends : EndsOwed kind owed looked ended
-  pub appends : AppendsNow kind bytes answer ended new.log
-  pub paid : new.owed ≡ false
-
--- None of the bytes was added: the log was not opened again, or was opened again in place of that, or a newline was not added before them,
--- or their append failed.
-abbrev pub PutsNone : {S F C : Type 0} → Ghosts S F → Readings C → List ℕ → Error → LogState S F C → LogState S F C → Type 0
-PutsNone {S} {F} {C} kind time bytes error old new =
-    IsSameOrLosesRest kind time old new
-    ⊎ ((looked : Appending S F C) × FindsLog kind time (length bytes) old looked true new.anew × EndsNoPart kind looked new.log × (new.owed ≡ true))
-    ⊎ PutsBytes kind time bytes (Err error) old new
+-- ---- writes
 
 -- the bytes that a write took, by its answer
 abbrev pub taken_of : Result ℕ Error → List ℕ → List ℕ
 taken_of (Ok n) bytes = take n bytes
 taken_of (Err error) bytes = []
 
--- One call took exactly these bytes: they were added to the log as the first of some, or none were, since their write failed, the log was
--- flushed or a line was given up. The rest of a line is due only after a write that took a part of one.
-pub record TakesPiece {S F C : Type 0} (kind : Ghosts S F) (time : Readings C) (old : LogState S F C) (taken : List ℕ) (new : LogState S F C) : Type 0 where
-  pub config : new.config ≡ old.config
-  pub failed : old.failed ≤ new.failed
-  pub call :
-      ((bytes : List ℕ) × (n : ℕ) × (taken ≡ take n bytes) × PutsBytes kind time bytes (Ok n) old new
-      × (new.short ≡ is_part bytes n) × (new.flushed ≡ false))
-      ⊎ ((taken ≡ []) × (bytes : List ℕ) × (error : Error) × PutsNone kind time bytes error old new
-      × (new.short ≡ true → old.short ≡ true) × (new.flushed ≡ false))
-      ⊎ ((taken ≡ []) × (answer : Result Unit Error) × FlushesNow kind answer old.log new.log
-      × (new.short ≡ old.short) × (new.owed ≡ old.owed) × (new.anew ≡ old.anew) × (new.flushed ≡ true → answer ≡ Ok tt) × (IsErr answer → 0 < new.failed))
-      ⊎ ((taken ≡ []) × (new.log ≡ old.log) × (new.short ≡ false) × (new.anew ≡ old.anew) × (new.flushed ≡ false))
+-- whether a file may end with a part of a line, after these bytes were added
+abbrev pub cut_after : Bool → List ℕ → Bool
+cut_after cut [] = cut
+cut_after cut (byte ∷ bytes) = not (ends_with_byte 10 (byte ∷ bytes))
+
+-- whether the rest of a line is due, after an append with this answer
+abbrev pub short_after : Bool → List ℕ → Result ℕ Error → Bool
+short_after short bytes (Ok n) = is_part bytes n
+short_after short bytes (Err error) = short
+
+-- The bytes were added by one append with this answer.
+abbrev pub AppendsTo : {S F C : Type 0} → Ghosts S F → List ℕ → Result ℕ Error → LogState S F C → LogState S F C → Type 0
+AppendsTo kind bytes answer old new =
+    AppendsNow kind bytes answer old.log new.log
+    × (new ≡ record old { log = new.log; cut = cut_after old.cut (take (written_count answer) bytes); short = short_after old.short bytes answer; length = capped_sum old.length (written_count answer) })
+
+-- a newline was added if one was owed, and then none is
+abbrev pub EndsOwed : {S F C : Type 0} → Ghosts S F → LogState S F C → LogState S F C → Type 0
+EndsOwed {S} {F} {C} kind old new =
+    ((old.owed ≡ false) × (new ≡ old))
+    ⊎ ((old.owed ≡ true) × (ended : LogState S F C) × AppendsTo kind (10 ∷ []) (Ok 1) old ended × (new ≡ record ended { owed = false }))
+
+-- The bytes were added with this answer by one append, after that, and after a newline if one was owed.
+pub record PutsBytes {S F C : Type 0} (kind : Ghosts S F) (time : Readings C) (looks : Looks S F) (bytes : List ℕ) (answer : Result ℕ Error) (old new : LogState S F C) : Type 0 where
+  pub placed : LogState S F C
+  pub finds : FindsPlace kind time looks (length bytes) old placed
+  pub ended : LogState S F C
+  pub ends : EndsOwed kind placed ended
+  pub appends : AppendsTo kind bytes answer ended new
+
+-- None of the bytes was added: the file was lost, or a newline was owed and not added.
+abbrev pub PutsNone : {S F C : Type 0} → Ghosts S F → Readings C → Looks S F → ℕ → LogState S F C → LogState S F C → Type 0
+PutsNone {S} {F} {C} kind time looks len old new =
+    MissesFile kind time looks old new
+    ⊎ ((placed : LogState S F C) × FindsPlace kind time looks len old placed × (placed.owed ≡ true)
+    × (answer : Result ℕ Error) × (answer ≢ Ok 1) × AppendsTo kind (10 ∷ []) answer placed new)
+
+-- one write of these bytes, with this answer
+abbrev pub WritesLog : {S F C : Type 0} → Ghosts S F → Readings C → Looks S F → List ℕ → Result ℕ Error → LogState S F C → LogState S F C → Type 0
+WritesLog kind time looks bytes answer old new = PutsBytes kind time looks bytes answer old new ⊎ (IsErr answer × PutsNone kind time looks (length bytes) old new)
+
+-- the open file was flushed, and looked for
+abbrev pub FlushesLog : {S F C : Type 0} → Ghosts S F → Looks S F → Result (Unit {0}) Error → LogState S F C → LogState S F C → Type 0
+FlushesLog {S} {F} {C} kind looks answer old new =
+    (log : Appending S F C) × FlushesNow kind answer old.log log × LooksFor looks (record old { log = log; failed = failed_after answer old.failed }) new
+
+-- One call took exactly these bytes: a write, or a flush, or the rest of a line was given up, which is then ended if that is wanted.
+abbrev pub TakesPiece : {S F C : Type 0} → Ghosts S F → Readings C → Looks S F → LogState S F C → List ℕ → LogState S F C → Type 0
+TakesPiece {S} {F} {C} kind time looks old taken new =
+    ((bytes : List ℕ) × (answer : Result ℕ Error) × (taken ≡ taken_of answer bytes)
+    × (put : LogState S F C) × WritesLog kind time looks bytes answer old put × (new ≡ record put { flushed = false }))
+    ⊎ ((taken ≡ []) × (answer : Result (Unit {0}) Error) × (flushed : LogState S F C) × FlushesLog kind looks answer old flushed
+    × (new ≡ record flushed { flushed = new.flushed }) × (new.flushed ≡ true → answer ≡ Ok tt))
+    ⊎ ((taken ≡ []) × (new ≡ record old { short = false; owed = old.owed || (old.whole_lines && old.cut); flushed = false }))

@@ -16,19 +16,26 @@ use tracing_appender::store::{Folder, NoticeKind};
 pub trait FileCheck<S: Folder>: Drop {
     ghost use Rattle.std.specs.Prelude.{◌≡◌, true, IsTrue};
     ghost use Rattle.appender_store.specs.Content.{body_at};
+    ghost use Rattle.rolltee_core.specs.Log.{Looks};
+
+    /// What its looks show.
+    ghost looks: { Looks S S.File };
 
     /// Returns whether the open file, which has this name, is empty or ends with a newline; `false` if that
     /// can't be seen.
     fn ends_line(&self, folder: &S, file: &S::File, name: &str) -> bool
-        ensures { result ≡ true → IsTrue S.is_known →
+        ensures seen { looks.ends folder.now file.now name.now result }
+        ensures whole { result ≡ true → IsTrue S.is_known →
             EndsLine (body_at (S.content folder.now) (S.body file.now)) };
 
     /// Returns the length of the open file in bytes, or 0 if that can't be seen.
-    fn length(&self, file: &S::File) -> u64;
+    fn length(&self, file: &S::File) -> u64
+        ensures { looks.length file.now result };
 
     /// Returns whether this name leads to the open file, and the file is not shorter than `length` bytes. If not, or
     /// if that can't be seen, reports it.
-    fn finds(&self, folder: &S, file: &S::File, name: &str, length: u64) -> bool;
+    fn finds(&self, folder: &S, file: &S::File, name: &str, length: u64) -> bool
+        ensures { looks.finds folder.now file.now name.now length result };
 
     /// Returns the number of flushes that the folder noted as failed.
     fn unsynced(&self, folder: &S) -> u64
@@ -185,6 +192,10 @@ impl<R: FilesHost> DirCheck<R> {
 }
 
 impl<R: FilesHost> FileCheck<DirFolder<R>> for DirCheck<R> {
+    ghost use Rattle.rolltee_core.specs.Log.{no_looks};
+
+    ghost looks = { no_looks };
+
     fn ends_line(&self, folder: &DirFolder<R>, file: &R::File, name: &str) -> bool {
         match file.metadata() {
             Ok(metadata) if metadata.len() == 0 => true,

@@ -1,8 +1,8 @@
 //! A log whose open file other programs may change.
-ghost use Rattle.std.specs.Prelude.{◌≡◌, ◌≤◌, ◌⊎◌, [], ◌+◌, true, false, length, IfOk, IsErr};
+ghost use Rattle.std.specs.Prelude.{◌≡◌, ◌≤◌, ◌+◌, true, false, length, IfOk};
 ghost use Rattle.std.specs.Io.BufRead.{ends_with_byte};
 ghost use Rattle.appender_rolling.specs.Roller.{written_count};
-ghost use Rattle.rolltee_core.specs.Log.{is_part, newline_length, EndsWhole, OpensLog};
+ghost use Rattle.rolltee_core.specs.Log.{cut_after, failed_after, newline_length, open_name, short_after, EndsWhole, OpensLog};
 
 use crate::check::FileCheck;
 use crate::logs::TeeLog;
@@ -73,9 +73,12 @@ impl<S: Folder, C: Clock, W: FileCheck<S>, O: Opens<S, C>> Model for FileLog<S, 
     ghost view = { λ l. record {
       log = l.log;
       config = O.config l.opener;
+      whole_lines = l.whole_lines;
       cut = l.cut;
       short = l.short;
       owed = l.owed;
+      length = l.length;
+      is_gone = l.is_gone;
       anew = l.anew;
       flushed = l.flushed;
       failed = l.unsynced;
@@ -85,34 +88,45 @@ impl<S: Folder, C: Clock, W: FileCheck<S>, O: Opens<S, C>> Model for FileLog<S, 
 }
 
 impl<S: Folder, C: Clock, W: FileCheck<S>, O: Opens<S, C>> FileLog<S, C, W, O> {
-    ghost use Rattle.std.specs.Prelude.{◌≡◌, ◌≤◌, ◌<◌, false, true, length, IfOk, IfErr, IsErr, OnOk, OnErr};
+    ghost use Rattle.std.specs.Prelude.{◌≡◌, ◌≢◌, ◌∷◌, [], ℕ, Ok, Result, length, IfOk, OnOk, OnErr};
     ghost use Rattle.std.specs.Io.{WritesAtMost};
-    ghost use Rattle.appender_rolling.specs.Appender.{Appending, AppendsNow, FlushesNow};
-    ghost use Rattle.rolltee_core.specs.Log.{EndsNoPart, EndsOwed, FindsFile, IsNewLog, IsSameOrLosesRest, LetsGo, MayCheckOnce, PutsBytes, PutsNone};
+    ghost use Rattle.std.specs.declared.io.Error.{Error};
+    ghost use Rattle.rolltee_core.specs.Log.{AppendsTo, EndsOwed, FindsFile, FlushesLog, IsLookedAt, IsNewLog, LooksFor, MissesFile, MayCheckOnce, OpensAnew, WritesLog};
 
     /// Opens the log.
-    pub fn new(opener: O, mut check: W, whole_lines: bool) -> Result<FileLog<S, C, W, O>, InitError>
-        ensures { IfOk result (IsNewLog S.Folder C.Clock (O.is_at (O.directory opener)) (O.config opener)) }
+    pub fn new(opener: O, check: W, whole_lines: bool) -> Result<FileLog<S, C, W, O>, InitError>
+        ensures { IfOk result (IsNewLog S.Folder C.Clock W.looks (O.is_at (O.directory opener)) (O.config opener) whole_lines) }
     {
         let log = opener.open()?;
-        check.look_beside(log.folder(), log.open_name());
-        let cut = !ends_whole(&check, &log);
-        let length = check.length(log.open_file());
-        Ok(FileLog {
+        let mut log = FileLog {
             opener,
             log,
             check,
             whole_lines,
-            cut,
-            owed: whole_lines && cut,
+            cut: true,
+            owed: false,
             short: false,
-            length,
+            length: 0,
             is_gone: false,
             gone: 0,
             anew: false,
             flushed: false,
             unsynced: 0,
-        })
+        };
+        log.look();
+        Ok(log)
+    }
+
+    // Looks at the file that was opened.
+    fn look(&mut self)
+        ensures looked { IsLookedAt S.Folder W.looks self.new }
+        ensures same { self.new ≡ record self.old { cut = self.new.cut; owed = self.new.owed; length = self.new.length } }
+    {
+        self.check
+            .look_beside(self.log.folder(), self.log.open_name());
+        self.length = self.check.length(self.log.open_file());
+        self.cut = !ends_whole(&self.check, &self.log);
+        self.owed = self.whole_lines && self.cut;
     }
 
     /// Returns the open file.
@@ -124,11 +138,8 @@ impl<S: Folder, C: Clock, W: FileCheck<S>, O: Opens<S, C>> FileLog<S, C, W, O> {
     // again. Then it is `WriteZero` if that file has the beginning of a line, whose rest no other file takes. After another
     // error nothing has changed, and the next call tries again.
     fn find_file(&mut self) -> io::Result<()>
-        ensures found { OnOk result (FindsFile S.Folder C.Clock self.old self.new) }
-        ensures lost { OnErr result (IsSameOrLosesRest S.Folder C.Clock self.old self.new) }
-        ensures config { self.new.config ≡ self.old.config }
-        ensures failed { self.old.failed ≤ self.new.failed }
-        ensures short { self.new.short ≡ true → self.old.short ≡ true }
+        ensures found { OnOk result (FindsFile S.Folder C.Clock W.looks self.old self.new) }
+        ensures lost { OnErr result (MissesFile S.Folder C.Clock W.looks self.old self.new) }
     {
         self.compare();
         if !self.is_gone {
@@ -146,7 +157,7 @@ impl<S: Folder, C: Clock, W: FileCheck<S>, O: Opens<S, C>> FileLog<S, C, W, O> {
     // Compares the open file with what its name leads to, and its length, until a difference is reported. Other programs
     // may make the file longer, so only a shorter one is a difference.
     fn compare(&mut self)
-        ensures { self.new ≡ self.old }
+        ensures { LooksFor W.looks self.old self.new }
     {
         if self.is_gone {
             return;
@@ -165,63 +176,46 @@ impl<S: Folder, C: Clock, W: FileCheck<S>, O: Opens<S, C>> FileLog<S, C, W, O> {
 
     // Flushes the open file before it is closed, and goes on with a log that was opened again.
     fn replace(&mut self, log: RollingFile<S, C>)
-        ensures log { self.new.log ≡ log }
-        ensures flushes { (closed : Appending S S.File C) × LetsGo S.Folder self.old.log closed }
-        ensures config { self.new.config ≡ self.old.config }
-        ensures failed { self.old.failed ≤ self.new.failed }
-        ensures short { self.new.short ≡ false }
-        ensures anew { self.new.anew ≡ true }
+        requires { (folder : S) × OpensLog S.Folder C.Clock self.now.config folder log }
+        ensures { OpensAnew S.Folder C.Clock W.looks self.old self.new }
     {
-        if self.log.flush().is_err() {
-            self.unsynced = self.unsynced.saturating_add(1);
-        }
+        let flushed = self.log.flush();
+        self.unsynced = unsynced_after(self.unsynced, &flushed);
         // The folder that comes next has noted no flush.
         let noted = self.check.unsynced(self.log.folder());
         self.unsynced = self.unsynced.saturating_add(noted);
-        self.check.look_beside(log.folder(), log.open_name());
-        self.length = self.check.length(log.open_file());
-        self.cut = !ends_whole(&self.check, &log);
-        self.owed = self.whole_lines && self.cut;
-        self.short = false;
         self.log = log;
+        self.cut = true;
+        self.short = false;
         self.is_gone = false;
         self.anew = true;
+        self.look();
     }
 
     // Begins the next file if one is due for these bytes and the newline before them, unless they are the rest of a line.
     fn check_clock(&mut self, bytes: &[u8])
-        ensures looks { MayCheckOnce S.Folder C.Clock (length bytes.now) self.old self.new }
-        ensures config { self.new.config ≡ self.old.config }
-        ensures failed { self.new.failed ≡ self.old.failed }
-        ensures short { self.new.short ≡ self.old.short }
-        ensures anew { self.new.anew ≡ self.old.anew }
+        ensures { MayCheckOnce S.Folder C.Clock W.looks (length bytes.now) self.old self.new }
     {
         if self.short {
             return;
         }
         let moment = self.log.moment();
         let switch = self.log.check_clock(moment, length_with(bytes, self.owed));
-        if switch != Switch::None {
-            self.cut = !ends_whole(&self.check, &self.log);
-        }
-        if switch == Switch::Opened {
-            self.check
-                .look_beside(self.log.folder(), self.log.open_name());
-            self.length = self.check.length(self.log.open_file());
-            self.owed = self.whole_lines && self.cut;
+        match switch {
+            Switch::None => {}
+            Switch::Opened => {
+                self.cut = true;
+                self.look();
+            }
+            Switch::Failed => self.cut = !ends_whole(&self.check, &self.log),
         }
     }
 
     // Ends a part of a line by a newline.
     fn end_part(&mut self) -> io::Result<()>
-        ensures ends { OnOk result (EndsOwed S.Folder self.old.owed self.old.log self.new.log) }
-        ensures stays { OnErr result (EndsNoPart S.Folder self.old.log self.new.log) }
-        ensures owed { OnErr result ((self.old.owed ≡ true) × (self.new.owed ≡ true)) }
-        ensures paid { OnOk result (self.new.owed ≡ false) }
-        ensures config { self.new.config ≡ self.old.config }
-        ensures failed { self.new.failed ≡ self.old.failed }
-        ensures short { self.new.short ≡ true → self.old.short ≡ true }
-        ensures anew { self.new.anew ≡ self.old.anew }
+        ensures ends { OnOk result (EndsOwed S.Folder self.old self.new) }
+        ensures stays { OnErr result ((self.old.owed ≡ true) × (answer : Result ℕ Error) × (answer ≢ Ok 1)
+            × AppendsTo S.Folder (10 ∷ []) answer self.old self.new) }
     {
         if self.owed {
             if self.append(b"\n")? == 0 {
@@ -235,13 +229,7 @@ impl<S: Folder, C: Clock, W: FileCheck<S>, O: Opens<S, C>> FileLog<S, C, W, O> {
     // Adds the first of the bytes to the open file by one append.
     fn append(&mut self, bytes: &[u8]) -> io::Result<usize>
         ensures bound { WritesAtMost result bytes.now }
-        ensures appends { AppendsNow S.Folder bytes.now result self.old.log self.new.log }
-        ensures config { self.new.config ≡ self.old.config }
-        ensures failed { self.new.failed ≡ self.old.failed }
-        ensures short { IfOk result (λ n. self.new.short ≡ is_part bytes.now n) }
-        ensures still_short { IsErr result → self.new.short ≡ self.old.short }
-        ensures owed { self.new.owed ≡ self.old.owed }
-        ensures anew { self.new.anew ≡ self.old.anew }
+        ensures appends { AppendsTo S.Folder bytes.now result self.old self.new }
     {
         let answer = self.log.append(bytes);
         let taken = count_of(&answer);
@@ -255,12 +243,7 @@ impl<S: Folder, C: Clock, W: FileCheck<S>, O: Opens<S, C>> FileLog<S, C, W, O> {
     // line it adds them to the same file, without a check of the clock.
     fn write(&mut self, bytes: &[u8]) -> io::Result<usize>
         ensures bound { WritesAtMost result bytes.now }
-        ensures puts { OnOk result (PutsBytes S.Folder C.Clock bytes.now result self.old self.new) }
-        ensures fails { IfErr result (λ error. PutsNone S.Folder C.Clock bytes.now error self.old self.new) }
-        ensures config { self.new.config ≡ self.old.config }
-        ensures failed { self.old.failed ≤ self.new.failed }
-        ensures short { IfOk result (λ n. self.new.short ≡ is_part bytes.now n) }
-        ensures still_short { IsErr result → self.new.short ≡ true → self.old.short ≡ true }
+        ensures writes { WritesLog S.Folder C.Clock W.looks bytes.now result self.old self.new }
     {
         self.find_file()?;
         self.check_clock(bytes);
@@ -270,15 +253,10 @@ impl<S: Folder, C: Clock, W: FileCheck<S>, O: Opens<S, C>> FileLog<S, C, W, O> {
 
     // Flushes the open file, and looks for it.
     fn flush(&mut self) -> io::Result<()>
-        ensures flushes { FlushesNow S.Folder result self.old.log self.new.log }
-        ensures same { self.new ≡ record self.old { log = self.new.log; failed = self.new.failed } }
-        ensures failed { self.old.failed ≤ self.new.failed }
-        ensures counted { IsErr result → 0 < self.new.failed }
+        ensures { FlushesLog S.Folder W.looks result self.old self.new }
     {
         let flushed = self.log.flush();
-        if flushed.is_err() {
-            self.unsynced = self.unsynced.saturating_add(1);
-        }
+        self.unsynced = unsynced_after(self.unsynced, &flushed);
         self.compare();
         flushed
     }
@@ -286,11 +264,14 @@ impl<S: Folder, C: Clock, W: FileCheck<S>, O: Opens<S, C>> FileLog<S, C, W, O> {
 
 impl<S: Folder, C: Clock, W: FileCheck<S>, O: Opens<S, C>> TeeLog for FileLog<S, C, W, O> {
     ghost use Rattle.std.specs.Prelude.{◌≡◌};
+    ghost use Rattle.program_io.specs.Options.{has_option};
+    ghost use Rattle.program_io.specs.declared.options.OptionName.TheVariants.{WholeLines};
     ghost use Rattle.rolltee_core.specs.Log.{IsKept, IsNewLog, TakesPiece, config_of};
 
-    ghost opens = { λ rotation directory prefix options opened. IsNewLog S.Folder C.Clock (O.is_at directory) (config_of rotation prefix options) opened };
+    ghost opens = { λ rotation directory prefix options opened.
+        IsNewLog S.Folder C.Clock W.looks (O.is_at directory) (config_of rotation prefix options) (has_option WholeLines options) opened };
 
-    ghost takes = { λ old taken new. TakesPiece S.Folder C.Clock old taken new };
+    ghost takes = { λ old taken new. TakesPiece S.Folder C.Clock W.looks old taken new };
 
     ghost is_kept = { λ log. IsKept S.Folder log };
 
@@ -332,6 +313,16 @@ fn open_again<S: Folder, C: Clock, O: Opens<S, C>>(opener: &O) -> io::Result<Rol
     }
 }
 
+// Returns how many flushes failed, after one with this answer.
+fn unsynced_after(unsynced: u64, answer: &io::Result<()>) -> u64
+    ensures { result ≡ failed_after answer.now unsynced }
+{
+    match answer {
+        Ok(()) => unsynced,
+        Err(_) => unsynced.saturating_add(1),
+    }
+}
+
 // Returns a count, or 1 if it is 0 and something is known to be lost.
 fn at_least_one(count: u64, is_lost: bool) -> u64
     ensures { result ≡ 0 → (count ≡ 0) × (is_lost ≡ false) }
@@ -353,8 +344,7 @@ fn length_with(bytes: &[u8], newline: bool) -> usize
 // Returns whether the rest of a line is due after this answer to an append.
 fn is_short_after(short: bool, bytes: &[u8], answer: &io::Result<usize>) -> bool
     requires { written_count answer.now ≤ length bytes.now }
-    ensures ok { IfOk answer.now (λ n. result ≡ is_part bytes.now n) }
-    ensures err { IsErr answer.now → result ≡ short }
+    ensures { result ≡ short_after short bytes.now answer.now }
 {
     match answer {
         Ok(taken) => {
@@ -385,7 +375,7 @@ fn count_of(answer: &io::Result<usize>) -> usize
 
 // Returns whether the open file may end with a part of a line after these bytes were added.
 fn is_cut_after(cut: bool, added: &[u8]) -> bool
-    ensures { result ≡ false → ((added.now ≡ []) × (cut ≡ false)) ⊎ (ends_with_byte 10 added.now ≡ true) }
+    ensures { result ≡ cut_after cut added.now }
 {
     if added.is_empty() {
         cut
@@ -396,7 +386,8 @@ fn is_cut_after(cut: bool, added: &[u8]) -> bool
 
 // Returns whether the open file is seen to be empty or to end with a newline.
 fn ends_whole<S: Folder, C: Clock, W: FileCheck<S>>(check: &W, log: &RollingFile<S, C>) -> bool
-    ensures { result ≡ true → EndsWhole S.Folder log.now }
+    ensures seen { W.looks.ends log.now.roller.folder log.now.roller.file (open_name log.now) result }
+    ensures whole { result ≡ true → EndsWhole S.Folder log.now }
 {
     check.ends_line(log.folder(), log.open_file(), log.open_name())
 }

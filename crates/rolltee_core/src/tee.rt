@@ -239,8 +239,8 @@ pub fn tee<R: Host, L: Logs, I: Read, E: Write>(
 
 /// Does what `tee` does, with options. If they ask for it, each line begins with a time, and is also written to `output`. Returns that
 /// if all was written: the status is 0. Else returns the status. It is also 1 if a line was dropped or not written whole to `output`, or
-/// a log file was not found again, and 2 if the rotation does not allow an option. What `errors` get begins with the title of the log,
-/// `rolltee: DIR/PREFIX: `, or is a line of `tee` with one after it that says what is meant.
+/// if a log file was not found again. It is also 2 if the rotation does not allow an option. What `errors` get begins with the title of
+/// the log, `rolltee: DIR/PREFIX: `, or is a line of `tee` with one after it that says what is meant.
 pub fn tee_with<R: Host, L: Logs, I: Read, O: Write + Drop, E: Write>(
     rt: R,
     logs: L,
