@@ -1,3 +1,4 @@
+use Next::{CannotBeMade, Fails, HasRoom, Pauses, Takes, TakesFirst};
 use appender_log::LogSink;
 use appender_runtime::clock::Clock;
 use appender_runtime::make_writer::MakeWriter;
@@ -19,14 +20,12 @@ pub(crate) mod times;
 #[derive(Clone, Copy, Debug)]
 enum Next {
     Takes,
-    // A write takes so many bytes at most.
+    // Each write takes at most this number of bytes.
     TakesFirst(usize),
-    // So many writes are interrupted before one takes all.
-    IsInterrupted(u32),
-    // There is room for so many bytes, and then a write fails.
+    // There is room for this number of bytes, and then a write fails.
     HasRoom(usize),
-    // There is room for so many bytes, and then so many writes are interrupted.
-    HasRoomBefore(usize, u32),
+    // There is room for this number of bytes, then this number of writes is interrupted, and then one takes all.
+    Pauses(usize, u32),
     Fails,
     CannotBeMade,
 }
@@ -45,7 +44,7 @@ impl Page {
     fn new(alloc: Global) -> Page {
         Page {
             text: RefCell::new(Vec::new(alloc)),
-            next: Cell::new(Next::Takes),
+            next: Cell::new(Takes),
         }
     }
 
@@ -57,6 +56,27 @@ impl Page {
         text.extend_from_slice(end)?;
         Ok(())
     }
+
+    // How many of this number of bytes a write takes.
+    fn take(&self, length: usize) -> io::Result<usize> {
+        match self.next.get() {
+            Takes | Pauses(0, 0) => Ok(length),
+            TakesFirst(most) => Ok(most.min(length)),
+            Pauses(0, left) => {
+                self.next.set(Pauses(0, left.saturating_sub(1)));
+                Err(io::Error::from(ErrorKind::Interrupted))
+            }
+            Pauses(room, left) => {
+                self.next.set(Pauses(room.saturating_sub(length), left));
+                Ok(room.min(length))
+            }
+            HasRoom(room) if room > 0 => {
+                self.next.set(HasRoom(room.saturating_sub(length)));
+                Ok(room.min(length))
+            }
+            _ => Err(io::Error::from(ErrorKind::StorageFull)),
+        }
+    }
 }
 
 impl<'a> MakeWriter<'a> for Page {
@@ -64,40 +84,9 @@ impl<'a> MakeWriter<'a> for Page {
 
     fn make_writer(&'a self) -> Result<PageWriter<'a>, AllocError> {
         match self.next.get() {
-            Next::CannotBeMade => Err(AllocError),
+            CannotBeMade => Err(AllocError),
             _ => Ok(PageWriter(self)),
         }
-    }
-}
-
-impl Page {
-    // How many of so many bytes a write takes.
-    fn take(&self, length: usize) -> io::Result<usize> {
-        match self.next.get() {
-            Next::Takes | Next::IsInterrupted(0) | Next::HasRoomBefore(0, 0) => Ok(length),
-            Next::TakesFirst(most) => Ok(most.min(length)),
-            Next::IsInterrupted(left) => self.interrupt(Next::IsInterrupted(left.saturating_sub(
-                1,
-            ))),
-            Next::HasRoomBefore(0, left) => {
-                self.interrupt(Next::HasRoomBefore(0, left.saturating_sub(1)))
-            }
-            Next::HasRoomBefore(room, left) => {
-                self.next
-                    .set(Next::HasRoomBefore(room.saturating_sub(length), left));
-                Ok(room.min(length))
-            }
-            Next::HasRoom(room) if room > 0 => {
-                self.next.set(Next::HasRoom(room.saturating_sub(length)));
-                Ok(room.min(length))
-            }
-            _ => Err(io::Error::from(ErrorKind::StorageFull)),
-        }
-    }
-
-    fn interrupt(&self, next: Next) -> io::Result<usize> {
-        self.next.set(next);
-        Err(io::Error::from(ErrorKind::Interrupted))
     }
 }
 
@@ -113,13 +102,32 @@ impl Write for PageWriter<'_> {
     }
 }
 
-// Ends the test if the page has another text.
-fn expect_page(rt: &impl Abort, page: &Page, wanted: &str) {
+const LINE: &str = "[INFO  db] read rows=3\n";
+
+// Ten o'clock on the 27th of November 2026, in nanoseconds since the epoch.
+const TEN: i128 = 1_795_773_600_000_000_000;
+
+// Returns a text with the record of LINE, without its newline, in place of each `@`, and with the time TEN, without its
+// `Z`, in place of each `%`.
+fn filled(alloc: Global, text: &str) -> Result<String, AllocError> {
+    let mut whole = String::new(alloc);
+    for character in text.chars() {
+        match character {
+            '@' => whole.push_str("[INFO  db] read rows=3")?,
+            '%' => whole.push_str("2026-11-27T10:00:00.000000")?,
+            _ => whole.push(character)?,
+        }
+    }
+    Ok(whole)
+}
+
+// Ends the test if the page has another text than this one, in which `@` and `%` are replaced.
+fn expect_page<R: AllocGlobal + Abort>(rt: &R, page: &Page, wanted: &str) {
     let Ok(text) = page.text.try_borrow() else {
         rt.panic("the text is borrowed");
     };
-    let text = text.as_slice();
-    let wanted = wanted.as_bytes();
+    let wanted = filled(rt.alloc(), wanted).expect(rt, "memory");
+    let (text, wanted) = (text.as_slice(), wanted.as_bytes());
     assert!(rt; text == wanted, "{text:?} instead of {wanted:?}");
 }
 
@@ -133,14 +141,11 @@ fn a_record_is_one_write(rt: HostRuntime) {
     info!(request; target: "", "started");
     log::debug!(request; target: "db", rows = 3; "read {} bytes", 512);
     warn!(logger; target: "db", by = "a", rows = 3; "two\nlines");
-    expect_page(
-        &rt,
-        &page,
-        "[INFO  acceptance_log::records] \n|\
+    let wanted = "[INFO  acceptance_log::records] \n|\
         [INFO ] request{id=7}: started\n|\
         [DEBUG db] request{id=7}: read 512 bytes rows=3\n|\
-        [WARN  db] two\\nlines by=a rows=3\n|",
-    );
+        [WARN  db] two\\nlines by=a rows=3\n|";
+    expect_page(&rt, &page, wanted);
 }
 
 // A message and its form in a line.
@@ -202,8 +207,6 @@ trait Host: AllocGlobal + Wait + Abort + Copy + Drop {}
 
 impl<R: AllocGlobal + Wait + Abort + Copy + Drop> Host for R {}
 
-const LINE: &str = "[INFO  db] read rows=3\n";
-
 // Logs a record while writers do this, and checks how many records are lost then.
 fn expect_lost<R: Host, C: Clock>(
     rt: R,
@@ -220,80 +223,38 @@ fn expect_lost<R: Host, C: Clock>(
 }
 
 // What writers do at two records, how many are lost then, and what is written.
-static LOST: [(Next, Next, u64, &str); 13] = [
-    (Next::Fails, Next::Takes, 1, "[INFO  db] read rows=3\n|"),
-    (
-        Next::CannotBeMade,
-        Next::Takes,
-        1,
-        "[INFO  db] read rows=3\n|",
-    ),
-    (
-        Next::TakesFirst(0),
-        Next::Takes,
-        1,
-        "|[INFO  db] read rows=3\n|",
-    ),
-    (
-        Next::TakesFirst(22),
-        Next::Takes,
-        0,
-        "[INFO  db] read rows=3|\n|[INFO  db] read rows=3\n|",
-    ),
-    (
-        Next::TakesFirst(23),
-        Next::Takes,
-        0,
-        "[INFO  db] read rows=3\n|[INFO  db] read rows=3\n|",
-    ),
+type Two = (Next, Next, u64, &'static str);
+
+// In a text `@` is the line of a record without its newline.
+static LOST: [Two; 13] = [
+    (Fails, Takes, 1, "@\n|"),
+    (CannotBeMade, Takes, 1, "@\n|"),
+    (TakesFirst(0), Takes, 1, "|@\n|"),
+    (TakesFirst(22), Takes, 0, "@|\n|@\n|"),
+    (TakesFirst(23), Takes, 0, "@\n|@\n|"),
     // A record that was begun is ended before the next one.
-    (
-        Next::HasRoom(1),
-        Next::Takes,
-        1,
-        "[|\n|[INFO  db] read rows=3\n|",
-    ),
-    (
-        Next::HasRoom(22),
-        Next::Takes,
-        1,
-        "[INFO  db] read rows=3|\n|[INFO  db] read rows=3\n|",
-    ),
-    (
-        Next::HasRoom(23),
-        Next::Takes,
-        0,
-        "[INFO  db] read rows=3\n|[INFO  db] read rows=3\n|",
-    ),
-    (
-        Next::HasRoomBefore(5, 100),
-        Next::Takes,
-        0,
-        "[INFO|  db] read rows=3\n|[INFO  db] read rows=3\n|",
-    ),
-    (
-        Next::HasRoomBefore(5, 101),
-        Next::Takes,
-        1,
-        "[INFO|\n|[INFO  db] read rows=3\n|",
-    ),
-    (Next::HasRoom(5), Next::HasRoom(1), 2, "[INFO|\n|"),
-    (Next::HasRoom(5), Next::HasRoom(7), 2, "[INFO|\n|[INFO |"),
-    (Next::HasRoom(5), Next::Fails, 2, "[INFO|"),
+    (HasRoom(1), Takes, 1, "[|\n|@\n|"),
+    (HasRoom(22), Takes, 1, "@|\n|@\n|"),
+    (HasRoom(23), Takes, 0, "@\n|@\n|"),
+    (Pauses(5, 100), Takes, 0, "[INFO|  db] read rows=3\n|@\n|"),
+    (Pauses(5, 101), Takes, 1, "[INFO|\n|@\n|"),
+    (HasRoom(5), HasRoom(1), 2, "[INFO|\n|"),
+    (HasRoom(5), HasRoom(7), 2, "[INFO|\n|[INFO |"),
+    (HasRoom(5), Fails, 2, "[INFO|"),
 ];
 
-// Logs two records on a page of their own.
-fn expect_two<R: Host>(rt: R, first: Next, second: Next, lost: u64, text: &str) {
-    let page = Page::new(rt.alloc());
-    let sink = LogSink::new(rt, &page);
-    expect_lost(rt, &page, &sink, first, lost.min(1));
-    expect_lost(rt, &page, &sink, second, lost);
-    expect_page(&rt, &page, text);
+// Logs two records on a page.
+fn expect_two<R: Host, C: Clock>(rt: R, page: &Page, sink: &LogSink<'_, Page, R, C>, two: Two) {
+    let (first, second, lost, text) = two;
+    expect_lost(rt, page, sink, first, lost.min(1));
+    expect_lost(rt, page, sink, second, lost);
+    expect_page(&rt, page, text);
 }
 
 fn expect_each<R: Host>(rt: R) {
-    for (first, second, lost, text) in &LOST {
-        expect_two(rt, *first, *second, *lost, *text);
+    for two in &LOST {
+        let page = Page::new(rt.alloc());
+        expect_two(rt, &page, &LogSink::new(rt, &page), *two);
     }
 }
 
@@ -306,16 +267,12 @@ fn each_lost_record_is_counted_and_the_next_one_is_a_line(rt: HostRuntime) {
 fn expect_ended_once<R: Host>(rt: R) {
     let page = Page::new(rt.alloc());
     let sink = LogSink::new(rt, &page);
-    expect_lost(rt, &page, &sink, Next::HasRoom(5), 1);
-    expect_lost(rt, &page, &sink, Next::Fails, 2);
-    expect_lost(rt, &page, &sink, Next::TakesFirst(0), 3);
-    expect_lost(rt, &page, &sink, Next::Takes, 3);
-    expect_lost(rt, &page, &sink, Next::Takes, 3);
-    expect_page(
-        &rt,
-        &page,
-        "[INFO||\n|[INFO  db] read rows=3\n|[INFO  db] read rows=3\n|",
-    );
+    expect_lost(rt, &page, &sink, HasRoom(5), 1);
+    expect_lost(rt, &page, &sink, Fails, 2);
+    expect_lost(rt, &page, &sink, TakesFirst(0), 3);
+    expect_lost(rt, &page, &sink, Takes, 3);
+    expect_lost(rt, &page, &sink, Takes, 3);
+    expect_page(&rt, &page, "[INFO||\n|@\n|@\n|");
 }
 
 #[test]
@@ -333,18 +290,18 @@ fn in_pieces<R: Host>(rt: R, most: usize) -> Vec<u8> {
     pieces
 }
 
-// Logs a record whose writes each take so many bytes at most.
-fn expect_in_pieces<R: Host>(rt: R, most: usize) {
+// Logs a record on a page of its own.
+fn expect_one<R: Host>(rt: R, next: Next, lost: u64, text: &str) {
     let page = Page::new(rt.alloc());
-    let sink = LogSink::new(rt, &page);
-    expect_lost(rt, &page, &sink, Next::TakesFirst(most), 0);
-    let pieces = in_pieces(rt, most);
-    expect_page(&rt, &page, str::from_utf8(pieces.as_slice()).unwrap_or(""));
+    expect_lost(rt, &page, &LogSink::new(rt, &page), next, lost);
+    expect_page(&rt, &page, text);
 }
 
 fn expect_in_pieces_of_each_length<R: Host>(rt: R) {
     for most in 1..=LINE.len() {
-        expect_in_pieces(rt, most);
+        let pieces = in_pieces(rt, most);
+        let text = str::from_utf8(pieces.as_slice()).unwrap_or("");
+        expect_one(rt, TakesFirst(most), 0, text);
     }
 }
 
@@ -353,19 +310,13 @@ fn a_record_that_is_taken_in_pieces_is_whole(rt: HostRuntime) {
     expect_in_pieces_of_each_length(rt);
 }
 
-// How often the write of a record is interrupted, how many records are lost, and what is written.
-static INTERRUPTED: [(u32, u64, &str); 3] = [
-    (1, 0, "[INFO  db] read rows=3\n|"),
-    (100, 0, "[INFO  db] read rows=3\n|"),
-    (101, 1, ""),
-];
+// How often the write of a record is interrupted, how many records are lost, and what is written. In the text `@` is
+// the line of a record without its newline.
+static INTERRUPTED: [(u32, u64, &str); 3] = [(1, 0, "@\n|"), (100, 0, "@\n|"), (101, 1, "")];
 
 fn expect_interrupted<R: Host>(rt: R) {
     for (times, lost, text) in &INTERRUPTED {
-        let page = Page::new(rt.alloc());
-        let sink = LogSink::new(rt, &page);
-        expect_lost(rt, &page, &sink, Next::IsInterrupted(*times), *lost);
-        expect_page(&rt, &page, *text);
+        expect_one(rt, Pauses(0, *times), *lost, *text);
     }
 }
 
@@ -390,7 +341,7 @@ fn a_flush_reaches_a_writer(rt: HostRuntime) {
     let page = Page::new(rt.alloc());
     let sink = LogSink::new(rt, &page);
     sink.flush();
-    page.next.set(Next::CannotBeMade);
+    page.next.set(CannotBeMade);
     sink.flush();
     assert!(rt; sink.lost() == 0);
     expect_page(&rt, &page, ",");
@@ -417,11 +368,11 @@ impl<'a> MakeWriter<'a> for NoWriters {
     }
 }
 
-// Logs a thousand records, all of which are lost.
-fn lose_records<R: AllocGlobal + Wait + Copy + Drop>(rt: R, sink: &LogSink<'_, NoWriters, R>) {
+// Logs a record this number of times.
+fn log_often<R: Host>(rt: R, sink: &impl Log, times: u32) {
     let logger = Logged::new(rt, Level::Info, sink);
-    for _ in 0..1000u32 {
-        info!(logger; "lost");
+    for _ in 0..times {
+        info!(logger; "often");
     }
 }
 
@@ -431,7 +382,7 @@ fn two_threads_share_a_sink(rt: HostRuntime) -> Result<(), Fail> {
         calls: AtomicUsize::new(0),
     };
     let sink = LogSink::new(rt, &writers);
-    thread::map_indices(&rt, rt.alloc(), 2, &|_| lose_records(rt, &sink))?;
+    thread::map_indices(&rt, rt.alloc(), 2, &|_| log_often(rt, &sink, 1000))?;
     assert!(rt; sink.lost() == 2000);
     let shown = format!(in rt.alloc(); "{sink:?}")?;
     assert!(rt; shown.as_str() == "LogSink { .. }");

@@ -1,14 +1,12 @@
 // Records as lines of JSON.
 use super::times::At;
-use super::{Next, Page, PageWriter, expect_lost, expect_page};
+use super::{Next, Page, PageWriter, TEN, expect_lost, expect_page};
 use appender_log::{LogSink, write_json};
 use log::kv::display;
 use log::{Level, Log, Logged, Metadata, Record, error, info, info_span};
 use std::fmt;
 use std::fmt::{Display, Formatter};
 use std::test::Fail;
-
-const TEN: i128 = 1_795_773_600_000_000_000;
 
 #[test]
 fn a_record_is_an_object_on_a_line(rt: HostRuntime) {
@@ -18,14 +16,11 @@ fn a_record_is_an_object_on_a_line(rt: HostRuntime) {
     info!(logger; target: "db", "read");
     info!(logger; target: "db", rows = 3; "read {} bytes", 512);
     error!(logger; target: "", rows = 3, rows = "four"; "");
-    expect_page(
-        &rt,
-        &page,
-        r#"{"level":"INFO","target":"db","message":"read"}
+    let wanted = r#"{"level":"INFO","target":"db","message":"read"}
 |{"level":"INFO","target":"db","message":"read 512 bytes","fields":{"rows":3}}
 |{"level":"ERROR","target":"","message":"","fields":{"rows":3,"rows":"four"}}
-|"#,
-    );
+|"#;
+    expect_page(&rt, &page, wanted);
 }
 
 #[test]
@@ -37,13 +32,11 @@ fn a_time_comes_first(rt: HostRuntime) {
     ] {
         info!(Logged::new(rt, Level::Info, &sink); target: "db", rows = 3; "late");
     }
-    expect_page(
-        &rt,
-        &page,
+    let wanted =
         r#"{"timestamp":"2026-11-27T10:00:00.000000Z","level":"INFO","target":"db","message":"late","fields":{"rows":3}}
 |{"timestamp":"-","level":"INFO","target":"db","message":"late","fields":{"rows":3}}
-|"#,
-    );
+|"#;
+    expect_page(&rt, &page, wanted);
 }
 
 #[test]
@@ -55,13 +48,11 @@ fn spans_begin_with_the_outermost(rt: HostRuntime) {
     info!(request; target: "http", "started");
     let query = info_span!(request; "query");
     info!(query; target: "db", rows = 3; "read");
-    expect_page(
-        &rt,
-        &page,
+    let wanted =
         r#"{"level":"INFO","target":"http","message":"started","spans":[{"name":"request","fields":{"id":7,"peer":"a"}}]}
 |{"level":"INFO","target":"db","message":"read","spans":[{"name":"request","fields":{"id":7,"peer":"a"}},{"name":"query"}],"fields":{"rows":3}}
-|"#,
-    );
+|"#;
+    expect_page(&rt, &page, wanted);
 }
 
 #[test]
@@ -73,15 +64,13 @@ fn a_value_has_the_type_of_its_own(rt: HostRuntime) {
     info!(logger; target: "t", half = 0.5, whole = 1.0, small = -1e-7, large = 1e300; "");
     info!(logger; target: "t", nan = f64::NAN, up = f64::INFINITY, down = f64::NEG_INFINITY; "");
     info!(logger; target: "t", letter = 'x', text = "12", shown:% = 12, none = None::<u8>; "");
-    expect_page(
-        &rt,
-        &page,
+    let wanted =
         r#"{"level":"INFO","target":"t","message":"","fields":{"yes":true,"no":false,"low":-7,"high":340282366920938463463374607431768211455,"lowest":-170141183460469231731687303715884105728}}
 |{"level":"INFO","target":"t","message":"","fields":{"half":0.5,"whole":1.0,"small":-1e-7,"large":1e300}}
 |{"level":"INFO","target":"t","message":"","fields":{"nan":"NaN","up":"inf","down":"-inf"}}
 |{"level":"INFO","target":"t","message":"","fields":{"letter":"x","text":"12","shown":"12","none":null}}
-|"#,
-    );
+|"#;
+    expect_page(&rt, &page, wanted);
 }
 
 #[test]
@@ -92,14 +81,11 @@ fn a_text_is_escaped_wherever_it_is(rt: HostRuntime) {
     let text = "a \"b\" \\ \n\r\t\u{0}\u{1b}\u{7f}é𝄞/";
     let span = logger.span("\"\n").with("\\\n", '"');
     info!(span; target: "\n", "k\"\n" = text; "{text}");
-    expect_page(
-        &rt,
-        &page,
-        "{\"level\":\"INFO\",\"target\":\"\\n\",\
+    let wanted = "{\"level\":\"INFO\",\"target\":\"\\n\",\
         \"message\":\"a \\\"b\\\" \\\\ \\n\\r\\t\\u0000\\u001b\u{7f}é𝄞/\",\
         \"spans\":[{\"name\":\"\\\"\\n\",\"fields\":{\"\\\\\\n\":\"\\\"\"}}],\
-        \"fields\":{\"k\\\"\\n\":\"a \\\"b\\\" \\\\ \\n\\r\\t\\u0000\\u001b\u{7f}é𝄞/\"}}\n|",
-    );
+        \"fields\":{\"k\\\"\\n\":\"a \\\"b\\\" \\\\ \\n\\r\\t\\u0000\\u001b\u{7f}é𝄞/\"}}\n|";
+    expect_page(&rt, &page, wanted);
 }
 
 // Cannot be formatted.
@@ -131,11 +117,9 @@ fn a_line_that_was_cut_short_is_ended(rt: HostRuntime) {
     let sink = LogSink::new(rt, &page).json();
     expect_lost(rt, &page, &sink, Next::HasRoom(5), 1);
     expect_lost(rt, &page, &sink, Next::Takes, 1);
-    expect_page(
-        &rt,
-        &page,
-        "{\"lev|\n|{\"level\":\"INFO\",\"target\":\"db\",\"message\":\"read\",\"fields\":{\"rows\":3}}\n|",
-    );
+    let wanted =
+        "{\"lev|\n|{\"level\":\"INFO\",\"target\":\"db\",\"message\":\"read\",\"fields\":{\"rows\":3}}\n|";
+    expect_page(&rt, &page, wanted);
 }
 
 #[test]
@@ -144,12 +128,9 @@ fn a_record_by_itself_has_the_line_of_a_sink(rt: HostRuntime) -> Result<(), Fail
     let record = Record::new(Metadata::new(Level::Warn, "db"), "late", ("rows", 3), ());
     write_json(rt.alloc(), &mut PageWriter(&page), None, &record)?;
     write_json(rt.alloc(), &mut PageWriter(&page), Some(TEN), &record)?;
-    expect_page(
-        &rt,
-        &page,
-        r#"{"level":"WARN","target":"db","message":"late","fields":{"rows":3}}
+    let wanted = r#"{"level":"WARN","target":"db","message":"late","fields":{"rows":3}}
 |{"timestamp":"2026-11-27T10:00:00.000000Z","level":"WARN","target":"db","message":"late","fields":{"rows":3}}
-|"#,
-    );
+|"#;
+    expect_page(&rt, &page, wanted);
     Ok(())
 }

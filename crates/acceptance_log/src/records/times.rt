@@ -1,13 +1,16 @@
 // Records with a time.
-use super::{Host, LINE, Next, Page, PageWriter, expect_lost, expect_page};
+use super::Next::{CannotBeMade, Fails, HasRoom, Pauses, Takes, TakesFirst};
+use super::{
+    Host, LINE, Next, Page, PageWriter, TEN, expect_lost, expect_page, expect_two, log_often,
+};
 use appender_log::{LogSink, write_record, write_record_at};
 use appender_runtime::clock::{Clock, SystemClock};
 use appender_runtime::make_writer::MakeWriter;
-use log::{Level, Log, Logged, Record, info};
+use log::{Level, Log, Logged, Record};
 use std::alloc::AllocError;
+use std::io::ErrorKind::{StorageFull, WriteZero};
 use std::io::{ErrorKind, Write};
 use std::process::Abort;
-use std::sync::Wait;
 use std::sync::atomic::AtomicU64;
 use std::sync::atomic::Ordering::SeqCst;
 use std::test::Fail;
@@ -61,7 +64,7 @@ static TIMES: [(i128, &str); 21] = [
 fn expect_time<R: Host>(rt: R, nanos: i128, time: &str) {
     let page = Page::new(rt.alloc());
     let sink = LogSink::new(rt, &page).timestamps(At(nanos));
-    expect_lost(rt, &page, &sink, Next::Takes, 0);
+    expect_lost(rt, &page, &sink, Takes, 0);
     let line = format!(in rt.alloc(); "{time} {LINE}|").expect(&rt, "memory");
     expect_page(&rt, &page, line.as_str());
 }
@@ -77,108 +80,27 @@ fn a_time_is_written_in_microseconds_of_utc(rt: HostRuntime) {
     expect_each_time(rt);
 }
 
-const TEN: i128 = 1_795_773_600_000_000_000;
-
-// The time of a clock, what writers do at two records with it, how many are lost then, and what is written.
+// The time of a clock, what writers do at two records with it, how many are lost then, and what is written. In the text
+// `@` is the line of a record without its newline, and `%` is the time TEN without its `Z`.
 static LOST_WITH_TIMES: [(i128, Next, Next, u64, &str); 11] = [
-    (
-        TEN,
-        Next::Fails,
-        Next::Takes,
-        1,
-        "2026-11-27T10:00:00.000000Z [INFO  db] read rows=3\n|",
-    ),
-    (
-        TEN,
-        Next::TakesFirst(0),
-        Next::Takes,
-        1,
-        "|2026-11-27T10:00:00.000000Z [INFO  db] read rows=3\n|",
-    ),
-    (
-        TEN,
-        Next::HasRoom(1),
-        Next::Takes,
-        1,
-        "2|\n|2026-11-27T10:00:00.000000Z [INFO  db] read rows=3\n|",
-    ),
-    (
-        TEN,
-        Next::HasRoom(28),
-        Next::Takes,
-        1,
-        "2026-11-27T10:00:00.000000Z |\n|2026-11-27T10:00:00.000000Z [INFO  db] read rows=3\n|",
-    ),
-    (
-        TEN,
-        Next::HasRoom(50),
-        Next::HasRoom(1),
-        2,
-        "2026-11-27T10:00:00.000000Z [INFO  db] read rows=3|\n|",
-    ),
-    (
-        TEN,
-        Next::HasRoom(51),
-        Next::Takes,
-        0,
-        "2026-11-27T10:00:00.000000Z [INFO  db] read rows=3\n|2026-11-27T10:00:00.000000Z [INFO  db] read rows=3\n|",
-    ),
-    (
-        TEN,
-        Next::TakesFirst(26),
-        Next::Takes,
-        0,
-        "2026-11-27T10:00:00.000000|Z [INFO  db] read rows=3\n|2026-11-27T10:00:00.000000Z [INFO  db] read rows=3\n|",
-    ),
-    (
-        TEN,
-        Next::HasRoomBefore(27, 100),
-        Next::IsInterrupted(100),
-        0,
-        "2026-11-27T10:00:00.000000Z| [INFO  db] read rows=3\n|2026-11-27T10:00:00.000000Z [INFO  db] read rows=3\n|",
-    ),
-    (
-        TEN,
-        Next::HasRoomBefore(27, 101),
-        Next::IsInterrupted(100),
-        1,
-        "2026-11-27T10:00:00.000000Z|\n|2026-11-27T10:00:00.000000Z [INFO  db] read rows=3\n|",
-    ),
-    (
-        i128::MIN,
-        Next::HasRoom(1),
-        Next::Takes,
-        1,
-        "-|\n|- [INFO  db] read rows=3\n|",
-    ),
-    (
-        i128::MAX,
-        Next::HasRoom(24),
-        Next::HasRoom(26),
-        1,
-        "- [INFO  db] read rows=3|\n|- [INFO  db] read rows=3\n|",
-    ),
+    (TEN, Fails, Takes, 1, "%Z @\n|"),
+    (TEN, TakesFirst(0), Takes, 1, "|%Z @\n|"),
+    (TEN, HasRoom(1), Takes, 1, "2|\n|%Z @\n|"),
+    (TEN, HasRoom(28), Takes, 1, "%Z |\n|%Z @\n|"),
+    (TEN, HasRoom(50), HasRoom(1), 2, "%Z @|\n|"),
+    (TEN, HasRoom(51), Takes, 0, "%Z @\n|%Z @\n|"),
+    (TEN, TakesFirst(26), Takes, 0, "%|Z @\n|%Z @\n|"),
+    (TEN, Pauses(27, 100), Pauses(0, 100), 0, "%Z| @\n|%Z @\n|"),
+    (TEN, Pauses(27, 101), Pauses(0, 100), 1, "%Z|\n|%Z @\n|"),
+    (i128::MIN, HasRoom(1), Takes, 1, "-|\n|- @\n|"),
+    (i128::MAX, HasRoom(24), HasRoom(26), 1, "- @|\n|- @\n|"),
 ];
-
-// Logs two records with times on a page of their own.
-fn expect_two_with_times<R: Host>(
-    rt: R,
-    nanos: i128,
-    first: Next,
-    second: Next,
-    lost: u64,
-    text: &str,
-) {
-    let page = Page::new(rt.alloc());
-    let sink = LogSink::new(rt, &page).timestamps(At(nanos));
-    expect_lost(rt, &page, &sink, first, lost.min(1));
-    expect_lost(rt, &page, &sink, second, lost);
-    expect_page(&rt, &page, text);
-}
 
 fn expect_each_with_times<R: Host>(rt: R) {
     for (nanos, first, second, lost, text) in &LOST_WITH_TIMES {
-        expect_two_with_times(rt, *nanos, *first, *second, *lost, *text);
+        let page = Page::new(rt.alloc());
+        let sink = LogSink::new(rt, &page).timestamps(At(*nanos));
+        expect_two(rt, &page, &sink, (*first, *second, *lost, *text));
     }
 }
 
@@ -223,18 +145,15 @@ fn expect_reads<R: Host>(rt: R) {
     let clock = Counting::new();
     let sink = LogSink::new(rt, &page).timestamps(&clock);
     assert!(rt; clock.reads.load(SeqCst) == 0);
-    expect_lost(rt, &page, &sink, Next::TakesFirst(30), 0);
-    expect_lost(rt, &page, &sink, Next::CannotBeMade, 1);
-    expect_lost(rt, &page, &sink, Next::Takes, 1);
+    expect_lost(rt, &page, &sink, TakesFirst(30), 0);
+    expect_lost(rt, &page, &sink, CannotBeMade, 1);
+    expect_lost(rt, &page, &sink, Takes, 1);
     log::debug!(Logged::new(rt, Level::Info, &sink); "left out");
     sink.flush();
     assert!(rt; clock.reads.load(SeqCst) == 2);
-    expect_page(
-        &rt,
-        &page,
-        "1970-01-01T00:00:00.000000Z [I|NFO  db] read rows=3\n|\
-        1970-01-01T00:00:00.000001Z [INFO  db] read rows=3\n|,",
-    );
+    let wanted = "1970-01-01T00:00:00.000000Z [I|NFO  db] read rows=3\n|\
+        1970-01-01T00:00:00.000001Z @\n|,";
+    expect_page(&rt, &page, wanted);
 }
 
 #[test]
@@ -246,18 +165,14 @@ fn the_clock_is_read_once_for_each_record_that_is_written(rt: HostRuntime) {
 fn expect_kept<R: Host>(rt: R) {
     let page = Page::new(rt.alloc());
     let sink = LogSink::new(rt, &page);
-    expect_lost(rt, &page, &sink, Next::HasRoom(5), 1);
+    expect_lost(rt, &page, &sink, HasRoom(5), 1);
     let sink = sink.timestamps(At(0));
-    expect_lost(rt, &page, &sink, Next::HasRoom(4), 2);
+    expect_lost(rt, &page, &sink, HasRoom(4), 2);
     let sink = sink.timestamps(At(TEN));
-    expect_lost(rt, &page, &sink, Next::Takes, 2);
+    expect_lost(rt, &page, &sink, Takes, 2);
     let shown = format!(in rt.alloc(); "{sink:?}").expect(&rt, "memory");
     assert!(rt; shown.as_str() == "LogSink { .. }");
-    expect_page(
-        &rt,
-        &page,
-        "[INFO|\n|197|\n|2026-11-27T10:00:00.000000Z [INFO  db] read rows=3\n|",
-    );
+    expect_page(&rt, &page, "[INFO|\n|197|\n|%Z @\n|");
 }
 
 #[test]
@@ -280,24 +195,9 @@ fn expect_written<R: Host>(rt: R, next: Next, wanted: Option<ErrorKind>, text: &
 
 #[test]
 fn a_record_is_written_with_and_without_a_time(rt: HostRuntime) {
-    expect_written(
-        rt,
-        Next::Takes,
-        None,
-        "[INFO  db] read\n|2026-11-27T10:00:00.000000Z [INFO  db] read\n|",
-    );
-    expect_written(
-        rt,
-        Next::HasRoom(16),
-        Some(ErrorKind::StorageFull),
-        "[INFO  db] read\n|",
-    );
-    expect_written(
-        rt,
-        Next::HasRoom(46),
-        Some(ErrorKind::WriteZero),
-        "[INFO  db] read\n|2026-11-27T10:00:00.000000Z [I|",
-    );
+    expect_written(rt, Takes, None, "[INFO  db] read\n|%Z [INFO  db] read\n|");
+    expect_written(rt, HasRoom(16), Some(StorageFull), "[INFO  db] read\n|");
+    expect_written(rt, HasRoom(46), Some(WriteZero), "[INFO  db] read\n|%Z [I|");
 }
 
 // The time of the system's clock, to the nanosecond, which is in this century.
@@ -309,7 +209,7 @@ fn a_record_has_the_time_of_the_system(rt: HostRuntime) -> Result<(), Fail> {
     assert!(rt; before <= now && now <= after, "{before} {now} {after}");
     let page = Page::new(rt.alloc());
     let sink = LogSink::new(rt, &page).timestamps(SystemClock::new(rt));
-    expect_lost(rt, &page, &sink, Next::Takes, 0);
+    expect_lost(rt, &page, &sink, Takes, 0);
     let Ok(text) = page.text.try_borrow() else {
         rt.panic("the text is borrowed");
     };
@@ -370,27 +270,11 @@ fn expect_in_order<R: Host + Threads + Sync>(
         wrong: AtomicU64::new(0),
     };
     let sink = LogSink::new(rt, &writers).timestamps(Counting::new());
-    thread::map_indices(
-        &rt,
-        rt.alloc(),
-        threads,
-        &|_| log_in_order(rt, &sink, records),
-    )?;
+    thread::map_indices(&rt, rt.alloc(), threads, &|_| log_often(rt, &sink, records))?;
     let wrong = writers.wrong.load(SeqCst);
     assert!(rt; writers.lines.load(SeqCst) == (threads as u64).saturating_mul(u64::from(records)));
     assert!(rt; wrong == 0, "{wrong} lines are not in order");
     Ok(())
-}
-
-fn log_in_order<R: AllocGlobal + Wait + Copy + Drop>(
-    rt: R,
-    sink: &LogSink<'_, InOrder, R, Counting>,
-    records: u32,
-) {
-    let logger = Logged::new(rt, Level::Info, sink);
-    for _ in 0..records {
-        info!(logger; "in order");
-    }
 }
 
 #[test]
