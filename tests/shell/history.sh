@@ -294,6 +294,22 @@ if has strace 'calls of the system'; then
   check 'rolltee --sync, a renamed file: it is synced' yes \
     "$(grep -q 'fdatasync(.*renamed/old' "$work/calls" && echo yes || cat "$work/calls")"
 
+  # Whichever look at a file fails, no line is joined to the part of one that it ends with.
+  kept=0 joined=
+  for ((look = 1; look <= 12; look++)); do
+    rm -rf "$work/looked"
+    mkdir "$work/looked"
+    printf part > "$work/looked/app"
+    run strace -qq -o /dev/null -e trace=statx -e inject=statx:error=EIO:when=$look "$rolltee" --direct --whole-lines never "$work/looked" app < "$lines"
+    case $(content "$work/looked/app") in
+      '[part]') ;;
+      $'[part\none\ntwo]') kept=$((kept + 1)) ;;
+      *) joined="$joined $look" ;;
+    esac
+  done
+  check 'rolltee --whole-lines, a look that fails: no line is joined' '' "$joined"
+  check 'rolltee --whole-lines, a look that fails: lines' yes "$([ "$kept" -gt 8 ] && echo yes || echo "$kept")"
+
   # A line that is given up is followed by a flush.
   rm -rf "$work/given" "$work/calls"
   mkdir "$work/given"
