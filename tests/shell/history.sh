@@ -251,8 +251,8 @@ if has strace 'calls of the system'; then
     check "rolltee --direct --sync, a pause after $1: a sync" yes "$(synced "$2" && echo yes || cut -c 1-60 "$work/calls")"
     end
   }
-  for bytes in 4 8191 8192 65536; do paused "$bytes bytes" "$bytes" ''; done
-  paused '8192 bytes and a part of a line' 8192 part
+  for bytes in 4 1023 1024 8192 65536; do paused "$bytes bytes" "$bytes" ''; done
+  paused '1024 bytes and a part of a line' 1024 part
 
   # A fast input: blocks of whole lines, and a sync for each MiB.
   folder=$work/blocks
@@ -265,9 +265,9 @@ if has strace 'calls of the system'; then
   name='rolltee --direct --sync, a fast input'
   check "$name" '0||same' "$(told)$(same "$folder/app" "$work/numbers")"
   check "$name: writes that end within a line" 0 "$cut"
-  check "$name: a write for many lines" '' "$( ((writes < 2000)) || echo "$writes writes")"
+  check "$name: a write for many lines" '' "$( ((writes < 14000)) || echo "$writes writes")"
   check "$name: 10 to 20 syncs" '' "$( ((syncs >= 10 && syncs <= 20)) || echo "$syncs syncs")"
-  check "$name: a sync for each MiB" '' "$( ((most <= (1 << 20) + 8192 + 96)) || echo "$most bytes without one")"
+  check "$name: a sync for each MiB" '' "$( ((most <= (1 << 20) + 1024 + 96)) || echo "$most bytes without one")"
 
   # A slow input, whose lines come in two parts: a write for each line, before the next one comes.
   folder=$work/slow
@@ -380,7 +380,7 @@ mkfifo "$work/silent"
 # A line each. One kill may lose more, where the run was held up before.
 killed '1,000 lines a second' slow_lines $((8 * 96)) $((8 * 96))
 # What one read takes, and a line that it cuts at each end.
-killed 'at full speed' fast_lines $((8192 + 2 * 96)) $((8 * (8192 + 2 * 96)))
+killed 'at full speed' fast_lines $((1024 + 2 * 96)) $((8 * (1024 + 2 * 96)))
 
 # Waits for the next day if this one has few seconds left.
 begin_in_one_day() {

@@ -32,7 +32,7 @@ static HELP: &str = concat!(
     "  --echo         writes each line to standard output too\n",
     "  --timestamps   begins each line with the time, as 2026-11-28T10:00:00.000000Z\n",
     "  --whole-lines  ends a part of a line that an earlier run left by a newline\n",
-    "  --direct       writes each block of up to 8 KiB that it read before it reads\n",
+    "  --direct       writes each block of up to 1 KiB that it read before it reads\n",
     "                 on, without a queue, so that a kill loses one block\n",
     "  --             ends the options: the words after it are arguments\n",
     "\n",

@@ -138,10 +138,12 @@ pub max_none : (m n : ℕ) → max m n ≡ 0 → (m ≡ 0) × (n ≡ 0)
 max_none m n e = (omega (arith, e), omega (arith, e))
 
 -- a new reader has what its input has
-pub reader_new : {T A : Type 0} (remaining : T → Option (List ℕ)) (r : BufReader T A) (text : List ℕ) → reader_capacity r ≡ 8192 → reader_buffer r ≡ [] → remaining (reader_inner r) ≡ Some text
-    → reader_remaining remaining r ≡ Some text
-reader_new remaining r text capacity empty is =
-    ap (λ n. if n == 0 then None else prepend_known (reader_buffer r) (remaining r.inner)) capacity ∙ ap (λ b. prepend_known b (remaining r.inner)) empty ∙ ap (λ t. prepend_known [] t) is
+pub reader_new : {T A : Type 0} (remaining : T → Option (List ℕ)) (r : BufReader T A) (text : List ℕ) (capacity : ℕ) → (capacity == 0) ≡ false → reader_capacity r ≡ capacity → reader_buffer r ≡ []
+    → remaining (reader_inner r) ≡ Some text → reader_remaining remaining r ≡ Some text
+reader_new remaining r text capacity some capacity_is empty is =
+    ap (λ n. if n == 0 then None else prepend_known (reader_buffer r) (remaining r.inner)) capacity_is
+    ∙ ap (λ b. if b then None else prepend_known (reader_buffer r) (remaining r.inner)) some
+    ∙ ap (λ b. prepend_known b (remaining r.inner)) empty ∙ ap (λ t. prepend_known [] t) is
 
 -- what is so for what was asked for, if that was these alone
 pub as_asked : {is : Rotation → List ℕ → List ℕ → Options → Type 0} {rotation : Rotation} {directory prefix : List ℕ} {options : Options}

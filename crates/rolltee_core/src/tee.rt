@@ -39,6 +39,9 @@ use tracing_appender::worker::LineCounts;
 /// The greatest number of queued lines, if no option sets it.
 const LIMIT: usize = 1024;
 
+// The most bytes that a read takes without a queue. What was read and not written yet is lost by a kill.
+const BLOCK: usize = 1024;
+
 // How long the last flush of the log may take.
 const END_MILLIS: u64 = 1000;
 
@@ -474,7 +477,7 @@ fn copy_directly<N: Asked + Send + 'static, R: Host, L: Logs, I: Read, O: Write 
         TookInput L.Log.opens N.asked L.Log.takes L.Log.is_kept N.printed (O.contents echoed) text) }
 {
     let (directory, prefix) = (directory.as_str(), prefix.as_str());
-    let mut input = BufReader::new(rt.alloc(), BlockingInput::new(rt, input))?;
+    let mut input = BufReader::with_capacity(rt.alloc(), BLOCK, BlockingInput::new(rt, input))?;
     let titled = Titled::new(rt, directory, prefix)?;
     let (writer, place) = DirectWriter::<Titled<R>, L::Log, N>::new(
         Titled::new(rt, directory, prefix)?,

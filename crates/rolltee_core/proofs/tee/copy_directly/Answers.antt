@@ -1,4 +1,4 @@
-use Rattle.std.proofs.Common.{sym, ap, subst, ◌∙◌, ◌++◌}
+use Rattle.std.proofs.Common.{refl, sym, ap, subst, ◌∙◌, ◌++◌}
 use Rattle.rolltee_core.specs.declared.losses.TeeLosses.{TeeLosses}
 use Rattle.rolltee_core.specs.Taken.{TookText, WasOpened}
 use Rattle.rolltee_core.proofs.Taken.{feeds_all, reader_new}
@@ -13,7 +13,7 @@ returns g c = λ text is.
     let feed = c.copy_pieces-copied.new.writer in
     let parts = c.into_parts-writer.ensures.parts in
     let input = ap (λ i. g.I.Read.remaining i.input.now) c.in_ok-input.ensures.inner ∙ ap (λ i. g.I.Read.remaining i.now) c.new.ensures ∙ is in
-    let read = reader_new (λ i. g.I.Read.remaining i.input.now) c.in_ok-input.input text c.in_ok-input.ensures.capacity c.in_ok-input.ensures.empty input in
+    let read = reader_new (λ i. g.I.Read.remaining i.input.now) c.in_ok-input.input text 1024 refl c.in_ok-input.ensures.capacity c.in_ok-input.ensures.empty input in
     let given = c.in_ok-copied.ensures.all text read ∙ ap (λ f. f.given ++ text) c.new-feed.ensures in
     let fed = feeds_all feed c.into_parts-writer.ensures.fed (sym parts.2 ∙ ap (λ (l : TeeLosses). l.unechoed) none) given (ap g.O.Write.contents (sym parts.1)) in
     let taken = c.flush.ensures ∙ parts.0 ∙ fed.2 ∙ ap (λ t. t ++ fed.0) c.requires.first in

@@ -1,4 +1,4 @@
-use Rattle.std.proofs.Common.{sym, ap, subst, ◌∙◌}
+use Rattle.std.proofs.Common.{refl, sym, ap, subst, ◌∙◌}
 use Rattle.std.specs.Prelude.{Some}
 use Rattle.appender_worker.specs.Served.{ServesLines}
 use Rattle.rolltee_core.specs.declared.losses.TeeLosses.{TeeLosses}
@@ -16,4 +16,4 @@ returns g c = λ text is.
     let took = c.close-found.ensures (record { unwritten = unwritten.1; gone = ap (λ (l : TeeLosses). l.gone) none; unsynced = ap (λ (l : TeeLosses). l.unsynced) none }) in
     let input = ap (λ i. g.I.Read.remaining i.input.now) c.in_ok-input.ensures.inner ∙ ap (λ i. g.I.Read.remaining i.now) c.new.ensures ∙ is in
     all_logged copied served took (ap (λ (l : TeeLosses). l.dropped) none) (ap (λ (l : TeeLosses). l.unechoed) none) given_up.1 text
-    (reader_new (λ i. g.I.Read.remaining i.input.now) c.in_ok-input.input text c.in_ok-input.ensures.capacity c.in_ok-input.ensures.empty input)
+    (reader_new (λ i. g.I.Read.remaining i.input.now) c.in_ok-input.input text 8192 refl c.in_ok-input.ensures.capacity c.in_ok-input.ensures.empty input)
