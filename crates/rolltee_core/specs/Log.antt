@@ -48,10 +48,6 @@ EndsLine bytes = (bytes ≡ []) ⊎ (ends_with_byte 10 bytes ≡ true)
 abbrev pub EndsWhole : {S F C : Type 0} → Ghosts S F → Appending S F C → Type 0
 EndsWhole kind log = IsTrue kind.is_known → EndsLine (body_at (kind.content log.roller.folder) (kind.body log.roller.file))
 
--- A write of these bytes took a part of a line: some of them and not all, of which the last is no newline.
-abbrev pub is_part : List ℕ → ℕ → Bool
-is_part bytes n = nat_lt 0 n && (nat_lt n (length bytes) && not (ends_with_byte 10 (take n bytes)))
-
 -- how many bytes a newline adds, if there is one
 abbrev pub newline_length : Bool → ℕ
 newline_length true = 1
@@ -87,10 +83,6 @@ pub record Looks (S F : Type 0) : Type 1 where
   pub length : F → ℕ → Type 0
   -- whether its name leads to it, and it has at least this many bytes, as far as that can be seen
   pub finds : S → F → List ℕ → ℕ → Bool → Type 0
-
--- looks that show nothing
-abbrev pub no_looks : {S F : Type 0} → Looks S F
-no_looks = record { ends = λ _ _ _ _. Unit {0}; length = λ _ _. Unit {0}; finds = λ _ _ _ _ _. Unit {0} }
 
 -- A log, and what is known of it.
 pub record LogState (S F C : Type 0) : Type 0 where
@@ -212,9 +204,9 @@ abbrev pub cut_after : Bool → List ℕ → Bool
 cut_after cut [] = cut
 cut_after cut (byte ∷ bytes) = not (ends_with_byte 10 (byte ∷ bytes))
 
--- whether the rest of a line is due, after an append with this answer
+-- Whether the rest of a line is due, after an append with this answer: it took some bytes and not all, of which the last is no newline.
 abbrev pub short_after : Bool → List ℕ → Result ℕ Error → Bool
-short_after short bytes (Ok n) = is_part bytes n
+short_after short bytes (Ok n) = nat_lt 0 n && (nat_lt n (length bytes) && not (ends_with_byte 10 (take n bytes)))
 short_after short bytes (Err error) = short
 
 -- The bytes were added by one append with this answer.
@@ -237,16 +229,13 @@ pub record PutsBytes {S F C : Type 0} (kind : Ghosts S F) (time : Readings C) (l
   pub ends : EndsOwed kind placed ended
   pub appends : AppendsTo kind bytes answer ended new
 
--- None of the bytes was added: the file was lost, or a newline was owed and not added.
-abbrev pub PutsNone : {S F C : Type 0} → Ghosts S F → Readings C → Looks S F → ℕ → LogState S F C → LogState S F C → Type 0
-PutsNone {S} {F} {C} kind time looks len old new =
-    MissesFile kind time looks old new
-    ⊎ ((placed : LogState S F C) × FindsPlace kind time looks len old placed × (placed.owed ≡ true)
-    × (answer : Result ℕ Error) × (answer ≢ Ok 1) × AppendsTo kind (10 ∷ []) answer placed new)
-
--- one write of these bytes, with this answer
+-- One write of these bytes, with this answer. It is an error if the file was lost, or a newline was owed and not added.
 abbrev pub WritesLog : {S F C : Type 0} → Ghosts S F → Readings C → Looks S F → List ℕ → Result ℕ Error → LogState S F C → LogState S F C → Type 0
-WritesLog kind time looks bytes answer old new = PutsBytes kind time looks bytes answer old new ⊎ (IsErr answer × PutsNone kind time looks (length bytes) old new)
+WritesLog {S} {F} {C} kind time looks bytes answer old new =
+    PutsBytes kind time looks bytes answer old new
+    ⊎ (IsErr answer × MissesFile kind time looks old new)
+    ⊎ (IsErr answer × (placed : LogState S F C) × FindsPlace kind time looks (length bytes) old placed × (placed.owed ≡ true)
+    × (ended : Result ℕ Error) × (ended ≢ Ok 1) × AppendsTo kind (10 ∷ []) ended placed new)
 
 -- the open file was flushed, and looked for
 abbrev pub FlushesLog : {S F C : Type 0} → Ghosts S F → Looks S F → Result (Unit {0}) Error → LogState S F C → LogState S F C → Type 0

@@ -192,9 +192,7 @@ impl<R: FilesHost> DirCheck<R> {
 }
 
 impl<R: FilesHost> FileCheck<DirFolder<R>> for DirCheck<R> {
-    ghost use Rattle.rolltee_core.specs.Log.{no_looks};
-
-    ghost looks = { no_looks };
+    ghost looks = { record { ends = λ _ _ _ _. Unit {0}; length = λ _ _. Unit {0}; finds = λ _ _ _ _ _. Unit {0} } };
 
     fn ends_line(&self, folder: &DirFolder<R>, file: &R::File, name: &str) -> bool {
         match file.metadata() {
