@@ -9,7 +9,7 @@ use Rattle.appender_names.specs.declared.rotation.Rotation.{Rotation}
 use Rattle.appender_store.specs.Content.{body_at}
 use Rattle.appender_store.specs.declared.store.Folder.{Ghosts}
 use Rattle.appender_rolling.specs.declared.rolling.Switch.{Switch}
-use Rattle.appender_rolling.specs.declared.rolling.Switch.TheVariants.{Opened as Switched}
+use Rattle.appender_rolling.specs.declared.rolling.Switch.TheVariants.{Opened as Switched, None as Stayed}
 use Rattle.appender_runtime.specs.declared.clock.Clock.{Ghosts as Readings}
 use Rattle.appender_rolling.specs.Appender.{Appending, AppendsNow, FlushesNow, OpensNow, OpensNone}
 use Rattle.appender_rolling.specs.Config.{Config}
@@ -172,7 +172,8 @@ MissesFile {S} {F} {C} kind time looks old new =
     (looked : LogState S F C) × LooksFor looks old looked × (looked.is_gone ≡ true)
     × ((new ≡ looked) ⊎ ((looked.short ≡ true) × OpensAnew kind time looks looked new))
 
--- The clock was checked for this number of bytes, and a newline before them if one is owed. A file that began is looked at.
+-- The clock was checked for this number of bytes, and a newline before them if one is owed. A file that began is looked at, and so is the
+-- open one if none could begin.
 pub record ChecksOnce {S F C : Type 0} (kind : Ghosts S F) (time : Readings C) (looks : Looks S F) (len : ℕ) (old new : LogState S F C) : Type 0 where
   pub moment : ℤ
   pub reading : time.now_gives old.log.clock moment
@@ -180,6 +181,8 @@ pub record ChecksOnce {S F C : Type 0} (kind : Ghosts S F) (time : Readings C) (
   pub checks : ChecksClock kind moment (len + newline_length old.owed) switch old.log.roller new.log.roller
   pub clock : new.log.clock ≡ old.log.clock
   pub begun : switch ≡ Switched → IsLookedAt kind looks new
+  pub tried : switch ≢ Stayed → (seen : Bool) × looks.ends new.log.roller.folder new.log.roller.file (open_name new.log) seen × (new.cut ≡ not seen)
+  pub waits : switch ≡ Stayed → new.cut ≡ old.cut
   pub stays : switch ≢ Switched → (new.owed ≡ old.owed) × (new.length ≡ old.length)
   pub same : new ≡ record old { log = new.log; cut = new.cut; owed = new.owed; length = new.length }
 
