@@ -243,8 +243,8 @@ fn run_gated<R: Host + Abort>(
     Ok((status, errors, gate.longest.load(SeqCst)))
 }
 
-// Lines of 100 bytes are written together up to a sixteenth of a file's limit, and in a run with a queue up to 64 KiB. The first write is
-// a line that is too long for that.
+// Lines of 100 bytes are written together up to a sixteenth of a file's limit. In a run with a queue they are up to 64 KiB, else what one
+// read took, up to 1 KiB. The first write is a line that is too long for that.
 #[test]
 fn lines_are_gathered_for_a_part_of_a_file(rt: HostRuntime) -> Result<(), Fail> {
     let mut text = lines_of(rt.alloc(), 1, LONG)?;
@@ -253,8 +253,9 @@ fn lines_are_gathered_for_a_part_of_a_file(rt: HostRuntime) -> Result<(), Fail> 
         ("hourly dir app", false, 65_500),
         ("hourly dir app --max-bytes 1G", false, 65_500),
         ("hourly dir app --max-bytes 20800", false, 1_300),
-        ("hourly dir app --max-bytes 20800 --direct", true, 1_300),
-        ("hourly dir app --max-bytes 20799 --direct", true, 1_200),
+        ("hourly dir app --direct", true, 1_000),
+        ("hourly dir app --max-bytes 8000 --direct", true, 500),
+        ("hourly dir app --max-bytes 7999 --direct", true, 400),
     ] {
         let (status, _, written) = run_gated(rt, line, text.as_slice(), direct)?;
         expect_eq(&rt, status, 0);
