@@ -587,7 +587,7 @@ for direct in '' ' --direct'; do
   check "$name: it stays" '[mine]' "$(content "$work/linked/cur")"
   rm "$work/linked/cur"
   cat "$work/lines.20" >&9
-  wait_until [ -L "$work/linked/cur" ]
+  wait_until eval '[[ $(readlink "$work/linked/cur") == *.000007 ]]'
   echo mine > "$work/linked/.cur.new"
   cat "$work/lines.20" >&9
   end
