@@ -1,15 +1,18 @@
 #!/usr/bin/env python3
-"""Tries the wrong bodies that the gate does not: the prover must refuse each.
+"""Tries wrong bodies of functions: the prover must refuse each.
 
-    tests/wrong/run.py [CRATE[/NAME]]..
+    tests/wrong/run.py [--gate] [CRATE[/NAME]]..
 
-Each file tests/wrong/CRATE/NAME.edit changes one function of the crate, in the form of the edits in crates/CRATE/must-fail, with a
-line more, `only: FUNCTION`: whose contract refuses it. That function and what it calls are checked, over the libraries that `rt ci` left
-in crates/*/out, so run that before. An edit takes ten seconds to a minute. The gate does not run this: try all before a version, and those
-of a crate if a contract of it changes.
+Each file tests/wrong/CRATE/NAME.edit changes one function of the crate: a line `file: PATH`, and pairs of lines `old: TEXT` and
+`new: TEXT`, where the text stands in that file once. A line `only: FUNCTION` names the function whose contract refuses it, and a line
+`gate: yes` has the gate try it. Such edits are tried together, each of another function: a copy of the crate has all of them, and
+these functions and what they call are checked, over the libraries that `rt ci` left in crates/*/out. So run that before. Each
+function has to be refused for a reason of its own: that it calls a function which is refused doesn't count.
+What does not come to that is tried once more, alone. Try all before a version, and those of a crate if a contract of it changes.
 The last line is `N passed, M failed`.
 """
 import concurrent.futures
+import dataclasses
 import os
 import pathlib
 import re
@@ -38,8 +41,8 @@ def below(crate):
     return found
 
 
-def command(crate, function):
-    """Returns the words that check one function of the crate in the current folder."""
+def command(crate, functions):
+    """Returns the words that check these functions of the crate in the current folder."""
     words = [f"{KIT}/bin/rattle", "check", "--crate-name", crate, "src/lib.rt", "-L", f"dependency={KIT}/rlibs"]
     for dep in ["std", *DEPS[crate]]:
         rlib = TOP / f"crates/{dep}/out/rlib/{dep}.rlib" if dep in DEPS else f"{KIT}/rlibs/{dep}.rlib"
@@ -47,51 +50,144 @@ def command(crate, function):
     for dep in below(crate):
         words += ["-L", f"dependency={TOP}/crates/{dep}/out/rlib"]
     words += ["--antt-project", f"{KIT}/rattle/logic/antt-project.json", "--logic-built", f"{KIT}/logic_built"]
-    return [*words, "--only", function]
+    for it in functions:
+        words += ["--only", it]
+    return words
 
 
-def change(text, to):
-    """Changes the files below this folder. Returns what stands in the way of it."""
+@dataclasses.dataclass
+class Edit:
+    """A wrong body: its crate and name, the function whose contract refuses it, its text, and why it can't be tried."""
+
+    crate: str
+    name: str
+    function: str
+    text: str
+    why: str = None
+
+    def label(self):
+        return f"{self.crate}/{self.name}"
+
+    def own_name(self):
+        return self.function.split("::")[-1]
+
+
+def edit_of(path):
+    text = path.read_text()
+    return Edit(path.parent.name, path.stem, re.search(r"^only: (.*)$", text, re.M)[1], text)
+
+
+def change(texts, edit):
+    """Changes these texts, by their paths in the crate, or says what stands in the way of it."""
     path = old = None
-    for line in text.splitlines():
+    for line in edit.text.splitlines():
         word, _, rest = line.partition(": ")
         if word == "file":
-            path = to / rest
+            path = rest
         elif word == "old":
             old = rest
         elif line.startswith("new:"):
-            was = path.read_text()
+            was = texts.get(path) or (TOP / "crates" / edit.crate / path).read_text()
             if was.count(old) != 1:
-                return f"{was.count(old)} times in {path.name}: {old}"
-            path.write_text(was.replace(old, line[4:].removeprefix(" ")))
+                return f"{was.count(old)} times in {path}: {old}"
+            texts[path] = was.replace(old, line[4:].removeprefix(" "))
     return None
 
 
-def tried(edit):
-    """Returns the name of an edit, and why it does not count as refused."""
-    crate, text = edit.parent.name, edit.read_text()
-    function = re.search(r"^only: (.*)$", text, re.M)[1]
-    with tempfile.TemporaryDirectory() as folder:
+def groups_of(edits):
+    """Puts edits of a crate together that change texts apart from one another, and functions of other names. Returns groups of edits,
+    each with the changed texts."""
+    groups = []
+    for edit in edits:
+        edit.why = change({}, edit)
+        if edit.why:
+            groups.append(([edit], {}))
+            continue
+        for group, texts in groups:
+            more = dict(texts)
+            fits = group[0].crate == edit.crate and all(it.own_name() != edit.own_name() for it in group)
+            if fits and not any(it.why for it in group) and not change(more, edit):
+                group.append(edit)
+                texts.update(more)
+                break
+        else:
+            texts = {}
+            change(texts, edit)
+            groups.append(([edit], texts))
+    return groups
+
+
+def spans(folder, name):
+    """Returns the files and lines of the functions of this name, which the layout ends by a brace below their first column."""
+    found = []
+    for path in sorted((folder / "src").rglob("*.rt")):
+        lines = path.read_text().splitlines()
+        for at, line in enumerate(lines):
+            begin = re.match(rf"( *)(?:pub(?:\([a-z]+\))? )?fn {name}\b", line)
+            if begin:
+                end = next((it for it in range(at, len(lines)) if lines[it] == f"{begin[1]}}}"), at)
+                found.append((str(path.relative_to(folder)), at + 1, end + 1))
+    return found
+
+
+def is_refused(folder, edit, said):
+    """Returns whether the prover refused the edit's function itself, and not only since it calls one that it refused."""
+    name = edit.own_name()
+    found = re.search(rf"^fn \S*\b{re.escape(edit.function)}: (no proof: .*|not proved.*)$", said, re.M)
+    if not found or found[1].startswith("no proof: it calls "):
+        return False
+    if found[1].startswith("no proof: "):
+        return True
+    # With a proof file the line has no reason.
+    places = spans(folder, name)
+    for file, line in re.findall(r"^(?:note: )?(?:\./)?(src/[^\s:]+):(\d+):\d+: (?:it is not proved|error)", said, re.M):
+        if any(file == path and first <= int(line) <= last for path, first, last in places):
+            return True
+    return bool(re.search(rf"^(?:\./)?proofs/\S*\b{re.escape(name)}/\S+:\d+:\d+: error", said, re.M))
+
+
+def tried(group):
+    """Tries these edits together, and says of each why it does not count as refused."""
+    edits, texts = group
+    if edits[0].why:
+        return edits
+    crate = edits[0].crate
+    with tempfile.TemporaryDirectory() as room:
+        folder = pathlib.Path(room)
         for part in PARTS:
             if (TOP / "crates" / crate / part).is_dir():
-                shutil.copytree(TOP / "crates" / crate / part, f"{folder}/{part}")
-        why = change(text, pathlib.Path(folder))
-        if not why:
-            how = {"stdin": subprocess.DEVNULL, "stdout": subprocess.PIPE, "stderr": subprocess.STDOUT, "text": True}
-            ran = subprocess.run(command(crate, function), cwd=folder, **how)
-            counts = re.search(r"^only=(\d+) proved=(\d+)$", ran.stdout, re.M)
-            if ran.returncode != 1 or not counts or counts[1] == counts[2]:
-                why = f"not refused: {ran.stdout.strip()[-200:]}"
-    return f"{crate}/{edit.stem}", why
+                shutil.copytree(TOP / "crates" / crate / part, folder / part)
+        for path, text in texts.items():
+            (folder / path).write_text(text)
+        how = {"stdin": subprocess.DEVNULL, "stdout": subprocess.PIPE, "stderr": subprocess.STDOUT, "text": True}
+        ran = subprocess.run(command(crate, [it.function for it in edits]), cwd=folder, **how)
+        counts = re.search(r"^only=(\d+) proved=(\d+)$", ran.stdout, re.M)
+        has_verdict = ran.returncode == 1 and counts and counts[1] != counts[2]
+        for edit in edits:
+            edit.why = None if has_verdict and (len(edits) == 1 or is_refused(folder, edit, ran.stdout)) else f"not refused: {ran.stdout.strip()[-200:]}"
+    return edits
 
 
 def main(words):
-    edits = [it for it in sorted(HERE.glob("*/*.edit")) if not words or {it.parent.name, f"{it.parent.name}/{it.stem}"} & {*words}]
-    failed = 0
-    with concurrent.futures.ThreadPoolExecutor(len(os.sched_getaffinity(0))) as pool:
-        for name, why in pool.map(tried, edits):
-            print(f"{name}: {'refused' if not why else why}", flush=True)
-            failed += why is not None
+    in_gate, words = "--gate" in words, [it for it in words if it != "--gate"]
+    edits = [edit_of(it) for it in sorted(HERE.glob("*/*.edit"))]
+    edits = [it for it in edits if not words or {it.crate, it.label()} & {*words}]
+    edits = [it for it in edits if not in_gate or re.search(r"^gate: yes$", it.text, re.M)]
+    failed, again = 0, []
+    jobs = int(os.environ.get("RT_JOBS") or len(os.sched_getaffinity(0)))
+    with concurrent.futures.ThreadPoolExecutor(jobs) as pool:
+        # Those crates first that have most below them: their checks are the longest.
+        groups = sorted(groups_of(edits), key=lambda it: -len(below(it[0][0].crate)))
+        for done in pool.map(tried, groups):
+            again += [it for it in done if it.why and len(done) > 1]
+            for it in done:
+                if not it.why or len(done) == 1:
+                    print(f"{it.label()}: {it.why or 'refused'}", flush=True)
+                    failed += it.why is not None
+        alone = [group for it in again for group in groups_of([it])]
+        for (it,) in pool.map(tried, alone):
+            print(f"{it.label()}: {it.why or 'refused'}", flush=True)
+            failed += it.why is not None
     print(f"{len(edits) - failed} passed, {failed} failed")
     return failed > 0
 

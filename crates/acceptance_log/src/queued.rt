@@ -1,13 +1,13 @@
 // Logs with a queue: which levels they log, and what they say is lost.
 use crate::records::times::At;
-use appender_log::{start, start_with};
+use appender_log::{QueuedLog, start, start_with};
 use appender_non_blocking::non_blocking::{Host, Losses, NonBlockingBuilder};
 use log::{Level, Log, Logged, debug, info};
 use std::alloc::{AllocError, Global};
 use std::io;
 use std::io::{ErrorKind, Write};
+use std::process::Abort;
 use std::sync::{Arc, Mutex, Wait};
-use std::test::Fail;
 use std::time::Duration;
 
 type Text = Arc<Mutex<Vec<u8>>, Global>;
@@ -47,81 +47,136 @@ impl<R: Host> Write for Page<R> {
     }
 }
 
-#[test]
-fn a_logger_stops_at_its_level(rt: HostRuntime) -> Result<(), Fail> {
-    let (page, text) = Page::new(rt, 2)?;
-    let log = start(rt, page)?.timestamps(At(1_795_773_600_000_000_000));
+// What the tests ask of their runtime.
+trait TestHost: Host + Abort {}
+
+impl<R: Host + Abort> TestHost for R {}
+
+// Starts a log over a page that takes so many lines.
+fn started<R: TestHost>(rt: R, room: usize) -> (QueuedLog<R>, Text) {
+    let (page, text) = Page::new(rt, room).expect(&rt, "memory");
+    (start(rt, page).expect(&rt, "a log"), text)
+}
+
+// Ends the test if the page has another text than this one.
+fn expect_text<R: TestHost>(rt: R, text: &Text, wanted: &[u8]) {
+    assert_eq!(rt; text.lock(&rt).as_slice(), wanted);
+}
+
+// Logs a record without fields, if the log takes its level.
+fn log_info<R: TestHost>(rt: R, log: &impl Log, message: &str) {
+    info!(Logged::new(rt, Level::Info, log); target: "db", "{message}");
+}
+
+fn expect_levels<R: TestHost>(rt: R) {
+    let (log, text) = started(rt, 2);
+    let log = log.timestamps(At(1_795_773_600_000_000_000));
     debug!(log.logger(); target: "db", "a");
     info!(log.logger(); target: "db", "b");
     debug!(Logged::new(rt, Level::Debug, &log); target: "db", "c");
-    log.finish()?;
+    log.finish().expect(&rt, "no loss");
     let wanted =
         b"2026-11-27T10:00:00.000000Z [INFO  db] b\n2026-11-27T10:00:00.000000Z [DEBUG db] c\n";
-    assert_eq!(rt; text.lock(&rt).as_slice(), wanted.as_slice());
-    Ok(())
+    expect_text(rt, &text, wanted.as_slice());
 }
 
 #[test]
-fn lines_that_find_no_room_are_told(rt: HostRuntime) -> Result<(), Fail> {
-    let (page, _text) = Page::new(rt, 1)?;
-    let log = start(rt, page)?;
-    for _ in 0..3 {
-        info!(log; "a");
+fn a_logger_stops_at_its_level(rt: HostRuntime) {
+    expect_levels(rt);
+}
+
+fn log_often<R: TestHost>(rt: R, log: &QueuedLog<R>, times: u32) {
+    for _ in 0..times {
+        log_info(rt, log, "a");
     }
+}
+
+fn expect_told<R: TestHost>(rt: R) {
+    let (log, _text) = started(rt, 1);
+    log_often(rt, &log, 3);
     let Err(error) = log.finish() else {
-        return Err(Fail::from(io::Error::other("no line was lost")));
+        rt.panic("no line was lost");
     };
-    let error = format!(in rt.alloc(); "{error}")?;
+    let error = format!(in rt.alloc(); "{error}").expect(&rt, "memory");
     assert_eq!(rt; error.as_str(), "lines not written whole: 2");
-    Ok(())
+}
+
+#[test]
+fn lines_that_find_no_room_are_told(rt: HostRuntime) {
+    expect_told(rt);
+}
+
+// Queues a record while the worker is held up. Returns what a flush says meanwhile.
+fn flush_late<R: TestHost>(rt: R, log: &QueuedLog<R>, text: &Text) -> Option<ErrorKind> {
+    let held = text.lock(&rt);
+    log_info(rt, log, "b");
+    let late = log.flush_queued(Duration::from_millis(20));
+    drop(held);
+    kind_of(late)
+}
+
+// Waits for the records before, for ten seconds at most.
+fn flush<R: TestHost>(log: &QueuedLog<R>) -> Option<ErrorKind> {
+    kind_of(log.flush_queued(Duration::from_secs(10)))
 }
 
 // The page has no room for the last record.
-#[test]
-fn a_flush_waits_for_the_records_before(rt: HostRuntime) -> Result<(), Fail> {
-    let (page, text) = Page::new(rt, 2)?;
-    let log = start(rt, page)?;
-    info!(log.logger(); target: "db", "a");
+fn expect_flushed<R: TestHost>(rt: R) {
+    let (log, text) = started(rt, 2);
+    log_info(rt, &log, "a");
     log.flush();
-    assert_eq!(rt; text.lock(&rt).as_slice(), b"[INFO  db] a\n".as_slice());
-    let held = text.lock(&rt);
-    info!(log.logger(); target: "db", "b");
-    let late = log.flush_queued(Duration::from_millis(20));
-    drop(held);
-    assert_eq!(rt; kind_of(late), Some(ErrorKind::TimedOut));
-    info!(log.logger(); target: "db", "c");
-    let lost = log.flush_queued(Duration::from_secs(10));
-    assert_eq!(rt; kind_of(lost), Some(ErrorKind::StorageFull));
-    log.flush_queued(Duration::from_secs(10))?;
+    expect_text(rt, &text, b"[INFO  db] a\n");
+    assert_eq!(rt; flush_late(rt, &log, &text), Some(ErrorKind::TimedOut));
+    log_info(rt, &log, "c");
+    assert_eq!(rt; flush(&log), Some(ErrorKind::StorageFull));
+    assert_eq!(rt; flush(&log), None);
     assert_eq!(rt; text.lock(&rt).len(), 26);
     assert_eq!(rt; log.close(), Losses::NONE.and_unwritten(1));
-    Ok(())
+}
+
+#[test]
+fn a_flush_waits_for_the_records_before(rt: HostRuntime) {
+    expect_flushed(rt);
 }
 
 fn kind_of(flushed: io::Result<()>) -> Option<ErrorKind> {
-    flushed.err().map(|error| error.kind())
+    match flushed {
+        Ok(()) => None,
+        Err(error) => Some(error.kind()),
+    }
+}
+
+// Logs ten records while the worker is held up, and ends the log.
+fn log_while_held<R: TestHost>(rt: R, log: QueuedLog<R>, text: &Text) -> Losses {
+    let held = text.lock(&rt);
+    log_often(rt, &log, 10);
+    drop(held);
+    log.close()
+}
+
+fn count_lines(text: &[u8]) -> usize {
+    let mut lines = 0usize;
+    for byte in text {
+        lines = lines.saturating_add(usize::from(*byte == b'\n'));
+    }
+    lines
 }
 
 // One line waits in the queue, and one is in the worker's hand.
-#[test]
-fn a_lossy_log_counts_what_it_drops(rt: HostRuntime) -> Result<(), Fail> {
-    let (page, text) = Page::new(rt, 10)?;
-    let log = start_with(
-        rt,
-        NonBlockingBuilder::default().buffered_lines_limit(1),
-        page,
-    )?;
-    let held = text.lock(&rt);
-    for _ in 0..10 {
-        info!(log; "a");
-    }
-    drop(held);
-    let losses = log.close();
-    let written = text.lock(&rt).iter().filter(|byte| **byte == b'\n').count();
+fn expect_dropped<R: TestHost>(rt: R) {
+    let (page, text) = Page::new(rt, 10).expect(&rt, "memory");
+    let queue = NonBlockingBuilder::default().buffered_lines_limit(1);
+    let log = start_with(rt, queue, page).expect(&rt, "a log");
+    let losses = log_while_held(rt, log, &text);
+    let written = count_lines(text.lock(&rt).as_slice());
     assert!(rt; written == 1 || written == 2, "{written}");
     assert_eq!(rt;
         losses,
         Losses::NONE.and_dropped(10usize.saturating_sub(written))
     );
-    Ok(())
+}
+
+#[test]
+fn a_lossy_log_counts_what_it_drops(rt: HostRuntime) {
+    expect_dropped(rt);
 }

@@ -13,6 +13,4 @@ pub mod rolling_file_appender;
 pub mod run_counted;
 pub mod run_lines;
 pub mod start;
-#[cfg(test)]
-mod tests;
 pub mod worker_guard;

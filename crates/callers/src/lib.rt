@@ -9,5 +9,3 @@ pub mod handlers;
 pub mod logger;
 pub mod one_line;
 pub mod supervisor;
-#[cfg(test)]
-mod tests;

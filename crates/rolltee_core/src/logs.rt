@@ -103,22 +103,47 @@ impl Logs for HostRuntime {
         options: &Options,
     ) -> Result<DirLog<HostRuntime>, Fault> {
         let settings = settings(self.alloc(), rotation, prefix, options)?;
-        let title = title(self.alloc(), directory, prefix).map_err(InitError::from)?;
-        let title = title.as_str();
-        let lock = if options.has(OptionName::Keep) {
-            prepare_dir(&self, &settings, directory, options.text(OptionName::Link))?;
-            lock_log(&self, directory, prefix, title)?
-        } else {
-            None
-        };
-        let check = DirCheck::new(self, &settings, directory, title, options)?;
-        let opener = DirOpener::new(self, settings, directory, title, options, lock)?;
+        let (opener, check) = prepared(self, settings, directory, prefix, options)?;
         let log = FileLog::new(opener, check, options.has(OptionName::WholeLines))?;
         if is_input(&self, log.open_file()) {
             return Err(Fault::Input);
         }
         Ok(log)
     }
+}
+
+// Returns what opens the log and what looks at its file, once the folder is locked if that is to be.
+fn prepared(
+    rt: HostRuntime,
+    settings: Builder,
+    directory: &str,
+    prefix: &str,
+    options: &Options,
+) -> Result<(DirOpener<HostRuntime>, DirCheck<HostRuntime>), Fault>
+    ensures { IfOk result (λ made. (made.0.settings ≡ settings) × (string_bytes made.0.directory ≡ directory.now)) }
+{
+    let title = title(rt.alloc(), directory, prefix).map_err(InitError::from)?;
+    let title = title.as_str();
+    let lock = locked(&rt, &settings, directory, prefix, title, options)?;
+    let check = DirCheck::new(rt, &settings, directory, title, options)?;
+    let opener = DirOpener::new(rt, settings, directory, title, options, lock)?;
+    Ok((opener, check))
+}
+
+// Locks the log if it may remove files.
+fn locked(
+    rt: &HostRuntime,
+    settings: &Builder,
+    directory: &str,
+    prefix: &str,
+    title: &str,
+    options: &Options,
+) -> Result<Option<File>, Fault> {
+    if !options.has(OptionName::Keep) {
+        return Ok(None);
+    }
+    prepare_dir(rt, settings, directory, options.text(OptionName::Link))?;
+    lock_log(rt, directory, prefix, title)
 }
 
 // Returns whether the standard input is read from this file. If that can't be seen, it isn't.

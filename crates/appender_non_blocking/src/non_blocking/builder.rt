@@ -4,7 +4,7 @@ ghost use Rattle.appender_non_blocking.specs.Account.{AreBlanksOf, new_guard};
 ghost use Rattle.appender_non_blocking.specs.SentLines.{new_senders};
 
 use super::account::{Blanks, CountedGuard};
-use super::counted::{CountedSender, make_senders, split_shares};
+use super::counted::{CountedSender, open_queue, split_shares};
 use super::guard::WorkerGuard;
 use super::sender::{NonBlocking, SenderState};
 use super::shared::Shared;
@@ -14,7 +14,7 @@ use appender_runtime::host::Host;
 use std::alloc::{AllocError, Global};
 use std::io::Write;
 use std::marker::Model;
-use std::sync::ledger::Ledger;
+use std::sync::ledger::{Ledger, Share};
 use std::sync::{Arc, Wait};
 use std::thread::{JoinHandle, Threads};
 use std::{io, thread};
@@ -164,23 +164,26 @@ impl NonBlockingBuilder {
     {
         let NonBlockingBuilder { limit, lossy, name } = self;
         let name = name_or_default(alloc, name)?;
-        let (accepted, share) = blanks.accepted.open::<A>();
-        let (handed, lines) = blanks.handed.open::<H>();
-        let (shutdowns, shut) = blanks.shutdowns.open::<S>();
-        let (closings, closed) = blanks.closings.open::<C>();
+        let hand = Hand::new(alloc, limit)?;
+        let Blanks {
+            accepted,
+            handed,
+            shutdowns,
+            closings,
+        } = blanks;
+        let (accepted, share) = accepted.open::<A>();
+        let (handed, lines) = handed.open::<H>();
+        let (shutdowns, shut) = shutdowns.open::<S>();
+        let (closings, closed) = closings.open::<C>();
         let books = FourBooks {
             accepted,
             handed,
             shutdowns,
             closings,
         };
-        let hand = Hand::new(alloc, limit)?;
-        let shared = Shared::new(&rt, alloc, limit, lossy, senders, books)?;
-        let served = Arc::try_clone(&shared)?;
-        let local = SenderState::new(alloc, limit, lossy, shared.alone);
         // A refusal of memory leaves no thread, since the senders are made before it.
-        let (shares, part) = split_shares(alloc, share, senders)?;
-        let made = make_senders(rt, alloc, &shared, &local, shares)?;
+        let (shared, made, part) = open_counted(rt, alloc, (limit, lossy), senders, books, share)?;
+        let served = Arc::try_clone(&shared)?;
         let pass = Pass {
             handed: lines,
             closings: closed,
@@ -207,6 +210,33 @@ impl NonBlockingBuilder {
             }
         }
     }
+}
+
+// Makes the queue of counted senders, with this share of the book of accepted lines. Returns what its senders and its worker share, the
+// senders, and what they leave of the share.
+fn open_counted<A: Ledger, H: Ledger, S: Ledger, C: Ledger, R: Threads + Wait + Drop + Copy>(
+    rt: R,
+    alloc: Global,
+    settings: (usize, bool),
+    senders: usize,
+    books: FourBooks<A, H, S, C>,
+    share: Share<A>,
+) -> Result<
+    (
+        Arc<Shared<FourBooks<A, H, S, C>>, Global>,
+        Vec<CountedSender<A, H, S, C, R>>,
+        Share<A>,
+    ),
+    AllocError,
+>
+    requires shares { (A.parts ≡ senders + 1) × (share.parts ≡ senders + 1) × (share.amount ≡ 0) }
+    requires books { (books.accepted.total ≡ 0) × (books.handed.total ≡ 0) × (books.shutdowns.total ≡ 0) × (books.closings.total ≡ 0) }
+    ensures senders { IfOk result (λ made. made.1.items ≡ new_senders settings.1 senders) }
+    ensures part { IfOk result (λ made. (made.2.parts ≡ 1) × (made.2.amount ≡ 0)) }
+{
+    let (shares, part) = split_shares(alloc, share, senders)?;
+    let (shared, made) = open_queue(rt, alloc, settings, senders, books, shares)?;
+    Ok((shared, made, part))
 }
 
 // Starts the worker's thread.

@@ -2,6 +2,7 @@
 ghost use Rattle.std.specs.Prelude.{◌≡◌, ◌≢◌, ◌+◌, ◌≤◌, [], length, vec_len, Ok, IfOk, IfErr, false};
 ghost use Rattle.std.specs.IoError.{error_kind};
 ghost use Rattle.line_history.specs.Lines.{AllFrom};
+ghost use Rattle.appender_channel.specs.Tally.{new_tally};
 ghost use Rattle.appender_non_blocking.specs.Refusal.{IsRefusal};
 ghost use Rattle.appender_non_blocking.specs.SentLines.{new_sender, new_senders, sent_after_line};
 
@@ -16,6 +17,7 @@ use std::io::ErrorKind;
 use std::marker::Model;
 use std::sync::ledger::{Ledger, Share};
 use std::sync::{Arc, Wait};
+use std::thread::Threads;
 use std::{fmt, io};
 
 /// A sender that counts the lines that it queued, and those that were dropped. There is
@@ -233,4 +235,24 @@ pub(super) fn make_senders<B: SenderBooks, R: Wait + Drop + Copy>(
         made.push_reserved(sender);
     }
     Ok(made)
+}
+
+/// Makes what the senders and the worker of a queue share, and a sender for each of these shares, which have the places 0, 1, 2, ..
+pub(super) fn open_queue<B: SenderBooks, R: Threads + Wait + Drop + Copy>(
+    rt: R,
+    alloc: Global,
+    settings: (usize, bool),
+    places: usize,
+    books: B,
+    shares: Vec<B::Mine>,
+) -> Result<(Arc<Shared<B>, Global>, Vec<BookSender<B, R>>), AllocError>
+    requires books { B.agree books (new_tally places) }
+    requires shares { AllFrom (λ m place. B.has_sent m place []) 0 shares.items }
+    ensures { IfOk result (λ made. made.1.items ≡ new_senders settings.1 (vec_len shares)) }
+{
+    let (limit, lossy) = settings;
+    let shared = Shared::new(&rt, alloc, limit, lossy, places, books)?;
+    let local = SenderState::new(alloc, limit, lossy, shared.alone);
+    let made = make_senders(rt, alloc, &shared, &local, shares)?;
+    Ok((shared, made))
 }

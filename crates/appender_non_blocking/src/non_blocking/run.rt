@@ -8,12 +8,10 @@ ghost use Rattle.appender_worker.specs.Served.{ServesLines};
 
 use super::account::Account;
 use super::builder::{NonBlockingBuilder, name_or_default};
-use super::counted::{BookSender, make_senders};
-use super::sender::SenderState;
+use super::counted::{BookSender, open_queue};
 use super::shared::Shared;
 use super::worker::{Hand, serve};
 use appender_channel::books::{LineBooks, LineDone, LinePass};
-use appender_runtime::backoff::Backoff;
 use appender_runtime::host::Host;
 use line_history::Blank;
 use line_history::halves::{QueueHalves, QueueHistories, SenderHistory};
@@ -91,6 +89,58 @@ impl<C: Ledger, L: RunNames, W: Write + Drop> Model for Ended<C, L, W> {
     ghost invariant = { λ e. ServesLines L.first (W.contents e.writer) e.done.taker e.given_up };
 }
 
+// A queue whose worker has not started: what its senders and its worker share, its senders, the shares of the guard and of the worker, and
+// memory for what the senders return.
+#[derive(Drop)]
+struct OpenedLines<S: Ledger, C: Ledger, L: RunNames, R: Wait + Drop> {
+    shared: Arc<Shared<LineBooks<S, C, L>>, Global>,
+    made: Vec<BookSender<LineBooks<S, C, L>, R>>,
+    shutdowns: Share<S>,
+    pass: LinePass<C, L>,
+    histories: Vec<SenderHistory<L>>,
+    ghost none_sent: { (shutdowns.parts ≡ 1) × (shutdowns.amount ≡ 0) },
+    ghost none_taken: { (pass.closings.parts ≡ 1) × (pass.closings.amount ≡ 0) × (pass.taker ≡ []) },
+    ghost empty: { histories.items ≡ [] },
+    ghost room: { L.senders ≤ vec_capacity histories },
+}
+
+// Opens the books of a run, and makes its queue.
+fn open_lines<S: Ledger, C: Ledger, L: RunNames, R: Threads + Wait + Drop + Copy>(
+    rt: R,
+    alloc: Global,
+    settings: (usize, bool),
+    blanks: RunBlanks,
+) -> Result<OpenedLines<S, C, L, R>, AllocError>
+    requires ledgers { IsBlankOf S.Ledger 1 blanks.shutdowns × IsBlankOf C.Ledger 1 blanks.closings }
+    requires names { (i : ℕ) → i < vec_len blanks.histories → slice_index (map (λ b. b.name) blanks.histories.items) i ≡ L.name i }
+    requires count { vec_len blanks.histories ≡ L.senders + 1 }
+    ensures { IfOk result (λ opened. opened.made.items ≡ new_senders settings.1 L.senders) }
+{
+    let RunBlanks {
+        shutdowns,
+        closings,
+        histories,
+    } = blanks;
+    let (halves, shares, taker) = QueueHalves::<L>::open(alloc, histories)?;
+    let places = shares.len();
+    let histories = Vec::with_capacity(alloc, places)?;
+    let (shutdowns, share) = shutdowns.open::<S>();
+    let (book, closings) = closings.open::<C>();
+    let books = LineBooks {
+        shutdowns,
+        closings: book,
+        halves,
+    };
+    let (shared, made) = open_queue(rt, alloc, settings, places, books, shares)?;
+    Ok(OpenedLines {
+        shared,
+        made,
+        shutdowns: share,
+        pass: LinePass { taker, closings },
+        histories,
+    })
+}
+
 /// A queue whose worker has started.
 #[derive(Drop)]
 pub(super) struct Run<S: Ledger, C: Ledger, L: RunNames, W: Write + Drop> {
@@ -125,33 +175,21 @@ impl<
         ensures { IfOk result (λ made. made.0.items ≡ new_senders builder.lossy L.senders) }
     {
         let NonBlockingBuilder { limit, lossy, name } = builder;
-        let RunBlanks {
-            shutdowns,
-            closings,
-            histories,
-        } = blanks;
         let name = name_or_default(alloc, name)?;
-        let (shutdowns, share) = shutdowns.open::<S>();
-        let (book, closings) = closings.open::<C>();
-        let (halves, shares, taker) = QueueHalves::<L>::open(alloc, histories)?;
-        let senders = shares.len();
-        let histories = Vec::with_capacity(alloc, senders)?;
         let hand = Hand::new(alloc, limit)?;
-        let books = LineBooks {
+        let OpenedLines {
+            shared,
+            made,
             shutdowns,
-            closings: book,
-            halves,
-        };
-        let shared = Shared::new(&rt, alloc, limit, lossy, senders, books)?;
+            pass,
+            histories,
+        } = open_lines::<S, C, L, R>(rt, alloc, (limit, lossy), blanks)?;
         let served = Arc::try_clone(&shared)?;
-        let local = SenderState::new(alloc, limit, lossy, shared.alone);
-        let made = make_senders(rt, alloc, &shared, &local, shares)?;
-        let pass = LinePass { taker, closings };
         let worker = start_worker(rt, name, served, writer, hand, pass)?;
         let run = Run {
             shared,
             worker,
-            shutdowns: share,
+            shutdowns,
             histories,
         };
         Ok((made, run))
@@ -189,9 +227,7 @@ impl<
             writer,
             given_up,
         } = worker.join(rt);
-        let counts = shared
-            .lock(rt, &mut Backoff::NEW)
-            .final_lines(histories, shutdowns, done);
+        let counts = shared.final_lines(rt, histories, shutdowns, done);
         let account = Account {
             accepted: counts.accepted,
             handed: counts.handed,

@@ -1,13 +1,15 @@
 // What senders, guard and worker share.
-ghost use Rattle.std.specs.Prelude.{◌≡◌, ◌≢◌, ◌+◌};
+ghost use Rattle.std.specs.Prelude.{◌≡◌, ◌≢◌, ◌+◌, length, map, vec_len};
+ghost use Rattle.line_history.specs.Interleaving.{IsInterleaving};
 ghost use Rattle.appender_channel.specs.Tally.{new_tally};
 
 use super::flushes::Flushes;
-use appender_channel::books::{Books, Done, FourBooks};
+use appender_channel::books::{Books, Done, FourBooks, LineBooks, LineDone};
 use appender_channel::state::{Counted, State, Wakeups};
 use appender_queue::queue::{Counts, Shut};
 use appender_runtime::backoff::{Backoff, SharedBackoff, is_alone};
 use crossbeam_utils::CachePadded;
+use line_history::halves::{QueueHistories, SenderHistory};
 use std::alloc::{AllocError, Global};
 use std::sync::atomic::AtomicUsize;
 use std::sync::ledger::{Ledger, Share};
@@ -164,5 +166,28 @@ impl<A: Ledger, H: Ledger, S: Ledger, C: Ledger> Shared<FourBooks<A, H, S, C>> {
     {
         let mut state = self.lock(rt, &mut Backoff::NEW);
         state.final_counts(accepted, shutdowns, done)
+    }
+}
+
+impl<S: Ledger, C: Ledger, L: QueueHistories> Shared<LineBooks<S, C, L>> {
+    /// Returns the counts of the queue, which the worker has closed, and to which no shutdown was sent. The worker took all
+    /// lines that its senders sent, in an interleaving.
+    pub(super) fn final_lines<R: Wait>(
+        &self,
+        rt: &R,
+        senders: Vec<SenderHistory<L>>,
+        shutdowns: Share<S>,
+        done: LineDone<C, L>,
+    ) -> Counts
+        requires senders { vec_len senders ≡ L.senders }
+        requires parts { (shutdowns.parts ≡ S.parts) × (C.parts ≡ 1) }
+        requires none_sent { shutdowns.amount ≡ 0 }
+        ensures whole { IsInterleaving (map (λ s. s.lines) senders.items) done.taker }
+        ensures accepted { result.accepted ≡ length done.taker }
+        ensures handed { result.handed ≡ length done.taker }
+        ensures none_left { result.left ≡ 0 }
+    {
+        let mut state = self.lock(rt, &mut Backoff::NEW);
+        state.final_lines(senders, shutdowns, done)
     }
 }

@@ -1,7 +1,0 @@
-use Rattle.std.proofs.Common.{◌≡◌, [], arith}
-use Rattle.line_history.proofs.Lists.{all_from_map}
-use Rattle.appender_non_blocking.proofs.non_blocking.run.Run.start.Goals as goal
-
-pub make_senders-requires : goal.make_senders-requires
-make_senders-requires g c =
-    all_from_map (λ s n. (s.place ≡ n) × (s.lines ≡ [])) _ (λ s n new. (new.0, new.1, omega arith)) c.in_ok-halves.shares.items 0 c.in_ok-halves.ensures.senders
