@@ -51,9 +51,9 @@ version() {
 
 # crate NAME TEXT: a crate of the small library.
 crate() {
-  mkdir -p "$library/crates/$1/src" "$library/crates/$1/must-fail" "$library/crates/$1/out"
+  mkdir -p "$library/crates/$1/src" "$library/crates/$1/out"
   echo "$2" > "$library/crates/$1/src/lib.rt"
-  touch "$library/crates/$1/must-fail/bad.edit" "$library/crates/$1/out/program"
+  touch "$library/crates/$1/out/program"
 }
 
 # ---- a small library
@@ -198,63 +198,37 @@ check 'this library: each crate has a line' "$(ls -A "$whole/crates")" "$(cut -d
 check 'this library: its version is a number' 1 "$(version version "$whole" | grep -cE '^[0-9]+\.[0-9]+\.[0-9]+$')"
 for name in $(ls "$whole/crates"); do
   check "this library: $name" '' \
-    "$(diff -r -x out -x must-fail -x LICENSE -x VERSION "$top/crates/$name" "$whole/crates/$name" 2>&1)"
+    "$(diff -r -x out -x LICENSE -x VERSION "$top/crates/$name" "$whole/crates/$name" 2>&1)"
 done
 
-# ---- the examples of README and CALLING, each in a crate of its own there
+# ---- the examples of README and CALLING, and what no fake of files shows, in one crate there
 
-mkdir "$work/examples"
-awk -v folder="$work/examples" '
+source=$whole/crates/examples/src
+mkdir -p "$source"
+echo 'examples: appender_log appender_names log tracing_appender' >> "$whole/crates.txt"
+awk -v folder="$source" '
   /^```rust$/ { file = folder "/example_" ++count ".rt"; next }
   /^```$/ { file = "" }
   file { print > file }
 ' "$top/README.md" "$top/docs/CALLING.md"
-check 'the pages have examples' 6 "$(ls "$work/examples" | wc -l)"
-for file in "$work"/examples/*; do
-  name=$(basename "$file" .rt)
-  source=$whole/crates/$name/src
-  mkdir -p "$source"
-  echo "$name: appender_log appender_names log tracing_appender" >> "$whole/crates.txt"
-  how=(--test)
-  if grep -q '^fn main' "$file"; then
-    how=()
-    sed '1i #![tactic(auto)]' "$file" > "$source/main.rt"
-  elif grep -q '^use crate::log_start;' "$file"; then
-    cp "$file" "$source/tests.rt"
-    printf '%s\n' '#![tactic(auto)]' 'use std::io;' 'use std::io::Write;' '#[cfg(test)]' 'mod tests;' \
-      'pub fn log_start<W: Write>(log: &mut W, name: &str) -> io::Result<()> {' '    writeln!(log, "started {name}")' '}' \
-      > "$source/lib.rt"
-  else
-    { sed '1i #![tactic(auto)]' "$file"; printf '%s\n' '#[test]' 'fn compiles(_rt: HostRuntime) {}'; } > "$source/lib.rt"
-  fi
-  check "$name of the pages" '0 ended' \
-    "$(cd "$whole/crates/$name" && rt try "${how[@]}" > "$work/out" 2> "$work/err"; echo "$? $(sed -n 's/^run=\([a-z]*\) status=0 .*/\1/p' "$work/out" "$work/err")")"
-done
-
-# ---- the permission bits of a new file, which no fake of files shows
-
-mkdir -p "$whole/crates/mode/src"
-echo 'mode: tracing_appender' >> "$whole/crates.txt"
-cat > "$whole/crates/mode/src/main.rt" <<'END'
-#![tactic(auto)]
+check 'the pages have examples' 6 "$(ls "$source" | wc -l)"
+# The runtime starts threads in `main`, or in a test.
+sed -i 's/^fn main(/#[test]\n&/' "$source"/*
+cat > "$source/mode.rt" <<'END'
 use std::os::unix::fs::MetadataExt;
+use std::test::Fail;
 use std::{fs, io};
 use tracing_appender::folder::DirFolder;
 use tracing_appender::store::Folder;
 
-fn main(rt: HostRuntime) -> io::Result<()> {
+#[test]
+fn is_that_of_a_new_file(rt: HostRuntime) -> Result<(), Fail> {
     DirFolder::new(rt, "")?.mode(0o640).open("app.log")?;
-    println!(rt; "{:o}", fs::metadata(&rt, "app.log")?.mode())
+    assert_eq!(rt; fs::metadata(&rt, "app.log")?.mode(), 0o100640);
+    Ok(())
 }
 END
-check 'the mode of a new file' 100640 "$(cd "$whole/crates/mode" && rt try 2> "$work/err" | grep -o '^100[0-7]*')"
-
-# ---- a log that is dropped
-
-mkdir -p "$whole/crates/dropped/src"
-echo 'dropped: appender_log log' >> "$whole/crates.txt"
-cat > "$whole/crates/dropped/src/main.rt" <<'END'
-#![tactic(auto)]
+cat > "$source/dropped.rt" <<'END'
 use appender_log::start;
 use log::{Log, info};
 use std::io;
@@ -273,14 +247,23 @@ impl Write for Full {
     }
 }
 
-fn main(rt: HostRuntime) -> io::Result<()> {
+#[test]
+fn says_what_was_lost(rt: HostRuntime) -> io::Result<()> {
     let log = start(rt, Full)?;
     info!(log; "lost");
     Ok(())
 }
 END
-check 'a log that is dropped says what was lost' 'appender_log: lines not written whole: 1' \
-  "$(cd "$whole/crates/dropped" && rt try 2>&1 | grep '^appender_log: ')"
+modules=$(basename -a -s .rt "$source"/*)
+{
+  printf '%s\n' '#![tactic(auto)]' 'use std::io;' 'use std::io::Write;'
+  printf '#[cfg(test)]\nmod %s;\n' $modules
+  printf '%s\n' 'pub fn log_start<W: Write>(log: &mut W, name: &str) -> io::Result<()> {' '    writeln!(log, "started {name}")' '}'
+} > "$source/lib.rt"
+(cd "$whole/crates/examples" && rt try --test) > "$work/said" 2>&1
+tests=$(grep -l '^#\[test\]$' "$source"/* | xargs basename -a -s .rt)
+check 'the tests that pass' "$(paste -sd ' ' <<< "$tests")" "$(sed -n 's/^test \([a-z0-9_]*\)::[a-z_]* \.\.\. ok$/\1/p' "$work/said" | sort | paste -sd ' ')"
+check 'a log that is dropped says what was lost' 'lines not written whole: 1' "$(sed -n 's/^ *appender_log: //p' "$work/said")"
 
 echo "$passed passed, $failed failed"
 [ "$failed" = 0 ]

@@ -4,15 +4,16 @@
     tests/wrong/run.py [--gate] [CRATE[/NAME]]..
 
 Each file tests/wrong/CRATE/NAME.edit changes one function of the crate: a line `file: PATH`, and pairs of lines `old: TEXT` and
-`new: TEXT`, where the text stands in that file once. A line `only: FUNCTION` names the function whose contract refuses it, and a line
-`gate: yes` has the gate try it. Such edits are tried together, each of another function: a copy of the crate has all of them, and
-these functions and what they call are checked, over the libraries that `rt ci` left in crates/*/out. So run that before. Each
-function has to be refused for a reason of its own: that it calls a function which is refused doesn't count.
+`new: TEXT`, where the text is in that file once. A line `only: FUNCTION` names the function whose contract refuses it, and a line
+`gate: yes` has the gate try it. Edits of different functions are tried together: a copy of the crate has all of them, and these
+functions are checked over the proofs that `rt ci` left in crates/*/out, so run that before. Each function has to be refused for a
+reason of its own: that it calls a function which is refused does not count, nor does a proof file that names what is gone.
 What does not come to that is tried once more, alone. Try all before a version, and those of a crate if a contract of it changes.
 The last line is `N passed, M failed`.
 """
 import concurrent.futures
 import dataclasses
+import json
 import os
 import pathlib
 import re
@@ -41,23 +42,26 @@ def below(crate):
     return found
 
 
+def rlib(crate):
+    return TOP / f"crates/{crate}/out/rlib/{crate}.rlib" if crate in DEPS else KIT / f"rlibs/{crate}.rlib"
+
+
 def command(crate, functions):
-    """Returns the words that check these functions of the crate in the current folder."""
+    """Returns the words that check these functions of the crate in the current folder, which has what is proved in `proved`."""
     words = [f"{KIT}/bin/rattle", "check", "--crate-name", crate, "src/lib.rt", "-L", f"dependency={KIT}/rlibs"]
     for dep in ["std", *DEPS[crate]]:
-        rlib = TOP / f"crates/{dep}/out/rlib/{dep}.rlib" if dep in DEPS else f"{KIT}/rlibs/{dep}.rlib"
-        words += ["--extern", f"{dep}={rlib}"]
+        words += ["--extern", f"{dep}={rlib(dep)}"]
     for dep in below(crate):
-        words += ["-L", f"dependency={TOP}/crates/{dep}/out/rlib"]
+        words += ["-L", f"dependency={rlib(dep).parent}"]
     words += ["--antt-project", f"{KIT}/rattle/logic/antt-project.json", "--logic-built", f"{KIT}/logic_built"]
     for it in functions:
         words += ["--only", it]
-    return words
+    return [*words, "--incremental", "proved"]
 
 
 @dataclasses.dataclass
 class Edit:
-    """A wrong body: its crate and name, the function whose contract refuses it, its text, and why it can't be tried."""
+    """A wrong body: its crate and name, the function whose contract refuses it, its text, and why it does not count as refused."""
 
     crate: str
     name: str
@@ -74,24 +78,31 @@ class Edit:
 
 def edit_of(path):
     text = path.read_text()
-    return Edit(path.parent.name, path.stem, re.search(r"^only: (.*)$", text, re.M)[1], text)
+    only = re.search(r"^only: (.+)$", text, re.M)
+    return Edit(path.parent.name, path.stem, only[1] if only else "", text)
 
 
 def change(texts, edit):
-    """Changes these texts, by their paths in the crate, or says what stands in the way of it."""
+    """Changes these texts, by their paths in the crate, or returns what prevents it."""
+    if not edit.function:
+        return "no line `only: FUNCTION`"
     path = old = None
+    changed = False
     for line in edit.text.splitlines():
         word, _, rest = line.partition(": ")
         if word == "file":
-            path = rest
+            path = TOP / "crates" / edit.crate / rest
+            if not rest.startswith("src/") or not path.is_file():
+                return f"{rest} is no source of the crate"
         elif word == "old":
             old = rest
         elif line.startswith("new:"):
-            was = texts.get(path) or (TOP / "crates" / edit.crate / path).read_text()
+            was = texts.get(path) or path.read_text()
             if was.count(old) != 1:
-                return f"{was.count(old)} times in {path}: {old}"
+                return f"{was.count(old)} times in {path.name}: {old}"
             texts[path] = was.replace(old, line[4:].removeprefix(" "))
-    return None
+            changed = True
+    return None if changed else "it changes nothing"
 
 
 def groups_of(edits):
@@ -106,7 +117,7 @@ def groups_of(edits):
         for group, texts in groups:
             more = dict(texts)
             fits = group[0].crate == edit.crate and all(it.own_name() != edit.own_name() for it in group)
-            if fits and not any(it.why for it in group) and not change(more, edit):
+            if fits and not group[0].why and not change(more, edit):
                 group.append(edit)
                 texts.update(more)
                 break
@@ -115,6 +126,20 @@ def groups_of(edits):
             change(texts, edit)
             groups.append(([edit], texts))
     return groups
+
+
+def unpack(crate, to):
+    """Writes the modules that the crate's proof left in its library to a folder, as a check keeps them between runs."""
+    made = rlib(crate) / "toolchain"
+    packed = (made / "checked.a").read_bytes()
+    for line in (made / "checked.json").read_text().splitlines():
+        name, begin, length = json.loads(line)[:3]
+        module = packed[begin : begin + length]
+        build = re.search(rb"^--@ kernel (.*)$", module, re.M)
+        if build:
+            folder = to / build[1].decode().replace("/", "_")
+            folder.mkdir(parents=True, exist_ok=True)
+            (folder / f"{name}.oantt").write_bytes(module)
 
 
 def spans(folder, name):
@@ -143,11 +168,12 @@ def is_refused(folder, edit, said):
     for file, line in re.findall(r"^(?:note: )?(?:\./)?(src/[^\s:]+):(\d+):\d+: (?:it is not proved|error)", said, re.M):
         if any(file == path and first <= int(line) <= last for path, first, last in places):
             return True
-    return bool(re.search(rf"^(?:\./)?proofs/\S*\b{re.escape(name)}/\S+:\d+:\d+: error", said, re.M))
+    wrong = re.findall(rf"^(?:\./)?proofs/\S*\b{re.escape(name)}/\S+:\d+:\d+: (error.*)$", said, re.M)
+    return any(not re.search(r"has no field|is not in scope|has no `|was not admitted", it) for it in wrong)
 
 
-def tried(group):
-    """Tries these edits together, and says of each why it does not count as refused."""
+def tried(group, proved):
+    """Tries these edits together over what `proved` has of each crate. Sets why each does not count as refused, and returns them."""
     edits, texts = group
     if edits[0].why:
         return edits
@@ -158,13 +184,15 @@ def tried(group):
             if (TOP / "crates" / crate / part).is_dir():
                 shutil.copytree(TOP / "crates" / crate / part, folder / part)
         for path, text in texts.items():
-            (folder / path).write_text(text)
+            (folder / path.relative_to(TOP / "crates" / crate)).write_text(text)
+        # A check replaces such a file, and changes none.
+        shutil.copytree(proved / crate, folder / "proved", copy_function=os.link)
         how = {"stdin": subprocess.DEVNULL, "stdout": subprocess.PIPE, "stderr": subprocess.STDOUT, "text": True}
         ran = subprocess.run(command(crate, [it.function for it in edits]), cwd=folder, **how)
-        counts = re.search(r"^only=(\d+) proved=(\d+)$", ran.stdout, re.M)
-        has_verdict = ran.returncode == 1 and counts and counts[1] != counts[2]
+        has_verdict = ran.returncode == 1 and re.search(r"^only=\d+ proved=\d+$", ran.stdout, re.M)
         for edit in edits:
-            edit.why = None if has_verdict and (len(edits) == 1 or is_refused(folder, edit, ran.stdout)) else f"not refused: {ran.stdout.strip()[-200:]}"
+            if not has_verdict or not is_refused(folder, edit, ran.stdout):
+                edit.why = f"not refused: {ran.stdout.strip()[-200:]}"
     return edits
 
 
@@ -175,17 +203,20 @@ def main(words):
     edits = [it for it in edits if not in_gate or re.search(r"^gate: yes$", it.text, re.M)]
     failed, again = 0, []
     jobs = int(os.environ.get("RT_JOBS") or len(os.sched_getaffinity(0)))
-    with concurrent.futures.ThreadPoolExecutor(jobs) as pool:
+    with concurrent.futures.ThreadPoolExecutor(jobs) as pool, tempfile.TemporaryDirectory() as room:
+        proved = pathlib.Path(room)
+        for crate in {it.crate for it in edits}:
+            unpack(crate, proved / crate)
         # Those crates first that have most below them: their checks are the longest.
         groups = sorted(groups_of(edits), key=lambda it: -len(below(it[0][0].crate)))
-        for done in pool.map(tried, groups):
+        for done in pool.map(lambda it: tried(it, proved), groups):
             again += [it for it in done if it.why and len(done) > 1]
             for it in done:
                 if not it.why or len(done) == 1:
                     print(f"{it.label()}: {it.why or 'refused'}", flush=True)
                     failed += it.why is not None
         alone = [group for it in again for group in groups_of([it])]
-        for (it,) in pool.map(tried, alone):
+        for (it,) in pool.map(lambda it: tried(it, proved), alone):
             print(f"{it.label()}: {it.why or 'refused'}", flush=True)
             failed += it.why is not None
     print(f"{len(edits) - failed} passed, {failed} failed")
