@@ -6,14 +6,14 @@
 Each file tests/wrong/CRATE/NAME.edit changes one function of the crate: a line `file: PATH`, and pairs of lines `old: TEXT` and
 `new: TEXT`, where the text is in that file once. A line `only: FUNCTION` names the function whose contract refuses it, and a line
 `gate: yes` has the gate try it. Edits of different functions are tried together: a copy of the crate has all of them, and these
-functions are checked over the proofs that `rt ci` left in crates/*/out, so run that before. Each function has to be refused for a
-reason of its own: that it calls a function which is refused does not count, nor does a proof file that names what is gone.
+functions and what they call are checked, over the libraries that `rt ci` left in crates/*/out. So run that before. Each function
+has to be refused for a reason of its own: that it calls a function which is refused does not count, nor does a proof file that
+names what is gone.
 What does not come to that is tried once more, alone. Try all before a version, and those of a crate if a contract of it changes.
 The last line is `N passed, M failed`.
 """
 import concurrent.futures
 import dataclasses
-import json
 import os
 import pathlib
 import re
@@ -47,7 +47,7 @@ def rlib(crate):
 
 
 def command(crate, functions):
-    """Returns the words that check these functions of the crate in the current folder, which has what is proved in `proved`."""
+    """Returns the words that check these functions of the crate in the current folder."""
     words = [f"{KIT}/bin/rattle", "check", "--crate-name", crate, "src/lib.rt", "-L", f"dependency={KIT}/rlibs"]
     for dep in ["std", *DEPS[crate]]:
         words += ["--extern", f"{dep}={rlib(dep)}"]
@@ -56,7 +56,7 @@ def command(crate, functions):
     words += ["--antt-project", f"{KIT}/rattle/logic/antt-project.json", "--logic-built", f"{KIT}/logic_built"]
     for it in functions:
         words += ["--only", it]
-    return [*words, "--incremental", "proved"]
+    return words
 
 
 @dataclasses.dataclass
@@ -128,20 +128,6 @@ def groups_of(edits):
     return groups
 
 
-def unpack(crate, to):
-    """Writes the modules that the crate's proof left in its library to a folder, as a check keeps them between runs."""
-    made = rlib(crate) / "toolchain"
-    packed = (made / "checked.a").read_bytes()
-    for line in (made / "checked.json").read_text().splitlines():
-        name, begin, length = json.loads(line)[:3]
-        module = packed[begin : begin + length]
-        build = re.search(rb"^--@ kernel (.*)$", module, re.M)
-        if build:
-            folder = to / build[1].decode().replace("/", "_")
-            folder.mkdir(parents=True, exist_ok=True)
-            (folder / f"{name}.oantt").write_bytes(module)
-
-
 def spans(folder, name):
     """Returns the files and lines of the functions of this name, which the layout ends by a brace below their first column."""
     found = []
@@ -172,8 +158,8 @@ def is_refused(folder, edit, said):
     return any(not re.search(r"has no field|is not in scope|has no `|was not admitted", it) for it in wrong)
 
 
-def tried(group, proved):
-    """Tries these edits together over what `proved` has of each crate. Sets why each does not count as refused, and returns them."""
+def tried(group):
+    """Tries these edits together. Sets why each does not count as refused, and returns them."""
     edits, texts = group
     if edits[0].why:
         return edits
@@ -185,8 +171,6 @@ def tried(group, proved):
                 shutil.copytree(TOP / "crates" / crate / part, folder / part)
         for path, text in texts.items():
             (folder / path.relative_to(TOP / "crates" / crate)).write_text(text)
-        # A check replaces such a file, and changes none.
-        shutil.copytree(proved / crate, folder / "proved", copy_function=os.link)
         how = {"stdin": subprocess.DEVNULL, "stdout": subprocess.PIPE, "stderr": subprocess.STDOUT, "text": True}
         ran = subprocess.run(command(crate, [it.function for it in edits]), cwd=folder, **how)
         has_verdict = ran.returncode == 1 and re.search(r"^only=\d+ proved=\d+$", ran.stdout, re.M)
@@ -201,22 +185,21 @@ def main(words):
     edits = [edit_of(it) for it in sorted(HERE.glob("*/*.edit"))]
     edits = [it for it in edits if not words or {it.crate, it.label()} & {*words}]
     edits = [it for it in edits if not in_gate or re.search(r"^gate: yes$", it.text, re.M)]
+    if not edits:
+        sys.exit("run.py: there is no such edit")
     failed, again = 0, []
     jobs = int(os.environ.get("RT_JOBS") or len(os.sched_getaffinity(0)))
-    with concurrent.futures.ThreadPoolExecutor(jobs) as pool, tempfile.TemporaryDirectory() as room:
-        proved = pathlib.Path(room)
-        for crate in {it.crate for it in edits}:
-            unpack(crate, proved / crate)
+    with concurrent.futures.ThreadPoolExecutor(jobs) as pool:
         # Those crates first that have most below them: their checks are the longest.
         groups = sorted(groups_of(edits), key=lambda it: -len(below(it[0][0].crate)))
-        for done in pool.map(lambda it: tried(it, proved), groups):
+        for done in pool.map(tried, groups):
             again += [it for it in done if it.why and len(done) > 1]
             for it in done:
                 if not it.why or len(done) == 1:
                     print(f"{it.label()}: {it.why or 'refused'}", flush=True)
                     failed += it.why is not None
         alone = [group for it in again for group in groups_of([it])]
-        for (it,) in pool.map(lambda it: tried(it, proved), alone):
+        for (it,) in pool.map(tried, alone):
             print(f"{it.label()}: {it.why or 'refused'}", flush=True)
             failed += it.why is not None
     print(f"{len(edits) - failed} passed, {failed} failed")
