@@ -1,3 +1,4 @@
+pub mod Ended
 pub mod Histories
 pub mod Holding
 pub mod Jobs

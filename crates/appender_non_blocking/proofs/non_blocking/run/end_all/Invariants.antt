@@ -5,9 +5,9 @@ use Rattle.appender_non_blocking.proofs.non_blocking.run.end_all.Given as goal
 
 -- the histories of those that have ended, and the lines of the others
 abbrev pub invariant-loop-sender : goal.invariant-loop-sender
-invariant-loop-sender g l =
-    (map (λ h. h.lines) l.histories.items ++ map (λ s. s.lines) l.sender-iterator.rest.items ≡ map (λ s. s.lines) l.fn.senders.items)
-    × (min (l.dropped + total_dropped l.sender-iterator.rest.items) (2 ^ 64 - 1) ≡ min (total_dropped l.fn.senders.items) (2 ^ 64 - 1))
-    × (vec_len l.histories + length l.sender-iterator.rest.items ≡ vec_len l.fn.senders)
-    × (vec_len l.fn.senders ≤ vec_capacity l.histories)
-    × (l.dropped ≤ 2 ^ 64 - 1)
+invariant-loop-sender g l = record {
+  lines : map (λ h. h.lines) l.histories.items ++ map (λ s. s.lines) l.sender-iterator.rest.items ≡ map (λ s. s.lines) l.fn.senders.items;
+  dropped : min (l.dropped + total_dropped l.sender-iterator.rest.items) (2 ^ 64 - 1) ≡ min (total_dropped l.fn.senders.items) (2 ^ 64 - 1);
+  room : vec_len l.histories + length l.sender-iterator.rest.items ≤ vec_capacity l.histories;
+  small : l.dropped ≤ 2 ^ 64 - 1;
+}
