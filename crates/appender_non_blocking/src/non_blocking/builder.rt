@@ -165,78 +165,122 @@ impl NonBlockingBuilder {
         let NonBlockingBuilder { limit, lossy, name } = self;
         let name = name_or_default(alloc, name)?;
         let hand = Hand::new(alloc, limit)?;
-        let Blanks {
-            accepted,
-            handed,
-            shutdowns,
-            closings,
-        } = blanks;
-        let (accepted, share) = accepted.open::<A>();
-        let (handed, lines) = handed.open::<H>();
-        let (shutdowns, shut) = shutdowns.open::<S>();
-        let (closings, closed) = closings.open::<C>();
-        let books = FourBooks {
-            accepted,
-            handed,
-            shutdowns,
-            closings,
-        };
         // A refusal of memory leaves no thread, since the senders are made before it.
-        let (shared, made, part) = open_counted(rt, alloc, (limit, lossy), senders, books, share)?;
-        let served = Arc::try_clone(&shared)?;
-        let pass = Pass {
-            handed: lines,
-            closings: closed,
-        };
-        // The guard is a sender that offers no lines and has no place. A worker that finds no sender ends.
-        let counted = shared.add_sender(&rt);
-        match start_counted(rt, name, served, writer, hand, pass) {
-            Ok(worker) => {
-                let guard = CountedGuard {
-                    rt,
-                    shared,
-                    counted,
-                    part,
-                    shutdowns: shut,
-                    made: senders,
-                    sent: false,
-                    worker,
-                };
-                Ok((made, guard))
-            }
-            Err(fault) => {
-                shared.drop_sender(&rt, counted);
-                Err(fault)
-            }
-        }
+        let opened = open_counted(rt, alloc, (limit, lossy), senders, blanks)?;
+        start_opened(rt, name, writer, hand, opened, senders)
     }
 }
 
-// Makes the queue of counted senders, with this share of the book of accepted lines. Returns what its senders and its worker share, the
-// senders, and what they leave of the share.
+// A queue of counted senders whose worker has not started: what its senders and its worker share, the senders, what they leave of the
+// share of accepted lines, and the shares of the guard and of the worker.
+#[derive(Drop)]
+struct OpenedCounted<A: Ledger, H: Ledger, S: Ledger, C: Ledger, R: Wait + Drop> {
+    shared: Arc<Shared<FourBooks<A, H, S, C>>, Global>,
+    made: Vec<CountedSender<A, H, S, C, R>>,
+    part: Share<A>,
+    shutdowns: Share<S>,
+    pass: Pass<H, C>,
+    ghost none_queued: { (part.parts ≡ 1) × (part.amount ≡ 0) },
+    ghost none_sent: { (shutdowns.parts ≡ 1) × (shutdowns.amount ≡ 0) },
+    ghost none_taken: { (pass.handed.parts ≡ 1) × (pass.closings.parts ≡ 1) × (pass.closings.amount ≡ 0) },
+}
+
+// Opens the books of counted senders, and makes their queue.
 fn open_counted<A: Ledger, H: Ledger, S: Ledger, C: Ledger, R: Threads + Wait + Drop + Copy>(
     rt: R,
     alloc: Global,
     settings: (usize, bool),
     senders: usize,
-    books: FourBooks<A, H, S, C>,
-    share: Share<A>,
-) -> Result<
-    (
-        Arc<Shared<FourBooks<A, H, S, C>>, Global>,
-        Vec<CountedSender<A, H, S, C, R>>,
-        Share<A>,
-    ),
-    AllocError,
->
-    requires shares { (A.parts ≡ senders + 1) × (share.parts ≡ senders + 1) × (share.amount ≡ 0) }
-    requires books { (books.accepted.total ≡ 0) × (books.handed.total ≡ 0) × (books.shutdowns.total ≡ 0) × (books.closings.total ≡ 0) }
-    ensures senders { IfOk result (λ made. made.1.items ≡ new_senders settings.1 senders) }
-    ensures part { IfOk result (λ made. (made.2.parts ≡ 1) × (made.2.amount ≡ 0)) }
+    blanks: Blanks,
+) -> Result<OpenedCounted<A, H, S, C, R>, AllocError>
+    requires { AreBlanksOf A.Ledger H.Ledger S.Ledger C.Ledger senders blanks }
+    ensures { IfOk result (λ opened. opened.made.items ≡ new_senders settings.1 senders) }
 {
+    let Blanks {
+        accepted,
+        handed,
+        shutdowns,
+        closings,
+    } = blanks;
+    let (accepted, share) = accepted.open::<A>();
+    let (handed, lines) = handed.open::<H>();
+    let (shutdowns, shut) = shutdowns.open::<S>();
+    let (closings, closed) = closings.open::<C>();
+    let books = FourBooks {
+        accepted,
+        handed,
+        shutdowns,
+        closings,
+    };
+    let pass = Pass {
+        handed: lines,
+        closings: closed,
+    };
     let (shares, part) = split_shares(alloc, share, senders)?;
     let (shared, made) = open_queue(rt, alloc, settings, senders, books, shares)?;
-    Ok((shared, made, part))
+    Ok(OpenedCounted {
+        shared,
+        made,
+        part,
+        shutdowns: shut,
+        pass,
+    })
+}
+
+// Starts the worker of a queue, and makes its guard.
+fn start_opened<
+    A: Ledger + Send + Sync + 'static,
+    H: Ledger + Send + Sync + 'static,
+    S: Ledger + Send + Sync + 'static,
+    C: Ledger + Send + Sync + 'static,
+    W: Write + Send + Drop + 'static,
+    R: Host,
+>(
+    rt: R,
+    name: String,
+    writer: W,
+    hand: Hand,
+    opened: OpenedCounted<A, H, S, C, R>,
+    senders: usize,
+) -> io::Result<
+    (
+        Vec<CountedSender<A, H, S, C, R>>,
+        CountedGuard<A, H, S, C, R>,
+    ),
+>
+    requires { (H.parts ≡ 1) × (C.parts ≡ 1) }
+    ensures senders { IfOk result (λ made. made.0.items ≡ opened.made.items) }
+    ensures guard { IfOk result (λ made. made.1 ≡ new_guard senders) }
+{
+    let served = Arc::try_clone(&opened.shared)?;
+    let OpenedCounted {
+        shared,
+        made,
+        part,
+        shutdowns,
+        pass,
+    } = opened;
+    // The guard is a sender that offers no lines and has no place. A worker that finds no sender ends.
+    let counted = shared.add_sender(&rt);
+    match start_counted(rt, name, served, writer, hand, pass) {
+        Ok(worker) => {
+            let guard = CountedGuard {
+                rt,
+                shared,
+                counted,
+                part,
+                shutdowns,
+                made: senders,
+                sent: false,
+                worker,
+            };
+            Ok((made, guard))
+        }
+        Err(fault) => {
+            shared.drop_sender(&rt, counted);
+            Err(fault)
+        }
+    }
 }
 
 // Starts the worker's thread.

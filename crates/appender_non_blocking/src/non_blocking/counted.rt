@@ -1,5 +1,5 @@
 // Senders that know what they sent.
-ghost use Rattle.std.specs.Prelude.{◌≡◌, ◌≢◌, ◌+◌, ◌≤◌, [], length, vec_len, Ok, IfOk, IfErr, false};
+ghost use Rattle.std.specs.Prelude.{◌≡◌, ◌≢◌, ◌+◌, ◌^◌, ◌<◌, [], length, vec_len, Ok, IfOk, IfErr, false};
 ghost use Rattle.std.specs.IoError.{error_kind};
 ghost use Rattle.line_history.specs.Lines.{AllFrom};
 ghost use Rattle.appender_channel.specs.Tally.{new_tally};
@@ -204,7 +204,7 @@ pub(super) fn split_shares<A: Ledger>(
 ) -> Result<(Vec<SenderShare<A>>, Share<A>), AllocError>
     requires { (A.parts ≡ senders + 1) × (share.parts ≡ senders + 1) × (share.amount ≡ 0) }
     ensures count { IfOk result (λ made. vec_len made.0 ≡ senders) }
-    ensures senders { IfOk result (λ made. AllFrom (λ s n. (s.place ≡ n) × (s.place + 1 ≤ senders) × (s.share.parts ≡ 1) × (s.share.amount ≡ 0)) 0 made.0.items) }
+    ensures senders { IfOk result (λ made. AllFrom (λ s n. (s.place ≡ n) × (s.place + 1 < A.parts) × (s.share.parts ≡ 1) × (s.share.amount ≡ 0) × (0 < 2 ^ 64)) 0 made.0.items) }
     ensures share { IfOk result (λ made. (made.1.parts ≡ 1) × (made.1.amount ≡ 0)) }
 {
     let mut share = share;
