@@ -2,8 +2,9 @@
 ghost use Rattle.std.specs.Prelude.{◌≡◌, ◌+◌, ◌<◌, ◌≤◌, ◌-◌, ◌^◌, [], ℕ, List, Option, None, IfOk, IfSome, IsSome, length, map, min, slice_index, vec_len};
 ghost use Rattle.std.specs.Vec.{vec_capacity};
 ghost use Rattle.line_history.specs.Interleaving.{IsInterleaving};
-ghost use Rattle.appender_non_blocking.specs.Account.{IsBlankOf, IsAccount, new_guard, total_dropped};
-ghost use Rattle.appender_non_blocking.specs.SentLines.{new_senders};
+ghost use Rattle.line_history.specs.Lines.{AllFrom};
+ghost use Rattle.appender_non_blocking.specs.Account.{IsBlankOf, IsAccount, new_guard, total_queued, total_dropped};
+ghost use Rattle.appender_non_blocking.specs.SentLines.{SentLines, new_senders};
 ghost use Rattle.appender_worker.specs.Served.{ServesLines};
 
 use super::account::Account;
@@ -14,7 +15,7 @@ use super::worker::{Hand, serve};
 use appender_channel::books::{LineBooks, LineDone, LinePass};
 use appender_runtime::host::Host;
 use line_history::Blank;
-use line_history::halves::{QueueHalves, QueueHistories, SenderHistory};
+use line_history::halves::{QueueHalves, QueueHistories, SenderHistory, TakerHistory};
 use std::alloc::{AllocError, Global};
 use std::io::Write;
 use std::marker::{Brand, Model};
@@ -121,9 +122,8 @@ fn open_lines<S: Ledger, C: Ledger, L: RunNames, R: Threads + Wait + Drop + Copy
         closings,
         histories,
     } = blanks;
-    let (halves, shares, taker) = QueueHalves::<L>::open(alloc, histories)?;
+    let (halves, shares, taker, histories) = open_halves::<L>(alloc, histories)?;
     let places = shares.len();
-    let histories = Vec::with_capacity(alloc, places)?;
     let (shutdowns, share) = shutdowns.open::<S>();
     let (book, closings) = closings.open::<C>();
     let books = LineBooks {
@@ -139,6 +139,34 @@ fn open_lines<S: Ledger, C: Ledger, L: RunNames, R: Threads + Wait + Drop + Copy
         pass: LinePass { taker, closings },
         histories,
     })
+}
+
+// Opens the histories of a run, in words of its books. Returns memory for what its senders return last.
+fn open_halves<L: QueueHistories>(
+    alloc: Global,
+    histories: Vec<Blank>,
+) -> Result<
+    (
+        QueueHalves<L>,
+        Vec<SenderHistory<L>>,
+        TakerHistory<L>,
+        Vec<SenderHistory<L>>,
+    ),
+    AllocError,
+>
+    requires names { (i : ℕ) → i < vec_len histories → slice_index (map (λ b. b.name) histories.items) i ≡ L.name i }
+    requires count { vec_len histories ≡ L.senders + 1 }
+    ensures sent { IfOk result (λ made. IsInterleaving made.0.sent []) }
+    ensures taken { IfOk result (λ made. made.0.taken ≡ []) }
+    ensures count { IfOk result (λ made. vec_len made.1 ≡ L.senders) }
+    ensures senders { IfOk result (λ made. AllFrom (λ s place. (s.place ≡ place) × (s.lines ≡ []) × (0 < 2 ^ 64)) 0 made.1.items) }
+    ensures taker { IfOk result (λ made. made.2 ≡ []) }
+    ensures empty { IfOk result (λ made. made.3.items ≡ []) }
+    ensures room { IfOk result (λ made. L.senders ≤ vec_capacity made.3) }
+{
+    let (halves, shares, taker) = QueueHalves::<L>::open(alloc, histories)?;
+    let histories = Vec::with_capacity(alloc, shares.len())?;
+    Ok((halves, shares, taker, histories))
 }
 
 /// A queue whose worker has started.
@@ -222,20 +250,49 @@ impl<
         {
             return None;
         }
-        let Ended {
-            done,
-            writer,
-            given_up,
-        } = worker.join(rt);
-        let counts = shared.final_lines(rt, histories, shutdowns, done);
-        let account = Account {
-            accepted: counts.accepted,
-            handed: counts.handed,
-            left: counts.left,
-            dropped,
-        };
-        Some((Written { writer, given_up }, account))
+        Some(account_for(rt, &*shared, worker, histories, shutdowns, dropped))
     }
+}
+
+// Waits for the worker's end. Returns the writer, and the account of the senders that left these histories and dropped this many lines.
+fn account_for<
+    S: Ledger + Send + Sync + 'static,
+    C: Ledger + Send + Sync + 'static,
+    L: RunNames + Send + Sync + 'static,
+    W: Write + Send + Drop + 'static,
+    R: Threads + Wait,
+>(
+    rt: &R,
+    shared: &Shared<LineBooks<S, C, L>>,
+    worker: JoinHandle<Ended<C, L, W>>,
+    histories: Vec<SenderHistory<L>>,
+    shutdowns: Share<S>,
+    dropped: usize,
+) -> (Written<W>, Account)
+    requires count { vec_len histories ≡ L.senders }
+    requires parts { (shutdowns.parts ≡ S.parts) × (C.parts ≡ 1) × (shutdowns.amount ≡ 0) }
+    ensures wrote { (senders : List SentLines) → map (λ h. h.lines) histories.items ≡ map (λ s. s.lines) senders
+        → (taken : List (List ℕ)) × IsInterleaving (map (λ s. s.lines) senders) taken
+        × (result.1.handed ≡ length taken) × ServesLines L.first (W.contents result.0.writer) taken result.0.given_up }
+    ensures accepted { (senders : List SentLines) → map (λ h. h.lines) histories.items ≡ map (λ s. s.lines) senders
+        → result.1.accepted ≡ total_queued senders }
+    ensures handed { result.1.accepted ≡ result.1.handed + result.1.left }
+    ensures left { result.1.left ≡ 0 }
+    ensures dropped { result.1.dropped ≡ dropped }
+{
+    let Ended {
+        done,
+        writer,
+        given_up,
+    } = worker.join(rt);
+    let counts = shared.final_lines(rt, histories, shutdowns, done);
+    let account = Account {
+        accepted: counts.accepted,
+        handed: counts.handed,
+        left: counts.left,
+        dropped,
+    };
+    (Written { writer, given_up }, account)
 }
 
 // Ends the senders. Returns their histories, in their order, and how many lines they dropped.
