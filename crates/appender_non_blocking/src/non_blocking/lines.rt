@@ -1,19 +1,23 @@
 // A work in the caller's thread, whose lines a worker writes.
-ghost use Rattle.std.specs.Prelude.{◌≡◌, ◌+◌, ◌<◌, ℕ, IfErr, IfOk, IsSome, None, map, slice_index, vec_len};
+ghost use Rattle.std.specs.Prelude.{◌≡◌, ◌+◌, ◌<◌, ◌∷◌, [], ℕ, Bool, IfErr, IfOk, IsSome, None, map, slice_index, vec_len};
 ghost use Rattle.appender_non_blocking.specs.Account.{IsBlankOf};
-ghost use Rattle.appender_non_blocking.specs.SentLines.{SentLines};
+ghost use Rattle.appender_non_blocking.specs.SentLines.{SentLines, new_senders};
 ghost use Rattle.appender_non_blocking.specs.Work.{RunsLines};
 
 use super::builder::NonBlockingBuilder;
+use super::counted::BookSender;
 use super::run::{Run, RunBlanks, RunNames, Written};
 use super::work::{LineSender, Unstarted};
+use appender_channel::books::LineBooks;
 use appender_runtime::host::Host;
 use std::alloc::Global;
 use std::io;
 use std::io::Write;
 use std::marker::Brand;
+use std::sync::Wait;
 use std::sync::ledger::Ledger;
-use std::time::Duration;
+use std::thread::Threads;
+use std::time::{Clock, Duration};
 
 /// What the caller's thread does with a counted sender.
 pub trait RecordedWork {
@@ -119,18 +123,52 @@ fn run_by<
     ensures always { most ≡ None → IfOk result (λ ran. IsSome ran.written) }
     ensures not_run { IfErr result (λ unstarted. unstarted.work ≡ work) }
 {
-    let (mut senders, run) = match Run::<S, C, L, W>::start(builder, rt, alloc, writer, blanks) {
-        Ok(started) => started,
-        Err(error) => return Err(Unstarted { work, error }),
-    };
-    let Some(sender) = senders.pop() else {
-        unreachable!()
-    };
+    match Run::<S, C, L, W>::start(builder, rt, alloc, writer, blanks) {
+        Ok((senders, run)) => Ok(run_started(&rt, senders, run, work, most)),
+        Err(error) => Err(Unstarted { work, error }),
+    }
+}
+
+// Runs the work with the one sender of a run, and ends the run.
+fn run_started<
+    S: Ledger + Send + Sync + 'static,
+    C: Ledger + Send + Sync + 'static,
+    L: RunNames + Send + Sync + 'static,
+    K: RecordedWork + Drop,
+    W: Write + Send + Drop + 'static,
+    R: Threads + Wait + Clock + Drop,
+>(
+    rt: &R,
+    senders: Vec<BookSender<LineBooks<S, C, L>, R>>,
+    run: Run<S, C, L, W>,
+    work: K,
+    most: Option<Duration>,
+) -> Ran<K, W>
+    requires parts { (L.senders ≡ 1) × (S.parts ≡ 1) × (C.parts ≡ 1) }
+    requires new { (lossy : Bool) × (senders.items ≡ new_senders lossy L.senders) }
+    ensures ran { (lossy : Bool) (writer : W) → senders.items ≡ new_senders lossy L.senders → L.first ≡ W.contents writer
+        → RunsLines K.does W.contents lossy work writer result }
+    ensures always { most ≡ None → IsSome result.written }
+{
     let mut work = work;
-    senders.push_reserved(work.run(sender));
-    let written = match run.end(&rt, senders, most) {
+    let senders = run_with(senders, &mut work);
+    let written = match run.end(rt, senders, most) {
         Some((written, _)) => Some(written),
         None => None,
     };
-    Ok(Ran { work, written })
+    Ran { work, written }
+}
+
+// Runs the work with the one sender.
+fn run_with<T: LineSender + Drop, K: RecordedWork>(senders: Vec<T>, work: &mut K) -> Vec<T>
+    requires { vec_len senders ≡ 1 }
+    ensures { (sender ended : T) × (senders.items ≡ sender ∷ []) × (result.items ≡ ended ∷ [])
+        × K.does work.old (T.sent sender) work.new (T.sent ended) }
+{
+    let mut senders = senders;
+    let Some(sender) = senders.pop() else {
+        unreachable!()
+    };
+    senders.push_reserved(work.run(sender));
+    senders
 }
