@@ -1,10 +1,10 @@
 // Works of threads, each with a counted sender of its own, and the account of their lines.
-ghost use Rattle.std.specs.Prelude.{◌≡◌, ◌≢◌, ◌+◌, ◌<◌, ◌≤◌, ℕ, Ok, IfOk, IfErr, [], length, map, reverse, slice_index, vec_len, false};
+ghost use Rattle.std.specs.Prelude.{◌≡◌, ◌≢◌, ◌+◌, ◌<◌, ◌≤◌, ℕ, Bool, Ok, IfOk, IfErr, [], length, map, reverse, slice_index, vec_len, false};
 ghost use Rattle.std.specs.Vec.{vec_capacity};
 ghost use Rattle.std.specs.IoError.{error_kind};
 ghost use Rattle.appender_non_blocking.specs.Account.{IsBlankOf};
 ghost use Rattle.appender_non_blocking.specs.Refusal.{IsRefusal};
-ghost use Rattle.appender_non_blocking.specs.SentLines.{SentLines, sent_after_line};
+ghost use Rattle.appender_non_blocking.specs.SentLines.{SentLines, new_senders, sent_after_line};
 ghost use Rattle.appender_non_blocking.specs.Work.{RunsWorks};
 ghost use Rattle.appender_non_blocking.specs.Inside.Jobs.{senders_of, works_of, RunsJobs, RunsWorksWith};
 
@@ -13,7 +13,7 @@ use super::builder::NonBlockingBuilder;
 use super::counted::BookSender;
 use super::run::{Run, RunBlanks, RunNames, Written};
 use super::sender::Sent;
-use appender_channel::books::SenderBooks;
+use appender_channel::books::{LineBooks, SenderBooks};
 use appender_runtime::host::Host;
 use std::alloc::Global;
 use std::fmt::{Debug, Formatter};
@@ -183,17 +183,41 @@ fn run_by<
             error: io::Error::from(error),
         }),
     };
-    let (senders, run) = match Run::<S, C, L, W>::start(builder, rt, alloc, writer, blanks) {
-        Ok(started) => started,
-        Err(error) => return Err(Unstarted { work: works, error }),
-    };
-    let (senders, works) = run_all(&rt, senders, works, jobs);
-    match run.end(&rt, senders, None) {
-        Some((written, account)) => Ok(RanAll {
+    match Run::<S, C, L, W>::start(builder, rt, alloc, writer, blanks) {
+        Ok((senders, run)) => Ok(run_started(&rt, senders, run, works, jobs)),
+        Err(error) => Err(Unstarted { work: works, error }),
+    }
+}
+
+// Runs each work with the sender at its place, and ends the run. `jobs` is memory for them.
+fn run_started<
+    S: Ledger + Send + Sync + 'static,
+    C: Ledger + Send + Sync + 'static,
+    L: RunNames + Send + Sync + 'static,
+    K: CountedWork + Send + Drop,
+    W: Write + Send + Drop + 'static,
+    R: Host,
+>(
+    rt: &R,
+    senders: Vec<BookSender<LineBooks<S, C, L>, R>>,
+    run: Run<S, C, L, W>,
+    works: Vec<K>,
+    jobs: Vec<Job<BookSender<LineBooks<S, C, L>, R>, K>>,
+) -> RanAll<K, W>
+    requires parts { (L.senders ≡ vec_len works) × (S.parts ≡ 1) × (C.parts ≡ 1) }
+    requires new { (lossy : Bool) × (senders.items ≡ new_senders lossy L.senders) }
+    requires room { L.senders ≤ vec_capacity jobs }
+    requires empty { jobs.items ≡ [] }
+    ensures { (lossy : Bool) (writer : W) → senders.items ≡ new_senders lossy L.senders → L.first ≡ W.contents writer
+        → RunsWorks K.CountedWork.does W.contents lossy works.items writer result }
+{
+    let (senders, works) = run_all(rt, senders, works, jobs);
+    match run.end(rt, senders, None) {
+        Some((written, account)) => RanAll {
             works,
             account,
             written,
-        }),
+        },
         None => unreachable!(),
     }
 }
