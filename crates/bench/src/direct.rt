@@ -1,107 +1,94 @@
 // The time of a line that is written directly to a log.
-use crate::row;
-use crate::row::Row;
-use appender_rolling::rolling::{Clock, MakeWriter, RollingFileAppender};
+use crate::row::Case;
+use appender_rolling::rolling;
+use appender_rolling::rolling::{Builder, FileAppender, MakeWriter, RollingFileAppender, Rotation};
 use appender_store::store::Folder;
-use std::alloc::Global;
 use std::io::{ErrorKind, Write};
-use std::sync::{Mutex, Wait};
+use std::sync::Wait;
 use std::thread::Threads;
-use std::time::Instant;
-use std::{io, thread, time};
+use std::time::{Clock, Instant};
+use std::{io, thread};
 
-/// The numbers of lines per thread, of threads that share the log, and of bytes per line. If `threads` is 0, one
-/// thread has the log for itself.
-#[derive(Clone, Copy)]
-pub(crate) struct Case {
-    pub(crate) lines: u32,
-    pub(crate) threads: u32,
-    pub(crate) bytes: usize,
+/// Opens the log of this hour in the current folder. If the limit is not 0, its files have so many bytes.
+pub(crate) fn open_log(rt: HostRuntime, limit: u32) -> io::Result<FileAppender> {
+    let builder = Builder::new()
+        .rotation(Rotation::HOURLY)
+        .filename_prefix(rt.alloc(), "bench")?
+        .max_file_bytes(u64::from(limit));
+    match builder.build(rt, ".") {
+        Ok(log) => Ok(log),
+        Err(_) => Err(io::Error::from(ErrorKind::NotFound)),
+    }
+}
+
+/// Measures a log of one thread, once a round.
+pub(crate) fn measure_alone<W: Write, R: Clock + AllocGlobal + Print>(
+    rt: &R,
+    case: Case<'_>,
+    rounds: u32,
+    log: &mut W,
+) -> io::Result<()> {
+    for round in 0..rounds {
+        let nanos = time_alone(rt, case, log)?;
+        case.print(rt, case.mode, round, nanos, 0)?;
+    }
+    Ok(())
 }
 
 /// Takes lines of many threads.
 pub(crate) trait Shared {
-    /// Writes a line, and returns the number of bytes that were taken.
-    fn write_line<R: Wait>(&self, rt: &R, line: &[u8]) -> io::Result<usize>;
+    /// Writes a line by a writer of its own, and returns the number of bytes that were taken.
+    fn write_line(&self, line: &[u8]) -> io::Result<usize>;
 }
 
-impl<S: Folder, C: Clock, H: Wait + Drop> Shared for RollingFileAppender<S, C, H> {
-    fn write_line<R: Wait>(&self, _rt: &R, line: &[u8]) -> io::Result<usize> {
+impl<S: Folder, C: rolling::Clock, H: Wait + Drop> Shared for RollingFileAppender<S, C, H> {
+    fn write_line(&self, line: &[u8]) -> io::Result<usize> {
         self.make_writer()?.write(line)
     }
 }
 
-impl<W: Write> Shared for Mutex<W> {
-    fn write_line<R: Wait>(&self, rt: &R, line: &[u8]) -> io::Result<usize> {
-        self.lock(rt).write(line)
-    }
-}
-
-/// A log, and the name of its rows.
-#[derive(Drop)]
-pub(crate) struct Log<L: Drop> {
-    pub(crate) variant: &'static str,
-    pub(crate) log: L,
-}
-
-/// Measures each log, and a file, once a round.
-pub(crate) fn compare<
-    L: Shared + Write + Sync + Drop,
-    F: Shared + Sync + Drop,
-    R: Threads + Wait + time::Clock + Print + Sync,
->(
+/// Measures a log that threads share, once a round.
+pub(crate) fn measure_together<L: Shared + Sync, R: Threads + Clock + AllocGlobal + Print + Sync>(
     rt: &R,
-    alloc: Global,
-    case: Case,
+    case: Case<'_>,
     rounds: u32,
-    mut logs: Vec<Log<L>>,
-    file: F,
+    log: &L,
 ) -> io::Result<()> {
     for round in 0..rounds {
-        for Log { variant, log } in &mut logs {
-            let nanos = if case.threads == 0 {
-                time_alone(rt, alloc, case, log)?
-            } else {
-                time_together(rt, alloc, case, &*log)?
-            };
-            tell(rt, variant, case, round, nanos)?;
-        }
-        let nanos = time_together(rt, alloc, case, &file)?;
-        tell(rt, "file", case, round, nanos)?;
+        let nanos = time_together(rt, case, log)?;
+        case.print(rt, case.mode, round, nanos, 0)?;
     }
     Ok(())
 }
 
 // Returns the nanoseconds that the lines of a case take in one thread.
-fn time_alone<W: Write, R: time::Clock>(
+fn time_alone<W: Write, R: Clock + AllocGlobal>(
     rt: &R,
-    alloc: Global,
-    case: Case,
+    case: Case<'_>,
     log: &mut W,
 ) -> io::Result<u128> {
-    let line = vec![in alloc; b'x'; case.bytes]?;
+    let line = vec![in rt.alloc(); b'x'; case.bytes as usize]?;
     let start = Instant::now(rt)?;
-    for _ in 0..case.lines {
+    for _ in 0..case.each {
         log.write(line.as_slice())?;
     }
     Ok(start.elapsed(rt)?.as_nanos())
 }
 
 // Returns the nanoseconds that the lines of a case take in its threads.
-fn time_together<L: Shared + Sync, R: Threads + Wait + time::Clock + Sync>(
+fn time_together<L: Shared + Sync, R: Threads + Clock + AllocGlobal + Sync>(
     rt: &R,
-    alloc: Global,
-    case: Case,
+    case: Case<'_>,
     log: &L,
 ) -> io::Result<u128> {
-    let line = vec![in alloc; b'x'; case.bytes]?;
+    let line = vec![in rt.alloc(); b'x'; case.bytes as usize]?;
     let line = line.as_slice();
     let start = Instant::now(rt)?;
     let wrote = thread::map_indices(
         rt,
-        alloc,
-        case.threads.max(1) as usize,
-        &|_| { write_all(rt, log, line, case.lines).is_ok() },
+        rt.alloc(),
+        case.senders as usize,
+        &|_| { write_all(log, line, case.each).is_ok() },
     )?;
     let nanos = start.elapsed(rt)?.as_nanos();
     if wrote.contains(&false) {
@@ -110,29 +97,9 @@ fn time_together<L: Shared + Sync, R: Threads + Wait + time::Clock + Sync>(
     Ok(nanos)
 }
 
-fn write_all<L: Shared, R: Wait>(rt: &R, log: &L, line: &[u8], lines: u32) -> io::Result<()> {
+fn write_all<L: Shared>(log: &L, line: &[u8], lines: u32) -> io::Result<()> {
     for _ in 0..lines {
-        log.write_line(rt, line)?;
+        log.write_line(line)?;
     }
     Ok(())
-}
-
-fn tell<R: Print>(rt: &R, variant: &str, case: Case, round: u32, nanos: u128) -> io::Result<()> {
-    let Case {
-        lines,
-        threads,
-        bytes,
-    } = case;
-    let row = Row {
-        variant,
-        mode: "direct",
-        limit: 0,
-        bytes,
-        senders: threads,
-        round,
-        lines: u64::from(lines).saturating_mul(u64::from(threads.max(1))),
-        nanos,
-        dropped: 0,
-    };
-    row::print(rt, row)
 }

@@ -1,107 +1,48 @@
 // The time of a line, from the first one that is sent until the last one is written.
-use crate::channel::start_channel;
-use crate::plain::start_plain;
-use crate::queue::{BenchSender, Ending, Limit, Queue, start_ours};
-use crate::row::Row;
-use crate::{latency, row};
-use appender_non_blocking::non_blocking::Host;
+use crate::row::Case;
+use crate::sink::start;
+use appender_non_blocking::non_blocking::{Host, NonBlocking};
 use std::alloc::Global;
-use std::io::ErrorKind;
+use std::io::{ErrorKind, Write};
+use std::sync::atomic::AtomicU64;
 use std::sync::atomic::Ordering::SeqCst;
 use std::sync::{Arc, Barrier, Wait};
 use std::thread::{JoinHandle, Threads};
-use std::time::{Clock, Duration, Instant};
+use std::time::{Duration, Instant};
 use std::{io, thread};
 
-/// The numbers of sending threads, of lines per thread, and of bytes per line.
-#[derive(Clone, Copy)]
-pub(crate) struct Case<'a> {
-    /// The word for it in a row.
-    pub(crate) mode: &'a str,
-    pub(crate) limit: Limit,
-    /// Whether each line is sent by a clone of its own.
-    pub(crate) clones: bool,
-    pub(crate) bytes: usize,
-    pub(crate) senders: u32,
-    pub(crate) each: u32,
-}
-
-/// Measures each queue once a round.
-pub(crate) fn compare<R: Host>(
-    rt: R,
-    alloc: Global,
-    case: Case<'_>,
-    rounds: u32,
-) -> io::Result<()> {
-    for round in 0..rounds {
-        measure(rt, alloc, start_ours(rt, alloc, case.limit)?, case, round)?;
-        measure(
-            rt,
-            alloc,
-            start_channel(rt, alloc, case.limit)?,
-            case,
-            round,
-        )?;
-        measure(rt, alloc, start_plain(rt, alloc, case.limit)?, case, round)?;
-    }
-    Ok(())
-}
-
-// Fails if a line was neither written nor counted as dropped.
-fn measure<
-    S: BenchSender + Clone + Send + Drop + 'static,
-    E: Ending + Drop,
-    R: Threads + Wait + Clock + Print + Copy + Send + 'static,
->(rt: R, alloc: Global, queue: Queue<S, E>, case: Case<'_>, round: u32) -> io::Result<()> {
-    if case.mode == "latency" {
-        return latency::measure(rt, alloc, queue, case, round);
-    }
-    let Queue {
-        name,
-        sender,
-        ending,
-        told,
-    } = queue;
-    let start = send_all(rt, alloc, sender, case)?;
-    let dropped = ending.end(&rt);
-    let nanos = start.elapsed(&rt)?.as_nanos();
-    let Case {
-        mode,
-        limit,
-        clones: _,
-        bytes,
-        senders,
-        each,
-    } = case;
-    let lines = u64::from(senders).saturating_mul(u64::from(each));
-    let written = lines.saturating_sub(dropped).saturating_mul(bytes as u64);
-    if told.load(SeqCst) != written {
+/// Measures a queue. Fails if a line was neither written nor counted as dropped.
+pub(crate) fn measure<R: Host>(rt: R, case: Case<'_>, round: u32) -> io::Result<()> {
+    let told = Arc::new(rt.alloc(), AtomicU64::new(0))?;
+    let (nanos, dropped) = time_all(rt, case, told.clone()?)?;
+    let written = case.lines().saturating_sub(dropped);
+    if told.load(SeqCst) != written.saturating_mul(u64::from(case.bytes)) {
         return Err(io::Error::from(ErrorKind::InvalidData));
     }
-    let row = Row {
-        variant: name,
-        mode,
-        limit: limit.lines,
-        bytes,
-        senders,
-        round,
-        lines,
-        nanos,
-        dropped,
-    };
-    row::print(&rt, row)
+    case.print(&rt, case.mode, round, nanos, dropped)
+}
+
+// Returns the nanoseconds that the lines of a case take, and how many of them were dropped.
+fn time_all<R: Host>(
+    rt: R,
+    case: Case<'_>,
+    told: Arc<AtomicU64, Global>,
+) -> io::Result<(u128, u64)> {
+    let (sender, guard) = start(rt, case, told)?;
+    let counter = sender.error_counter()?;
+    let start = send_all(rt, sender, case)?;
+    drop(guard);
+    let dropped = counter.dropped_lines() as u64;
+    Ok((start.elapsed(&rt)?.as_nanos(), dropped))
 }
 
 // Sends the lines of a case from its threads, and returns the moment at which they began.
-fn send_all<
-    S: BenchSender + Clone + Send + Drop + 'static,
-    R: Threads + Wait + Clock + Copy + Send + 'static,
->(rt: R, alloc: Global, sender: S, case: Case<'_>) -> io::Result<Instant> {
+fn send_all<R: Host>(rt: R, sender: NonBlocking<R>, case: Case<'_>) -> io::Result<Instant> {
     let threads = (case.senders as usize).saturating_add(1);
-    let gate = Arc::new(alloc, Barrier::new(threads))?;
-    let mut running = Vec::new(alloc);
+    let gate = Arc::new(rt.alloc(), Barrier::new(threads))?;
+    let mut running = Vec::new(rt.alloc());
     for _ in 0..case.senders {
-        running.push(start_one(rt, alloc, sender.clone()?, gate.clone()?, case)?)?;
+        running.push(start_one(rt, sender.clone()?, gate.clone()?, case)?)?;
     }
     drop(sender);
     // Time for all threads to reach the gate.
@@ -113,24 +54,20 @@ fn send_all<
 }
 
 // Starts a thread that sends its lines once all threads have reached the gate.
-fn start_one<
-    S: BenchSender + Clone + Send + Drop + 'static,
-    R: Threads + Wait + Clock + Copy + Send + 'static,
->(
+fn start_one<R: Host>(
     rt: R,
-    alloc: Global,
-    sender: S,
+    sender: NonBlocking<R>,
     gate: Arc<Barrier, Global>,
     case: Case<'_>,
 ) -> io::Result<JoinHandle<()>> {
-    let line = vec![in alloc; b'x'; case.bytes]?;
-    let Case { clones, each, .. } = case;
+    let line = vec![in rt.alloc(); b'x'; case.bytes as usize]?;
+    let (clones, each) = (case.mode.starts_with("each"), case.each);
     let started = thread::spawn(&rt, move || {
         gate.wait(&rt);
         if clones {
-            send_by_clones(&rt, sender, line.as_slice(), each);
+            send_by_clones(sender, line.as_slice(), each);
         } else {
-            send_some(&rt, sender, line.as_slice(), each);
+            send_some(sender, line.as_slice(), each);
         }
     })?;
     Ok(started)
@@ -142,23 +79,18 @@ fn join_all<R: Threads>(rt: &R, running: Vec<JoinHandle<()>>) {
     }
 }
 
-fn send_some<S: BenchSender + Drop, R: Wait>(rt: &R, sender: S, line: &[u8], count: u32) {
+fn send_some<R: Wait + Drop>(sender: NonBlocking<R>, line: &[u8], count: u32) {
     let mut sender = sender;
     for _ in 0..count {
-        sender.send(rt, line);
+        let _ = sender.write(line);
     }
 }
 
 // Sends each line by a clone. If a clone can't be made its line is lost, and the check of the counts fails.
-fn send_by_clones<S: BenchSender + Clone + Drop, R: Wait>(
-    rt: &R,
-    sender: S,
-    line: &[u8],
-    count: u32,
-) {
+fn send_by_clones<R: Wait + Drop + Copy>(sender: NonBlocking<R>, line: &[u8], count: u32) {
     for _ in 0..count {
         if let Ok(mut clone) = sender.clone() {
-            clone.send(rt, line);
+            let _ = clone.write(line);
         }
     }
 }
