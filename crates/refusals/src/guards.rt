@@ -1,5 +1,6 @@
 // What is printed on standard output and standard error where a guard is dropped.
 use crate::marks::ScenarioHost;
+use crate::queues::start;
 use std::alloc::Global;
 use std::io::{ErrorKind, Write};
 use std::sync::Arc;
@@ -7,7 +8,6 @@ use std::sync::atomic::AtomicBool;
 use std::sync::atomic::Ordering::SeqCst;
 use std::time::{Clock, Duration};
 use std::{io, thread};
-use tracing_appender::non_blocking::NonBlockingBuilder;
 
 // The flags by which the worker's thread and the main thread signal each other.
 #[derive(Drop)]
@@ -55,35 +55,43 @@ fn comes(rt: &impl Clock, flag: &AtomicBool) -> bool {
     false
 }
 
-/// Drops a guard while its queue is full, over a writer whose flushes fail. The worker holds one line, and the queue has no room
-/// after the next. Once the guard is dropped, the worker ends after the last sender, and its last flush fails.
-pub(crate) fn run<R: ScenarioHost>(rt: R) -> io::Result<()> {
-    let flags = Arc::new(
-        rt.alloc(),
-        Flags {
-            held: AtomicBool::new(false),
-            open: AtomicBool::new(false),
-            gone: AtomicBool::new(false),
-        },
-    )?;
-    let writer = Holding {
-        rt,
-        flags: Arc::try_clone(&flags)?,
+fn new_flags(alloc: Global) -> io::Result<Arc<Flags, Global>> {
+    let flags = Flags {
+        held: AtomicBool::new(false),
+        open: AtomicBool::new(false),
+        gone: AtomicBool::new(false),
     };
-    let (mut lines, guard) = NonBlockingBuilder::default()
-        .buffered_lines_limit(1)
-        .finish(rt, rt.alloc(), writer)?;
-    lines.write(b"held\n")?;
-    if !comes(&rt, &flags.held) {
-        return Err(io::Error::from(ErrorKind::TimedOut));
-    }
-    lines.write(b"queued\n")?;
-    drop(guard);
-    flags.open.store(true, SeqCst);
-    drop(lines);
-    if comes(&rt, &flags.gone) {
+    Ok(Arc::new(alloc, flags)?)
+}
+
+fn wait_for(rt: &impl Clock, flag: &AtomicBool) -> io::Result<()> {
+    if comes(rt, flag) {
         Ok(())
     } else {
         Err(io::Error::from(ErrorKind::TimedOut))
     }
+}
+
+/// Drops a guard while its queue is full, over a writer whose flushes fail. The worker holds one line, and the queue has no room
+/// after the next. Once the guard is dropped, the worker ends after the last sender, and its last flush fails.
+pub(crate) fn run<R: ScenarioHost>(rt: R) -> io::Result<()> {
+    let flags = new_flags(rt.alloc())?;
+    let writer = Holding {
+        rt,
+        flags: Arc::try_clone(&flags)?,
+    };
+    let (mut lines, guard) = start(rt, 1, true, writer)?;
+    fill(&rt, &mut lines, &flags.held)?;
+    drop(guard);
+    flags.open.store(true, SeqCst);
+    drop(lines);
+    wait_for(&rt, &flags.gone)
+}
+
+// Writes the line that is held, and the one after it.
+fn fill<W: Write>(rt: &impl Clock, lines: &mut W, held: &AtomicBool) -> io::Result<()> {
+    lines.write(b"held\n")?;
+    wait_for(rt, held)?;
+    lines.write(b"queued\n")?;
+    Ok(())
 }

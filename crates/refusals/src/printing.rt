@@ -1,6 +1,7 @@
 // The printing of results, and of what exists afterwards.
 use std::alloc::AllocError;
 use std::io;
+use std::io::{ErrorKind, Write};
 use tracing_appender::rolling::{Roller, Switch};
 use tracing_appender::store::{Folder, MemoryFolder, NoticeKind};
 
@@ -31,18 +32,28 @@ pub(crate) fn print_io<T: Drop>(
     }
 }
 
+/// Returns a result with the kind of its error, which nothing has to drop.
+pub(crate) fn kind_of<T: Copy>(answer: io::Result<T>) -> Result<T, ErrorKind> {
+    match answer {
+        Ok(value) => Ok(value),
+        Err(fault) => Err(fault.kind()),
+    }
+}
+
+/// Writes once. This is the only call of `write`, so that no other function has its contract at a type of its own.
+pub(crate) fn write<W: Write>(log: &mut W, line: &[u8]) -> Result<usize, ErrorKind> {
+    kind_of(log.write(line))
+}
+
 /// Prints the number of bytes that were taken.
 pub(crate) fn print_taken(
     rt: &impl Print,
     call: &str,
-    answer: io::Result<usize>,
+    answer: Result<usize, ErrorKind>,
 ) -> io::Result<()> {
     match answer {
         Ok(taken) => println!(rt; "{call} ok {taken}"),
-        Err(fault) => {
-            let kind = fault.kind();
-            println!(rt; "{call} {kind:?}")
-        }
+        Err(kind) => println!(rt; "{call} {kind:?}"),
     }
 }
 
@@ -50,15 +61,12 @@ pub(crate) fn print_taken(
 pub(crate) fn print_put(
     rt: &impl Print,
     call: &str,
-    answer: (Switch, io::Result<usize>),
+    answer: (Switch, Result<usize, ErrorKind>),
 ) -> io::Result<()> {
     let (switch, taken) = answer;
     match taken {
         Ok(taken) => println!(rt; "{call} {switch:?} ok {taken}"),
-        Err(fault) => {
-            let kind = fault.kind();
-            println!(rt; "{call} {switch:?} {kind:?}")
-        }
+        Err(kind) => println!(rt; "{call} {switch:?} {kind:?}"),
     }
 }
 
