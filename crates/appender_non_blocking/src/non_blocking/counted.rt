@@ -197,6 +197,7 @@ impl<B: SenderBooks, R: Wait + Drop> Debug for BookSender<B, R> {
 }
 
 /// Returns this number of shares, each with one part of the book of accepted lines, and the rest of the book.
+/// `senders` says it in the words of `has_sent` of the books, where a sender without lines has fewer than 2 ^ 64.
 pub(super) fn split_shares<A: Ledger>(
     alloc: Global,
     share: Share<A>,
