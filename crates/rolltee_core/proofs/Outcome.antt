@@ -19,6 +19,10 @@ pub ok_gives : {A E : Type 0} {P : A → Type 0} {Q : Type 0} (outcome : Result 
 ok_gives (Ok a) each p = each a p
 ok_gives (Err e) each p = tt
 
+pub on_ok : {A E : Type 0} {P Q : Type 0} (outcome : Result A E) → (P → Q) → OnOk outcome P → OnOk outcome Q
+on_ok (Ok a) each p = each p
+on_ok (Err e) each p = tt
+
 pub err_gives : {A E : Type 0} {P Q : Type 0} (outcome : Result A E) → (P → Q) → OnErr outcome P → OnErr outcome Q
 err_gives (Ok a) each p = tt
 err_gives (Err e) each p = each p

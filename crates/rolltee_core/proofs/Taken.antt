@@ -1,6 +1,6 @@
 -- What a log took, and what a batch passed on.
 use Rattle.std.proofs.Common.{◌≡◌, ◌≢◌, ℕ, zero, suc, ◌+◌, ◌<◌, List, [], ◌∷◌, ◌++◌, Bool, true, false, cond, length, map, flat_map, count_by, ap, sym, refl, ◌∙◌, subst, arith, append_assoc, append-nil, max, if◌then◌else◌, ◌==◌}
-use Rattle.std.specs.Prelude.{Option, None, Some, Result, String, string_bytes}
+use Rattle.std.specs.Prelude.{Option, None, Some, Result, Ok, Err, IfOk, IfSome, String, string_bytes}
 use Rattle.std.specs.declared.alloc.Global.{Global}
 use Rattle.appender_names.specs.RotationText.{rotation_word}
 use Rattle.std.specs.List.{FoldsTo, concat}
@@ -9,6 +9,7 @@ use Rattle.std.specs.Io.Buffered.{reader_buffer, reader_capacity, reader_inner, 
 use Rattle.std.specs.declared.io.buffered.BufReader.{BufReader}
 use Rattle.std.specs.declared.io.ErrorKind.{ErrorKind}
 use Rattle.std.specs.declared.io.Error.{Error}
+use Rattle.std.proofs.KnownBytes.{prepend_known-nil}
 use Rattle.std.proofs.lemmas.List.Folds.{concat-append}
 use Rattle.std.proofs.lemmas.List.Sums.{sum_by-append}
 use Rattle.std.proofs.lemmas.Bool.Decides.{nat_tests}
@@ -19,9 +20,13 @@ use Rattle.appender_worker.proofs.Served.{whole_lines, served_whole}
 use Rattle.appender_non_blocking.specs.SentLines.{SentLines, new_sender}
 use Rattle.appender_names.specs.declared.rotation.Rotation.{Rotation}
 use Rattle.program_io.specs.declared.options.Options.{Options}
+use Rattle.appender_non_blocking.specs.declared.non_blocking.run.Written.{Written}
 use Rattle.rolltee_core.specs.declared.losses.TeeLosses.{TeeLosses}
+use Rattle.rolltee_core.specs.declared.tee.Fault.{Fault}
+use Rattle.rolltee_core.specs.Inside.Runs.{EndsRun, TakesInput}
 use Rattle.program_io.specs.Options.{has_option, AreDefaults}
 use Rattle.program_io.specs.declared.options.OptionName.TheVariants.{Timestamps}
+use Rattle.rolltee_core.specs.Losses.{HasLostNothing, nothing_lost}
 use Rattle.rolltee_core.specs.Feed.{Feeding, FeedsLines, IsFed, IsTextOf}
 use Rattle.rolltee_core.specs.Taken.{AsAsked, AskedFor, FeedsAsAsked, IsCopied, LogsText, WasOpened, PassesLine, TakesPieces, TookInput, TookText}
 use Rattle.rolltee_core.proofs.Sent.{fed_lines}
@@ -134,16 +139,50 @@ all_logged {W} {opens} {asked} {takes} {is_kept} {ended = ended} {given = given}
     let given_is : given ≡ sent.0 = served_whole (Some []) (Some given) ended.lines (subst (λ n. ServesLines (Some []) (Some given) ended.lines n) whole served) ∙ sent.2 in
     (sent.0, sent.1, subst (λ t. TookText (WasOpened opens asked) takes is_kept t) given_is took)
 
-pub max_none : (m n : ℕ) → max m n ≡ 0 → (m ≡ 0) × (n ≡ 0)
-max_none m n e = (omega (arith, e), omega (arith, e))
+-- what a run that lost nothing leads to
+pub run_logged : {W O : Type 0} {opens : Rotation → List ℕ → List ℕ → Options → W → Type 0} {asked : Rotation → List ℕ → List ℕ → Options → Type 0} {takes : W → List ℕ → W → Type 0} {is_kept : W → Type 0}
+    {before remaining left : Option (List ℕ)} {contents : O → Option (List ℕ)} {first : List ℕ} {outcome : Result (TeeLosses × O) Fault} {written : Option (Written (List ℕ))} {echoed : O} (lossy : Bool) (ended : SentLines)
+    → remaining ≡ left → first ≡ [] → IfOk outcome (λ copied. IsCopied asked before (contents copied.1) remaining (new_sender lossy 0) ended copied.0)
+    → IfSome written (λ w. ServesLines (Some first) (Some w.writer) ended.lines w.given_up)
+    → EndsRun (WasOpened opens asked) takes is_kept outcome written echoed → TakesInput opens asked takes is_kept before contents left echoed
+run_logged lossy ended same none copied wrote e = record {
+  took = λ text is.
+      let did = rw e.outcome_is at copied in
+      let served = subst (λ t. ServesLines (Some t) (Some e.last.writer) ended.lines e.last.given_up) none (rw e.written_is at wrote) in
+      all_logged did served e.took e.dropped e.unechoed e.whole text (same ∙ is);
+}
+
+pub nothing_is_lost : {lost : TeeLosses} → lost ≡ nothing_lost → HasLostNothing lost
+nothing_is_lost none = record { unwritten = ap (λ (l : TeeLosses). l.unwritten) none; gone = ap (λ (l : TeeLosses). l.gone) none; unsynced = ap (λ (l : TeeLosses). l.unsynced) none }
+
+-- a run whose losses are none
+pub ends_run : {W O : Type 0} {is_opened : W → Type 0} {takes : W → List ℕ → W → Type 0} {is_kept : W → Type 0} {outcome : Result (TeeLosses × O) Fault} {written : Option (Written (List ℕ))}
+    {sent lost : TeeLosses} {output echoed : O} {last : Written (List ℕ)} → outcome ≡ Ok (sent, output) → written ≡ Some last → (lost.dropped ≡ sent.dropped) × (lost.unechoed ≡ sent.unechoed)
+    → (lost.unwritten ≡ 0 → last.given_up ≡ 0) → (HasLostNothing lost → TookText is_opened takes is_kept last.writer) → (echoed ≡ output) × (lost ≡ nothing_lost)
+    → EndsRun is_opened takes is_kept outcome written echoed
+ends_run {sent = sent} {last = last} outcome_is written_is counted whole took (same, none) = record {
+  sent = sent;
+  outcome_is = outcome_is ∙ ap (λ o. Ok (sent, o)) (sym same);
+  dropped = sym counted.0 ∙ ap (λ (l : TeeLosses). l.dropped) none;
+  unechoed = sym counted.1 ∙ ap (λ (l : TeeLosses). l.unechoed) none;
+  last = last;
+  written_is = written_is;
+  whole = whole (ap (λ (l : TeeLosses). l.unwritten) none);
+  took = took (nothing_is_lost none);
+}
 
 -- a new reader has what its input has
-pub reader_new : {T A : Type 0} (remaining : T → Option (List ℕ)) (r : BufReader T A) (text : List ℕ) (capacity : ℕ) → (capacity == 0) ≡ false → reader_capacity r ≡ capacity → reader_buffer r ≡ []
-    → remaining (reader_inner r) ≡ Some text → reader_remaining remaining r ≡ Some text
-reader_new remaining r text capacity some capacity_is empty is =
-    ap (λ n. if n == 0 then None else prepend_known (reader_buffer r) (remaining r.inner)) capacity_is
-    ∙ ap (λ b. if b then None else prepend_known (reader_buffer r) (remaining r.inner)) some
-    ∙ ap (λ b. prepend_known b (remaining r.inner)) empty ∙ ap (λ t. prepend_known [] t) is
+reader_new : {T A : Type 0} (remaining : T → Option (List ℕ)) (r : BufReader T A) → 0 < reader_capacity r → reader_buffer r ≡ [] → reader_remaining remaining r ≡ remaining (reader_inner r)
+reader_new remaining r some empty =
+    let some_is : (reader_capacity r == 0) ≡ false = grind (arith, nat_tests, some) in
+    ap (λ b. if b then None else prepend_known (reader_buffer r) (remaining r.inner)) some_is
+    ∙ ap (λ b. prepend_known b (remaining r.inner)) empty ∙ prepend_known-nil (remaining r.inner)
+
+-- the same if there is one
+pub reader_made : {T A E : Type 0} (remaining : T → Option (List ℕ)) (made : Result (BufReader T A) E) {inner : T} {left : Option (List ℕ)} {capacity : ℕ} → 0 < capacity → remaining inner ≡ left
+    → IfOk made (λ r. reader_inner r ≡ inner) → IfOk made (λ r. reader_buffer r ≡ []) → IfOk made (λ r. reader_capacity r ≡ capacity) → IfOk made (λ r. reader_remaining remaining r ≡ left)
+reader_made remaining (Ok r) some is inner_is empty capacity_is = reader_new remaining r (omega (arith, some, capacity_is)) empty ∙ ap remaining inner_is ∙ is
+reader_made remaining (Err e) some is inner_is empty capacity_is = tt
 
 -- what is so for what was asked for, if that was these alone
 pub as_asked : {is : Rotation → List ℕ → List ℕ → Options → Type 0} {rotation : Rotation} {directory prefix : List ℕ} {options : Options}

@@ -1,5 +1,6 @@
 pub mod Fault
 pub mod Feed
+pub mod Inside
 pub mod Log
 pub mod Losses
 pub mod Taken

@@ -416,12 +416,13 @@ impl<R: Clock + AllocGlobal + Eprint, Q: FeedSink, O: Write, N: Asked> Write for
             (λ _. self.new.within ≡ self.old.within) }
         ensures options { (self.new.timestamps ≡ self.old.timestamps) × (self.new.echoing.echo ≡ self.old.echoing.echo) }
     {
-        if self.timestamps {
-            stamp_now(&self.echo.rt, &mut self.stamped, piece, !self.within)?;
-            self.echo.send(self.stamped.as_slice())?;
-        } else {
-            self.echo.send(piece)?;
-        }
+        send_text(
+            &mut self.echo,
+            &mut self.stamped,
+            piece,
+            self.timestamps,
+            !self.within,
+        )?;
         self.given.note(piece);
         self.within = is_within(self.within, piece);
         Ok(piece.len())
@@ -434,6 +435,26 @@ impl<R: Clock + AllocGlobal + Eprint, Q: FeedSink, O: Write, N: Asked> Write for
         self.echo.sink.flush();
         Ok(())
     }
+}
+
+// Sends a piece, with a time before each line that begins in it if that is asked for.
+fn send_text<R: Clock + Eprint, Q: FeedSink, O: Write>(
+    echo: &mut Echo<R, Q, O>,
+    stamped: &mut Vec<u8>,
+    piece: &[u8],
+    timestamps: bool,
+    begins: bool,
+) -> io::Result<()>
+    ensures sent { OnOk result ((text : List ℕ) × IsTextOf timestamps begins piece.now text × Sends Q.sent O.contents text echo.old echo.new) }
+    ensures not_sent { OnErr result ((Q.sent echo.new.sink ≡ Q.sent echo.old.sink)
+        × (echo.new ≡ record echo.old { sink = echo.new.sink })) }
+    ensures echo { echo.new.echo ≡ echo.old.echo }
+{
+    if !timestamps {
+        return echo.send(piece);
+    }
+    stamp_now(&echo.rt, stamped, piece, begins)?;
+    echo.send(stamped.as_slice())
 }
 
 // Returns whether what follows this piece goes on with a line, as the piece itself does if this is `within` one.

@@ -102,14 +102,28 @@ impl Logs for HostRuntime {
         prefix: &str,
         options: &Options,
     ) -> Result<DirLog<HostRuntime>, Fault> {
-        let settings = settings(self.alloc(), rotation, prefix, options)?;
-        let (opener, check) = prepared(self, settings, directory, prefix, options)?;
-        let log = FileLog::new(opener, check, options.has(OptionName::WholeLines))?;
+        let log = asked_log(self, rotation, directory, prefix, options)?;
         if is_input(&self, log.open_file()) {
             return Err(Fault::Input);
         }
         Ok(log)
     }
+}
+
+// Opens the log that is asked for.
+fn asked_log(
+    rt: HostRuntime,
+    rotation: Rotation,
+    directory: &str,
+    prefix: &str,
+    options: &Options,
+) -> Result<DirLog<HostRuntime>, Fault>
+    ensures { IfOk result (λ log. ⟦<DirLog<HostRuntime> as TeeLog>⟧.opens rotation directory.now prefix.now options.now log) }
+{
+    let settings = settings(rt.alloc(), rotation, prefix, options)?;
+    let (opener, check) = prepared(rt, settings, directory, prefix, options)?;
+    let log = FileLog::new(opener, check, options.has(OptionName::WholeLines))?;
+    Ok(log)
 }
 
 // Returns what opens the log and what looks at its file, once the folder is locked if that is to be.

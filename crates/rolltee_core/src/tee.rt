@@ -1,12 +1,15 @@
 //! Lines from an input to a rolling log, through a non-blocking writer or directly.
-ghost use Rattle.std.specs.Prelude.{◌≡◌, ◌≢◌, ◌≤◌, ℕ, List, [], length, Some, Ok, Err, IfOk, IfErr, IfSome, OnOk, string_bytes};
+ghost use Rattle.std.specs.Prelude.{◌≡◌, ◌≢◌, ◌≤◌, ◌<◌, ◌++◌, ℕ, Bool, List, [], length, Some, Ok, Err, IfOk, IfErr, IfSome, OnOk, string_bytes};
 ghost use Rattle.std.specs.List.{concat};
+ghost use Rattle.std.specs.Io.Buffered.{reader_remaining};
 ghost use Rattle.std.specs.Io.KnownBytes.{Keeps};
 ghost use Rattle.std.specs.IoError.{error_kind};
 ghost use Rattle.program_io.specs.Options.{AreDefaults};
 ghost use Rattle.program_io.specs.declared.options.Options.{Options};
 ghost use Rattle.rolltee_core.specs.Feed.{FeedsLines};
-ghost use Rattle.rolltee_core.specs.Taken.{IsCopied, WasOpened, LogsText, TookInput};
+ghost use Rattle.rolltee_core.specs.Losses.{HasLostNothing};
+ghost use Rattle.rolltee_core.specs.Taken.{FeedsAsAsked, IsCopied, WasOpened, LogsText, TookText};
+ghost use Rattle.rolltee_core.specs.Inside.Runs.{EndsRun, TakesInput};
 ghost use Rattle.rolltee_core.specs.Fault.{tee_status, tee_fault_unless_memory, tee_fault_words, HasNoFolder, NamesNoRotation, is_titled_fault, ExplainsTeeFault, ReportsLine, ReportsTeeFault};
 ghost use Rattle.appender_non_blocking.specs.Work.{RunsLines};
 ghost use Rattle.appender_names.specs.RotationText.{IsNoRotation, rotation_word};
@@ -375,6 +378,15 @@ impl<'a, L: Logs, O: Write, N: Asked> Model for LogOpening<'a, L, O, N> {
     ghost invariant = { λ r. N.asked r.rotation r.directory.now r.prefix.now r.options.now × (N.printed ≡ O.contents r.output) };
 }
 
+// What a run by a queue has before its log is opened.
+#[derive(Drop)]
+struct QueuedParts<R, W: TeeLog + Drop, I, N: Asked> {
+    titled: Titled<R>,
+    place: LogPlace<W, N>,
+    counts: LineCounts,
+    input: I,
+}
+
 // The same, if `N` says by what the log is opened.
 fn copy_to<N: Asked + Send + 'static, R: Host, L: Logs, I: Read, O: Write + Drop>(
     rt: R,
@@ -388,20 +400,11 @@ fn copy_to<N: Asked + Send + 'static, R: Host, L: Logs, I: Read, O: Write + Drop
 ) -> Result<O, Fault>
     requires asked { N.asked rotation (string_bytes directory.now) (string_bytes prefix.now) options.now }
     requires printed { N.printed ≡ O.contents output }
-    ensures { IfOk result (λ echoed. (text : List ℕ) → I.remaining input.old ≡ Some text →
-        TookInput L.Log.opens N.asked L.Log.takes L.Log.is_kept N.printed (O.contents echoed) text) }
+    ensures { IfOk result (TakesInput L.Log.opens N.asked L.Log.takes L.Log.is_kept N.printed O.contents (I.remaining input.old)) }
 {
     let (directory, prefix) = (directory.as_str(), prefix.as_str());
-    let input = BufReader::new(rt.alloc(), BlockingInput::new(rt, input))?;
-    let titled = Titled::new(rt, directory, prefix)?;
-    let limit = match options.number(OptionName::Queue) {
-        0 => LIMIT,
-        limit => limit as usize,
-    };
-    let (writer, place, counts) = TeeWriter::<Titled<R>, L::Log, N>::new(
-        Titled::new(rt, directory, prefix)?,
-        !options.has(OptionName::NoWait),
-        options.number(OptionName::MaxBytes),
+    let (writer, parts) = queued_parts::<R, L::Log, &mut I, N>(
+        rt, directory, prefix, options, input,
     )?;
     let opening = LogOpening::<L, O, N> {
         logs,
@@ -413,50 +416,137 @@ fn copy_to<N: Asked + Send + 'static, R: Host, L: Logs, I: Read, O: Write + Drop
         asked: PhantomData,
     };
     let work = TeeWork {
-        titled,
+        parts,
         opening: Some(opening),
-        place,
-        counts,
-        input,
         outcome: Err(Fault::Thread),
     };
-    let builder = NonBlockingBuilder::default()
-        .lossy(options.has(OptionName::Lossy))
-        .buffered_lines_limit(limit);
-    let most = Some(Duration::from_millis(END_MILLIS));
-    let Ran { work, written } = match run_work(rt, builder, writer, work, most) {
+    let Ran { work, written } = match run_work(rt, options, writer, work) {
         Ok(ran) => ran,
         Err(error) => return Err(Fault::Thread.unless_memory(error.kind())),
     };
-    let (sent, output) = work.outcome?;
-    let Some(Written { writer, given_up }) = written else {
-        return Err(Fault::Pending);
+    end_run(work.outcome, written, options.is_plain())
+}
+
+// Returns the writer of a worker, and what else a run has before its log is opened.
+fn queued_parts<
+    R: Wait + Clock + Eprint + AllocGlobal + Copy,
+    W: TeeLog + Drop,
+    I: Read + Drop,
+    N: Asked,
+>(
+    rt: R,
+    directory: &str,
+    prefix: &str,
+    options: &Options,
+    input: I,
+) -> Result<
+    (
+        TeeWriter<Titled<R>, W, N>,
+        QueuedParts<R, W, Waited<R, I>, N>,
+    ),
+    Fault,
+>
+    ensures writer { IfOk result (λ made. made.0 ≡ []) }
+    ensures input { IfOk result (λ made. reader_remaining (λ i. I.remaining i.input) made.1.input ≡ I.remaining input) }
+{
+    let input = reader(rt, 8192, input)?;
+    let titled = Titled::new(rt, directory, prefix)?;
+    let (writer, place, counts) = TeeWriter::new(
+        Titled::new(rt, directory, prefix)?,
+        !options.has(OptionName::NoWait),
+        options.number(OptionName::MaxBytes),
+    )?;
+    let parts = QueuedParts {
+        titled,
+        place,
+        counts,
+        input,
     };
-    let found = writer.close();
-    let lost = TeeLosses {
-        unwritten: sent.unwritten.max(given_up).max(found.unwritten),
-        dropped: sent.dropped,
-        unechoed: sent.unechoed,
-        ..found
-    };
-    all_written(lost, options.is_plain())?;
-    Ok(output)
+    Ok((writer, parts))
+}
+
+// An input that is waited for, with a buffer.
+type Waited<R, I> = BufReader<BlockingInput<R, I>>;
+
+// Returns a reader of what is left of an input.
+fn reader<R: Clock + AllocGlobal + Drop, I: Read + Drop>(
+    rt: R,
+    capacity: usize,
+    input: I,
+) -> io::Result<Waited<R, I>>
+    requires { 0 < capacity }
+    ensures { IfOk result (λ reader. reader_remaining (λ i. I.remaining i.input) reader ≡ I.remaining input) }
+{
+    let alloc = rt.alloc();
+    BufReader::with_capacity(alloc, capacity, BlockingInput::new(rt, input))
 }
 
 // Runs a work whose lines a worker writes. A work that was not run is dropped.
 fn run_work<K: RecordedWork + Drop, W: Write + Send + Drop + 'static, R: Host>(
     rt: R,
-    builder: NonBlockingBuilder,
+    options: &Options,
     writer: W,
     work: K,
-    most: Option<Duration>,
 ) -> io::Result<Ran<K, W>>
-    ensures { IfOk result (λ ran. RunsLines K.does W.contents builder.lossy work writer ran) }
+    ensures { IfOk result (λ ran. (lossy : Bool) × RunsLines K.does W.contents lossy work writer ran) }
 {
+    let limit = match options.number(OptionName::Queue) {
+        0 => LIMIT,
+        limit => limit as usize,
+    };
+    let builder = NonBlockingBuilder::default()
+        .lossy(options.has(OptionName::Lossy))
+        .buffered_lines_limit(limit);
+    let most = Some(Duration::from_millis(END_MILLIS));
     match builder.run_lines(rt, rt.alloc(), writer, work, most) {
         Ok(ran) => Ok(ran),
         Err(unstarted) => Err(unstarted.error),
     }
+}
+
+// Closes the log of a run, and returns the output if nothing was lost.
+fn end_run<W: TeeLog + Drop, N: Asked, R: Wait + Clock + Eprint + AllocGlobal + Drop, O: Drop>(
+    outcome: Result<(TeeLosses, O), Fault>,
+    written: Option<Written<TeeWriter<R, W, N>>>,
+    is_plain: bool,
+) -> Result<O, Fault>
+    ensures { IfOk result (EndsRun (WasOpened W.opens N.asked) W.takes W.is_kept outcome written) }
+{
+    match outcome {
+        Ok((sent, output)) => match written {
+            Some(written) => all_written(output, losses_of(sent, written), is_plain),
+            None => Err(Fault::Pending),
+        },
+        Err(fault) => Err(fault),
+    }
+}
+
+// Closes the log. Returns what was lost, with what was lost before the log.
+fn losses_of<W: TeeLog + Drop, N: Asked, R: Wait + Clock + Eprint + AllocGlobal + Drop>(
+    sent: TeeLosses,
+    written: Written<TeeWriter<R, W, N>>,
+) -> TeeLosses
+    ensures sent { (result.dropped ≡ sent.dropped) × (result.unechoed ≡ sent.unechoed) }
+    ensures whole { result.unwritten ≡ 0 → written.given_up ≡ 0 }
+    ensures took { HasLostNothing result → TookText (WasOpened W.opens N.asked) W.takes W.is_kept written.writer }
+{
+    let Written { writer, given_up } = written;
+    let found = writer.close();
+    TeeLosses {
+        unwritten: sent.unwritten.max(given_up).max(found.unwritten),
+        dropped: sent.dropped,
+        unechoed: sent.unechoed,
+        ..found
+    }
+}
+
+// What a run without a queue has before its log is opened.
+#[derive(Drop)]
+struct DirectParts<R: Wait + Clock + Eprint + Drop, W: TeeLog + Drop, I, N: Asked> {
+    titled: Titled<R>,
+    writer: DirectWriter<Titled<R>, W, N>,
+    place: LogPlace<W, N>,
+    input: I,
 }
 
 // The same in this thread, without a queue: what was read is written before more is read.
@@ -473,42 +563,120 @@ fn copy_directly<N: Asked + Send + 'static, R: Host, L: Logs, I: Read, O: Write 
     requires asked { N.asked rotation (string_bytes directory.now) (string_bytes prefix.now) options.now }
     requires printed { N.printed ≡ O.contents output }
     requires first { N.first ≡ [] }
-    ensures { IfOk result (λ echoed. (text : List ℕ) → I.remaining input.old ≡ Some text →
-        TookInput L.Log.opens N.asked L.Log.takes L.Log.is_kept N.printed (O.contents echoed) text) }
+    ensures { IfOk result (TakesInput L.Log.opens N.asked L.Log.takes L.Log.is_kept N.printed O.contents (I.remaining input.old)) }
 {
     let (directory, prefix) = (directory.as_str(), prefix.as_str());
-    let mut input = BufReader::with_capacity(rt.alloc(), BLOCK, BlockingInput::new(rt, input))?;
+    let parts = direct_parts::<R, L::Log, &mut I, N>(rt, directory, prefix, options, input)?;
+    let log = logs.open_log(rotation, directory, prefix, options)?;
+    parts.place.put(&rt, OpenedLog::new(log));
+    let (output, lost) = copy_blocks(parts, options, output)?;
+    all_written(output, lost, options.is_plain())
+}
+
+// Returns what a run has before its log is opened.
+fn direct_parts<
+    R: Wait + Clock + Eprint + AllocGlobal + Copy,
+    W: TeeLog + Drop,
+    I: Read + Drop,
+    N: Asked,
+>(
+    rt: R,
+    directory: &str,
+    prefix: &str,
+    options: &Options,
+    input: I,
+) -> io::Result<DirectParts<R, W, Waited<R, I>, N>>
+    ensures writer { IfOk result (λ made. made.writer ≡ []) }
+    ensures input { IfOk result (λ made. reader_remaining (λ i. I.remaining i.input) made.input ≡ I.remaining input) }
+{
+    let input = reader(rt, BLOCK, input)?;
     let titled = Titled::new(rt, directory, prefix)?;
-    let (writer, place) = DirectWriter::<Titled<R>, L::Log, N>::new(
+    let (writer, place) = DirectWriter::new(
         Titled::new(rt, directory, prefix)?,
         !options.has(OptionName::NoWait),
         options.number(OptionName::MaxBytes),
     )?;
-    let log = logs.open_log(rotation, directory, prefix, options)?;
-    let opened = OpenedLog::new(log);
-    place.put(&rt, opened);
-    let mut feed = Feed::<Titled<R>, DirectWriter<Titled<R>, L::Log, N>, O, N>::new(
-        titled, writer, options, output,
+    Ok(DirectParts {
+        titled,
+        writer,
+        place,
+        input,
+    })
+}
+
+// Copies the input to the log, block by block, and closes it.
+fn copy_blocks<
+    R: Wait + Clock + Eprint + AllocGlobal + Drop,
+    W: TeeLog + Drop,
+    I: BufRead + Ready + Drop,
+    O: Write + Drop,
+    N: Asked,
+>(parts: DirectParts<R, W, I, N>, options: &Options, output: O) -> Result<(O, TeeLosses), CopyFault>
+    requires writer { parts.writer ≡ [] }
+    requires asked { (rotation : Rotation) × (directory : List ℕ) × (prefix : List ℕ) × N.asked rotation directory prefix options.now }
+    requires printed { N.printed ≡ O.contents output }
+    requires first { N.first ≡ [] }
+    ensures { IfOk result (λ copied. copied.1 ≡ TeeLosses.NONE
+        → TakesInput W.opens N.asked W.takes W.is_kept N.printed O.contents (I.remaining parts.input) copied.0) }
+{
+    let DirectParts {
+        titled,
+        writer,
+        place: _place,
+        mut input,
+    } = parts;
+    let (mut writer, output, unechoed, copied) = feed_pieces::<_, _, _, _, N>(
+        titled,
+        writer,
+        options,
+        &mut input,
+        output,
+        Split::Blocks,
     );
-    let copied = copy_pieces(rt.alloc(), &mut input, &mut feed, Split::Blocks);
-    let (mut writer, output, unechoed) = feed.into_parts();
     writer.flush();
     copied?;
-    let found = writer.close();
-    let lost = TeeLosses { unechoed, ..found };
-    all_written(lost, options.is_plain())?;
-    Ok(output)
+    let lost = TeeLosses {
+        unechoed,
+        ..writer.close()
+    };
+    Ok((output, lost))
+}
+
+// Sends the pieces of an input. Returns what they were sent to, the output, how many lines were not written whole to that, and why
+// the input was not copied whole.
+fn feed_pieces<
+    R: Clock + AllocGlobal + Eprint + Drop,
+    Q: FeedSink + Drop,
+    I: BufRead + Ready,
+    O: Write + Drop,
+    N: Asked,
+>(
+    rt: R,
+    sink: Q,
+    options: &Options,
+    input: &mut I,
+    output: O,
+    split: Split,
+) -> (Q, O, u64, Result<(), CopyFault>)
+    requires asked { (rotation : Rotation) × (directory : List ℕ) × (prefix : List ℕ) × N.asked rotation directory prefix options.now }
+    requires printed { N.printed ≡ O.contents output }
+    requires first { N.first ≡ Q.sent sink }
+    ensures { OnOk result.3 (result.2 ≡ 0 → (text : List ℕ) → I.remaining input.old ≡ Some text →
+        (lines : List ℕ) × FeedsAsAsked N.asked N.printed (O.contents result.1) text lines × (Q.sent result.0 ≡ N.first ++ lines)) }
+{
+    let alloc = rt.alloc();
+    let mut feed = Feed::<R, Q, O, N>::new(rt, sink, options, output);
+    let copied = copy_pieces(alloc, input, &mut feed, split);
+    let (sink, output, unechoed) = feed.into_parts();
+    (sink, output, unechoed, copied)
 }
 
 // Opens the log, and copies the input to it.
 #[derive(Drop)]
 struct TeeWork<'a, R, L: Logs, I, O: Write, N: Asked> {
-    titled: Titled<R>,
+    parts: QueuedParts<R, L::Log, I, N>,
     // Is there until the work is run.
     opening: Option<LogOpening<'a, L, O, N>>,
-    place: LogPlace<L::Log, N>,
-    counts: LineCounts,
-    input: I,
     // What was lost until the end of the input, and the output. Until the work is run, there is no thread.
     outcome: Result<(TeeLosses, O), Fault>,
 }
@@ -516,22 +684,14 @@ struct TeeWork<'a, R, L: Logs, I, O: Write, N: Asked> {
 impl<'a, R: Host, L: Logs, I: BufRead + Ready, O: Write + Drop, N: Asked> RecordedWork
     for TeeWork<'a, R, L, I, O, N> {
     ghost does = { λ old start new ended.
-        IfOk new.outcome (λ copied. IsCopied N.asked N.printed (O.contents copied.1) (I.remaining old.input) start ended copied.0) };
+        IfOk new.outcome (λ copied. IsCopied N.asked N.printed (O.contents copied.1) (I.remaining old.parts.input) start ended copied.0) };
 
     // The log is opened last, so a start that fails for want of memory or of a thread makes no file. The lines that were
     // read are waited for also after a fault, and only then counted: the worker's end is waited for a second only, which
     // loses the lines of a slow disk.
     fn run<S: LineSender + Drop>(&mut self, sender: S) -> S {
-        let TeeWork {
-            titled,
-            opening,
-            place,
-            counts,
-            input,
-            outcome,
-        } = self;
-        let Some(opening) = opening.take() else {
-            *outcome = Err(Fault::Thread);
+        let Some(opening) = self.opening.take() else {
+            self.outcome = Err(Fault::Thread);
             return sender;
         };
         let LogOpening {
@@ -546,15 +706,20 @@ impl<'a, R: Host, L: Logs, I: BufRead + Ready, O: Write + Drop, N: Asked> Record
         let log = match logs.open_log(rotation, directory, prefix, options) {
             Ok(log) => OpenedLog::new(log),
             Err(fault) => {
-                *outcome = Err(fault);
+                self.outcome = Err(fault);
                 return sender;
             }
         };
-        place.put(titled, log);
-        let (sender, ended) = send_lines::<Brand, R, S, I, O>(
-            titled, sender, counts, input, options, output,
+        self.parts.place.put(&self.parts.titled, log);
+        let (sender, ended) = send_lines::<N, R, S, I, O>(
+            &self.parts.titled,
+            sender,
+            &self.parts.counts,
+            &mut self.parts.input,
+            options,
+            output,
         );
-        *outcome = ended;
+        self.outcome = ended;
         sender
     }
 }
@@ -576,15 +741,56 @@ fn send_lines<
 ) -> (S, Result<(TeeLosses, O), Fault>)
     requires asked { (rotation : Rotation) × (directory : List ℕ) × (prefix : List ℕ) × N.asked rotation directory prefix options.now }
     requires printed { N.printed ≡ O.contents output }
+    ensures { IfOk result.1 (λ copied. IsCopied N.asked N.printed (O.contents copied.1) (I.remaining input.old) (S.sent sender) (S.sent result.0) copied.0) }
+{
+    send_after::<Brand, R, S, I, O>(titled, sender, counts, input, options, output)
+}
+
+// The same, if `N` says what the sender sent before.
+fn send_after<
+    N: Asked,
+    R: Wait + Clock + Eprint + AllocGlobal + Drop,
+    S: LineSender + Drop,
+    I: BufRead + Ready,
+    O: Write + Drop,
+>(
+    titled: &Titled<R>,
+    sender: S,
+    counts: &LineCounts,
+    input: &mut I,
+    options: &Options,
+    output: O,
+) -> (S, Result<(TeeLosses, O), Fault>)
+    requires asked { (rotation : Rotation) × (directory : List ℕ) × (prefix : List ℕ) × N.asked rotation directory prefix options.now }
+    requires printed { N.printed ≡ O.contents output }
     requires first { N.first ≡ concat (S.sent sender).lines }
     ensures { IfOk result.1 (λ copied. IsCopied N.asked N.printed (O.contents copied.1) (I.remaining input.old) (S.sent sender) (S.sent result.0) copied.0) }
 {
     let queue = SenderQueue::new(titled, sender, counts, options.has(OptionName::Lossy));
-    let mut feed = Feed::<&Titled<R>, SenderQueue<&Titled<R>, S>, O, N>::new(
-        titled, queue, options, output,
+    let (queue, output, unechoed, copied) = feed_pieces::<_, _, _, _, N>(
+        titled,
+        queue,
+        options,
+        input,
+        output,
+        Split::Lines,
     );
-    let copied = copy_pieces(titled.alloc(), input, &mut feed, Split::Lines);
-    let (mut queue, output, unechoed) = feed.into_parts();
+    let (sender, lost) = settled(queue, unechoed);
+    match copied {
+        Ok(()) => (sender, Ok((lost, output))),
+        Err(fault) => (sender, Err(Fault::from(fault))),
+    }
+}
+
+// Waits until the log took or lost each line that was queued. Returns the sender, and what was lost.
+fn settled<R: Wait + Clock + Eprint + Drop, S: LineSender + Drop>(
+    queue: SenderQueue<R, S>,
+    unechoed: u64,
+) -> (S, TeeLosses)
+    ensures queued { result.1.dropped ≡ 0 → (S.sent result.0).lines ≡ queue.entry.offered }
+    ensures unechoed { result.1.unechoed ≡ unechoed }
+{
+    let mut queue = queue;
     queue.settle();
     let lost = TeeLosses {
         unwritten: queue.lost(),
@@ -592,11 +798,7 @@ fn send_lines<
         unechoed,
         ..TeeLosses::NONE
     };
-    let sender = queue.into_sender();
-    match copied {
-        Ok(()) => (sender, Ok((lost, output))),
-        Err(fault) => (sender, Err(Fault::from(fault))),
-    }
+    (queue.into_sender(), lost)
 }
 
 // Returns the rotation that this word names. A fault if it names none, or one that does not allow the options: there are
@@ -624,13 +826,13 @@ fn rotation_of(word: &str, options: &Options) -> Result<Rotation, Fault>
     Ok(rotation)
 }
 
-// Returns a fault if something was lost: status 0 says that each line is in the log. A run without options reports lines
+// Returns the output if nothing was lost: status 0 says that each line is in the log. A run without options reports lines
 // that the log did not take whole by two words, which programs that call it know.
-fn all_written(lost: TeeLosses, is_plain: bool) -> Result<(), Fault>
-    ensures { OnOk result (lost ≡ TeeLosses.NONE) }
+fn all_written<O: Drop>(output: O, lost: TeeLosses, is_plain: bool) -> Result<O, Fault>
+    ensures { IfOk result (λ whole. (whole ≡ output) × (lost ≡ TeeLosses.NONE)) }
 {
     if lost == TeeLosses::NONE {
-        Ok(())
+        Ok(output)
     } else if is_plain && lost.gone == 0 {
         Err(Fault::Write(lost))
     } else {

@@ -1,6 +1,0 @@
-use Rattle.std.specs.List.{concat}
-use Rattle.rolltee_core.proofs.tee.TeeWorkRecordedWork.run.Given as goal
-
--- by what the log of this run is opened, and what this sender sent before
-abbrev pub ghosts-send_lines : goal.ghosts-send_lines
-ghosts-send_lines g a = record { asked = g.N.Asked.asked; printed = g.N.Asked.printed; first = concat (g.S.LineSender.sent a.sender).lines }

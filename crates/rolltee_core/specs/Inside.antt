@@ -1,0 +1,2 @@
+-- Definitions for bodies only. No clause of a public function cites them.
+pub mod Runs
