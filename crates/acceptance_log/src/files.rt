@@ -2,7 +2,7 @@
 use appender_log::LogSink;
 use appender_rolling::rolling::{Builder, Clock, RollingFileAppender, Rotation};
 use appender_store::store::MemoryFolder;
-use log::{Level, Logged, info};
+use log::{Level, Log, Logged, info};
 use std::process::Abort;
 use std::sync::Wait;
 use std::sync::atomic::AtomicU64;
@@ -64,8 +64,7 @@ const ROWS: [&str; 10] = [
 ];
 
 // Logs a record so often.
-fn log_row<R: Host>(rt: R, sink: &LogSink<'_, Appender<R>, R>, row: usize, times: usize) {
-    let logger = Logged::new(rt, Level::Info, sink);
+fn log_row(logger: &impl Log, row: usize, times: usize) {
     for _ in 0..times {
         info!(logger; target: "db", "row={row}");
     }
@@ -78,7 +77,7 @@ fn log_in_threads<R: Host>(rt: R, appender: &Appender<R>, times: usize) -> u64 {
         &rt,
         rt.alloc(),
         ROWS.len(),
-        &|row| { log_row(rt, &sink, row, times) },
+        &|row| { log_row(&Logged::new(rt, Level::Info, &sink), row, times) },
     )
     .expect(&rt, "memory");
     sink.lost()

@@ -1,8 +1,9 @@
 // Logs with a queue: which levels they log, and what they say is lost.
+use crate::records::log_message;
 use crate::records::times::At;
 use appender_log::{QueuedLog, start, start_with};
 use appender_non_blocking::non_blocking::{Host, Losses, NonBlockingBuilder};
-use log::{Level, Log, Logged, debug, info};
+use log::{Level, Log, Logged, debug};
 use std::alloc::{AllocError, Global};
 use std::io;
 use std::io::{ErrorKind, Write};
@@ -63,17 +64,17 @@ fn expect_text<R: TestHost>(rt: R, text: &Text, wanted: &[u8]) {
     assert_eq!(rt; text.lock(&rt).as_slice(), wanted);
 }
 
-// Logs a record without fields, if the log takes its level.
-fn log_info<R: TestHost>(rt: R, log: &impl Log, message: &str) {
-    info!(Logged::new(rt, Level::Info, log); target: "db", "{message}");
+// Logs a record of the level Debug.
+fn log_debug(logger: &impl Log, message: &str) {
+    debug!(logger; target: "db", "{message}");
 }
 
 fn expect_levels<R: TestHost>(rt: R) {
     let (log, text) = started(rt, 2);
     let log = log.timestamps(At(1_795_773_600_000_000_000));
-    debug!(log.logger(); target: "db", "a");
-    info!(log.logger(); target: "db", "b");
-    debug!(Logged::new(rt, Level::Debug, &log); target: "db", "c");
+    log_debug(&log.logger(), "a");
+    log_message(&log.logger(), "b");
+    log_debug(&Logged::new(rt, Level::Debug, &log), "c");
     log.finish().expect(&rt, "no loss");
     let wanted =
         b"2026-11-27T10:00:00.000000Z [INFO  db] b\n2026-11-27T10:00:00.000000Z [DEBUG db] c\n";
@@ -85,15 +86,15 @@ fn a_logger_stops_at_its_level(rt: HostRuntime) {
     expect_levels(rt);
 }
 
-fn log_often<R: TestHost>(rt: R, log: &QueuedLog<R>, times: u32) {
+fn log_often<R: TestHost>(log: &QueuedLog<R>, times: u32) {
     for _ in 0..times {
-        log_info(rt, log, "a");
+        log_message(&log.logger(), "a");
     }
 }
 
 fn expect_told<R: TestHost>(rt: R) {
     let (log, _text) = started(rt, 1);
-    log_often(rt, &log, 3);
+    log_often(&log, 3);
     let Err(error) = log.finish() else {
         rt.panic("no line was lost");
     };
@@ -109,7 +110,7 @@ fn lines_that_find_no_room_are_told(rt: HostRuntime) {
 // Queues a record while the worker is held up. Returns what a flush says meanwhile.
 fn flush_late<R: TestHost>(rt: R, log: &QueuedLog<R>, text: &Text) -> Option<ErrorKind> {
     let held = text.lock(&rt);
-    log_info(rt, log, "b");
+    log_message(&log.logger(), "b");
     let late = log.flush_queued(Duration::from_millis(20));
     drop(held);
     kind_of(late)
@@ -123,11 +124,11 @@ fn flush<R: TestHost>(log: &QueuedLog<R>) -> Option<ErrorKind> {
 // The page has no room for the last record.
 fn expect_flushed<R: TestHost>(rt: R) {
     let (log, text) = started(rt, 2);
-    log_info(rt, &log, "a");
+    log_message(&log.logger(), "a");
     log.flush();
     expect_text(rt, &text, b"[INFO  db] a\n");
     assert_eq!(rt; flush_late(rt, &log, &text), Some(ErrorKind::TimedOut));
-    log_info(rt, &log, "c");
+    log_message(&log.logger(), "c");
     assert_eq!(rt; flush(&log), Some(ErrorKind::StorageFull));
     assert_eq!(rt; flush(&log), None);
     assert_eq!(rt; text.lock(&rt).len(), 26);
@@ -149,7 +150,7 @@ fn kind_of(flushed: io::Result<()>) -> Option<ErrorKind> {
 // Logs ten records while the worker is held up, and ends the log.
 fn log_while_held<R: TestHost>(rt: R, log: QueuedLog<R>, text: &Text) -> Losses {
     let held = text.lock(&rt);
-    log_often(rt, &log, 10);
+    log_often(&log, 10);
     drop(held);
     log.close()
 }

@@ -131,16 +131,20 @@ fn expect_page<R: AllocGlobal + Abort>(rt: &R, page: &Page, wanted: &str) {
     assert!(rt; text == wanted, "{text:?} instead of {wanted:?}");
 }
 
-#[test]
-fn a_record_is_one_write(rt: HostRuntime) {
-    let page = Page::new(rt.alloc());
-    let sink = LogSink::new(rt, &page);
-    let logger = Logged::new(rt, Level::Debug, &sink);
+// The macros are called over any logger, so that their contracts are not those of a whole type.
+fn log_four(logger: &impl Log) {
     info!(logger; "");
     let request = logger.span("request").with("id", 7);
     info!(request; target: "", "started");
     log::debug!(request; target: "db", rows = 3; "read {} bytes", 512);
     warn!(logger; target: "db", by = "a", rows = 3; "two\nlines");
+}
+
+#[test]
+fn a_record_is_one_write(rt: HostRuntime) {
+    let page = Page::new(rt.alloc());
+    let sink = LogSink::new(rt, &page);
+    log_four(&Logged::new(rt, Level::Debug, &sink));
     let wanted = "[INFO  acceptance_log::records] \n|\
         [INFO ] request{id=7}: started\n|\
         [DEBUG db] request{id=7}: read 512 bytes rows=3\n|\
@@ -164,12 +168,16 @@ static ESCAPED: [(&str, &str); 9] = [
     ("last\n", "last\\n"),
 ];
 
+// Logs a record without fields.
+pub(crate) fn log_message(logger: &impl Log, message: &str) {
+    info!(logger; target: "db", "{message}");
+}
+
 // Logs a message, and checks its line.
 fn expect_line<R: Host>(rt: R, message: &str, wanted: &str) {
     let page = Page::new(rt.alloc());
     let sink = LogSink::new(rt, &page);
-    let logger = Logged::new(rt, Level::Info, &sink);
-    info!(logger; target: "db", "{message}");
+    log_message(&Logged::new(rt, Level::Info, &sink), message);
     let line = format!(in rt.alloc(); "[INFO  db] {wanted}\n|").expect(&rt, "memory");
     expect_page(&rt, &page, line.as_str());
 }
@@ -207,6 +215,11 @@ trait Host: AllocGlobal + Wait + Abort + Copy + Drop {}
 
 impl<R: AllocGlobal + Wait + Abort + Copy + Drop> Host for R {}
 
+// Logs the record of LINE.
+fn log_read(logger: &impl Log) {
+    info!(logger; target: "db", rows = 3; "read");
+}
+
 // Logs a record while writers do this, and checks how many records are lost then.
 fn expect_lost<R: Host, C: Clock>(
     rt: R,
@@ -215,9 +228,8 @@ fn expect_lost<R: Host, C: Clock>(
     next: Next,
     wanted: u64,
 ) {
-    let logger = Logged::new(rt, Level::Info, sink);
     page.next.set(next);
-    info!(logger; target: "db", rows = 3; "read");
+    log_read(&Logged::new(rt, Level::Info, sink));
     let lost = sink.lost();
     assert!(rt; lost == wanted, "{next:?}: {lost} instead of {wanted}");
 }
@@ -325,13 +337,17 @@ fn an_interrupted_write_is_repeated_a_hundred_times(rt: HostRuntime) {
     expect_interrupted(rt);
 }
 
+// Logs a record of the level Info.
+fn log_left_out(logger: &impl Log) {
+    info!(logger; "left out");
+}
+
 // A record of a level that the logger leaves out is not lost.
 #[test]
 fn the_logger_decides_by_level(rt: HostRuntime) {
     let page = Page::new(rt.alloc());
     let sink = LogSink::new(rt, &page);
-    let logger = Logged::new(rt, Level::Warn, &sink);
-    info!(logger; "left out");
+    log_left_out(&Logged::new(rt, Level::Warn, &sink));
     assert!(rt; sink.lost() == 0);
     expect_page(&rt, &page, "");
 }
@@ -369,8 +385,7 @@ impl<'a> MakeWriter<'a> for NoWriters {
 }
 
 // Logs a record this number of times.
-fn log_often<R: Host>(rt: R, sink: &impl Log, times: u32) {
-    let logger = Logged::new(rt, Level::Info, sink);
+fn log_often(logger: &impl Log, times: u32) {
     for _ in 0..times {
         info!(logger; "often");
     }
@@ -382,7 +397,12 @@ fn two_threads_share_a_sink(rt: HostRuntime) -> Result<(), Fail> {
         calls: AtomicUsize::new(0),
     };
     let sink = LogSink::new(rt, &writers);
-    thread::map_indices(&rt, rt.alloc(), 2, &|_| log_often(rt, &sink, 1000))?;
+    thread::map_indices(
+        &rt,
+        rt.alloc(),
+        2,
+        &|_| log_often(&Logged::new(rt, Level::Info, &sink), 1000),
+    )?;
     assert!(rt; sink.lost() == 2000);
     let shown = format!(in rt.alloc(); "{sink:?}")?;
     assert!(rt; shown.as_str() == "LogSink { .. }");

@@ -1,7 +1,8 @@
 // Records with a time.
 use super::Next::{CannotBeMade, Fails, HasRoom, Pauses, Takes, TakesFirst};
 use super::{
-    Host, LINE, Next, Page, PageWriter, TEN, expect_lost, expect_page, expect_two, log_often,
+    Host, LINE, Next, Page, PageWriter, TEN, expect_lost, expect_page, expect_two, log_left_out,
+    log_often,
 };
 use appender_log::{LogSink, write_record, write_record_at};
 use appender_runtime::clock::{Clock, SystemClock};
@@ -148,7 +149,7 @@ fn expect_reads<R: Host>(rt: R) {
     expect_lost(rt, &page, &sink, TakesFirst(30), 0);
     expect_lost(rt, &page, &sink, CannotBeMade, 1);
     expect_lost(rt, &page, &sink, Takes, 1);
-    log::debug!(Logged::new(rt, Level::Info, &sink); "left out");
+    log_left_out(&Logged::new(rt, Level::Warn, &sink));
     sink.flush();
     assert!(rt; clock.reads.load(SeqCst) == 2);
     let wanted = "1970-01-01T00:00:00.000000Z [I|NFO  db] read rows=3\n|\
@@ -270,7 +271,12 @@ fn expect_in_order<R: Host + Threads + Sync>(
         wrong: AtomicU64::new(0),
     };
     let sink = LogSink::new(rt, &writers).timestamps(Counting::new());
-    thread::map_indices(&rt, rt.alloc(), threads, &|_| log_often(rt, &sink, records))?;
+    thread::map_indices(
+        &rt,
+        rt.alloc(),
+        threads,
+        &|_| log_often(&Logged::new(rt, Level::Info, &sink), records),
+    )?;
     let wrong = writers.wrong.load(SeqCst);
     assert!(rt; writers.lines.load(SeqCst) == (threads as u64).saturating_mul(u64::from(records)));
     assert!(rt; wrong == 0, "{wrong} lines are not in order");
