@@ -129,15 +129,16 @@ def groups_of(edits):
 
 
 def spans(folder, name):
-    """Returns the files and lines of the functions of this name, which the layout ends by a brace below their first column."""
+    """Returns the files and lines of the functions of this name, from their attributes to the brace below their first column."""
     found = []
     for path in sorted((folder / "src").rglob("*.rt")):
         lines = path.read_text().splitlines()
         for at, line in enumerate(lines):
             begin = re.match(rf"( *)(?:pub(?:\([a-z]+\))? )?fn {name}\b", line)
             if begin:
+                first = next(it for it in range(at, -1, -1) if not lines[it - 1].lstrip().startswith("#["))
                 end = next((it for it in range(at, len(lines)) if lines[it] == f"{begin[1]}}}"), at)
-                found.append((str(path.relative_to(folder)), at + 1, end + 1))
+                found.append((str(path.relative_to(folder)), first + 1, end + 1))
     return found
 
 
